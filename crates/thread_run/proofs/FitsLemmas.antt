@@ -4,12 +4,12 @@ use Rattle.std.specs.Prelude.{All, slice_index_or, Result, Ok, Err, IfOk, vec_le
 use Rattle.shared_gate.specs.Gates.{GateValue}
 use Rattle.shared_gate.specs.Order.{opening_of}
 use Rattle.trace_threads.specs.Handles.{SharedHandle}
-use Rattle.thread_work.specs.declared.gather.Ended.{Ended}
-use Rattle.thread_work.specs.declared.script.ThreadScript.{ThreadScript}
-use Rattle.thread_work.specs.declared.script.WorkerOp.{WorkerOp}
-use Rattle.thread_work.specs.Plans.{plan_of}
+use Rattle.thread_script.specs.declared.script.ThreadScript.{ThreadScript}
+use Rattle.thread_script.specs.declared.script.WorkerOp.{WorkerOp}
+use Rattle.thread_script.specs.Plans.{plan_of}
+use Rattle.thread_script.specs.Tests.{AllAtOpening}
+use Rattle.thread_handles.specs.declared.gather.Ended.{Ended}
 use Rattle.thread_work.specs.Spans.{AllEnded}
-use Rattle.thread_work.specs.Tests.{AllAtOpening}
 use Rattle.thread_run.specs.Fits.{AllFit}
 use Rattle.thread_run.specs.Gates.{AreOpen}
 use Rattle.thread_run.specs.Spans.{AreMadeFor}

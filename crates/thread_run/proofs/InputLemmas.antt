@@ -4,8 +4,8 @@ use Rattle.std.specs.Prelude.{Result, Ok, Err, is_ok, not, IfOk, IfErr}
 use Rattle.trace_pipeline.specs.text.Texts.{refusal_text}
 use Rattle.script_lines.specs.declared.refused_line.RefusedLine.{RefusedLine}
 use Rattle.script_lines.specs.Refusals.{IsTold, are_blank, Refuses, NoneRefused}
-use Rattle.thread_work.specs.declared.gather.Ended.{Ended}
-use Rattle.thread_work.specs.declared.script.ThreadScript.{ThreadScript}
+use Rattle.thread_script.specs.declared.script.ThreadScript.{ThreadScript}
+use Rattle.thread_handles.specs.declared.gather.Ended.{Ended}
 use Rattle.thread_lines.specs.Runnable.{IsRunnable}
 use Rattle.thread_lines.specs.Steps.{script_of}
 use Rattle.thread_lines.proofs.StoppedLemmas.{script_stays}

@@ -2,7 +2,7 @@
 use Rattle.std.proofs.Common.{◌≡◌, ℕ, ◌+◌, ◌<◌, List, [], ◌∷◌, ◌++◌, length, refl, sym, ap, ◌∙◌, append_assoc, append-nil, drop, drop_of_length-le, ◌≤◌, Vec, Global}
 use Rattle.std.specs.Prelude.{slice_index_or, Result, Ok, Err, IfOk}
 use Rattle.std.proofs.lemmas.List.{drop_more}
-use Rattle.thread_work.specs.declared.gather.Ended.{Ended}
+use Rattle.thread_handles.specs.declared.gather.Ended.{Ended}
 use Rattle.trace_pipeline.specs.text.Texts.{record_text, end_text}
 use Rattle.trace_pipeline.specs.text.Writes.{AddsText}
 use Rattle.trace_threads.specs.declared.history.Entry.{Entry}

@@ -5,10 +5,10 @@ use Rattle.trace_threads.specs.declared.history.Entry.{Entry}
 use Rattle.trace_threads.specs.declared.making.Making.{Making}
 use Rattle.trace_threads.specs.Shared.{content_of}
 use Rattle.trace_threads.specs.Turns.{entries}
-use Rattle.thread_work.specs.declared.gather.Ended.{Ended}
-use Rattle.thread_work.specs.declared.script.ThreadScript.{ThreadScript}
-use Rattle.thread_work.specs.Asks.{DoesAll}
-use Rattle.thread_work.specs.Plans.{plan_of, parts_on}
+use Rattle.thread_script.specs.declared.script.ThreadScript.{ThreadScript}
+use Rattle.thread_script.specs.Asks.{DoesAll}
+use Rattle.thread_script.specs.Plans.{plan_of, parts_on}
+use Rattle.thread_handles.specs.declared.gather.Ended.{Ended}
 use Rattle.thread_run.specs.Spans.{shared_making}
 
 -- A history of the shared span at a place does what each worker's list asks of it and nothing else, and the record is its

@@ -2,8 +2,8 @@
 use Rattle.std.specs.Prelude.{◌≡◌, ℕ, List, [], Bool, Result, Ok, Err, is_ok}
 use Rattle.trace_pipeline.specs.text.Texts.{refusal_text}
 use Rattle.script_lines.specs.declared.refused_line.RefusedLine.{RefusedLine}
-use Rattle.thread_work.specs.declared.gather.Ended.{Ended}
-use Rattle.thread_work.specs.declared.script.ThreadScript.{ThreadScript}
+use Rattle.thread_script.specs.declared.script.ThreadScript.{ThreadScript}
+use Rattle.thread_handles.specs.declared.gather.Ended.{Ended}
 use Rattle.thread_lines.specs.Steps.{script_of}
 use Rattle.thread_run.specs.Fits.{AllFit}
 use Rattle.thread_run.specs.Texts.{all_text}

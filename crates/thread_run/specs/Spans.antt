@@ -9,8 +9,8 @@ use Rattle.trace_threads.specs.declared.making.Making.{Making}
 use Rattle.trace_threads.specs.Handles.{SharedHandle}
 use Rattle.trace_threads.specs.Making.{making_of}
 use Rattle.trace_threads.specs.Turns.{first_view}
-use Rattle.thread_work.specs.declared.script.SharedLine.{SharedLine}
-use Rattle.thread_work.specs.declared.script.ThreadScript.{ThreadScript}
+use Rattle.thread_script.specs.declared.script.SharedLine.{SharedLine}
+use Rattle.thread_script.specs.declared.script.ThreadScript.{ThreadScript}
 
 -- a lane of an id and a name, without contexts
 abbrev pub lane_of : ℕ × Option (List ℕ) → Lane

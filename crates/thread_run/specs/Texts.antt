@@ -10,7 +10,7 @@ use Rattle.trace_threads.specs.declared.history.What.TheVariants.{Clone, Call, J
 use Rattle.thread_run.specs.declared.entry.EntryText.{EntryText}
 use Rattle.thread_run.specs.declared.entry.Deed.{Deed}
 use Rattle.thread_run.specs.declared.entry.Deed.TheVariants as deed
-use Rattle.thread_work.specs.declared.gather.Ended.{Ended}
+use Rattle.thread_handles.specs.declared.gather.Ended.{Ended}
 
 -- how many calls a handle made in a history
 abbrev pub is_call : What → ℕ

@@ -11,8 +11,8 @@ use script_lines::{Answer, are_blank, refused_answer};
 use std::alloc::Global;
 use std::sync::Wait;
 use std::thread::Threads;
+use thread_handles::Ended;
 use thread_lines::read_script;
-use thread_work::Ended;
 use turnstile::Turnstile;
 
 /// What comes of an input.

@@ -2,7 +2,7 @@
 ghost use Rattle.std.specs.Prelude.{IfOk};
 ghost use Rattle.thread_lines.specs.Runnable.{IsRunnable};
 ghost use Rattle.thread_run.specs.Fits.{AllFit};
-ghost use Rattle.thread_work.specs.Tests.{AllAtOpening};
+ghost use Rattle.thread_script.specs.Tests.{AllAtOpening};
 
 use crate::gates::{Gates, make_gates};
 use crate::spans::make_spans;
@@ -11,7 +11,9 @@ use otel_base::memory::Memory;
 use std::alloc::Global;
 use std::sync::Wait;
 use std::thread::Threads;
-use thread_work::{Ended, ThreadScript, work};
+use thread_handles::Ended;
+use thread_script::ThreadScript;
+use thread_work::work;
 use turnstile::Turnstile;
 
 /// Runs a script: makes its spans, and has each worker make its calls in a thread, with a gate of its own. It answers for

@@ -9,9 +9,9 @@ ghost use Rattle.thread_run.specs.Texts.{deed_data, entry_data, history_text, to
 use crate::entry::{Deed, EntryText, entry_texts};
 use otel_base::memory::Memory;
 use std::alloc::{AllocError, Global};
-use thread_work::Ended;
+use thread_handles::Ended;
 use trace_pipeline::write::pieces::{add, add_number, add_text, separator};
-use trace_pipeline::{append_end, append_record};
+use trace_pipeline::{add_end_line, add_record_line};
 
 // Adds what a handle did.
 fn add_deed(out: &mut Vec<u8>, front: &str, deed: Deed) -> Result<(), AllocError>
@@ -71,7 +71,8 @@ fn add_span(alloc: Global, out: Vec<u8>, place: u64, ended: &Ended) -> Result<Ve
     let mut out = out;
     let entries = entry_texts(alloc, ended.history.as_slice())?;
     add_history(&mut out, place, entries.as_slice())?;
-    append_record(out, place + 1, &ended.finished)
+    add_record_line(&mut out, place + 1, &ended.finished)?;
+    Ok(out)
 }
 
 /// The lines of what came of a script: for each span its history and its record, and then the end line. `Memory` freely.
@@ -83,5 +84,6 @@ pub fn ended_text(alloc: Global, ended: &[Ended]) -> Result<Vec<u8>, Memory>
     for place in 0..ended.len() {
         out = add_span(alloc, out, place as u64, &ended[place])?;
     }
-    append_end(out, 0, ended.len() as u64)
+    add_end_line(&mut out, 0, ended.len() as u64)?;
+    Ok(out)
 }

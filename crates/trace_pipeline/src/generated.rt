@@ -1,5 +1,5 @@
 //! The script that is made for a number of rounds, as settings and requests.
-ghost use Rattle.std.specs.Prelude.{◌≡◌, ◌+◌, ◌<◌, ◌≤◌, IfOk};
+ghost use Rattle.std.specs.Prelude.{◌≡◌, ◌+◌, ◌<◌, IfOk};
 ghost use Rattle.trace_pipeline.specs.Generated.{made_site, request_site, row_site, made_settings, in_round, root_fields, row_fields, round_with, round};
 
 pub mod laws;

@@ -22,7 +22,7 @@ pub use signal::Signal;
 pub use span_script::{Call, LAST_MOMENT, Place, Refusal, Reply, Request, Settings, What};
 pub use told::Told;
 pub use write::{
-    append_end, append_measure, append_measures_end, append_record, append_refusal, append_reply,
-    end_line, measure_line, measures_end_line, record_line, record_object, refusal_line,
-    reply_line,
+    add_end_line, add_measure_line, add_measures_end_line, add_record_line, add_refusal_line,
+    add_reply_line, end_line, measure_line, measures_end_line, record_line, record_object,
+    refusal_line, reply_line,
 };

@@ -95,7 +95,7 @@ fn request_of(alloc: Global, line: &[u8]) -> Result<Request, LineError>
 }
 
 /// Reads a settings line. `BadLine` where it is no JSON or no object or one of no form, `Memory` freely.
-#[tactic(auto, using(crate::proofs::lane_ids::PlacesLemmas::own_ids), unfolding(crate::specs::reading::Spelled::settings_spelled))]
+#[tactic(auto, using(crate::proofs::ids::PlacesLemmas::own_ids), unfolding(crate::specs::reading::Spelled::settings_spelled))]
 pub fn read_settings(alloc: Global, line: &[u8]) -> Result<Settings, LineError>
     ensures ok { IfOk result (λ settings. settings_spelled line.now ≡ Ok settings) }
     ensures lanes { IfOk result (λ settings. HasOwnIds (map (λ l. l.0) settings.lanes)) }

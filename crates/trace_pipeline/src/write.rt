@@ -1,5 +1,5 @@
 //! Writing lines: replies, records, measures, refusals and end lines, each with its line feed. Each function answers `Memory`
-//! freely, and nothing else; the `append_` forms then drop what they were given. No Rust item stands behind these lines.
+//! freely, and nothing else; what an `add_` form then has added is not said. No Rust item stands behind these lines.
 ghost use Rattle.std.specs.Prelude.{◌≡◌, ◌≢◌, ◌++◌, IfOk, string_bytes};
 ghost use Rattle.std.specs.Str.{IsUtf8};
 ghost use Rattle.trace_pipeline.specs.text.Writes.{Writes};
@@ -39,8 +39,8 @@ const LONG: usize = 512;
 
 const SHORT: usize = 128;
 
-// Adds the line of a reply.
-fn add_reply_line(out: &mut Vec<u8>, line: u64, reply: &Reply) -> Result<(), AllocError>
+/// Adds the line of a reply.
+pub fn add_reply_line(out: &mut Vec<u8>, line: u64, reply: &Reply) -> Result<(), AllocError>
     ensures { Writes result out.old out.new (reply_text line reply.now) }
 {
     add_reply(out, line, reply)?;
@@ -48,8 +48,8 @@ fn add_reply_line(out: &mut Vec<u8>, line: u64, reply: &Reply) -> Result<(), All
     Ok(())
 }
 
-// Adds the line of a record.
-fn add_record_line(out: &mut Vec<u8>, number: u64, finished: &Record) -> Result<(), AllocError>
+/// Adds the line of a record.
+pub fn add_record_line(out: &mut Vec<u8>, number: u64, finished: &Record) -> Result<(), AllocError>
     ensures { Writes result out.old out.new (record_text number finished.now) }
 {
     add_record(out, number, None, finished)?;
@@ -57,8 +57,8 @@ fn add_record_line(out: &mut Vec<u8>, number: u64, finished: &Record) -> Result<
     Ok(())
 }
 
-// Adds the line of a measure.
-fn add_measure_line(out: &mut Vec<u8>, line: u64, measure: &Measure) -> Result<(), AllocError>
+/// Adds the line of a measure.
+pub fn add_measure_line(out: &mut Vec<u8>, line: u64, measure: &Measure) -> Result<(), AllocError>
     ensures { Writes result out.old out.new (measure_text line measure.now) }
 {
     add_measure(out, line, measure)?;
@@ -66,8 +66,9 @@ fn add_measure_line(out: &mut Vec<u8>, line: u64, measure: &Measure) -> Result<(
     Ok(())
 }
 
-// Adds the line of a refusal.
-fn add_refusal_line(out: &mut Vec<u8>, line: u64, told: &Told) -> Result<(), AllocError>
+/// Adds the line of a refusal. Want of memory has no such line.
+pub fn add_refusal_line(out: &mut Vec<u8>, line: u64, told: &Told) -> Result<(), AllocError>
+    requires { told.now ≢ Told.Step Refusal.Memory }
     ensures { Writes result out.old out.new (refusal_text line told.now) }
 {
     add_refusal(out, line, told)?;
@@ -75,8 +76,8 @@ fn add_refusal_line(out: &mut Vec<u8>, line: u64, told: &Told) -> Result<(), All
     Ok(())
 }
 
-// Adds the end line.
-fn add_end_line(out: &mut Vec<u8>, open_spans: u64, records: u64) -> Result<(), AllocError>
+/// Adds the end line of a run that tells traces.
+pub fn add_end_line(out: &mut Vec<u8>, open_spans: u64, records: u64) -> Result<(), AllocError>
     ensures { Writes result out.old out.new (end_text open_spans records) }
 {
     add_end(out, open_spans, records)?;
@@ -84,8 +85,8 @@ fn add_end_line(out: &mut Vec<u8>, open_spans: u64, records: u64) -> Result<(), 
     Ok(())
 }
 
-// Adds the end line of a run that tells metrics.
-fn add_measures_end_line(out: &mut Vec<u8>, measures: u64) -> Result<(), AllocError>
+/// Adds the end line of a run that tells metrics.
+pub fn add_measures_end_line(out: &mut Vec<u8>, measures: u64) -> Result<(), AllocError>
     ensures { Writes result out.old out.new (measures_end_text measures) }
 {
     add_measures_end(out, measures)?;
@@ -93,8 +94,8 @@ fn add_measures_end_line(out: &mut Vec<u8>, measures: u64) -> Result<(), AllocEr
     Ok(())
 }
 
-// Adds the line of a summary.
-fn add_summary_line(out: &mut Vec<u8>, summary: &Summary) -> Result<(), AllocError>
+/// Adds the line of a summary.
+pub fn add_summary_line(out: &mut Vec<u8>, summary: &Summary) -> Result<(), AllocError>
     ensures { Writes result out.old out.new (summary_text summary.now) }
 {
     add_summary(out, summary)?;
@@ -164,68 +165,4 @@ pub fn measures_end_line(alloc: Global, measures: u64) -> Result<String, Memory>
     let mut out = Vec::with_capacity(alloc, SHORT)?;
     add_measures_end_line(&mut out, measures)?;
     Ok(text_of(out))
-}
-
-/// Adds the reply line to what `before` holds, and gives it back.
-pub fn append_reply(before: Vec<u8>, line: u64, reply: &Reply) -> Result<Vec<u8>, Memory>
-    ensures { IfOk result (λ out. out.items ≡ before.items ++ reply_text line reply.now) }
-{
-    let mut out = before;
-    add_reply_line(&mut out, line, reply)?;
-    Ok(out)
-}
-
-/// Adds the record line to what `before` holds, and gives it back.
-pub fn append_record(before: Vec<u8>, number: u64, finished: &Record) -> Result<Vec<u8>, Memory>
-    ensures { IfOk result (λ out. out.items ≡ before.items ++ record_text number finished.now) }
-{
-    let mut out = before;
-    add_record_line(&mut out, number, finished)?;
-    Ok(out)
-}
-
-/// Adds the measure line to what `before` holds, and gives it back.
-pub fn append_measure(before: Vec<u8>, line: u64, measure: &Measure) -> Result<Vec<u8>, Memory>
-    ensures { IfOk result (λ out. out.items ≡ before.items ++ measure_text line measure.now) }
-{
-    let mut out = before;
-    add_measure_line(&mut out, line, measure)?;
-    Ok(out)
-}
-
-/// Adds the refusal line to what `before` holds, and gives it back. Want of memory has no such line.
-pub fn append_refusal(before: Vec<u8>, line: u64, told: &Told) -> Result<Vec<u8>, Memory>
-    requires { told.now ≢ Told.Step Refusal.Memory }
-    ensures { IfOk result (λ out. out.items ≡ before.items ++ refusal_text line told.now) }
-{
-    let mut out = before;
-    add_refusal_line(&mut out, line, told)?;
-    Ok(out)
-}
-
-/// Adds the end line to what `before` holds, and gives it back.
-pub fn append_end(before: Vec<u8>, open_spans: u64, records: u64) -> Result<Vec<u8>, Memory>
-    ensures { IfOk result (λ out. out.items ≡ before.items ++ end_text open_spans records) }
-{
-    let mut out = before;
-    add_end_line(&mut out, open_spans, records)?;
-    Ok(out)
-}
-
-/// Adds the end line of a run that tells metrics to what `before` holds, and gives it back.
-pub fn append_measures_end(before: Vec<u8>, measures: u64) -> Result<Vec<u8>, Memory>
-    ensures { IfOk result (λ out. out.items ≡ before.items ++ measures_end_text measures) }
-{
-    let mut out = before;
-    add_measures_end_line(&mut out, measures)?;
-    Ok(out)
-}
-
-/// Adds a summary's line to what `before` holds, and gives it back.
-pub fn append_summary(before: Vec<u8>, summary: &Summary) -> Result<Vec<u8>, Memory>
-    ensures { IfOk result (λ out. out.items ≡ before.items ++ summary_text summary.now) }
-{
-    let mut out = before;
-    add_summary_line(&mut out, summary)?;
-    Ok(out)
 }

@@ -1,5 +1,5 @@
 //! Making a script and running it: what it came to is written as one line.
-ghost use Rattle.std.specs.Prelude.{◌≡◌, ◌∷◌, ◌≤◌, ◌<◌, ◌+◌, [], length, IfOk, OnOk};
+ghost use Rattle.std.specs.Prelude.{◌≡◌, ◌∷◌, ◌≤◌, ◌<◌, [], IfOk, OnOk};
 ghost use Rattle.span_script.specs.Tables.{History};
 ghost use Rattle.trace_pipeline.specs.Generated.{made_requests};
 ghost use Rattle.trace_pipeline.specs.Replay.{busy_in, busy_of};
@@ -17,7 +17,7 @@ use std::alloc::Global;
 use trace_base::discard::Discard;
 use trace_pipeline::generated::laws::valid;
 use trace_pipeline::generated::{MOST_ROUNDS, made_settings, round};
-use trace_pipeline::write::append_summary;
+use trace_pipeline::write::add_summary_line;
 use trace_pipeline::write::summary::Summary;
 use trace_stream::failed::Failed;
 use trace_stream::sink::{Sink, write_all};
@@ -47,7 +47,8 @@ fn made_line(alloc: Global, rounds: u64) -> Result<Vec<u8>, Memory>
     ensures { IfOk result (λ text. IsMadeLine rounds text.items) }
 {
     let summary = run_rounds(alloc, rounds)?;
-    let text = append_summary(Vec::new(alloc), &summary)?;
+    let mut text = Vec::new(alloc);
+    add_summary_line(&mut text, &summary)?;
     Ok(text)
 }
 

@@ -2,7 +2,7 @@
 //! record.
 //!
 //! It waits for its threads, which an `AllLines` may not; it goes the same way as `answer_all`.
-ghost use Rattle.std.specs.Prelude.{◌≡◌, IfOk};
+ghost use Rattle.std.specs.Prelude.{IfOk};
 ghost use Rattle.thread_run.specs.Inputs.{TellsThreads, accepts_threads};
 ghost use Rattle.trace_pipeline.specs.Lines.{lines_of};
 ghost use Rattle.trace_stream.specs.reading.AllLines.{AnswersCut, WritesAnswer};
@@ -15,8 +15,8 @@ use script_lines::Answer;
 use std::alloc::Global;
 use std::sync::Wait;
 use std::thread::Threads;
+use thread_handles::Ended;
 use thread_run::{Outcome, threads_answer, threads_refusal};
-use thread_work::Ended;
 use trace_pipeline::limits::MAX_INPUT;
 use trace_stream::all_lines::status_of;
 use trace_stream::failed::Failed;

@@ -118,7 +118,7 @@ impl Answers {
 
     /// Answers that no line follows: the end line comes last, or the refusal of an input without a settings line.
     /// Whether the lines are accepted is told. `Memory` freely.
-    pub fn end(&mut self, alloc: Global, signal: Signal) -> Result<bool, Memory>
+    pub fn end(&mut self, signal: Signal) -> Result<bool, Memory>
         ensures { (put : List ℕ) (lines : List (List ℕ)) → AnswersTo signal put lines self.old
             → IfOk result (λ accepted. report_from signal 0 lines
             ≡ record { written = put ++ self.new.written.text.items; accepted = accepted }) }
@@ -127,12 +127,12 @@ impl Answers {
             Stage::Opening => {
                 // No input has so many lines that the sum wraps.
                 let end = self.lines.checked_add(1).ok_or(Memory)?;
-                self.written.refuse(alloc, end, &Told::BadLine)?;
+                self.written.refuse(end, &Told::BadLine)?;
                 Ok(false)
             }
             Stage::Running { pipeline } => {
                 let spans = pipeline.open_spans();
-                self.written.end(alloc, signal, spans)?;
+                self.written.end(signal, spans)?;
                 Ok(true)
             }
             Stage::Refused => Ok(false),
@@ -163,7 +163,7 @@ pub fn open(
             Ok(Stage::Running { pipeline })
         }
         Err(told) => {
-            written.refuse(alloc, lines, &told)?;
+            written.refuse(lines, &told)?;
             Ok(Stage::Refused)
         }
     }
@@ -186,11 +186,11 @@ pub fn answer(
 {
     match answer_line(alloc, pipeline, line)? {
         Ok(answered) => {
-            written.answer(alloc, signal, lines, &answered.reply, pipeline)?;
+            written.answer(signal, lines, &answered.reply, pipeline)?;
             Ok(true)
         }
         Err(told) => {
-            written.refuse(alloc, lines, &told)?;
+            written.refuse(lines, &told)?;
             Ok(false)
         }
     }

@@ -147,10 +147,10 @@ impl Progress {
             ≡ record { written = put ++ self.new.answers.written.text.items; accepted = accepted }) }
     {
         if self.kept.is_empty() {
-            return self.answers.end(alloc, signal);
+            return self.answers.end(signal);
         }
         self.answers.line(alloc, signal, self.kept.as_slice())?;
-        self.answers.end(alloc, signal)
+        self.answers.end(signal)
     }
 
     /// Ends a run of which all is written that was answered: answers what came of the last line, and that no line follows,

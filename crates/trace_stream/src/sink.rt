@@ -1,6 +1,5 @@
 //! Sinks: where a run's output goes.
 ghost use Rattle.std.specs.Prelude.{◌≡◌, ℕ, ◌<◌, ◌≤◌, List, [], Option, Some, length, take, IfOk, OnOk, OnErr};
-ghost use Rattle.std.proofs.Common.{◌⊎◌};
 ghost use Rattle.trace_stream.specs.Streams.{CountsFault, Puts, PutsFront, StopsWriting, KeepsTurn, first_turn, later_turns};
 
 use crate::failed::Failed;

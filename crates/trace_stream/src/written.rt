@@ -11,11 +11,10 @@ use crate::sink::{Sink, write_all};
 use otel_base::memory::Memory;
 use span_pipeline::pipeline::Pipeline;
 use std::alloc::Global;
-use std::mem;
-use trace_pipeline::write::{
-    append_end, append_measure, append_measures_end, append_record, append_refusal, append_reply,
+use trace_pipeline::{
+    Refusal, Reply, Signal, Told, add_end_line, add_measure_line, add_measures_end_line,
+    add_record_line, add_refusal_line, add_reply_line,
 };
-use trace_pipeline::{Refusal, Reply, Signal, Told};
 use trace_records::finished::drop_measures;
 
 /// What is written so far.
@@ -40,20 +39,18 @@ impl Written {
     }
 
     /// Writes the refusal line of a line.
-    pub fn refuse(&mut self, alloc: Global, line: u64, told: &Told) -> Result<(), Memory>
+    pub fn refuse(&mut self, line: u64, told: &Told) -> Result<(), Memory>
         requires { told.now ≢ Told.Step Refusal.Memory }
         ensures text { OnOk result (self.new.text.items ≡ self.old.text.items ++ refusal_text line told.now) }
         ensures count { self.new.count ≡ self.old.count }
     {
-        let text = mem::replace(&mut self.text, Vec::new(alloc));
-        self.text = append_refusal(text, line, told)?;
+        add_refusal_line(&mut self.text, line, told)?;
         Ok(())
     }
 
     /// Writes what is told of the request on a line that was served, and takes the records and the measures that wait.
     pub fn answer(
         &mut self,
-        alloc: Global,
         signal: Signal,
         line: u64,
         reply: &Reply,
@@ -63,13 +60,13 @@ impl Written {
     {
         match signal {
             Signal::Traces => {
-                self.write_reply(alloc, line, reply)?;
-                self.write_records(alloc, pipeline)?;
+                self.write_reply(line, reply)?;
+                self.write_records(pipeline)?;
                 drop_measures(pipeline);
                 Ok(())
             }
             Signal::Metrics => {
-                self.write_measures(alloc, line, pipeline)?;
+                self.write_measures(line, pipeline)?;
                 drop_records(pipeline);
                 Ok(())
             }
@@ -77,17 +74,16 @@ impl Written {
     }
 
     // Writes the reply line of a line.
-    fn write_reply(&mut self, alloc: Global, line: u64, reply: &Reply) -> Result<(), Memory>
+    fn write_reply(&mut self, line: u64, reply: &Reply) -> Result<(), Memory>
         ensures text { OnOk result (self.new.text.items ≡ self.old.text.items ++ reply_text line reply.now) }
         ensures count { self.new.count ≡ self.old.count }
     {
-        let text = mem::replace(&mut self.text, Vec::new(alloc));
-        self.text = append_reply(text, line, reply)?;
+        add_reply_line(&mut self.text, line, reply)?;
         Ok(())
     }
 
     // Takes the records, and writes their lines.
-    fn write_records(&mut self, alloc: Global, pipeline: &mut Pipeline) -> Result<(), Memory>
+    fn write_records(&mut self, pipeline: &mut Pipeline) -> Result<(), Memory>
         ensures lines { OnOk result (self.new.text.items
             ≡ self.old.text.items ++ record_lines (self.old.count + 1) pipeline.old.recording.finished) }
         ensures count { OnOk result (
@@ -98,20 +94,14 @@ impl Written {
         while let Some(finished) = pipeline.take_record() {
             // No run has so many records that the sum wraps.
             let number = self.count.checked_add(1).ok_or(Memory)?;
-            let text = mem::replace(&mut self.text, Vec::new(alloc));
-            self.text = append_record(text, number, &finished)?;
+            add_record_line(&mut self.text, number, &finished)?;
             self.count = number;
         }
         Ok(())
     }
 
     // Takes the measures of the event on a line, and writes their lines.
-    fn write_measures(
-        &mut self,
-        alloc: Global,
-        line: u64,
-        pipeline: &mut Pipeline,
-    ) -> Result<(), Memory>
+    fn write_measures(&mut self, line: u64, pipeline: &mut Pipeline) -> Result<(), Memory>
         ensures lines { OnOk result (
             self.new.text.items ≡ self.old.text.items ++ measure_lines line pipeline.old.measures) }
         ensures count { OnOk result (self.new.count ≡ self.old.count + length pipeline.old.measures) }
@@ -121,23 +111,21 @@ impl Written {
         while let Some(measure) = pipeline.take_measure() {
             // No run has so many measures that the sum wraps.
             let count = self.count.checked_add(1).ok_or(Memory)?;
-            let text = mem::replace(&mut self.text, Vec::new(alloc));
-            self.text = append_measure(text, line, &measure)?;
+            add_measure_line(&mut self.text, line, &measure)?;
             self.count = count;
         }
         Ok(())
     }
 
     /// Writes the end line, for a run that leaves so many spans open.
-    pub fn end(&mut self, alloc: Global, signal: Signal, spans: u64) -> Result<(), Memory>
+    pub fn end(&mut self, signal: Signal, spans: u64) -> Result<(), Memory>
         ensures { OnOk result (
             self.new.text.items ≡ self.old.text.items ++ last_text signal spans self.old.count) }
     {
-        let text = mem::replace(&mut self.text, Vec::new(alloc));
-        self.text = match signal {
-            Signal::Traces => append_end(text, spans, self.count)?,
-            Signal::Metrics => append_measures_end(text, self.count)?,
-        };
+        match signal {
+            Signal::Traces => add_end_line(&mut self.text, spans, self.count)?,
+            Signal::Metrics => add_measures_end_line(&mut self.text, self.count)?,
+        }
         Ok(())
     }
 

@@ -1,5 +1,5 @@
 //! What holds of each script that is made. Each law is a function that does nothing.
-ghost use Rattle.std.specs.Prelude.{◌≡◌, ◌≤◌, ℕ, [], true, map, Ok, Some};
+ghost use Rattle.std.specs.Prelude.{◌≡◌, ◌≤◌, ℕ, [], map, Ok, Some};
 ghost use Rattle.span_script.specs.Admission.{opening_read};
 ghost use Rattle.span_script.specs.Tables.{History};
 ghost use Rattle.trace_pipeline.specs.Generated.{made_settings, made_setup, made_requests, request_line, settings_line, made_lines, made_script};

@@ -55,7 +55,6 @@ pub(crate) fn tree_of(alloc: Global, line: &[u8]) -> Result<Object<'_>, LineErro
 }
 
 impl<'a> Object<'a> {
-    ghost use Rattle.std.specs.Prelude.{List, ℕ};
     ghost use Rattle.trace_pipeline.specs.forms.Forms.{without_member, member, optional, natural, whole_to, text, flag_or, array, optional_text, optional_u32, no_more};
 
     /// The object that a line is.

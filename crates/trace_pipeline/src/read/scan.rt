@@ -2,8 +2,7 @@
 //! of what the text is.
 ghost use Rattle.std.specs.Prelude.{◌≡◌, ◌<◌, ◌-◌, ◌^◌, ◌∷◌, ◌++◌, negsuc, IfSome, decimal};
 ghost use Rattle.json.specs.Print.{quoted};
-ghost use Rattle.serde_json.specs.Data.{Data, boolean};
-ghost use Rattle.serde_json.specs.Written.{compact_text};
+ghost use Rattle.serde_json.specs.Data.{Data};
 ghost use Rattle.trace_pipeline.specs.text.Compact.{plain_data, BeginsWithValue, BeginsItems, BeginsMembers, BeginsNested};
 
 use crate::read::plain::Plain;

@@ -4,7 +4,7 @@ ghost use Rattle.trace_pipeline.specs.reading.Gives.{Gives};
 ghost use Rattle.trace_pipeline.specs.reading.Left.{value_data, members_left};
 ghost use Rattle.trace_pipeline.specs.forms.Forms.{each, object_of, provided};
 ghost use Rattle.trace_pipeline.specs.reading.Object.{items};
-ghost use Rattle.trace_pipeline.specs.forms.SettingsForm.{Lane, lane_form, level_form, kind_form, source_form, callsite_form, callsites_form, error_flags, span_flags, layer_form, lanes_form, given_layer, settings_form, lane_ids, all_differ};
+ghost use Rattle.trace_pipeline.specs.forms.SettingsForm.{lane_form, level_form, kind_form, source_form, callsite_form, callsites_form, error_flags, span_flags, layer_form, lanes_form, given_layer, settings_form, lane_ids, all_differ};
 
 use crate::level_words::{kind_of, level_of};
 use crate::read::LineError;

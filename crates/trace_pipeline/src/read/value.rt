@@ -1,5 +1,5 @@
 //! Values of members and items, of a text or of a tree.
-ghost use Rattle.std.specs.Prelude.{◌≡◌, Some, option_and_then};
+ghost use Rattle.std.specs.Prelude.{Some, option_and_then};
 ghost use Rattle.serde_json.specs.Find.{as_str, as_bool, as_array};
 ghost use Rattle.serde_json.specs.View.{view, items_view};
 ghost use Rattle.trace_pipeline.specs.forms.Forms.{as_whole};

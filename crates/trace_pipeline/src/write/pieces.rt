@@ -1,5 +1,5 @@
 //! The pieces of lines: each is a text as it is given, and then a value.
-ghost use Rattle.std.specs.Prelude.{◌≡◌, ◌++◌, decimal, codes};
+ghost use Rattle.std.specs.Prelude.{◌≡◌, ◌++◌, decimal};
 ghost use Rattle.std.specs.Fmt.{signed_decimal};
 ghost use Rattle.json.specs.Print.{escape, quoted};
 ghost use Rattle.serde_json.specs.Data.{boolean};

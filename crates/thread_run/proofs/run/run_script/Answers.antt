@@ -2,7 +2,7 @@ use denote.Exit.{no}
 use denote.Param.Send.{param_send, arg_send}
 use Rattle.std.proofs.Common.{ℕ, List, length, subst}
 use Rattle.shared_gate.proofs.Crossing.{gate_send}
-use Rattle.thread_work.specs.declared.script.WorkerOp.{WorkerOp}
+use Rattle.thread_script.specs.declared.script.WorkerOp.{WorkerOp}
 use Rattle.thread_run.specs.Gates.{AreOpen}
 use Rattle.thread_run.proofs.FitsLemmas.{are_open}
 use Rattle.thread_run.proofs.run.run_script.Goals as goal
