@@ -1,5 +1,5 @@
 -- The next item of a batch, and the next batch.
-use Rattle.std.proofs.Common.{◌≡◌, ℕ, ◌+◌, ◌<◌, ◌≤◌, List, [], ◌∷◌, ◌++◌, Bool, true, Vec, Global, map, length, get_or, drop, drop_of_length-le, ap, sym, ◌∙◌, append_assoc, append-nil}
+use Rattle.std.proofs.Common.{◌≡◌, ℕ, ◌+◌, ◌<◌, ◌≤◌, List, [], ◌++◌, Bool, true, Vec, Global, map, length, get_or, drop, drop_of_length-le, ap, sym, ◌∙◌, append_assoc, append-nil}
 use Rattle.std.proofs.lemmas.List.{drop_more}
 use Rattle.serde_json.specs.Written.{comma_if}
 use Rattle.trace_batch.specs.declared.item.Sent.{Sent}

@@ -1,5 +1,4 @@
 //! Records as items of batches.
-ghost use Rattle.std.specs.Prelude.{◌≡◌};
 
 use otel_base::list::Items;
 use otel_base::memory::Memory;

@@ -1,5 +1,5 @@
 //! The lists of the lanes, for their senders.
-ghost use Rattle.std.specs.Prelude.{◌≡◌, ◌<◌, ◌≤◌, ◌∷◌, ◌++◌, ℕ, [], All, length, get_or, set, IfOk, OnOk};
+ghost use Rattle.std.specs.Prelude.{◌≡◌, ◌<◌, ◌∷◌, ◌++◌, ℕ, [], All, length, get_or, set, IfOk, OnOk};
 ghost use Rattle.batch_lines.specs.Items.{items_of, on_lane};
 
 use crate::finished::FinishedSpan;

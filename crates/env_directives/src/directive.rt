@@ -33,7 +33,7 @@ pub mod set;
 pub trait Match {
     ghost cares: { Self → Callsite → Bool };
 
-    ghost level_behind_equals: { Self → LevelFilter };
+    ghost level_of: { Self → LevelFilter };
 
     /// Whether it speaks of a callsite.
     fn cares_about(&self, callsite: &Callsite) -> bool
@@ -41,7 +41,7 @@ pub trait Match {
 
     /// The level that it lets through.
     fn level(&self) -> LevelFilter
-        ensures { result ≡ level_behind_equals self.now };
+        ensures { result ≡ level_of self.now };
 }
 
 /// How verbosely a part of a program is traced: callsites by their target and, for events, by the names of their
@@ -233,7 +233,7 @@ impl MadeWith<Global> for StaticDirective {
 impl Match for StaticDirective {
     ghost cares = { cares };
 
-    ghost level_behind_equals = { λ d. d.level };
+    ghost level_of = { λ d. d.level };
 
     fn cares_about(&self, callsite: &Callsite) -> bool {
         self.covers(callsite.target.as_str())

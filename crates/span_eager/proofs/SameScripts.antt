@@ -144,9 +144,9 @@ module _ (f : Ids) (setup : Setup) (eager : setup.layer.eager ≡ true) where
       let is : after_effect u ee ≡ tables_by f.new q s = after_by f.new n r t l in
       let hl = history_from (lazy setup) s requests in
       let next = next_same t r request l hl is_l agrees.1 same settled shut in
-      let opened = open_same f setup.layer (count_made n l.made) l.at (order_from s hl) (recorded_by n ee r) (recorded_by n l t.recording) next in
+      let opened = open_same f setup.layer (count_made n l.new_span) l.at (order_from s hl) (recorded_by n ee r) (recorded_by n l t.recording) next in
       let ready : Same (length s.spans) s.moment (order_from s hl) q s.recording =
-      subst₂ (λ (c m : ℕ). Same c l.at (order_from s hl) (open_part (recorded_by m ee r)) s.recording) (sym (made_count t.spans l.made)) (sym k) opened in
+      subst₂ (λ (c m : ℕ). Same c l.at (order_from s hl) (open_part (recorded_by m ee r)) s.recording) (sym (made_count t.spans l.new_span)) (sym k) opened in
       let behind = subst (λ (x : Tables). Beside f.new setup x s requests (history_from setup x requests) hl) (sym is) (rest s q ready settled.1 shut.1) in
       let mine : records_of u ee ≡ map (record_by f.new) (records_of t l) = ap (λ (m : ℕ). (recorded_by m ee r).finished) k ∙ next.finished in
       subst (λ (x : Effect). Beside f.new setup u t (request ∷ requests) (x ∷ history_from setup (after_effect u x) requests) (l ∷ hl)) (sym agrees.0) (record {

@@ -20,18 +20,18 @@ ghost use Rattle.span_laws.specs.Levels.{HasNoReload, directives_in, hooks_in, l
 /// After a reload the gate speaks of the new text alone, whatever came before. All else is as it was: spans that were made
 /// stay, whatever the new text says of them.
 pub fn reloads()
-    ensures gate { (setup : Setup) (t : Tables) (stands : Here) (lane : ℕ) (text : List ℕ) (c : Callsite)
-        → admits_at setup (after_effect t (reload_effect stands text)) lane c ≡ is_admitted (text_filter text) lane c }
-    ensures others { (setup : Setup) (h : History) (stands : Here) (text : List ℕ) → IsHistory setup h
-        → after_effect (tables setup h) (reload_effect stands text)
-        ≡ record (tables setup h) { filter = Some text; heard = []; moment = stands.at } }
+    ensures gate { (setup : Setup) (t : Tables) (here : Here) (lane : ℕ) (text : List ℕ) (c : Callsite)
+        → admits_at setup (after_effect t (reload_effect here text)) lane c ≡ is_admitted (text_filter text) lane c }
+    ensures others { (setup : Setup) (h : History) (here : Here) (text : List ℕ) → IsHistory setup h
+        → after_effect (tables setup h) (reload_effect here text)
+        ≡ record (tables setup h) { filter = Some text; hooks = []; moment = here.at } }
 {}
 
 /// An event that isn't let through leaves nothing but its answer.
 pub fn refused_events()
-    ensures { (stands : Here) (c : Callsite) (values : ValueSet) (reached : Scope)
-        → admits_at stands.setup stands.script stands.lane c ≡ false
-        → event_effect stands c values reached ≡ answer_effect stands (reply.Enabled false) }
+    ensures { (here : Here) (c : Callsite) (values : ValueSet) (reached : Scope)
+        → admits_at here.setup here.script here.lane c ≡ false
+        → event_effect here c values reached ≡ answer_effect here (reply.Enabled false) }
 {}
 
 /// A filter hears of a making the span, its callsite and its values, of a record the values that it gives, of an entry and an

@@ -6,7 +6,7 @@ ghost use Rattle.span_script.specs.calls.Spans.{is_open};
 ghost use Rattle.span_script.specs.Setups.{Setup};
 ghost use Rattle.span_script.specs.Tables.{History, tables};
 ghost use Rattle.span_laws.specs.Laws.{IsHistory, occurrences};
-ghost use Rattle.span_laws.specs.Records.{records};
+ghost use Rattle.span_laws.specs.Records.{records_of_history};
 ghost use Rattle.span_laws.specs.Starts.{place_in, starting_order};
 ghost use Rattle.span_laws.specs.Telling.{id_of, id_in_data};
 
@@ -20,11 +20,11 @@ pub fn ids()
         → is_open (tables setup h).handles s ≡ true
         → id_in_data (data_at s (tables setup h).recording.spans) ≡ place_in (starting_order h) s }
     ensures of_records { (setup : Setup) (h : History) → IsHistory setup h
-        → map id_of (records setup h) ≡ map (place_in (starting_order h)) (tables setup h).closed }
+        → map id_of (records_of_history setup h) ≡ map (place_in (starting_order h)) (tables setup h).closed }
     ensures no_two_alike { (setup : Setup) (h : History) (id : ℕ) → IsHistory setup h
-        → occurrences id (map id_of (records setup h)) ≤ 1 }
+        → occurrences id (map id_of (records_of_history setup h)) ≤ 1 }
     ensures none_zero { (setup : Setup) (h : History) → IsHistory setup h
-        → occurrences 0 (map id_of (records setup h)) ≡ 0 }
+        → occurrences 0 (map id_of (records_of_history setup h)) ≡ 0 }
     ensures in_order_of_making { (setup : Setup) (h : History) → IsHistory setup h → setup.layer.eager ≡ true
         → starting_order h ≡ range_with_len 0 (length (tables setup h).spans) }
     ensures early { (setup : Setup) (h : History) (s : ℕ) → IsHistory setup h → setup.layer.eager ≡ true

@@ -6,7 +6,7 @@ ghost use Rattle.span_script.specs.Setups.{Setup};
 ghost use Rattle.span_script.specs.Tables.{Effect, History, MadeSpan, tables};
 ghost use Rattle.span_laws.specs.Laws.{IsHistory};
 ghost use Rattle.span_laws.specs.Makings.{IsMadeBy, HasContextOf, SeesOwn, is_making};
-ghost use Rattle.span_laws.specs.Records.{EachRecord, records};
+ghost use Rattle.span_laws.specs.Records.{EachRecord, records_of_history};
 
 /// A request makes a span exactly where it asks for one of a callsite that the directives in force admit. What the span is
 /// made with is what the request says: the callsite's name and first attributes, the context of an explicit parent, of the
@@ -23,7 +23,7 @@ pub fn makings()
 /// of a span's own context that starts the span, or finds it started.
 pub fn contexts()
     ensures under { (setup : Setup) (h : History) → IsHistory setup h
-        → EachRecord (HasContextOf setup h) (tables setup h).closed (records setup h) }
+        → EachRecord (HasContextOf setup h) (tables setup h).closed (records_of_history setup h) }
     ensures seen { (setup : Setup) (h : History) → IsHistory setup h
-        → EachRecord (SeesOwn setup h) (tables setup h).closed (records setup h) }
+        → EachRecord (SeesOwn setup h) (tables setup h).closed (records_of_history setup h) }
 {}

@@ -6,7 +6,7 @@ ghost use Rattle.otel_state.specs.Times.{last_exit};
 ghost use Rattle.span_script.specs.Setups.{Setup};
 ghost use Rattle.span_script.specs.Tables.{ScopeGuard, History, made_of, slot_at, tables};
 ghost use Rattle.span_laws.specs.Laws.{IsHistory};
-ghost use Rattle.span_laws.specs.Records.{EachRecord, closed_at, ops_of, records};
+ghost use Rattle.span_laws.specs.Records.{EachRecord, closed_at, ops_of, records_of_history};
 ghost use Rattle.span_laws.specs.Telling.{TellsSpan};
 
 /// No closed span has an entry that is still open. A record starts with its span's making and ends with the last exit,
@@ -18,8 +18,8 @@ pub fn times()
         → is_in s (tables setup h).closed ≡ false }
     ensures spans { (setup : Setup) (h : History) → IsHistory setup h
         → EachRecord (λ s r. TellsSpan (made_of (tables setup h).spans s).made_with.made (last_exit (ops_of r.context h s)) (closed_at h s) r)
-        (tables setup h).closed (records setup h) }
+        (tables setup h).closed (records_of_history setup h) }
     ensures add_up { (setup : Setup) (h : History) → IsHistory setup h → IsTrue setup.layer.inactivity
         → EachRecord (λ s r. TellsTimes (was_entered (ops_of r.context h s)) (last_exit (ops_of r.context h s)) r)
-        (tables setup h).closed (records setup h) }
+        (tables setup h).closed (records_of_history setup h) }
 {}

@@ -19,7 +19,7 @@ pub struct Contexts {
 impl Contexts {
     /// No contexts, and no guards.
     pub fn new(alloc: Global) -> Contexts
-        ensures { named_in result ≡ record { made = []; attaches = [] } }
+        ensures { named_in result ≡ record { contexts = []; attaches = [] } }
     {
         Contexts {
             made: Vec::new(alloc),

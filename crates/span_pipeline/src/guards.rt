@@ -1,5 +1,5 @@
 //! The guards of entries, with the number of open ones beside each handle.
-ghost use Rattle.std.specs.Prelude.{◌≡◌, ℕ, ◌<◌, ◌≤◌, ◌+◌, ◌-◌, ◌^◌, ◌++◌, ◌∷◌, [], Some, None, OnOk, option_map, length, count_by, slice_index_or, slice_set};
+ghost use Rattle.std.specs.Prelude.{◌≡◌, ℕ, ◌<◌, ◌+◌, ◌-◌, ◌^◌, ◌++◌, ◌∷◌, [], Some, None, OnOk, option_map, length, count_by, slice_index_or, slice_set};
 ghost use Rattle.span_script.specs.Slots.{is_named, is_shared_by, names_handle};
 
 use otel_base::memory::Memory;

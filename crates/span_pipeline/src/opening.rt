@@ -1,5 +1,5 @@
 //! What a pipeline begins with.
-ghost use Rattle.std.specs.Prelude.{◌≡◌, ◌++◌, ◌<◌, ◌≤◌, [], ◌∷◌, length, map, IfOk, OnOk};
+ghost use Rattle.std.specs.Prelude.{◌≡◌, ◌++◌, ◌<◌, [], ◌∷◌, length, map, IfOk, OnOk};
 ghost use Rattle.trace_base.specs.Gate.{AreSame, IsFresh};
 
 use otel_base::list::Items;

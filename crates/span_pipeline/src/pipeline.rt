@@ -1,6 +1,6 @@
 //! A pipeline runs the requests of a script over a stack of a registry, the OpenTelemetry layer, the layer of metrics and a
 //! filter.
-ghost use Rattle.std.specs.Prelude.{◌≡◌, ◌<◌, ℕ, [], true, map, option_map, length, IfOk, OnOk, IfErr, OnErr, Ok, Err};
+ghost use Rattle.std.specs.Prelude.{◌≡◌, ◌<◌, [], true, map, option_map, length, IfOk, OnOk, IfErr, OnErr, Ok, Err};
 ghost use Rattle.env_filter.specs.Filtering.{plain, IsNewFilter};
 ghost use Rattle.span_script.specs.Admission.{opening_read, IsUnread, IsTextFilter, IsCounter};
 ghost use Rattle.span_script.specs.Setups.{HasOwnIds, setup_by};

@@ -1,5 +1,5 @@
 //! What a pipeline gives besides its answers: records, measures, and how many spans are open.
-ghost use Rattle.std.specs.Prelude.{◌≡◌, ◌≤◌, [], ◌∷◌, drop, count_by, nat_lt, MatchOption};
+ghost use Rattle.std.specs.Prelude.{◌≡◌, ◌≤◌, [], ◌∷◌, count_by, nat_lt, MatchOption};
 ghost use Rattle.std.specs.List.{range_with_len};
 ghost use Rattle.trace_base.specs.Spans.{span_at};
 

@@ -39,4 +39,4 @@ opened_on handle lane (s ∷ up) = Some (record { handle = handle; span = s; lan
 
 abbrev pub opened_by : List ℕ → Option ScopeGuard → Option OpenGuard
 opened_by ids None = None
-opened_by ids (Some g) = opened_on g.handle (id_at ids g.lane) g.scope
+opened_by ids (Some g) = opened_on g.handle (id_at ids g.place) g.scope

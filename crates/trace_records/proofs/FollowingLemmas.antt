@@ -1,20 +1,16 @@
 -- One line more is followed, and the lines end.
-use Rattle.std.proofs.Common.{◌≡◌, ℕ, List, [], ◌∷◌, ◌++◌, refl, sym, ap, subst, ◌∙◌, append_assoc, ◌+◌, length, map, inl, inr}
-use Rattle.std.specs.Prelude.{Bool, Option, Some, None, Result, Ok, Err, OnOk, true, false}
+use Rattle.std.proofs.Common.{◌≡◌, ℕ, List, [], ◌∷◌, ◌++◌, refl, sym, ap, subst, ◌∙◌, append_assoc, ◌+◌, length, map, inr}
+use Rattle.std.specs.Prelude.{Option, Some, None, Result, Ok, Err, OnOk, true, false}
 use Rattle.std.proofs.lemmas.List.{append-nil, map-append}
 use Rattle.otel_base.specs.declared.record.Record.{Record}
 use Rattle.span_script.specs.Setups.{Setup}
-use Rattle.span_script.specs.Tables.{History, Effect, Tables, no_tables, tables, records_of}
+use Rattle.span_script.specs.Tables.{History, Tables, no_tables, tables, records_of}
 use Rattle.span_script.specs.calls.Spans.{open_spans}
 use Rattle.span_script.specs.Outcomes.{records_of_history}
 use Rattle.span_script.specs.Fits.{State, StandsFor}
 use Rattle.span_script.proofs.runs.RunLemmas.{records_push}
-use Rattle.trace_pipeline.specs.declared.told.Told.{Told}
 use Rattle.trace_pipeline.specs.declared.told.Told.TheVariants as told
 use Rattle.trace_pipeline.specs.Lines.{is_blank}
-use Rattle.trace_pipeline.specs.reading.Spelled.{request_spelled}
-use Rattle.trace_pipeline.specs.Report.{effect_of_line}
-use Rattle.script_lines.specs.Refusals.{IsTold}
 use Rattle.script_lines.proofs.BlankLemmas.{some_before, all_blank, one_not_blank}
 use Rattle.trace_records.specs.declared.finished.FinishedSpans.{FinishedSpans}
 use Rattle.script_lines.specs.declared.refused_line.RefusedLine.{RefusedLine}
@@ -22,9 +18,9 @@ use Rattle.trace_records.specs.declared.line.Opened.{Opened}
 use Rattle.trace_records.specs.declared.line.Answered.{Answered}
 use Rattle.trace_records.specs.declared.script.Stage.{Stage}
 use Rattle.trace_records.specs.declared.script.Stage.TheVariants as stage
-use Rattle.trace_records.specs.Scripts.{ScriptRan, Run, setup_of_line, lane_in, lanes_on, script_on, script_from, script_of}
+use Rattle.trace_records.specs.Scripts.{Run, lanes_on, script_of}
 use Rattle.trace_records.specs.Lines.{Opens, AnswersRequest}
-use Rattle.trace_records.specs.Following.{without_taken, IsOpening, IsRunning, IsStopped, StandsAt, AreOf, EndsAs, IsRefusedBy}
+use Rattle.trace_records.specs.Following.{without_taken, IsOpening, IsRunning, IsStopped, StandsAt, EndsAs, IsRefusedBy}
 
 -- ---- one line more
 
@@ -73,26 +69,6 @@ opened_on of most lines count next old new line opened o counted is opens spans 
   spans_are = spans ∙ o.no_spans;
   lanes_are = number ∙ opens.lanes;
   script_is = λ more. on_line most lines more line _ (o.script_is (line ∷ more) ∙ rw (is, opens.setup, counted, lanes, o.no_lanes) refl);
-}
-
--- a settings line that is refused
-pub unopened_on : {K : Type 0} (most : Option ℕ) (lines : List (List ℕ)) (count next : ℕ) (finished : FinishedSpans K) (line : List ℕ) (why : Told)
-    → IsOpening most lines count finished → next ≡ count + 1 → is_blank line ≡ false → setup_of_line most line ≡ Err why → IsTold why
-    → IsStopped most (lines ++ line ∷ []) (record { line = next; told = why })
-unopened_on most lines count next finished line why o counted is refused told = record {
-  some = one_not_blank lines line o.blank is;
-  is_told = told;
-  script_is = λ more. on_line most lines more line _ (o.script_is (line ∷ more) ∙ rw (is, refused, counted) refl);
-}
-
--- a request line that is refused
-pub refused_on : {K : Type 0} (of : Record → K) (most : Option ℕ) (lines : List (List ℕ)) (count next : ℕ) (kept : State) (finished : FinishedSpans K) (line : List ℕ) (why : Told)
-    (r : IsRunning of most lines count kept finished) → next ≡ count + 1 → is_blank line ≡ false → effect_of_line kept.setup (tables kept.setup r.history) line ≡ Err why → IsTold why
-    → IsStopped most (lines ++ line ∷ []) (record { line = next; told = why })
-refused_on of most lines count next kept finished line why r counted is none told = record {
-  some = some_before lines (line ∷ []) r.some;
-  is_told = told;
-  script_is = λ more. on_line most lines more line _ (r.script_is (line ∷ more) ∙ rw (is, none, counted) refl);
 }
 
 -- records and measures that are to be taken change nothing else
@@ -204,11 +180,6 @@ running_end of most lines count kept before after r spans_are lanes_are number c
 
 pub running_refuses_none : {K : Type 0} (of : Record → K) (most : Option ℕ) (lines : List (List ℕ)) (count : ℕ) (kept : State) (finished : FinishedSpans K) → IsRunning of most lines count kept finished → IsRefusedBy most lines None
 running_refuses_none of most lines count kept finished r = inr (record { setup = kept.setup; history = r.history; lanes = finished.lanes.items }, with_none most lines ∙ r.script_is [])
-
-pub refused_by : {K : Type 0} (of : Record → K) (most : Option ℕ) (at : Stage) (lines : List (List ℕ)) (count : ℕ) (finished : FinishedSpans K) → StandsAt of most at lines count finished → IsRefusedBy most lines (refused_at at)
-refused_by of most stage.Opening lines count finished o = inl o.blank
-refused_by of most (stage.Running kept) lines count finished r = running_refuses_none of most lines count kept finished r
-refused_by of most (stage.Refused refused) lines count finished s = s
 
 pub stopped_end : {K : Type 0} (of : Record → K) (most : Option ℕ) (lines : List (List ℕ)) (refused : RefusedLine) → IsStopped most lines refused → EndsAs of most lines (Err refused)
 stopped_end of most lines refused s = (with_none most lines ∙ s.script_is [], s.is_told)

@@ -1,10 +1,8 @@
 -- What is written where a line is refused.
-use Rattle.std.proofs.Common.{◌≡◌, ℕ, List, [], ◌∷◌, ◌++◌, refl, sym, ap, ◌∙◌, append_assoc, inl, inr}
-use Rattle.std.specs.Prelude.{Bool, true, Option, Some, None, Ok, is_ok}
-use Rattle.script_lines.specs.Refusals.{Refuses, NoneRefused}
-use Rattle.script_lines.specs.declared.refused_line.RefusedLine.{RefusedLine}
+use Rattle.std.proofs.Common.{ℕ, List, [], ap}
+use Rattle.std.specs.Prelude.{Option, is_ok}
+use Rattle.script_lines.specs.Refusals.{Refuses}
 use Rattle.trace_records.specs.Scripts.{ScriptRan, script_of}
-use Rattle.trace_records.specs.Following.{IsStopped, IsRefusedBy}
 use Rattle.trace_records.specs.Inputs.{accepts_within, TellsRun, AreRefused}
 
 -- whatever is told of a script, the refusal line alone is written
@@ -15,7 +13,3 @@ refuses most Tells lines text a = record {
   refused = λ more. ap is_ok (a.1.script_is more);
   whole = λ more. rw (a.1.script_is more) a.2;
 }
-
-pub none_refused : (most : Option ℕ) (lines : List (List ℕ)) → IsRefusedBy most lines None → NoneRefused (accepts_within most) lines
-none_refused most lines (inl blank) = inl blank
-none_refused most lines (inr script) = inr (ap is_ok script.1)

@@ -1,15 +1,14 @@
 -- What a line spells decides what it does.
-use Rattle.std.proofs.Common.{◌≡◌, ℕ, List, [], ◌∷◌, ◌++◌, refl, sym, ap, subst, ◌∙◌, length, map}
+use Rattle.std.proofs.Common.{◌≡◌, ℕ, List, [], refl, sym, ap, subst, ◌∙◌, length, map}
 use Rattle.std.proofs.lemmas.List.{length-map}
 use Rattle.std.specs.Prelude.{Bool, true, false, Option, Ok, Err}
 use Rattle.std.proofs.lemmas.Bool.{true≢false}
 use Rattle.span_script.specs.declared.settings.Settings.{Settings}
 use Rattle.span_script.specs.Setups.{Setup, setup_by}
 use Rattle.span_script.specs.declared.request.Request.{Request}
-use Rattle.span_script.specs.declared.reply.Reply.{Reply}
 use Rattle.span_script.specs.declared.reply.Refusal.{Refusal}
 use Rattle.span_script.specs.declared.reply.Refusal.TheVariants as refusal
-use Rattle.span_script.specs.Tables.{History, Effect, Tables, tables, records_of}
+use Rattle.span_script.specs.Tables.{History, Effect, Tables, tables}
 use Rattle.span_script.specs.Effects.{effect_of}
 use Rattle.span_script.specs.Fits.{State, StandsFor, ServedByHistory, is_for_memory}
 use Rattle.span_script.specs.Admission.{opening_read}

@@ -1,6 +1,5 @@
 -- What one line does to a pipeline.
 use Rattle.std.specs.Prelude.{◌≡◌, ℕ, List, [], ◌∷◌, ◌++◌, length, Option, Result, Ok, Err}
-use Rattle.span_script.specs.Setups.{Setup}
 use Rattle.span_script.specs.Tables.{History, Effect, tables, records_of}
 use Rattle.span_script.specs.Fits.{State, StandsFor}
 use Rattle.trace_pipeline.specs.declared.told.Told.{Told}

@@ -1,5 +1,5 @@
 //! What one line of a script does: the settings line opens a pipeline, and each line behind it is a request.
-ghost use Rattle.std.specs.Prelude.{◌≡◌, ℕ, Option, IfOk, IfErr, OnOk, OnErr, true, false};
+ghost use Rattle.std.specs.Prelude.{◌≡◌, Option, IfOk, IfErr, OnOk, OnErr, true, false};
 ghost use Rattle.span_script.specs.Fits.{StandsFor, is_for_memory};
 ghost use Rattle.span_script.specs.Tables.{History, tables};
 ghost use Rattle.script_lines.specs.Refusals.{IsTold};

@@ -10,15 +10,14 @@ use Rattle.span_script.specs.Effects.{effect_of}
 use Rattle.span_script.specs.calls.Spans.{open_spans}
 use Rattle.span_script.specs.Fits.{State, StandsFor, ServedByHistory}
 use Rattle.span_script.specs.Outcomes.{records_of_history}
-use Rattle.span_script.specs.Setups.{Setup, HasOwnIds}
+use Rattle.span_script.specs.Setups.{Setup}
 use Rattle.span_script.specs.Tables.{History, Tables, no_tables, tables, records_of}
 use Rattle.trace_pipeline.specs.Generated.{made_setup, made_requests, made_script, round, rounds}
-use Rattle.trace_pipeline.specs.Replay.{history_unless_refused, history_after, busy_of, events_of, summary_text}
+use Rattle.trace_pipeline.specs.Replay.{history_unless_refused, history_after, busy_of, events_of}
 use Rattle.trace_pipeline.specs.Report.{IsValid}
 use Rattle.trace_pipeline.specs.declared.write.summary.Summary.{Summary}
 use Rattle.trace_records.specs.Following.{without_taken}
-use Rattle.trace_run.specs.Making.{SumsUp, IsMadeLine, with_records, of_requests, Counts, ServesRequests}
-use Rattle.trace_run.specs.Commands.Make.{line_if}
+use Rattle.trace_run.specs.Making.{SumsUp, with_records, of_requests, Counts, ServesRequests}
 use Rattle.trace_run.specs.declared.make.Totals.{Totals}
 use Rattle.trace_records.proofs.FollowingLemmas.{stands_beside}
 use Rattle.span_script.proofs.runs.RunLemmas.{records_push}
@@ -81,9 +80,6 @@ served h old mid new before last request reply c a last_is taken state =
       replays = λ more. ap (λ (r : Resolved). history_unless_refused r (λ e. history_after made_setup (h ++ e ∷ []) more)) is;
     }
 
-pub serves_none : (h : History) (k : State) (t : Totals) → Counts h k t → ServesRequests [] h k t
-serves_none h k t c = record { history = h; counts = c; replays = λ more. refl }
-
 pub serves_on : (xs ys all : List Request) (h : History) (k l : State) (t u : Totals) (s : ServesRequests xs h k t) → ServesRequests ys s.history l u → xs ++ ys ≡ all → ServesRequests all h l u
 serves_on xs ys all h k l t u s z is =
     subst (λ (rs : List Request). ServesRequests rs h l u) is (record {
@@ -101,15 +97,6 @@ rounds_more first (suc i) =
 
 -- ---- the whole run
 
-pub own_ids : HasOwnIds (1 ∷ 2 ∷ [])
-own_ids zero zero n m same = refl
-own_ids zero (suc zero) n m same = absurd (cc same)
-own_ids (suc zero) zero n m same = absurd (cc same)
-own_ids (suc zero) (suc zero) n m same = refl
-own_ids (suc (suc k)) j n m same = absurd (omega (arith, n))
-own_ids zero (suc (suc j)) n m same = absurd (omega (arith, m))
-own_ids (suc zero) (suc (suc j)) n m same = absurd (omega (arith, m))
-
 pub opened : (k : State) → k.setup ≡ made_setup → StandsFor k (tables made_setup []) → k.recording.finished ≡ [] → Counts [] k (of_requests 0)
 opened k setup stands taken = record { setup = setup; stands = stands; taken = taken; totals_are = sym (with_none (of_requests 0)) }
 
@@ -124,6 +111,3 @@ summed n k t summary spans lines s valid counts lines_are is =
       runs = runs;
       summary_is = is ∙ rw (lines_are, counts (tables made_setup s.history) s.counts.stands, s.counts.totals_are ∙ plain_totals (length s.history) (records_of_history made_setup s.history)) refl;
     }
-
-pub tells : (n : ℕ) (summary : Summary) (text : List ℕ) → SumsUp n summary → text ≡ summary_text summary → IsMadeLine n text
-tells n summary text s is = (s.valid, is ∙ ap summary_text s.summary_is ∙ ap line_if (sym s.runs))

@@ -1,5 +1,5 @@
 -- Where spans start early, what `run` writes is the text of the same script without that, with other ids.
-use Rattle.std.proofs.Common.{◌≡◌, ℕ, List, Option, Some, None, sym, subst}
+use Rattle.std.proofs.Common.{ℕ, List, Option, Some, None, sym, subst}
 use Rattle.std.specs.Prelude.{IfSome}
 use Rattle.trace_eager.specs.Renamed.{IsRenamed}
 use Rattle.trace_eager.proofs.RenamedLemmas.{is_renamed}

@@ -4,9 +4,9 @@ use Rattle.std.specs.Prelude.{Bool, true, false, not}
 use Rattle.std.specs.Io.KnownBytes.{IsAtEnd}
 use Rattle.trace_pipeline.specs.Lines.{lines_of}
 use Rattle.thread_run.proofs.InputLemmas.{none_refused}
-use Rattle.thread_run.specs.Inputs.{accepts_threads, TellsEnded, TellsThreads}
+use Rattle.thread_run.specs.Inputs.{accepts_threads, TellsThreads}
 use Rattle.thread_run.specs.declared.input.Outcome.{Outcome}
-use Rattle.thread_work.specs.declared.gather.Ended.{Ended}
+use Rattle.thread_handles.specs.declared.gather.Ended.{Ended}
 use Rattle.trace_run.specs.Commands.Threads.{AnswersEnded, ComesOf}
 use Rattle.trace_stream.specs.reading.AllLines.{WritesAnswer, status_at_end}
 use Rattle.trace_stream.specs.Streams.{Streams, Takes, Puts}

@@ -1,5 +1,4 @@
 -- What each command does: a row for each.
-use Rattle.std.specs.Prelude.{ℕ}
 use Rattle.trace_stream.specs.Runs.{runs}
 use Rattle.trace_run.specs.Commands.Make.{meaning_of_make}
 use Rattle.trace_run.specs.Commands.Tree.{trees}

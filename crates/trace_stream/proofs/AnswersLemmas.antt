@@ -22,7 +22,6 @@ use Rattle.trace_records.specs.declared.line.Opened.{Opened}
 use Rattle.trace_records.specs.declared.line.Answered.{Answered}
 use Rattle.trace_records.specs.Scripts.{setup_read, setup_of, setup_of_line}
 use Rattle.trace_records.specs.Lines.{OpensLine, AnswersLine}
-use Rattle.script_lines.specs.Refusals.{are_blank}
 use Rattle.script_lines.proofs.BlankLemmas.{some_before, all_blank, one_not_blank}
 use Rattle.trace_records.proofs.FollowingLemmas.{stands_beside}
 use Rattle.trace_stream.specs.declared.answers.Stage.{Stage}

@@ -1,5 +1,5 @@
 -- What a run leaves, from what was read, answered and written.
-use Rattle.std.proofs.Common.{◌≡◌, ℕ, List, [], ◌++◌, refl, sym, ap, subst, ◌∙◌, take, drop, length, ◌<◌, ◌≤◌, inl, inr, arith}
+use Rattle.std.proofs.Common.{◌≡◌, ℕ, List, [], ◌++◌, refl, sym, ap, subst, ◌∙◌, take, drop, length, ◌<◌, ◌≤◌, inl, inr}
 use Rattle.std.specs.Prelude.{Bool, true, false, Option, Some, None, IfSome}
 use Rattle.std.specs.Io.KnownBytes.{IsAtEnd}
 use Rattle.std.proofs.lemmas.List.{append-nil, take_all}
@@ -11,11 +11,10 @@ use Rattle.trace_pipeline.specs.declared.limits.TheConstants.{MAX_INPUT}
 use Rattle.trace_stream.specs.declared.progress.Progress.{Progress}
 use Rattle.trace_stream.specs.declared.status.Status.{Status}
 use Rattle.trace_stream.specs.declared.status.Status.TheVariants as ends
-use Rattle.trace_stream.specs.Streams.{Streams, CountsFault, Takes, Puts, PutsFront}
+use Rattle.trace_stream.specs.Streams.{Streams, Takes, Puts, PutsFront}
 use Rattle.trace_stream.specs.reading.Breaks.{whole_lines, AnswersAll}
 use Rattle.trace_stream.specs.reading.Answers.{Stops, Cuts, is_refused}
 use Rattle.trace_stream.specs.Runs.{answering_of_run}
-use Rattle.trace_stream.specs.Carries.{Causes, Carries}
 use Rattle.trace_stream.specs.reading.Reading.{HasRefused, PutsWhole, PutsSome, LeavesStreams, IsRefusedAt}
 use Rattle.trace_stream.specs.Progress.{Keeps, IsMidway, HasFront, Reports, last_status}
 use Rattle.trace_stream.proofs.ReadingLemmas.{split_at, all_read, takes_none}

@@ -9,7 +9,7 @@ use Rattle.trace_pipeline.specs.Report.{Report, report_from, report, output}
 use Rattle.trace_stream.specs.Streams.{IsFrontOf, Puts, PutsFront}
 use Rattle.trace_stream.specs.reading.Breaks.{has_feed, whole_part, whole_lines}
 use Rattle.trace_stream.specs.reading.Answers.{AnswersTo, Stops, Cuts, is_refused}
-use Rattle.trace_stream.specs.Progress.{Keeps, IsMidway, HasFront, Reports}
+use Rattle.trace_stream.specs.Progress.{Keeps, IsMidway, HasFront}
 use Rattle.trace_stream.specs.declared.answers.Answers.{Answers}
 use Rattle.trace_stream.specs.declared.progress.Progress.{Progress}
 use Rattle.trace_stream.proofs.StreamsLemmas.{puts_more}
@@ -203,11 +203,6 @@ last_broken signal accepted before mid now put front text puts told part = (
   front_again (put ++ text) (put ++ part.0) (output signal front) (put_front put part.0 text part.1) (same_front signal (put ++ text) front accepted told),
   puts_more before mid now put part.0 puts part.2,
 )
-
--- all of it was written
-pub last_whole : (signal : Signal) (accepted : Bool) (before mid now : Option (List ℕ)) (put front text : List ℕ) → Puts before mid put
-    → report signal front ≡ record { written = put ++ text; accepted = accepted } → Puts mid now text → Reports signal accepted before now front
-last_whole signal accepted before mid now put front text puts told more = (put ++ text, told, puts_more before mid now put text puts more)
 
 -- what is kept is the last line
 pub lines_kept : (front kept : List ℕ) → front ≡ whole_part front ++ kept → has_feed kept ≡ false → 0 < length kept → lines_of front ≡ whole_lines front ++ kept ∷ []

@@ -1,14 +1,14 @@
 -- What a command that reads lines does, from its parts.
-use Rattle.std.proofs.Common.{◌≡◌, ℕ, List, [], ◌++◌, refl, sym, ap, subst, ◌∙◌, append_assoc, take, drop, length, ◌<◌, ◌≤◌, ◌+◌, inl, inr, arith}
+use Rattle.std.proofs.Common.{◌≡◌, ℕ, List, [], ◌++◌, refl, sym, ap, subst, ◌∙◌, append_assoc, take, drop, length, ◌<◌, ◌+◌, inl, inr, arith}
 use Rattle.std.specs.Prelude.{true, false, Option, Some, None, IfSome}
 use Rattle.std.specs.Io.KnownBytes.{IsAtEnd}
 use Rattle.std.proofs.lemmas.List.{append-nil, take-append-drop, length-append}
 use Rattle.trace_stream.specs.declared.status.Status.{Status}
 use Rattle.trace_stream.specs.declared.status.Status.TheVariants as ends
 use Rattle.trace_stream.specs.Streams.{Streams, MeetsEnd, Takes, Puts}
-use Rattle.trace_stream.specs.Carries.{Causes, Carries}
-use Rattle.trace_stream.specs.reading.Reading.{Answering, PutsSome, LeavesStreams, Completes, IsRefusedAt, ReadsLines, meaning_of_reading}
-use Rattle.trace_stream.proofs.StreamsLemmas.{puts_none, takes_still}
+use Rattle.trace_stream.specs.Carries.{Causes}
+use Rattle.trace_stream.specs.reading.Reading.{Answering, PutsSome, LeavesStreams, Completes, IsRefusedAt, ReadsLines}
+use Rattle.trace_stream.proofs.StreamsLemmas.{takes_still}
 
 -- ---- what was read
 
@@ -64,15 +64,3 @@ reads_lines answers status before now leaves front causes refused met = record {
   refused = refused;
   met = met;
 }
-
--- memory wanted before anything was written
-pub carries_none : (answers : Answering) (before now : Streams) → now.held ≡ before.held → now.ends ≤ before.ends + 1 → Carries (meaning_of_reading answers) ends.Memory before now
-carries_none answers before now still once =
-    let nothing : (o : Option (List ℕ)) → IfSome o (λ bytes. PutsSome answers bytes before.held now.held) = elim [
-      | None ↦ tt
-      | Some bytes ↦ inl (subst (λ (held : Option (List ℕ)). Puts before.held held []) (sym still) (puts_none before.held))
-    ] in
-    record {
-      does = reads_lines answers ends.Memory before now (nothing before.left) (nothing before.left) tt (λ told. cc) (λ told. cc);
-      ended = record { causes = tt; over = λ told. cc; end_once = once; usage = λ told. cc };
-    }

@@ -4,10 +4,6 @@ use Rattle.std.specs.Prelude.{Option, Some, None, Result, Ok, Err, OnErr}
 use Rattle.std.proofs.lemmas.List.{append-nil, take-append-drop, drop-take, take-take, take_rest, length-drop}
 use Rattle.trace_stream.specs.Streams.{Takes, Puts, PutsFront}
 
-pub puts_none : (held : Option (List ℕ)) → Puts held held []
-puts_none None = tt
-puts_none (Some xs) = ap Some (sym (append-nil xs))
-
 pub puts_more : (a b c : Option (List ℕ)) (x y : List ℕ) → Puts a b x → Puts b c y → Puts a c (x ++ y)
 puts_more None b c x y first second = tt
 puts_more (Some xs) b c x y first second =

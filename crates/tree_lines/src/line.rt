@@ -1,5 +1,5 @@
 //! The lines of nodes, of totals and of the end, each with its line feed.
-ghost use Rattle.std.specs.Prelude.{◌≡◌, ◌++◌, decimal};
+ghost use Rattle.std.specs.Prelude.{◌++◌, decimal};
 ghost use Rattle.json.specs.Print.{quoted};
 ghost use Rattle.trace_pipeline.specs.text.Writes.{Writes};
 ghost use Rattle.tree_lines.specs.Texts.{node_text, total_text, tree_end_text};

@@ -23,7 +23,7 @@ use Rattle.span_script.proofs.steps.RecordingLemmas.{starts_fold}
 use Rattle.span_script.proofs.runs.RunLemmas.{records_push}
 use Rattle.span_laws.specs.Closes.{is_drop}
 use Rattle.span_laws.specs.Laws.{IsHistory, none, more, occurrences}
-use Rattle.span_laws.specs.Records.{EachRecord, records, start_in, ops_in, ops_from, ops_of, closed_at}
+use Rattle.span_laws.specs.Records.{EachRecord, records_of_history, start_in, ops_in, ops_from, ops_of, closed_at}
 use Rattle.span_laws.specs.Starts.{with_started, starts_of, at_making, starting_order, place_in}
 use Rattle.span_laws.proofs.spans.ClosesLemmas.{IsSound, Stands, named, step_stands, none_stands, fit_of}
 use Rattle.span_laws.proofs.spans.MakingsLemmas.{first_of, starts_spare, made_stories}
@@ -119,7 +119,7 @@ pub record IsWhole (setup : Setup) (h : History) (t : Tables) : Type 0 where
   pub stories : AreStories setup (first_of t.spans) (starting_order h) (done_in h) (guards_of t.guards) t.moment (is_open t.handles) (length t.spans) t.recording
   pub unborn : (s : ℕ) → length t.spans ≤ s → (place_in (starting_order h) s ≡ 0) × ((own : SpanContext) → ops_of own h s ≡ [])
   pub clear : t.recording.finished ≡ []
-  pub each : EachRecord (IsClosed setup t.spans h) t.closed (records setup h)
+  pub each : EachRecord (IsClosed setup t.spans h) t.closed (records_of_history setup h)
 
 -- ---- one effect more
 
@@ -427,13 +427,13 @@ module _ (setup : Setup) (h : History) (now : IsWhole setup h (tables setup h)) 
       subst (λ (n : ℕ). IsEnding setup (first_of ms s) (done_in h' s) (place_in (starting_order h') s) n r) (sym at_now)
       (same_record setup (first_of ms s) (begun_by e.at order e.closes done s) (done_in h' s) (place_in order_in_end s) (place_in (starting_order h') s) e.at r (done_is s) (ap (λ (o : List ℕ). place_in o s) (sym (started_push h e))) c)
 
-  records_now : records setup h' ≡ records setup h ++ closes.records
-  records_now = records_push (no_tables setup) h e ∙ ap (λ (rs : List Record). records setup h ++ rs) (closes.finished ∙ ap (λ (rs : List Record). rs ++ closes.records) (before_finished (length t.spans) e t.recording ∙ now.clear))
+  records_now : records_of_history setup h' ≡ records_of_history setup h ++ closes.records
+  records_now = records_push (no_tables setup) h e ∙ ap (λ (rs : List Record). records_of_history setup h ++ rs) (closes.finished ∙ ap (λ (rs : List Record). rs ++ closes.records) (before_finished (length t.spans) e t.recording ∙ now.clear))
 
-  each_now : EachRecord (IsClosed setup ms h') (t.closed ++ e.closes) (records setup h')
+  each_now : EachRecord (IsClosed setup ms h') (t.closed ++ e.closes) (records_of_history setup h')
   each_now = subst (EachRecord (IsClosed setup ms h') (t.closed ++ e.closes)) (sym records_now)
-      (each_append (IsClosed setup ms h') t.closed e.closes (records setup h) closes.records
-      (each_map (IsClosed setup t.spans h) (IsClosed setup ms h') t.closed (records setup h) stays_closed now.each)
+      (each_append (IsClosed setup ms h') t.closed e.closes (records_of_history setup h) closes.records
+      (each_map (IsClosed setup t.spans h) (IsClosed setup ms h') t.closed (records_of_history setup h) stays_closed now.each)
       (each_map (Closed setup (first_of ms) e.at timed.most order_in_end (begun_by e.at order e.closes done)) (IsClosed setup ms h') e.closes closes.records closes_now closes.each))
 
   -- the effect's records

@@ -20,7 +20,7 @@ use Rattle.span_script.specs.Setups.{Setup}
 use Rattle.span_script.specs.Tables.{Effect, History, MadeSpan, Tables, after_effect, made_of, no_made_span, no_tables, tables, with_item}
 use Rattle.span_laws.specs.Laws.{IsHistory, none, more, occurrences}
 use Rattle.span_laws.specs.Makings.{IsRecordOf}
-use Rattle.span_laws.specs.Records.{Began, EachRecord, IsRecord, all_ops, closed_at, records}
+use Rattle.span_laws.specs.Records.{Began, EachRecord, IsRecord, all_ops, closed_at, records_of_history}
 use Rattle.span_laws.specs.Starts.{place_in, starting_order}
 use Rattle.span_laws.proofs.records.HistoriesLemmas.{IsClosed, done_in, whole}
 use Rattle.span_laws.proofs.spans.RequestedSpansLemmas.{made_by}
@@ -156,9 +156,9 @@ module _ (setup : Setup) (h : History) (legal : IsHistory setup h) (Known : Hist
         found.1,
       )
 
-  pub each_known : EachRecord IsKnown (tables setup h).closed (records setup h)
-  each_known = each_map (IsClosed setup (tables setup h).spans h) IsKnown (tables setup h).closed (records setup h) (λ s r some c. record_of s r (closed_made setup h s legal some) c) (whole setup h legal).each
+  pub each_known : EachRecord IsKnown (tables setup h).closed (records_of_history setup h)
+  each_known = each_map (IsClosed setup (tables setup h).spans h) IsKnown (tables setup h).closed (records_of_history setup h) (λ s r some c. record_of s r (closed_made setup h s legal some) c) (whole setup h legal).each
 
-pub contents : (setup : Setup) (h : History) → IsHistory setup h → EachRecord (IsRecordOf setup h) (tables setup h).closed (records setup h)
+pub contents : (setup : Setup) (h : History) → IsHistory setup h → EachRecord (IsRecordOf setup h) (tables setup h).closed (records_of_history setup h)
 contents setup h legal =
-    each_map (λ s r. (of : IsRecordOf setup h s r) × any_request of.fore of.request) (IsRecordOf setup h) (tables setup h).closed (records setup h) (λ s r some known. known.0) (each_known setup h legal any_request (legal_step setup h legal))
+    each_map (λ s r. (of : IsRecordOf setup h s r) × any_request of.fore of.request) (IsRecordOf setup h) (tables setup h).closed (records_of_history setup h) (λ s r some known. known.0) (each_known setup h legal any_request (legal_step setup h legal))

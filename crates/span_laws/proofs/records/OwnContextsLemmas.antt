@@ -31,7 +31,7 @@ use Rattle.span_script.specs.Tables.{Effect, History, MadeSpan, Scope, Tables, a
 use Rattle.span_laws.specs.Closes.{is_drop}
 use Rattle.span_laws.specs.Laws.{IsHistory, occurrences}
 use Rattle.span_laws.specs.Makings.{HasContextOf, SeesOwn, context_of_lane, context_span, parent_context}
-use Rattle.span_laws.specs.Records.{EachRecord, all_ops, ops_from, ops_in, ops_of, records, start_in}
+use Rattle.span_laws.specs.Records.{EachRecord, all_ops, ops_from, ops_in, ops_of, records_of_history, start_in}
 use Rattle.span_laws.specs.Starts.{place_in, starting_order, starts_of, with_started}
 use Rattle.span_laws.proofs.records.HistoriesLemmas.{IsClosed, begun, done_in, fits, open_made, ops_parts, whole}
 use Rattle.span_laws.proofs.records.MadeRecordsLemmas.{legal_step, made_stays}
@@ -221,8 +221,8 @@ module _ (setup : Setup) (fore rest : History) (e : Effect) (legal : IsHistory s
 abbrev with_ids : Option SpanContext → Context
 with_ids ids = record { span = ids }
 
-pub sees_own : (setup : Setup) (h : History) → IsHistory setup h → EachRecord (SeesOwn setup h) (tables setup h).closed (records setup h)
-sees_own setup h legal = each_map (IsClosed setup (tables setup h).spans h) (SeesOwn setup h) (tables setup h).closed (records setup h) seen (whole setup h legal).each
+pub sees_own : (setup : Setup) (h : History) → IsHistory setup h → EachRecord (SeesOwn setup h) (tables setup h).closed (records_of_history setup h)
+sees_own setup h legal = each_map (IsClosed setup (tables setup h).spans h) (SeesOwn setup h) (tables setup h).closed (records_of_history setup h) seen (whole setup h legal).each
   where
     seen : (p : ℕ) (r : Record) → 0 < occurrences p (tables setup h).closed → IsClosed setup (tables setup h).spans h p r → SeesOwn setup h p r
     seen p r some c fore rest e up is starts =
@@ -249,8 +249,8 @@ context_is_own true current setup t at id place.Contextual up p told active now 
 context_is_own false current setup t at id place.Contextual up p told active now is seen =
     ap (λ (b : Bool). context_of_lane t at id (if b then None else current_of (t.entries id))) active ∙ ap (context_of_lane t at id) (now ∙ is) ∙ ap (own_or _) seen
 
-pub is_under : (setup : Setup) (h : History) → IsHistory setup h → EachRecord (HasContextOf setup h) (tables setup h).closed (records setup h)
-is_under setup h legal = each_map (IsClosed setup (tables setup h).spans h) (HasContextOf setup h) (tables setup h).closed (records setup h) put (whole setup h legal).each
+pub is_under : (setup : Setup) (h : History) → IsHistory setup h → EachRecord (HasContextOf setup h) (tables setup h).closed (records_of_history setup h)
+is_under setup h legal = each_map (IsClosed setup (tables setup h).spans h) (HasContextOf setup h) (tables setup h).closed (records_of_history setup h) put (whole setup h legal).each
   where
     put : (p : ℕ) (r : Record) → 0 < occurrences p (tables setup h).closed → IsClosed setup (tables setup h).spans h p r → HasContextOf setup h p r
     put p r some c s fore request made is =

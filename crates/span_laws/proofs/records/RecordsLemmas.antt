@@ -13,7 +13,7 @@ use Rattle.span_script.specs.Setups.{Setup}
 use Rattle.span_script.specs.Tables.{Effect, ScopeGuard, History, Tables, made_of, records_of, slot_at, tables}
 use Rattle.span_laws.specs.Closes.{is_drop}
 use Rattle.span_laws.specs.Laws.{IsHistory}
-use Rattle.span_laws.specs.Records.{EachRecord, closed_at, ops_of, records}
+use Rattle.span_laws.specs.Records.{EachRecord, closed_at, ops_of, records_of_history}
 use Rattle.span_laws.specs.Starts.{place_in, starting_order}
 use Rattle.span_laws.specs.Telling.{TellsAttributes, TellsSpan}
 use Rattle.span_laws.proofs.records.HistoriesLemmas.{IsClosed, done_in, effect_each, fits, whole}
@@ -24,8 +24,8 @@ use Rattle.span_laws.proofs.steps.StepsLemmas.{step_of}
 use Rattle.span_laws.proofs.records.ContentsLemmas.{attributes_told, span_told, times_told}
 use Rattle.span_script.proofs.spans.OpenSpansLemmas.{slot_open}
 
-pub as_many_as_closed : (setup : Setup) (h : History) → IsHistory setup h → length (records setup h) ≡ length (tables setup h).closed
-as_many_as_closed setup h legal = each_length (IsClosed setup (tables setup h).spans h) (tables setup h).closed (records setup h) (whole setup h legal).each
+pub as_many_as_closed : (setup : Setup) (h : History) → IsHistory setup h → length (records_of_history setup h) ≡ length (tables setup h).closed
+as_many_as_closed setup h legal = each_length (IsClosed setup (tables setup h).spans h) (tables setup h).closed (records_of_history setup h) (whole setup h legal).each
 
 pub as_many_as_close : (setup : Setup) (h : History) (request : Request) (e : Effect) → IsHistory setup h → effect_of setup (tables setup h) request ≡ Ok e → length (records_of (tables setup h) e) ≡ length e.closes
 as_many_as_close setup h request e legal is =
@@ -38,18 +38,18 @@ module _ (setup : Setup) (h : History) (legal : IsHistory setup h) where
   abbrev t : Tables
   t = tables setup h
 
-  read_off : (P : ℕ → Record → Type 0) → ((s : ℕ) (r : Record) → IsClosed setup t.spans h s r → P s r) → EachRecord P t.closed (records setup h)
-  read_off P read = each_map (IsClosed setup t.spans h) P t.closed (records setup h) (λ s r some c. read s r c) (whole setup h legal).each
+  read_off : (P : ℕ → Record → Type 0) → ((s : ℕ) (r : Record) → IsClosed setup t.spans h s r → P s r) → EachRecord P t.closed (records_of_history setup h)
+  read_off P read = each_map (IsClosed setup t.spans h) P t.closed (records_of_history setup h) (λ s r some c. read s r c) (whole setup h legal).each
 
-  pub spans : EachRecord (λ s r. TellsSpan (made_of t.spans s).made_with.made (last_exit (ops_of r.context h s)) (closed_at h s) r) t.closed (records setup h)
+  pub spans : EachRecord (λ s r. TellsSpan (made_of t.spans s).made_with.made (last_exit (ops_of r.context h s)) (closed_at h s) r) t.closed (records_of_history setup h)
   spans = read_off (λ s r. TellsSpan (made_of t.spans s).made_with.made (last_exit (ops_of r.context h s)) (closed_at h s) r)
       (λ s r c. span_told setup (first_of t.spans s) (done_in h s) (place_in (starting_order h) s) (closed_at h s) r c)
 
-  pub add_up : IsTrue setup.layer.inactivity → EachRecord (λ s r. TellsTimes (was_entered (ops_of r.context h s)) (last_exit (ops_of r.context h s)) r) t.closed (records setup h)
+  pub add_up : IsTrue setup.layer.inactivity → EachRecord (λ s r. TellsTimes (was_entered (ops_of r.context h s)) (last_exit (ops_of r.context h s)) r) t.closed (records_of_history setup h)
   add_up tracked = read_off (λ s r. TellsTimes (was_entered (ops_of r.context h s)) (last_exit (ops_of r.context h s)) r)
       (λ s r c. times_told setup (first_of t.spans s) (done_in h s) (place_in (starting_order h) s) (closed_at h s) r c tracked)
 
-  pub attributes : EachRecord (λ s r. TellsAttributes setup (made_of t.spans s).made_with.attributes (attributes_of (ops_of r.context h s)) (counted_of (ops_of r.context h s)) r) t.closed (records setup h)
+  pub attributes : EachRecord (λ s r. TellsAttributes setup (made_of t.spans s).made_with.attributes (attributes_of (ops_of r.context h s)) (counted_of (ops_of r.context h s)) r) t.closed (records_of_history setup h)
   attributes = read_off (λ s r. TellsAttributes setup (made_of t.spans s).made_with.attributes (attributes_of (ops_of r.context h s)) (counted_of (ops_of r.context h s)) r)
       (λ s r c. attributes_told setup (first_of t.spans s) (done_in h s) (place_in (starting_order h) s) (closed_at h s) r c)
 

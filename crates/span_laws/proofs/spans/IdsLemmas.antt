@@ -14,7 +14,7 @@ use Rattle.span_script.specs.calls.Spans.{is_open}
 use Rattle.span_script.specs.Setups.{Setup}
 use Rattle.span_script.specs.Tables.{History, tables}
 use Rattle.span_laws.specs.Laws.{IsHistory, occurrences}
-use Rattle.span_laws.specs.Records.{EachRecord, records}
+use Rattle.span_laws.specs.Records.{EachRecord, records_of_history}
 use Rattle.span_laws.specs.Starts.{with_started, starts_of, starting_order, place_from, place_in}
 use Rattle.span_laws.specs.Telling.{id_of, id_in_data}
 use Rattle.span_laws.proofs.records.HistoriesLemmas.{IsClosed, whole, closed_once}
@@ -75,8 +75,8 @@ of_open setup h s legal held =
     let story = (whole setup h legal).stories.each s held in
     ap id_in_data story.is ∙ told_by story.told.own (place_in (starting_order h) s) story.told.parent story.has_id
 
-pub of_records : (setup : Setup) (h : History) → IsHistory setup h → map id_of (records setup h) ≡ map (place_in (starting_order h)) (tables setup h).closed
-of_records setup h legal = let t = tables setup h in each_equal (IsClosed setup t.spans h) id_of (place_in (starting_order h)) (λ s r c. ap (λ (own : SpanContext). own.span) c.ends.own) t.closed (records setup h) (whole setup h legal).each
+pub of_records : (setup : Setup) (h : History) → IsHistory setup h → map id_of (records_of_history setup h) ≡ map (place_in (starting_order h)) (tables setup h).closed
+of_records setup h legal = let t = tables setup h in each_equal (IsClosed setup t.spans h) id_of (place_in (starting_order h)) (λ s r c. ap (λ (own : SpanContext). own.span) c.ends.own) t.closed (records_of_history setup h) (whole setup h legal).each
 
 each_placed : (P : ℕ → Record → Type 0) (g : ℕ → ℕ) → ((s : ℕ) (r : Record) → P s r → 0 < g s) → (xs : List ℕ) (rs : List Record) → EachRecord P xs rs → (s : ℕ) → 0 < occurrences s xs → 0 < g s
 each_placed P g some [] [] each s there = absurd (omega (arith, there))
@@ -123,21 +123,21 @@ mapped_once f (x ∷ xs) id once apart =
       ]
     ]
 
-pub no_two_alike : (setup : Setup) (h : History) (id : ℕ) → IsHistory setup h → occurrences id (map id_of (records setup h)) ≤ 1
+pub no_two_alike : (setup : Setup) (h : History) (id : ℕ) → IsHistory setup h → occurrences id (map id_of (records_of_history setup h)) ≤ 1
 no_two_alike setup h id legal =
     let t = tables setup h in
     subst (λ (ids : List ℕ). occurrences id ids ≤ 1) (sym (of_records setup h legal))
     (mapped_once (place_in (starting_order h)) t.closed id (λ s. closed_once setup h s legal) (λ s q there same. one_place 1 (starting_order h) s q (omega arith) same
-    (each_placed (IsClosed setup t.spans h) (place_in (starting_order h)) (λ s r c. c.ends.started) t.closed (records setup h) (whole setup h legal).each s there)))
+    (each_placed (IsClosed setup t.spans h) (place_in (starting_order h)) (λ s r c. c.ends.started) t.closed (records_of_history setup h) (whole setup h legal).each s there)))
 
-pub none_zero : (setup : Setup) (h : History) → IsHistory setup h → occurrences 0 (map id_of (records setup h)) ≡ 0
+pub none_zero : (setup : Setup) (h : History) → IsHistory setup h → occurrences 0 (map id_of (records_of_history setup h)) ≡ 0
 none_zero setup h legal =
     let t = tables setup h in
     subst (λ (ids : List ℕ). occurrences 0 ids ≡ 0) (sym (of_records setup h legal)) (elim (cases_lt 0 (occurrences 0 (map (place_in (starting_order h)) t.closed))) [
       | inr none ↦ omega (arith, none)
       | inl some ↦ absurd (
           let it = given (place_in (starting_order h)) t.closed 0 some in
-          let placed = each_placed (IsClosed setup t.spans h) (place_in (starting_order h)) (λ s r c. c.ends.started) t.closed (records setup h) (whole setup h legal).each it.0 it.1 in
+          let placed = each_placed (IsClosed setup t.spans h) (place_in (starting_order h)) (λ s r c. c.ends.started) t.closed (records_of_history setup h) (whole setup h legal).each it.0 it.1 in
           let is = it.2 in
           omega (arith, placed, is))
     ])

@@ -314,7 +314,7 @@ module _ {S : Type 0} (spans : S → Spans) (views : Views S) (attaches : S → 
           let fits = stands.fits in
           let open_one = find (guard_of parts.dispatch) parts.guards t.guards guard g fits.guard_slots found in
           let x = open_one.at in
-          let mine : x.lane ≡ lane = ap (λ (x : Guard). x.place) (sym open_one.is) ∙ on in
+          let mine : x.place ≡ lane = ap (λ (x : Guard). x.place) (sym open_one.is) ∙ on in
           let is : h.held ≡ held_of parts.dispatch x.scope = sym entry_is ∙ ap (λ (x : Guard). x.entry) open_one.is in
           let shown = shown_on spans views attaches kept is_whole does law parts.world new parts.dispatch x.scope h.held is (λ id. Exit id at before later) did in
           let none_at : x.scope ≡ [] → later ≡ before = λ e. none (is ∙ ap (held_of parts.dispatch) e) in

@@ -1,6 +1,5 @@
 -- The gate's answer is that of the filter in force.
-use Rattle.std.proofs.Common.{◌≡◌, ℕ, ◌<◌, List, [], ◌∷◌, length, get_or, Bool, true, refl, Some, None, option_map, slice_get, sym, ap, ◌∙◌, arith}
-use Rattle.std.specs.Prelude.{is_some}
+use Rattle.std.proofs.Common.{◌≡◌, ℕ, ◌<◌, List, [], ◌∷◌, length, get_or, Bool, refl, Some, None, option_map, slice_get, sym, ap, ◌∙◌, arith}
 use Rattle.std.proofs.lemmas.List.{length-map}
 use Rattle.trace_base.specs.declared.callsite.Callsite.{Callsite}
 use Rattle.trace_base.specs.declared.lane.Lane.{Lane}
@@ -38,10 +37,6 @@ module _ {S : Type 0} (spans : S → Spans) (views : Views S) (parts : Parts S) 
       let place = placed inv.tables inv.stands.fits.made.count inv.stands.filtering in
       rows_fresh views interest shown parts.world parts.dispatch place.filter inv.alone inv.there place.is
       (inv.stands.filtering.fresh ∙ rows_alike (length inv.tables.spans) now.setup.ids place.filter (filter_at now.setup inv.tables) place.agree parts.world.sites)
-
-  -- one is
-  pub is_placed : (kept : S → ℕ → ℕ → ℕ) (is_whole : S → Type 0) → IsKept spans views kept is_whole parts → is_some (member_of views.filtered None parts.world parts.dispatch) ≡ true
-  is_placed kept is_whole inv = ap is_some (placed inv.tables inv.stands.fits.made.count inv.stands.filtering).is
 
   pub answered : (lane : ℕ) (before : Lane) → lane < length parts.lanes → before ≡ get_or parts.lanes lane before → (site : ℕ) (callsite : Callsite) → slice_get parts.world.sites site ≡ Some callsite
       → (enabled : Bool) → LetsThrough (member_of views.filtered None parts.world parts.dispatch) parts.world.sites before.id site enabled → (t : Tables) → StandsFor now t → admits_at now.setup t (id_at now.setup.ids lane) callsite ≡ enabled

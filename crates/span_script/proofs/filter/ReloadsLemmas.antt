@@ -22,10 +22,8 @@ use Rattle.span_script.specs.calls.Filter.{enabled_effect, reload_effect, reload
 use Rattle.span_script.specs.Balance.{Balanced, named_by, opened_by}
 use Rattle.span_script.specs.Slots.{LetsThrough}
 use Rattle.span_script.specs.Fits.{Views, shown_of, State, state_of, lane_value, StandsFor, FilteringFits, MadeFit, LanesFit, IsKept, Served, Parts}
-use Rattle.span_script.proofs.filter.CounterLemmas.{adds_nothing}
 use Rattle.span_script.proofs.filter.FilterLemmas.{cached_rows, rows_of}
 use Rattle.span_script.proofs.filter.GateLemmas.{answered}
-use Rattle.span_script.proofs.steps.LanesLemmas.{kept_alike}
 use Rattle.span_script.proofs.runs.RefusalsLemmas.{within_get}
 use Rattle.span_script.proofs.steps.ServesLemmas.{serve_with, known_still, all_same, kept_served}
 use Rattle.span_script.proofs.steps.StepLemmas.{fits_step}
@@ -65,14 +63,6 @@ module _ {S : Type 0} (spans : S → Spans) (views : Views S) (attaches : S → 
 
     abbrev r : Recording
     r = member_of views.recorded no_recording parts.world parts.dispatch
-
-    -- after want of memory
-    module _ (filters : member_of views.filtered None new parts.dispatch ≡ member_of views.filtered None parts.world parts.dispatch) (cached : new.cached ≡ parts.world.cached) where
-      pub state_left : state_of spans views (record parts { world = new }) ≡ now
-      state_left = (let still = adds_nothing (aside_in views parts.world parts.dispatch) (aside_in views new parts.dispatch) aside in rw (alike.spans_same, sites, records, filters, cached, still.0, still.1) refl)
-
-      pub kept_left : IsKept spans views kept is_whole parts → IsKept spans views kept is_whole (record parts { world = new })
-      kept_left inv = kept_alike spans views attaches kept is_whole parts (record parts { world = new }) inv state_left alike
 
     module _ (text given : List ℕ) (given_is : given ≡ text) (f : FilterState) (read_given : IsTextFilter given f) (filters : member_of views.filtered None new parts.dispatch ≡ Some f)
         (interest : S → Callsite → Interest) (shown : (s : S) (f : FilterState) (c : Callsite) → views.filtered s ≡ Some f → interest s c ≡ interest_in f c) (fresh : IsFresh interest new) (inv : IsKept spans views kept is_whole parts) where

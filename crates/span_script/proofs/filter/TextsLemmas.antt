@@ -1,5 +1,5 @@
 -- What the texts of filters are read as, by their grammar.
-use Rattle.std.proofs.Common.{◌≡◌, ℕ, ◌+◌, List, [], ◌∷◌, ◌++◌, Bool, true, false, Option, Some, Ok, Err, refl, sym, ap, subst, ◌∙◌}
+use Rattle.std.proofs.Common.{◌≡◌, ℕ, ◌+◌, List, [], ◌∷◌, ◌++◌, Bool, true, false, Ok, Err, refl, sym, ap, subst, ◌∙◌}
 use Rattle.std.specs.Str.{trim}
 use Rattle.std.proofs.lemmas.Bool.{true≢false}
 use Rattle.env_directives.specs.reading.Faults.{HasFault, HasNoLevel, HasEmptyField}
@@ -14,11 +14,10 @@ use Rattle.env_directives.proofs.forms.GrammarLemmas.{directive_reads, level_tol
 use Rattle.env_directives.proofs.forms.ReadingsLemmas.{reading_explained}
 use Rattle.env_filter.specs.declared.pieces.Ignored.{Ignored}
 use Rattle.env_filter.specs.texts.Building.{BuilderValue, default_builder, filter_by, IsFilterOf, HasFilterFaultAt}
-use Rattle.env_filter.specs.Filtering.{FilterState, IsNewFilter}
+use Rattle.env_filter.specs.Filtering.{FilterState}
 use Rattle.env_filter.specs.texts.Pieces.{is_memory, ReadsPiece, ReadsAll, ReadsText, IsFirstFault}
-use Rattle.span_script.specs.Admission.{TextRead, with_piece_read, with_piece, pieces_read, text_read, filter_if, OpeningRead, fault_in, first_fault, counting_read, opening_read, IsTextFilter, IsCounter, IsUnread, unread_by}
+use Rattle.span_script.specs.Admission.{TextRead, with_piece_read, with_piece, pieces_read, text_read, fault_in, IsTextFilter, IsUnread, unread_by}
 use Rattle.span_script.specs.declared.open_error.OpenError.{OpenError}
-use Rattle.span_script.specs.declared.open_error.OpenError.TheVariants as errors
 
 -- a piece that is a directive, before those behind it
 one_read : (n : ℕ) (piece : List ℕ) (ds : List Directive) → ReadsPiece false n piece ds [] → (later : List Directive) (rest : TextRead) → rest ≡ Ok later → with_piece n piece rest ≡ Ok (ds ++ later)
@@ -112,25 +111,4 @@ unread_is counting d b text number cause error set is refused =
 
 -- ---- both texts of an opening
 
-pub first_unread : (filter : List ℕ) (counting : Option (List ℕ)) (error : OpenError) → IsUnread (fault_in false (text_read filter)) error → IsUnread (opening_read filter counting) error
-first_unread filter counting errors.Memory unread = tt
-first_unread filter counting (errors.Directive which piece) unread = ap (λ (r : OpeningRead). first_fault r (counting_read counting)) unread
-
-after_first : (filter : List ℕ) (counting : Option (List ℕ)) (f : FilterState) → IsTextFilter filter f → opening_read filter counting ≡ counting_read counting
-after_first filter counting f is = ap (λ (r : TextRead). first_fault (fault_in false r) (counting_read counting)) is.read
-
-pub later_unread : (filter : List ℕ) (counting : Option (List ℕ)) (f : FilterState) (error : OpenError) → IsTextFilter filter f → IsUnread (counting_read counting) error → IsUnread (opening_read filter counting) error
-later_unread filter counting f error is unread = subst (λ (r : OpeningRead). IsUnread r error) (sym (after_first filter counting f is)) unread
-
-pub both_read : (filter : List ℕ) (counting : Option (List ℕ)) (f : FilterState) (counter : Option FilterState) → IsTextFilter filter f → IsCounter counting counter → opening_read filter counting ≡ Ok tt
-both_read filter counting f counter is counts = after_first filter counting f is ∙ counts.read
-
 -- ---- the text for counting
-
-pub counter_is : (text : List ℕ) (f : FilterState) → IsTextFilter text f → IsNewFilter f → IsCounter (Some text) (Some f)
-counter_is text f is new = record { read = ap (fault_in true) is.read; is = ap Some (is.is ∙ sym (ap filter_if is.read)); new = new }
-
--- a text of one filter alone
-pub read_alone : (read : TextRead) (counting : Bool) (piece : ℕ) → fault_in false read ≡ Err (counting, piece) → read ≡ Err piece
-read_alone (Ok ds) counting piece e = absurd (cc e)
-read_alone (Err number) counting piece e = ap Err (let pairs : (false, number) ≡ (counting, piece) = cc e in ap (λ (p : Bool × ℕ). p.1) pairs)

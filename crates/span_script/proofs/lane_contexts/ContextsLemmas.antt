@@ -18,7 +18,6 @@ use Rattle.span_handles.specs.Handles.{Handle, Held}
 use Rattle.span_script.specs.declared.reply.Reply.TheVariants as reply
 use Rattle.span_script.specs.declared.reply.What.TheVariants as what
 use Rattle.span_script.specs.declared.request.Call.TheVariants as call
-use Rattle.span_script.specs.Setups.{id_at}
 use Rattle.span_script.specs.Tables.{Scope, Effect, Tables, recorded_by, slot_at, own_span, open_part}
 use Rattle.span_script.specs.calls.Here.{here_at, Resolved, ◌>>=◌, need}
 use Rattle.span_script.specs.Effects.{effect_of_call}
@@ -53,9 +52,6 @@ module _ {S : Type 0} (spans : S → Spans) (views : Views S) (attaches : S → 
 
   abbrev then_with : ContextSlots → State
   then_with cs' = state_of spans views (parts_with cs')
-
-  abbrev place_id : ℕ
-  place_id = id_at now.setup.ids lane
 
   abbrev r : Recording
   r = member_of views.recorded no_recording parts.world parts.dispatch

@@ -47,10 +47,6 @@ pub map_more : {A B : Type 0} (f : A → B) (xs : List A) (x : A) → map f (xs 
 map_more f [] x = refl
 map_more f (y ∷ xs) x = ap (λ ys. f y ∷ ys) (map_more f xs x)
 
-filter_more : {A : Type 0} (p : A → Bool) (xs : List A) (x : A) → filter p (xs ++ x ∷ []) ≡ filter p xs ++ (if p x then x ∷ [] else [])
-filter_more p [] x = elim (cases_Bool (p x)) [ inl e ↦ rw e refl | inr e ↦ rw e refl ]
-filter_more p (y ∷ xs) x = elim (cases_Bool (p y)) [ inl e ↦ rw e (ap (λ ys. y ∷ ys) (filter_more p xs x)) | inr e ↦ rw e (filter_more p xs x) ]
-
 numbers_push : (s : Owner) (live : List (ℕ × Context)) (items : List Attached) (x : ℕ × Context) (a : Attached) → map (λ y. y.1) live ≡ map (λ b. b.context) items
     → numbers_of s (live ++ x ∷ []) (items ++ a ∷ []) ≡ numbers_of s live items ++ (if is_by s a then Some x.0 ∷ [] else [])
 numbers_push s [] [] x a same = refl

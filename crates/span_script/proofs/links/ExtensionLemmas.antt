@@ -24,7 +24,6 @@ use Rattle.span_script.specs.declared.reply.Refusal.TheVariants as refusal
 use Rattle.span_script.specs.declared.reply.Reply.TheVariants as reply
 use Rattle.span_script.specs.declared.reply.What.TheVariants as what
 use Rattle.span_script.specs.declared.request.Call.TheVariants as call
-use Rattle.span_script.specs.Setups.{id_at}
 use Rattle.span_script.specs.Tables.{Scope, SpanOp, Tables, slot_at, own_span}
 use Rattle.span_script.specs.calls.Here.{here_at, Resolved, ◌>>=◌, need, op_on, ops_effect}
 use Rattle.span_script.specs.Effects.{effect_of_call}
@@ -91,9 +90,6 @@ module _ {S : Type 0} (spans : S → Spans) (views : Views S) (attaches : S → 
 
   abbrev r : Recording
   r = member_of views.recorded no_recording parts.world parts.dispatch
-
-  abbrev place_id : ℕ
-  place_id = id_at now.setup.ids lane
 
   abbrev IsDone : List SpanOp → Type 0
   IsDone o = Does spans views attaches kept is_whole parts new at o []

@@ -17,7 +17,6 @@ use Rattle.span_script.specs.declared.reply.Refusal.TheVariants as refusal
 use Rattle.span_script.specs.declared.reply.Reply.TheVariants as reply
 use Rattle.span_script.specs.declared.reply.What.TheVariants as what
 use Rattle.span_script.specs.declared.request.Call.TheVariants as call
-use Rattle.span_script.specs.Setups.{id_at}
 use Rattle.span_script.specs.Tables.{Scope, SpanOp, Effect, Tables, slot_at}
 use Rattle.span_script.specs.calls.Here.{here_at, ◌>>=◌, need, op_on}
 use Rattle.span_script.specs.Effects.{effect_of_call}
@@ -77,9 +76,6 @@ module _ {S : Type 0} (spans : S → Spans) (views : Views S) (attaches : S → 
 
       abbrev then : State
       then = state_of spans views then_parts
-
-      abbrev place_id : ℕ
-      place_id = id_at now.setup.ids lane
 
       -- what starts and what is linked
       record Followed (t : Tables) (line other : Scope) : Type 0 where

@@ -1,10 +1,10 @@
 -- A script that is run at once, request after request.
-use Rattle.std.proofs.Common.{◌≡◌, ℕ, suc, ◌+◌, List, [], ◌∷◌, ◌++◌, length, map, fold, Option, Some, None, Ok, Err, refl, sym, ap, subst, ◌∙◌, append_assoc, slice_get, add-one, arith, inl, inr}
+use Rattle.std.proofs.Common.{◌≡◌, ℕ, suc, ◌+◌, List, [], ◌∷◌, ◌++◌, length, map, fold, Option, Some, Ok, Err, refl, sym, ap, subst, ◌∙◌, append_assoc, slice_get, add-one, arith, inl, inr}
 use Rattle.std.specs.Prelude.{option_and_then, Result, IfOk, MatchOption, MatchResult, is_ok, ◌⊎◌}
 use Rattle.std.proofs.lemmas.Bool.{true≢false}
 use Rattle.std.proofs.lemmas.Option.{slice_get_past}
 use Rattle.std.proofs.lemmas.List.{append-nil, map-append, length-map, length_push}
-use Rattle.std.proofs.Math.Nat.{add-zero, zero-add}
+use Rattle.std.proofs.Math.Nat.{add-zero}
 use Rattle.std.proofs.lemmas.List.Sums.{fold_push}
 use Rattle.otel_base.specs.declared.record.Record.{Record}
 use Rattle.span_script.specs.declared.reply.Reply.{Reply}
@@ -28,18 +28,6 @@ pub record Reached (setup : Setup) (requests left : List Request) (now : State) 
   pub records_are : now.recording.finished ≡ records_of_history setup history
   pub goes_on : history_of setup requests ≡ history ++ history_from setup (tables setup history) left
   pub places : (n : ℕ) → slice_get requests (length history + n) ≡ slice_get left n
-
-pub reached_first : (requests : List Request) (now : State) (replies : List Reply) → StandsFor now (tables now.setup []) → now.recording.finished ≡ [] → replies ≡ []
-    → Reached now.setup requests requests now replies
-reached_first requests now replies stands none empty = record {
-  history = [];
-  setup_is = refl;
-  stands = stands;
-  replies_are = empty;
-  records_are = none;
-  goes_on = refl;
-  places = λ n. ap (slice_get requests) (zero-add n);
-}
 
 -- the records of one effect more
 pub records_push : (t : Tables) (h : History) (e : Effect) → records_from t (h ++ e ∷ []) ≡ records_from t h ++ records_of (fold after_effect t h) e
@@ -105,31 +93,6 @@ behind setup requests left now replies r = ap (slice_get requests) (sym (add-zer
 -- why it is refused, if it is there and has no effect
 abbrev why : (setup : Setup) (h : History) (found : Option Request) → Option (ℕ × Refusal)
 why setup h found = option_and_then (λ request. refusal_at (length h) (effect_of setup (tables setup h) request)) found
-
--- no request is left
-pub ran_all : (setup : Setup) (requests : List Request) (now : State) (replies : List Reply) → Reached setup requests [] now replies → Ran setup requests now replies None
-ran_all setup requests now replies r = ran_by setup requests [] now replies None r (r.goes_on ∙ append-nil r.history)
-    (sym (ap (why setup r.history) (behind setup requests [] now replies r)))
-
--- the next request is refused
-pub ran_until : (setup : Setup) (requests left : List Request) (request : Request) (old new : State) (replies : List Reply) (refusal : Refusal)
-    → ((h : History) → StandsFor old (tables old.setup h) → effect_of old.setup (tables old.setup h) request ≡ Err refusal) → new ≡ old
-    → Reached setup requests (request ∷ left) old replies → Ran setup requests new replies (Some (length replies, refusal))
-ran_until setup requests left request old new replies refusal refuses same r = subst (λ (k : State). Ran setup requests k replies (Some (length replies, refusal))) (sym same)
-    (ran_by setup requests (request ∷ left) old replies (Some (length replies, refusal)) r stays told)
-  where
-    is : effect_of setup (tables setup r.history) request ≡ Err refusal
-    is = subst (λ (s : Setup). effect_of s (tables s r.history) request ≡ Err refusal) r.setup_is
-        (refuses r.history (subst (λ (s : Setup). StandsFor old (tables s r.history)) (sym r.setup_is) r.stands))
-
-    stays : history_of setup requests ≡ r.history
-    stays = r.goes_on ∙ stays_with setup r.history request left refusal is
-
-    place : length replies ≡ length r.history
-    place = ap (λ (rs : List Reply). length rs) r.replies_are ∙ length-map r.history (λ (e : Effect). e.reply)
-
-    told : Some (length replies, refusal) ≡ refused_behind setup requests r.history
-    told = ap (λ (n : ℕ). Some (n, refusal)) place ∙ sym (ap (why setup r.history) (behind setup requests (request ∷ left) old replies r) ∙ ap (refusal_at (length r.history)) is)
 
 -- what was run, as an outcome
 pub outcome_is : (setup : Setup) (requests given : List Request) (now : State) (replies told : List Reply) (finished : List Record) (refused : Option (ℕ × Refusal)) (left : ℕ)

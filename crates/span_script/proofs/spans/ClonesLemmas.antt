@@ -12,7 +12,6 @@ use Rattle.span_handles.specs.Handles.{Handle, Held, id_of, ReplacedOn}
 use Rattle.span_script.specs.declared.reply.Reply.TheVariants as reply
 use Rattle.span_script.specs.declared.request.Call.TheVariants as call
 use Rattle.span_script.specs.declared.reply.What.TheVariants as what
-use Rattle.span_script.specs.Setups.{id_at}
 use Rattle.otel_layer.specs.Recording.{Recording, no_recording}
 use Rattle.span_script.specs.Tables.{Scope, MadeSpan, ScopeGuard, Effect, Tables, slot_at, own_span}
 use Rattle.span_script.specs.calls.Here.{here_at, ◌>>=◌, need}
@@ -92,9 +91,6 @@ module _ {S : Type 0} (spans : S → Spans) (views : Views S) (attaches : S → 
 
     abbrev then : State
     then = state_of spans views then_parts
-
-    abbrev place_id : ℕ
-    place_id = id_at now.setup.ids lane
 
     next_number : (t : Tables) → Fits now t → number ≡ length t.handles
     next_number t fits = many ∙ sym (length-map parts.handles held_by) ∙ ap length fits.handle_slots ∙ length-map t.handles (option_map (held_of parts.dispatch))

@@ -150,9 +150,6 @@ using lane dispatch = record lane { default = Some dispatch }
 abbrev hands : Here → Scope → Option ℕ → Effect
 hands here line spent = record (clone_effect here line) { spent_handle = spent }
 
-handles_then : Tables → Scope → Option ℕ → List (Option Scope)
-handles_then t line spent = slots_after t.handles (Some line) spent
-
 one_more : (hs : List (Option Scope)) (line : Scope) (spent : Option ℕ) → length (slots_after hs (Some line) spent) ≡ length hs + 1
 one_more hs line None = length_push hs (Some line)
 one_more hs line (Some n) = length-set (hs ++ Some line ∷ []) n None ∙ length_push hs (Some line)

@@ -12,7 +12,6 @@ use Rattle.span_script.proofs.filter.CounterLemmas.{adds_same}
 use Rattle.span_script.proofs.filter.FilterLemmas.{AreKnown, heard_none}
 use Rattle.span_handles.specs.Worlds.{member_of, spans_in, kept_in, Has, Chain, ReleasesChain, closed_in, ChainShown}
 use Rattle.span_handles.specs.Handles.{Handle, Held, ReplacedOn}
-use Rattle.span_script.specs.Setups.{id_at}
 use Rattle.span_script.specs.declared.slots.Guard.{Guard}
 use Rattle.span_script.specs.declared.reply.Refusal.TheVariants as refusal
 use Rattle.span_script.specs.declared.reply.Reply.TheVariants as reply
@@ -122,9 +121,6 @@ module _ {S : Type 0} (spans : S → Spans) (views : Views S) (attaches : S → 
 
     abbrev then : State
     then = state_of spans views then_parts
-
-    abbrev place_id : ℕ
-    place_id = id_at now.setup.ids lane
 
     -- a handle with an open guard
     pub refuses_borrowed : (t : Tables) → StandsFor now t → is_named parts.guards handle ≡ true → effect_of_call now.setup t at lane (call.Drop handle) ≡ Err refusal.InUse

@@ -41,9 +41,6 @@ lanes_same (x ∷ xs) (suc n) before later within is same = ap (λ (ls : List La
 pub same_lane : (before later : Lane) → later.id ≡ before.id → later.contexts.live ≡ before.contexts.live → lane_value later ≡ lane_value before
 same_lane before later id live = rw (id, live) refl
 
-live_count : ℕ → LaneValue → ℕ
-live_count number l = count_by (λ item. item.0 == number) l.live
-
 -- the id of a lane, as the setup tells it
 pub id_seen : (lanes : List Lane) (n : ℕ) (before : Lane) → n < length lanes → before ≡ get_or lanes n before → before.id ≡ id_at (map (λ (l : Lane). l.id) lanes) n
 id_seen [] n before within is = absurd (omega (arith, within))

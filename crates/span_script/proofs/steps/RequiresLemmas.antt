@@ -45,10 +45,6 @@ module _ {S : Type 0} (spans : S → Spans) (views : Views S) (kept : S → ℕ 
     pub needs_whole : HasOn (λ s id. is_whole s) parts.world h.held
     needs_whole = has_on (λ s id. is_whole s) parts.world parts.dispatch scope_is.at h.held scope_is.is (λ s up e. inv.whole)
 
-    -- what every subscriber has that is whole
-    pub needs_has : (P : S → Type 0) → Has P parts.world parts.dispatch → HasOn (λ s id. P s) parts.world h.held
-    needs_has P has = has_on (λ s id. P s) parts.world parts.dispatch scope_is.at h.held scope_is.is (λ s up e. has)
-
     pub needs_known : IsKnown spans parts.world h.held
     needs_known = known_on spans parts.world parts.dispatch scope_is.at h.held scope_is.is inv.there
         (λ s up e. has_by spans no_spans parts.world parts.dispatch (λ (x : Spans). HasOwnHold x s) (fits_own sp (map named_by inv.tables.handles) (map (opened_by ids) inv.tables.guards) inv.tables.entries inv.stands.fits.balanced handle s (slot_is s up e)))

@@ -1,28 +1,25 @@
 -- The lines of made scripts stand apart, and spell their requests.
-use Rattle.std.proofs.Common.{◌≡◌, ℕ, zero, suc, ◌+◌, ◌*◌, ◌%◌, ◌<◌, ◌≤◌, ◌^◌, ◌==◌, ◌++◌, List, [], ◌∷◌, length, map, Bool, true, false, Some, None, Ok, pos, option_and_then, decimal, refl, sym, ap, ◌∙◌, arith, append_assoc, length-append}
-use Rattle.std.specs.Prelude.{⊤, ok_or, codes, flat_map}
-use Rattle.std.specs.List.{range_with_len}
+use Rattle.std.proofs.Common.{◌≡◌, ℕ, zero, suc, ◌+◌, ◌*◌, ◌<◌, ◌≤◌, ◌^◌, ◌==◌, ◌++◌, List, [], ◌∷◌, length, map, true, false, Some, Ok, option_and_then, decimal, refl, ap, ◌∙◌, arith, append_assoc, length-append}
+use Rattle.std.specs.Prelude.{⊤, ok_or, flat_map}
 use Rattle.std.proofs.lemmas.Bool.{and_parts}
 use Rattle.std.proofs.lemmas.Bool.Decides.{nat_tests}
 use Rattle.std.specs.Str.{is_utf8, chars}
 use Rattle.json.specs.Print.{escape_byte}
 use Rattle.json.specs.Tree.{depth}
-use Rattle.serde_json.specs.Data.{Data, unsigned, number, string, array, object, Items, no_items, item, Members, no_members, member}
+use Rattle.serde_json.specs.Data.{number, object, Members, member}
 use Rattle.serde_json.specs.Find.{as_object}
 use Rattle.serde_json.specs.Read.{of_json, max_depth}
 use Rattle.serde_json.specs.Written.{outline, compact_text}
 use Rattle.serde_json.proofs.OnLiterals.{serde_json_on_literals}
 use Rattle.serde_json.proofs.Numbers.{number_of-decimal}
-use Rattle.trace_base.specs.declared.field.Value.{Value}
-use Rattle.trace_base.specs.declared.field.Value.TheVariants.{I64, Str}
 use Rattle.span_script.specs.declared.request.Call.{Call}
 use Rattle.span_script.specs.declared.request.Call.TheVariants as call
 use Rattle.span_script.specs.declared.request.Place.TheVariants as place
 use Rattle.span_script.specs.declared.request.Request.{Request}
 use Rattle.trace_pipeline.specs.declared.told.Told.TheVariants.{BadLine}
 use Rattle.trace_pipeline.specs.forms.Forms.{all_of}
-use Rattle.trace_pipeline.specs.Generated.{made_settings, root_fields, row_fields, in_round, round, rounds, made_requests, request_members, request_line, settings_line, made_lines, made_script}
-use Rattle.trace_pipeline.specs.Lines.{lines_of, is_blank, onto}
+use Rattle.trace_pipeline.specs.Generated.{made_settings, root_fields, row_fields, round, rounds, made_requests, request_members, request_line, settings_line, made_lines, made_script}
+use Rattle.trace_pipeline.specs.Lines.{lines_of, is_blank}
 use Rattle.trace_pipeline.specs.forms.RequestForm.{request_form, new_form, drop_form, enter_form, exit_form, event_form}
 use Rattle.trace_pipeline.specs.forms.SettingsForm.{settings_form, callsite_form, lane_form, error_flags, span_flags, layer_form}
 use Rattle.trace_pipeline.specs.reading.Spelled.{request_spelled, settings_spelled}

@@ -283,6 +283,3 @@ cut_front text front rest is =
     take-append : (xs ys : List ℕ) → take (length xs) (xs ++ ys) ≡ xs
     take-append [] ys = refl
     take-append (x ∷ xs) ys = ap (λ (l : List ℕ). x ∷ l) (take-append xs ys)
-
-pub within_text : (text front rest : List ℕ) → text ≡ front ++ rest → length rest ≤ length text
-within_text text front rest is = omega (arith, ap (λ (l : List ℕ). length l) is, length-append front rest)

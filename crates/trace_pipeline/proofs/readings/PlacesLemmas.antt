@@ -142,9 +142,6 @@ other_left es taken at some =
 abbrev pub Puts : List ℕ → List Entry → ℕ → Type 0
 Puts name es at = (d : Data) → put name d (onto es no_members) ≡ onto (take at es) (put name d (onto (drop at es) no_members))
 
-pub puts_first : (name : List ℕ) (es : List Entry) → Puts name es 0
-puts_first name es d = refl
-
 pub puts_more : (name : List ℕ) (es : List Entry) (at : ℕ) (x : Entry) → at < length es → Greater ≡ slice_cmp nat_cmp name (get_or es at x).0.now → Puts name es at → Puts name es (at + 1)
 puts_more name es at x within is puts =
     let e = get_or es at x in

@@ -1,5 +1,5 @@
 -- What common request lines spell.
-use Rattle.std.proofs.Common.{◌≡◌, ◌<◌, ◌≤◌, ◌^◌, ℕ, List, ◌++◌, [], ◌∷◌, Some, Ok, option_and_then, codes, decimal, refl, sym, ap, ◌∙◌, arith}
+use Rattle.std.proofs.Common.{◌≡◌, ◌<◌, ◌≤◌, ◌^◌, ℕ, List, ◌++◌, [], Some, Ok, option_and_then, codes, decimal, refl, ap, ◌∙◌, arith}
 use Rattle.std.specs.Prelude.{ok_or}
 use Rattle.std.specs.Str.{IsUtf8}
 use Rattle.json.specs.Print.{escape_byte}
@@ -10,7 +10,6 @@ use Rattle.serde_json.specs.Find.{as_object}
 use Rattle.serde_json.specs.Read.{of_json, max_depth, read}
 use Rattle.serde_json.specs.Written.{outline, compact_text}
 use Rattle.serde_json.proofs.Numbers.{number_of-decimal}
-use Rattle.span_script.specs.declared.request.Call.{Call}
 use Rattle.span_script.specs.declared.request.Call.TheVariants as call
 use Rattle.span_script.specs.declared.request.Place.TheVariants as place
 use Rattle.span_script.specs.declared.request.Request.{Request}

@@ -1,5 +1,5 @@
 -- One more is empty too.
-use Rattle.std.proofs.Common.{◌≡◌, ◌+◌, ◌++◌, ◌∷◌, ℕ, [], List, length, get_or, ap, ◌∙◌, arith, length-append}
+use Rattle.std.proofs.Common.{◌+◌, ◌∷◌, ℕ, [], List, length, get_or, ap, ◌∙◌, length-append}
 use Rattle.trace_batch.specs.declared.item.Item.{Item}
 use Rattle.batch_lines.specs.declared.finished.FinishedSpan.{FinishedSpan}
 use Rattle.batch_lines.proofs.ListsLemmas.{none_more}

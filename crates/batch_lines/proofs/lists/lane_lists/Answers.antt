@@ -1,5 +1,5 @@
 -- The next record joins the list of its lane.
-use Rattle.std.proofs.Common.{◌≡◌, ◌+◌, ℕ, [], ◌∷◌, List, length, get_or, ap, sym, ◌∙◌, arith, length-append}
+use Rattle.std.proofs.Common.{◌+◌, ℕ, [], ◌∷◌, List, length, get_or, ap, sym, ◌∙◌, arith, length-append}
 use Rattle.batch_lines.proofs.ListsLemmas.{joined_list}
 use Rattle.batch_lines.proofs.lists.lane_lists.Goals as goal
 

@@ -1,5 +1,5 @@
 -- What was sent is cut, and the batches are written.
-use Rattle.std.proofs.Common.{◌≡◌, ◌++◌, ℕ, List, Vec, Global, map, ap, sym, ◌∙◌}
+use Rattle.std.proofs.Common.{◌++◌, ℕ, List, Vec, Global, map, ap, sym, ◌∙◌}
 use Rattle.std.proofs.lemmas.List.{length-map}
 use Rattle.trace_batch.specs.declared.item.Sent.{Sent}
 use Rattle.batch_lines.specs.Texts.{batch_lines, batches_end_text}

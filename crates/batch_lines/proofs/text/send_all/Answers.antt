@@ -1,5 +1,5 @@
 -- Each list has the items of its lane.
-use Rattle.std.proofs.Common.{◌≡◌, ℕ, List, map, ap, sym, ◌∙◌, subst}
+use Rattle.std.proofs.Common.{◌≡◌, List, map, ap, sym, ◌∙◌, subst}
 use Rattle.std.specs.List.{All}
 use Rattle.trace_batch.specs.declared.item.Item.{Item}
 use Rattle.trace_batch.specs.Merges.{sent_of}

@@ -1,5 +1,5 @@
 -- A whole subscriber can start spans.
-use Rattle.std.proofs.Common.{ℕ, Some, None, Option}
+use Rattle.std.proofs.Common.{Some, None}
 use Rattle.trace_base.specs.Gate.{Worlds}
 use Rattle.span_handles.specs.Handles.{Held, HasOn}
 use Rattle.span_pipeline.proofs.asked.context_any.Goals as goal

@@ -1,4 +1,4 @@
-use Rattle.trace_records.proofs.ScriptsLaws.{IsLegal, legal}
+use Rattle.trace_records.proofs.ScriptsLaws.{legal}
 use Rattle.trace_records.proofs.laws.scripts.Goals as goal
 
 pub returns-clause-history : goal.returns-clause-history

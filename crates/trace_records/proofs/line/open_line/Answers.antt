@@ -1,4 +1,4 @@
-use Rattle.std.proofs.Common.{rules, ap, sym, refl, subst, length, ◌∙◌}
+use Rattle.std.proofs.Common.{rules, ap, sym, subst, length, ◌∙◌}
 use Rattle.span_script.specs.Admission.{opening_read, IsUnread}
 use Rattle.trace_records.specs.Scripts.{takes}
 use Rattle.trace_records.proofs.LinesLemmas.{not_settings, not_read, too_many, opens}

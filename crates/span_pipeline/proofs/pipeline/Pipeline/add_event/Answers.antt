@@ -7,7 +7,6 @@ use Rattle.span_script.proofs.steps.LanesLemmas.{on_err}
 use Rattle.span_script.proofs.runs.RefusalsLemmas.{refuses_unknown}
 use Rattle.span_script.proofs.steps.RequiresLemmas.{needs_there}
 use Rattle.span_script.proofs.steps.ServesLemmas.{by_view, serves_refusal}
-use Rattle.span_pipeline.specs.Contexts.{named_in}
 use Rattle.span_pipeline.proofs.pipeline.Pipeline.add_event.Goals as goal
 use Rattle.span_pipeline.specs.Parts.{parts_of}
 

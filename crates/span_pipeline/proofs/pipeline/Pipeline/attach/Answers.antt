@@ -4,7 +4,6 @@ use Rattle.span_script.specs.declared.request.Call.TheVariants as call
 use Rattle.span_script.proofs.lane_contexts.AttachesLemmas.{not_full, left_state, left_kept, refuses_attach, serves_attached, keeps_attached}
 use Rattle.span_script.proofs.steps.LanesLemmas.{within_view}
 use Rattle.span_script.proofs.steps.ServesLemmas.{by_view, by_view_refused}
-use Rattle.span_pipeline.specs.Contexts.{named_in}
 use Rattle.span_pipeline.proofs.pipeline.Pipeline.attach.Goals as goal
 use Rattle.span_pipeline.specs.Parts.{parts_of}
 

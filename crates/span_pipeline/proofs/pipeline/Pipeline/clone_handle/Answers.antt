@@ -5,7 +5,6 @@ use Rattle.span_script.proofs.steps.RequiresLemmas.{needs_known, needs_whole, ne
 use Rattle.span_script.proofs.runs.RefusalsLemmas.{refuses_unknown}
 use Rattle.span_script.proofs.steps.ServesLemmas.{by_view, serves_refusal}
 use Rattle.span_script.proofs.spans.ClonesLemmas.{serves_cloned, keeps_cloned}
-use Rattle.span_pipeline.specs.Contexts.{named_in}
 use Rattle.span_pipeline.proofs.pipeline.Pipeline.clone_handle.Goals as goal
 use Rattle.span_pipeline.specs.Parts.{parts_of}
 

@@ -7,7 +7,6 @@ use Rattle.span_script.proofs.steps.LanesLemmas.{within_view}
 use Rattle.span_script.proofs.spans.MakingsLemmas.{make_may}
 use Rattle.span_script.proofs.steps.ServesLemmas.{by_view}
 use Rattle.span_script.proofs.spans.CurrentsLemmas.{serves_current, keeps_current}
-use Rattle.span_pipeline.specs.Contexts.{named_in}
 use Rattle.span_pipeline.proofs.pipeline.Pipeline.current.Goals as goal
 use Rattle.span_pipeline.specs.Parts.{parts_of}
 

@@ -5,7 +5,6 @@ use Rattle.span_script.specs.Fits.{stack_views}
 use Rattle.span_script.proofs.lane_contexts.DetachesLemmas.{still_live, serves_detached, keeps_detached, keeps_tokens, none_more, filtered_keeps}
 use Rattle.span_script.proofs.steps.LanesLemmas.{within_view}
 use Rattle.span_script.proofs.steps.ServesLemmas.{by_view}
-use Rattle.span_pipeline.specs.Contexts.{named_in}
 use Rattle.span_pipeline.proofs.pipeline.Pipeline.detach.Goals as goal
 use Rattle.span_pipeline.specs.Parts.{parts_of}
 

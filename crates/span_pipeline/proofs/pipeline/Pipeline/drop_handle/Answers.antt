@@ -5,7 +5,6 @@ use Rattle.span_script.proofs.steps.RequiresLemmas.{needs_known, needs_whole}
 use Rattle.span_script.proofs.runs.RefusalsLemmas.{refuses_unknown}
 use Rattle.span_script.proofs.steps.ServesLemmas.{by_view, by_view_refused, serves_refusal}
 use Rattle.span_script.proofs.spans.DropsLemmas.{refuses_borrowed, serves_dropped, keeps_dropped}
-use Rattle.span_pipeline.specs.Contexts.{named_in}
 use Rattle.span_pipeline.proofs.pipeline.Pipeline.drop_handle.Goals as goal
 use Rattle.span_pipeline.specs.Parts.{parts_of}
 

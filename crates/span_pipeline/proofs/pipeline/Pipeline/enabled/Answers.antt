@@ -7,7 +7,6 @@ use Rattle.span_script.proofs.filter.GateLemmas.{is_current}
 use Rattle.span_script.proofs.steps.LanesLemmas.{within_view}
 use Rattle.span_script.proofs.filter.ReloadsLemmas.{serves_enabled, keeps_enabled}
 use Rattle.span_script.proofs.steps.ServesLemmas.{by_view}
-use Rattle.span_pipeline.specs.Contexts.{named_in}
 use Rattle.span_pipeline.proofs.pipeline.Pipeline.enabled.Goals as goal
 use Rattle.span_pipeline.specs.Parts.{parts_of}
 

@@ -7,7 +7,6 @@ use Rattle.span_script.proofs.steps.LanesLemmas.{refused_kept, refused_state, wi
 use Rattle.span_script.proofs.runs.RefusalsLemmas.{refuses_unknown}
 use Rattle.span_script.proofs.entries.FullLanesLemmas.{layer_activates, filtered_activates, meets_not, refuses_entry}
 use Rattle.span_script.proofs.entries.EntriesLemmas.{by_view_opens, by_view_opens_refused, serves_entered, keeps_entered}
-use Rattle.span_pipeline.specs.Contexts.{named_in}
 use Rattle.span_pipeline.proofs.pipeline.Pipeline.enter.Goals as goal
 use Rattle.span_script.proofs.steps.ServesLemmas.{serves_refusal}
 use Rattle.span_pipeline.specs.Parts.{parts_of}

@@ -10,7 +10,6 @@ use Rattle.span_script.proofs.steps.ServesLemmas.{by_view, by_view_refused, serv
 use Rattle.span_script.proofs.fields.FieldsLemmas.{refuses_event}
 use Rattle.span_script.proofs.spans.MakingsLemmas.{made_alike, tell_live}
 use Rattle.span_script.proofs.events.EventsLemmas.{serves_told, keeps_told}
-use Rattle.span_pipeline.specs.Contexts.{named_in}
 use Rattle.span_pipeline.proofs.Placing.{refuses_event_site, refuses_event_place}
 use Rattle.span_pipeline.proofs.pipeline.Pipeline.event.Goals as goal
 use Rattle.span_pipeline.specs.Parts.{parts_of}

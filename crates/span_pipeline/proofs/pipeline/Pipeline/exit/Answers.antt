@@ -5,7 +5,6 @@ use Rattle.span_script.proofs.steps.LanesLemmas.{within_view}
 use Rattle.span_script.specs.declared.request.Call.TheVariants as call
 use Rattle.span_script.proofs.steps.ServesLemmas.{by_view, by_view_refused, serves_refusal}
 use Rattle.span_script.proofs.entries.EntriesLemmas.{refuses_shared, refuses_wrong_lane, alone_at, serves_exited, keeps_exited}
-use Rattle.span_pipeline.specs.Contexts.{named_in}
 use Rattle.span_pipeline.proofs.pipeline.Pipeline.exit.Goals as goal
 use Rattle.span_pipeline.specs.Parts.{parts_of}
 

@@ -4,7 +4,6 @@ use Rattle.span_script.specs.declared.request.Call.TheVariants as call
 use Rattle.span_script.proofs.runs.RefusalsLemmas.{refuses_unknown}
 use Rattle.span_script.proofs.steps.ServesLemmas.{by_view, serves_refusal}
 use Rattle.span_script.proofs.fields.FieldsLemmas.{needs_site, serves_asked, keeps_asked}
-use Rattle.span_pipeline.specs.Contexts.{named_in}
 use Rattle.span_pipeline.proofs.pipeline.Pipeline.has_field.Goals as goal
 use Rattle.span_pipeline.specs.Parts.{parts_of}
 

@@ -9,7 +9,6 @@ use Rattle.span_script.proofs.steps.SlotsLemmas.{found_place, found_nowhere}
 use Rattle.span_script.proofs.steps.ServesLemmas.{by_view, by_view_refused, serves_refusal}
 use Rattle.span_script.proofs.fields.FieldsLemmas.{refuses_new, refuses_place}
 use Rattle.span_script.proofs.spans.MakingsLemmas.{make_may, all_of, made_alike, serves_new, keeps_new}
-use Rattle.span_pipeline.specs.Contexts.{named_in}
 use Rattle.span_pipeline.proofs.Placing.{refuses_span_site}
 use Rattle.span_pipeline.proofs.pipeline.Pipeline.make.Goals as goal
 use Rattle.span_pipeline.specs.Parts.{parts_of}

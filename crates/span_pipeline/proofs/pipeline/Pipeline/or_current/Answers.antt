@@ -8,7 +8,6 @@ use Rattle.span_script.proofs.spans.MakingsLemmas.{make_may}
 use Rattle.span_script.proofs.runs.RefusalsLemmas.{refuses_unknown}
 use Rattle.span_script.proofs.steps.ServesLemmas.{by_view, by_view_refused, serves_refusal}
 use Rattle.span_script.proofs.spans.CurrentsLemmas.{refuses_in_use, serves_exchanged, keeps_exchanged}
-use Rattle.span_pipeline.specs.Contexts.{named_in}
 use Rattle.span_pipeline.proofs.pipeline.Pipeline.or_current.Goals as goal
 use Rattle.span_pipeline.specs.Parts.{parts_of}
 

@@ -6,7 +6,6 @@ use Rattle.span_script.proofs.runs.RefusalsLemmas.{refuses_unknown}
 use Rattle.span_script.proofs.steps.ServesLemmas.{by_view, serves_refusal}
 use Rattle.span_script.proofs.steps.LanesLemmas.{on_err, same_state, same_kept}
 use Rattle.span_script.proofs.fields.FieldsLemmas.{needs_site, serves_recorded, keeps_recorded}
-use Rattle.span_pipeline.specs.Contexts.{named_in}
 use Rattle.span_pipeline.proofs.pipeline.Pipeline.record.Goals as goal
 use Rattle.span_pipeline.specs.Parts.{parts_of}
 

@@ -7,7 +7,6 @@ use Rattle.span_script.proofs.filter.CounterLemmas.{stack_same}
 use Rattle.span_script.proofs.filter.FilterLemmas.{stack_shows}
 use Rattle.span_script.proofs.filter.ReloadsLemmas.{serves_reloaded, keeps_reloaded}
 use Rattle.span_script.proofs.steps.ServesLemmas.{by_view}
-use Rattle.span_pipeline.specs.Contexts.{named_in}
 use Rattle.span_pipeline.proofs.pipeline.Pipeline.reload.Goals as goal
 use Rattle.span_pipeline.specs.Parts.{parts_of}
 

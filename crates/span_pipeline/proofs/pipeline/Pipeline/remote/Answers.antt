@@ -3,7 +3,6 @@ use Rattle.std.proofs.Common.{rules, false, refl}
 use Rattle.span_script.specs.declared.request.Call.TheVariants as call
 use Rattle.span_script.proofs.lane_contexts.ContextsLemmas.{serves_remote, keeps_remote}
 use Rattle.span_script.proofs.steps.ServesLemmas.{by_view}
-use Rattle.span_pipeline.specs.Contexts.{named_in}
 use Rattle.span_pipeline.proofs.pipeline.Pipeline.remote.Goals as goal
 use Rattle.span_pipeline.specs.Parts.{parts_of}
 

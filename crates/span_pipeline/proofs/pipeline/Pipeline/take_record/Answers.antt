@@ -3,7 +3,6 @@ use Rattle.std.proofs.Common.{ap, ◌∙◌}
 use Rattle.span_stack.specs.Reading.{StackWorlds}
 use Rattle.span_script.specs.Fits.{State, without_first}
 use Rattle.span_script.proofs.runs.TakeLemmas.{state_taken, kept_taken, oldest_by}
-use Rattle.span_pipeline.specs.Contexts.{named_in}
 use Rattle.span_pipeline.proofs.pipeline.Pipeline.take_record.Goals as goal
 use Rattle.span_pipeline.specs.Parts.{parts_of}
 

@@ -1,4 +1,4 @@
-use Rattle.std.proofs.Common.{◌≡◌, ◌+◌, ◌++◌, [], ◌∷◌, Some, ap, sym, ◌∙◌}
+use Rattle.std.proofs.Common.{◌+◌, ◌++◌, [], ◌∷◌, Some, ap, sym, ◌∙◌}
 use Rattle.serde_json.specs.Data.{array, no_items}
 use Rattle.trace_pipeline.specs.declared.read.scan.TheConstants.{DEEPEST}
 use Rattle.trace_pipeline.proofs.texts.FieldsLemmas.{field_more}

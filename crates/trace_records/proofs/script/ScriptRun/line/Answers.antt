@@ -1,5 +1,5 @@
 -- The settings line opens the run, and a request that is answered is one effect more.
-use Rattle.std.proofs.Common.{◌≡◌, ◌++◌, ℕ, List, [], ◌∷◌, refl, sym, ap, subst, map, ◌∙◌}
+use Rattle.std.proofs.Common.{◌≡◌, ◌++◌, List, [], ◌∷◌, refl, sym, ap, subst, map, ◌∙◌}
 use Rattle.otel_base.specs.declared.record.Record.{Record}
 use Rattle.span_script.specs.Fits.{State}
 use Rattle.trace_records.specs.declared.finished.FinishedSpans.{FinishedSpans}
