@@ -22,26 +22,11 @@ refused_text opening.Memory = refusals.Memory
 -- What was opened or made is given back without memory; a parent and a status are set, and the gate and a callsite's fields
 -- are asked, without memory too.
 abbrev pub takes_no_memory : Call → Bool
-takes_no_memory (call.New site under fields) = false
-takes_no_memory (call.Clone handle) = false
 takes_no_memory (call.Drop handle) = true
-takes_no_memory (call.Enter handle) = false
 takes_no_memory (call.Exit guard) = true
-takes_no_memory call.Current = false
-takes_no_memory (call.OrCurrent handle) = false
-takes_no_memory (call.Entered handle) = false
-takes_no_memory (call.Record handle fields) = false
 takes_no_memory (call.HasField handle name) = true
-takes_no_memory (call.Event site under fields) = false
-takes_no_memory (call.Remote ids) = false
-takes_no_memory (call.Context handle) = false
-takes_no_memory (call.Attach context) = false
 takes_no_memory (call.Detach guard) = true
-takes_no_memory (call.Follows handle from) = false
 takes_no_memory (call.SetParent handle context) = true
-takes_no_memory (call.AddLink handle context attributes) = false
-takes_no_memory (call.SetAttribute handle key value) = false
 takes_no_memory (call.SetStatus handle status) = true
-takes_no_memory (call.AddEvent handle name attributes time) = false
 takes_no_memory (call.Enabled site) = true
-takes_no_memory (call.Reload text) = false
+takes_no_memory other = false
