@@ -1,9 +1,7 @@
 //! Scripts of span calls on the stack of a registry, the OpenTelemetry layer, the layer of metrics and a filter.
 //!
-//! All turns on `Pipeline::step`, which appends a request to the history that the pipeline stands for. It serves `new`
-//! and `event` in every place and with fields, `record`, `has_field`, `current`, `or_current`, `clone`, `drop`, `enter`,
-//! `entered`, `exit`, `remote`, `context`, `attach`, `detach`, `enabled`, `reload`, `follows` and what is asked of the
-//! span extension, on every lane and with any number of open guards.
+//! All turns on `Pipeline::step`, which appends a request to the history that the pipeline stands for. It serves each kind
+//! of `Call`, in every place, on every lane and with any number of open guards. The bodies stand in `calls`, by subject.
 #![tactic(auto)]
 
 mod asked;

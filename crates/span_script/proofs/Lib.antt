@@ -1,3 +1,4 @@
+pub mod Common
 pub mod steps
 pub mod spans
 pub mod entries

@@ -1,22 +1,8 @@
 -- What a filter hears of an effect: the making of the next span, or of spans that are open.
 use Rattle.std.proofs.Common.{◌≡◌, ℕ, ◌<◌, ◌==◌, ◌||◌, List, [], ◌∷◌, ◌++◌, Bool, true, not, Option, Some, None, map, slice_set, refl, ap, arith}
-use Rattle.std.specs.List.{AllByRecursion}
-use Rattle.std.proofs.lemmas.Bool.{eq-eqb, or_right}
-use Rattle.std.proofs.lemmas.Bool.Decides.{nat_tests}
-use Rattle.trace_base.specs.declared.callsite.Callsite.{Callsite}
-use Rattle.trace_base.specs.declared.field.ValueSet.{ValueSet}
-use Rattle.trace_base.specs.layers.Hooks.{Hook}
-use Rattle.trace_base.specs.Spans.{is_in}
-use Rattle.env_filter.specs.Filtering.{Each}
-use Rattle.env_filter.specs.spans.Histories.{IsNext, AreInOrder}
-use Rattle.env_filter.proofs.kept.StackedLemmas.{IsBefore}
-use Rattle.span_script.specs.Fields.{Fields}
-use Rattle.span_script.specs.Tables.{Scope, MadeSpan, FilterHook, HookNew, HookRecord, HookEnter, HookExit, HookClose, slot_at}
-use Rattle.span_script.specs.calls.Fields.{hooks_of_values}
-use Rattle.span_script.specs.calls.Filter.{hook_of, hooks_of_span}
-use Rattle.span_script.specs.calls.Spans.{is_open, closed_of}
+use Rattle.span_laws.proofs.Common.{AllByRecursion, or_right, nat_tests, Callsite, ValueSet, Hook, is_in, Each, IsNext, AreInOrder, IsBefore, Fields, Scope, MadeSpan, FilterHook, HookNew, HookRecord, HookEnter, HookExit, HookClose, slot_at, hooks_of_values, hook_of, hooks_of_span, is_open, closed_of, slot_open}
+use Rattle.std.proofs.lemmas.Bool.{eq-eqb}
 use Rattle.span_laws.proofs.spans.OccurrencesLemmas.{is_in_counted, occurs_filter}
-use Rattle.span_script.proofs.spans.OpenSpansLemmas.{slot_open}
 
 -- what is heard of an open span and makes none; it closes one only where the effect does
 abbrev pub IsHeard : List (Option Scope) → List ℕ → FilterHook → Type 0

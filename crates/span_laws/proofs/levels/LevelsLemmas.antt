@@ -1,26 +1,12 @@
 -- What was heard of spans since the filter in force was put there is in order, so the levels are those that it tells.
-use Rattle.std.proofs.Common.{◌≡◌, ℕ, ◌<◌, ◌≤◌, ◌==◌, ◌||◌, List, [], ◌∷◌, ◌++◌, length, append_assoc, flat_map, fold, map, Bool, true, false, Option, Some, None, Ok, Err, unwrap_or, refl, sym, ap, subst, ◌∙◌, arith, inl, inr}
-use Rattle.std.specs.Prelude.{is_some}
-use Rattle.std.proofs.lemmas.Bool.{cases_eq, ne_eqb, or_right, true≢false}
-use Rattle.std.proofs.lemmas.List.{append-nil, length_push, map-append}
+use Rattle.std.proofs.Common.{◌≡◌, ℕ, ◌<◌, ◌≤◌, ◌==◌, ◌||◌, List, [], ◌∷◌, ◌++◌, length, append_assoc, flat_map, fold, map, Bool, true, false, Option, Some, None, Ok, Err, unwrap_or, refl, sym, ap, subst, ◌∙◌, arith, inl, inr, is_some}
+use Rattle.span_laws.proofs.Common.{cases_eq, or_right, length_push, map-append, fold_push, fold-append, Hook, is_in, Directive, FilterState, Each, fresh, span_level, after_hook, AreInOrder, NeverFalls, is_close_of, is_ended, level_by_calls, levels_by_calls, IsBefore, all_more, all_push, new_if, in_order, TextRead, filter_if, text_read, text_filter, hook_of, after_filter_hook, in_force, filter_at, is_open, Setup, Scope, MadeSpan, FilterHook, HookNew, HookRecord, HookEnter, HookExit, HookClose, Effect, History, Tables, with_item, no_tables, after_effect, tables, newer, hooks_since, IsHistory, none, more}
+use Rattle.std.proofs.lemmas.Bool.{ne_eqb, true≢false}
+use Rattle.std.proofs.lemmas.List.{append-nil}
 use Rattle.std.proofs.lemmas.List.Folds.{list_any-append}
-use Rattle.std.proofs.lemmas.List.Sums.{fold_push, fold-append}
-use Rattle.trace_base.specs.layers.Hooks.{Hook}
-use Rattle.trace_base.specs.Spans.{is_in}
 use Rattle.trace_base.specs.declared.level.LevelFilter.{LevelFilter}
-use Rattle.env_directives.specs.declared.env.directive.Directive.{Directive}
-use Rattle.env_filter.specs.Filtering.{FilterState, Each, fresh, span_level}
-use Rattle.env_filter.specs.Filtering.{after_hook}
-use Rattle.env_filter.specs.spans.Histories.{AreInOrder, NeverFalls, is_close_of, is_ended, level_by_calls, levels_by_calls}
 use Rattle.env_filter.proofs.kept.RisingLevelsLemmas.{level_rises, level_stays}
-use Rattle.env_filter.proofs.kept.StackedLemmas.{IsBefore, all_more, all_push, new_if, in_order}
 use Rattle.env_filter.proofs.kept.ToldLevelsLemmas.{level_is_told, levels_are_told}
-use Rattle.span_script.specs.Admission.{TextRead, filter_if, text_read, text_filter}
-use Rattle.span_script.specs.calls.Filter.{hook_of, after_filter_hook, in_force, filter_at}
-use Rattle.span_script.specs.calls.Spans.{is_open}
-use Rattle.span_script.specs.Setups.{Setup}
-use Rattle.span_script.specs.Tables.{Scope, MadeSpan, FilterHook, HookNew, HookRecord, HookEnter, HookExit, HookClose, Effect, History, Tables, with_item, no_tables, after_effect, tables, newer, hooks_since}
-use Rattle.span_laws.specs.Laws.{IsHistory, none, more}
 use Rattle.span_laws.specs.Levels.{level_in, directives_in, hooks_in, HasNoReload}
 use Rattle.span_laws.proofs.levels.HooksLemmas.{Hears, of_making, of_open, IsEndIn, heard_in_order, heard_before, heard_closed}
 use Rattle.span_laws.proofs.records.HistoriesLemmas.{fits, open_made, whole}

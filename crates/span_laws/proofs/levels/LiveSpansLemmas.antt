@@ -1,42 +1,22 @@
 -- The layer of a stack keeps one state of each span that is live.
-use Rattle.std.proofs.Common.{◌≡◌, ◌≢◌, ℕ, ◌+◌, ◌<◌, List, [], ◌∷◌, ◌++◌, length, Bool, true, false, count_by, set, Option, Some, None, refl, sym, ap, subst, ◌∙◌, arith, inl, inr}
-use Rattle.std.specs.Prelude.{◌==◌, nat_lt, is_some, fold, IfSome, Result, Ok, Err}
-use Rattle.std.specs.List.{list_any}
+use Rattle.std.proofs.Common.{◌≡◌, ◌≢◌, ℕ, ◌+◌, ◌<◌, List, [], ◌∷◌, ◌++◌, length, Bool, true, false, count_by, set, Option, Some, None, refl, sym, ap, subst, ◌∙◌, arith, inl, inr, ◌==◌, nat_lt, is_some, fold, IfSome, Result, Ok, Err}
+use Rattle.span_laws.proofs.Common.{list_any, cases_eq, cases_lt, cases_Bool, cond-true, cond-false, get_or_past, get_or_push, get_or_append_left, length_push, map-append, Context, SpanContext, Callsite, ValueSet, Lane, one_if, Span, Spans, no_span, span_at, entries_on, is_in, times_in, current_of, place_on, with_hold, less_hold, without_hold, held_by_child, next_of, count_cons, count_push, counted_if_any, any_if_counted, made_if_held, length_held, less_holds, holds_set, holds_other, LayerSettings, Op, event_of, span_update, SpanData, after_op, Recording, with_applied, started_under, with_start, with_starts, made_under, with_new_recorded, with_follow, with_event, source_of, with_entry, with_exit, without_closed, with_close, Enters, Exits, Stays, RecordsCall, RecordsChain, RecordsPart, IfKnown, parent_source, with_link, data_at, knows_span, waits, ids_at, is_id, FilterState, enables_in}
 use Rattle.std.specs.Map.{keys_of, remove_entry}
-use Rattle.std.proofs.lemmas.Bool.{eqb-true, eq-eqb, ne_eqb, cases_eq, cases_lt, cases_Bool, cond-true, cond-false, lt-ltb, le-ltb, true≢false}
-use Rattle.std.proofs.lemmas.List.{get_or_past, get_or_push, get_or_append_left, length_push, map-append}
+use Rattle.std.proofs.lemmas.Bool.{eqb-true, eq-eqb, ne_eqb, lt-ltb, le-ltb, true≢false}
 use Rattle.std.proofs.lemmas.Map.Made.{is_some-lookup}
-use Rattle.otel_base.specs.declared.context.Context.{Context}
-use Rattle.otel_base.specs.declared.context.SpanContext.{SpanContext}
-use Rattle.trace_base.specs.declared.callsite.Callsite.{Callsite}
-use Rattle.trace_base.specs.declared.field.ValueSet.{ValueSet}
-use Rattle.trace_base.specs.declared.lane.Lane.{Lane}
 use Rattle.trace_base.specs.declared.span.Parent.{Parent}
 use Rattle.trace_base.specs.Calls.{SubscriberCall, NewSpan, Records, Follows, Event, Enter, Exit, CloneSpan, TryClose, spans_after_call, with_span_entry, with_span_exit}
 use Rattle.trace_base.specs.Conditions.{IsLive, MayExit, HasOwnHold, Allowed}
-use Rattle.trace_base.specs.layers.Hooks.{one_if}
 use Rattle.trace_base.specs.Sound.{IsSound}
-use Rattle.trace_base.specs.Spans.{Span, Spans, no_span, span_at, entries_on, is_in, times_in, current_of, place_on, with_hold, less_hold, without_hold, held_by_child, next_of}
-use Rattle.trace_base.proofs.Entering.{count_cons, count_push, counted_if_any, any_if_counted, made_if_held, length_held}
-use Rattle.trace_base.proofs.Holding.{less_holds, holds_set, holds_other}
 use Rattle.trace_base.proofs.Sound.{place_live}
 use Rattle.trace_base.specs.Gate.{Worlds}
 use Rattle.span_handles.specs.Worlds.{Replaced, member_of, ReleasesChain, all_released, releases, closed_in, no_spans}
 use Rattle.span_handles.proofs.Showing.{seen_before, seen_later}
-use Rattle.otel_state.specs.declared.settings.LayerSettings.{LayerSettings}
 use Rattle.otel_base.specs.declared.memory.Memory.{Memory}
-use Rattle.otel_state.specs.declared.op.Op.{Op}
 use Rattle.otel_state.specs.declared.op.OpReply.{OpReply}
 use Rattle.otel_state.specs.declared.op.Op.TheVariants as ops
-use Rattle.otel_state.specs.fields.EventFields.{event_of}
-use Rattle.otel_state.specs.fields.SpanFields.{span_update}
-use Rattle.otel_state.specs.States.{SpanData, after_op}
 use Rattle.otel_layer.specs.laws.HookLemmas.{update_keys}
 use Rattle.otel_layer.specs.Parts.{PartCall, Applies, Shows, AppliesTo, context_at}
-use Rattle.otel_layer.specs.Recording.{Recording, with_applied, started_under, with_start, with_starts, made_under, with_new_recorded, with_follow, with_event, source_of, with_entry, with_exit, without_closed, with_close, Enters, Exits, Stays, RecordsCall, RecordsChain, RecordsPart}
-use Rattle.otel_layer.specs.Steps.{IfKnown, parent_source, with_link}
-use Rattle.otel_layer.specs.Table.{data_at, knows_span, waits, ids_at, is_id}
-use Rattle.env_filter.specs.Filtering.{FilterState, enables_in}
 use Rattle.span_stack.specs.Counting.{with_counted, with_event_by, RecordsCallBy}
 use Rattle.span_stack.specs.Reading.{new_recording}
 use Rattle.span_laws.specs.Live.{is_live, states_of, KeepsLive, IsAnsweredLive}

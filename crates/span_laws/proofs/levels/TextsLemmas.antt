@@ -1,6 +1,5 @@
 -- A text in force is read piece by piece as the grammar of forms has it.
-use Rattle.std.proofs.Common.{◌≡◌, ℕ, ◌+◌, List, [], ◌∷◌, ◌++◌, false, Ok, Err, refl, sym, ap, subst, ◌∙◌}
-use Rattle.std.specs.Prelude.{◌↔◌}
+use Rattle.std.proofs.Common.{◌≡◌, ℕ, ◌+◌, List, [], ◌∷◌, ◌++◌, false, Ok, Err, refl, sym, ap, subst, ◌∙◌, ◌↔◌}
 use Rattle.std.specs.Str.{trim}
 use Rattle.env_directives.specs.reading.Faults.{HasEmptyField, HasFault, HasNoLevel}
 use Rattle.env_directives.specs.reading.Forms.{IsDirective}
@@ -8,12 +7,11 @@ use Rattle.env_directives.specs.reading.Reading.{Read, reading}
 use Rattle.env_directives.specs.reading.Separators.{comma_pieces}
 use Rattle.env_directives.specs.declared.directive.ParseError.{ParseError}
 use Rattle.env_directives.specs.declared.directive.ParseError.TheVariants as fault
-use Rattle.env_directives.specs.declared.env.directive.Directive.{Directive}
+use Rattle.span_laws.proofs.Common.{Directive, TextRead, text_read}
 use Rattle.env_directives.proofs.forms.FaultsLemmas.{Explained}
 use Rattle.env_directives.proofs.forms.ReadingsLemmas.{fault_is, reading_explained}
 use Rattle.env_filter.specs.declared.pieces.Ignored.{Ignored}
 use Rattle.env_filter.specs.texts.Pieces.{IsFirstFault, ReadsPiece, ReadsAll, ReadsText, is_memory}
-use Rattle.span_script.specs.Admission.{TextRead, text_read}
 use Rattle.span_script.proofs.filter.TextsLemmas.{all_read, all_refused}
 
 -- a text has the fault that it is read with

@@ -1,19 +1,9 @@
 -- What a span's record tells, by its ops in the history.
-use Rattle.std.proofs.Common.{◌≡◌, ℕ, List, [], ◌∷◌, ◌++◌, Bool, refl, sym, ap, subst, ◌∙◌, append_assoc}
-use Rattle.std.specs.Prelude.{IsTrue, is_some}
+use Rattle.std.proofs.Common.{◌≡◌, ℕ, List, [], ◌∷◌, ◌++◌, Bool, refl, sym, ap, subst, ◌∙◌, append_assoc, IsTrue, is_some}
 use Rattle.std.proofs.lemmas.List.{append-nil}
-use Rattle.otel_base.specs.declared.context.SpanContext.{SpanContext}
-use Rattle.otel_base.specs.declared.record.Record.{Record}
+use Rattle.span_laws.proofs.Common.{SpanContext, Record, attributes_of, counted_of, closing_count, closing_times, TimedOp, TellsTimes, was_entered, SpanData, with_all, busy_of, last_exit, idle_of, Setup, all_ops, TellsSpan, TellsAttributes}
 use Rattle.otel_base.specs.declared.value.KeyValue.{KeyValue}
-use Rattle.otel_state.specs.Content.{attributes_of, counted_of, closing_count, closing_times}
-use Rattle.otel_state.specs.Deeds.{TimedOp}
-use Rattle.otel_state.specs.Laws.{TellsTimes, was_entered}
-use Rattle.otel_state.specs.States.{SpanData, with_all}
-use Rattle.otel_state.specs.Times.{busy_of, last_exit, idle_of}
 use Rattle.otel_state.proofs.AddingUp.{tells_times}
-use Rattle.span_script.specs.Setups.{Setup}
-use Rattle.span_laws.specs.Records.{all_ops}
-use Rattle.span_laws.specs.Telling.{TellsSpan, TellsAttributes}
 use Rattle.span_laws.proofs.records.StoriesLemmas.{IsEnding}
 
 with_all_is : {A : Type 0} (xs ys : List A) → with_all xs ys ≡ xs ++ ys

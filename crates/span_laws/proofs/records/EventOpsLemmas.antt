@@ -1,14 +1,8 @@
 -- What holds of each op of an event, which may be counted.
 use Rattle.std.proofs.Common.{◌≡◌, ℕ, List, [], ◌∷◌, Bool, true, false, Option, Some, None, refl}
-use Rattle.std.specs.List.{AllByRecursion}
+use Rattle.span_laws.proofs.Common.{AllByRecursion, Op, Callsite, text_filter, ops_on, counted_ops, if_enabled, Scope, SpanOp}
 use Rattle.env_directives.specs.orders.Choice.{admits}
-use Rattle.otel_state.specs.declared.op.Op.{Op}
 use Rattle.otel_state.specs.declared.op.Op.TheVariants as ops
-use Rattle.trace_base.specs.declared.callsite.Callsite.{Callsite}
-use Rattle.span_script.specs.Admission.{text_filter}
-use Rattle.span_script.specs.calls.Here.{ops_on}
-use Rattle.span_script.specs.calls.Events.{counted_ops, if_enabled}
-use Rattle.span_script.specs.Tables.{Scope, SpanOp}
 
 pub each_counted : (P : Op → Type 0) → P ops.Counted → (counting : Option (List ℕ)) (callsite : Callsite) (event : Op) → P event → AllByRecursion P (counted_ops counting callsite event)
 each_counted P count None callsite event own = (own, tt)

@@ -1,30 +1,11 @@
 -- What stands of each legal history: its tables, the stories of its open spans, and the records of its closed ones.
-use Rattle.std.proofs.Common.{◌≡◌, ℕ, ◌+◌, ◌<◌, ◌≤◌, ◌==◌, ◌&&◌, ◌||◌, List, [], ◌∷◌, ◌++◌, length, Bool, true, false, cond, filter, flat_map, map, fold, not, nat_lt, Option, Some, None, option_map, refl, sym, ap, subst, ◌∙◌, arith, append_assoc}
-use Rattle.std.specs.Prelude.{if◌then◌else◌}
-use Rattle.std.specs.List.{AllByRecursion}
+use Rattle.std.proofs.Common.{◌≡◌, ℕ, ◌+◌, ◌<◌, ◌≤◌, ◌==◌, ◌&&◌, ◌||◌, List, [], ◌∷◌, ◌++◌, length, Bool, true, false, cond, filter, flat_map, map, fold, not, nat_lt, Option, Some, None, option_map, refl, sym, ap, subst, ◌∙◌, arith, append_assoc, if◌then◌else◌}
+use Rattle.span_laws.proofs.Common.{AllByRecursion, length_push, fold_push, fold-append, flat_map-append, cond-true, cond-false, nat_tests, SpanContext, Record, TimedOp, deed, SpanData, Recording, with_start, data_at, is_in, Setup, Scope, MadeSpan, SpanOp, Effect, History, Tables, with_item, no_tables, after_effect, tables, no_made_span, with_span_made, recorded_by, open_part, records_of, slot_at, holds, is_open, records_push, is_drop, IsHistory, none, more, occurrences, EachRecord, records_of_history, start_in, ops_in, ops_from, ops_of, closed_at, with_started, starts_of, at_making, starting_order, place_in, any_counted, pick}
 use Rattle.std.specs.Option.{option_to_list}
-use Rattle.std.proofs.lemmas.List.{append-nil, length_push}
-use Rattle.std.proofs.lemmas.List.Sums.{fold_push, fold-append}
-use Rattle.std.proofs.lemmas.Grind.{flat_map-append}
-use Rattle.std.proofs.lemmas.Bool.{ne_eqb, cond-true, cond-false, true≢false}
-use Rattle.std.proofs.lemmas.Bool.Decides.{nat_tests}
-use Rattle.otel_base.specs.declared.context.SpanContext.{SpanContext}
-use Rattle.otel_base.specs.declared.record.Record.{Record}
-use Rattle.otel_state.specs.Deeds.{TimedOp, deed}
-use Rattle.otel_state.specs.States.{SpanData}
-use Rattle.otel_layer.specs.Recording.{Recording, with_start}
-use Rattle.otel_layer.specs.Table.{data_at}
-use Rattle.trace_base.specs.Spans.{is_in}
-use Rattle.span_script.specs.Setups.{Setup}
-use Rattle.span_script.specs.Tables.{Scope, MadeSpan, SpanOp, Effect, History, Tables, with_item, no_tables, after_effect, tables, no_made_span, with_span_made, recorded_by, open_part, records_of, slot_at}
+use Rattle.std.proofs.lemmas.List.{append-nil}
+use Rattle.std.proofs.lemmas.Bool.{ne_eqb, true≢false}
 use Rattle.span_script.specs.Tables as table
-use Rattle.span_script.specs.calls.Spans.{holds, is_open}
 use Rattle.span_script.proofs.steps.RecordingLemmas.{starts_fold}
-use Rattle.span_script.proofs.runs.RunLemmas.{records_push}
-use Rattle.span_laws.specs.Closes.{is_drop}
-use Rattle.span_laws.specs.Laws.{IsHistory, none, more, occurrences}
-use Rattle.span_laws.specs.Records.{EachRecord, records_of_history, start_in, ops_in, ops_from, ops_of, closed_at}
-use Rattle.span_laws.specs.Starts.{with_started, starts_of, at_making, starting_order, place_in}
 use Rattle.span_laws.proofs.spans.ClosesLemmas.{IsSound, Stands, named, step_stands, none_stands, fit_of}
 use Rattle.span_laws.proofs.spans.MakingsLemmas.{first_of, starts_spare, made_stories}
 use Rattle.span_laws.proofs.spans.OccurrencesLemmas.{occurs_cons, occurs_append, is_in_counted, get_push_other}
@@ -35,7 +16,6 @@ use Rattle.span_laws.proofs.spans.StartsLemmas.{starts_absent}
 use Rattle.span_laws.proofs.steps.StepsLemmas.{IsReached, IsTimed, IsFit, IsStep, step_of}
 use Rattle.span_laws.proofs.records.StoriesLemmas.{IsEnding, IsStory, stamp, later_story}
 use Rattle.span_laws.proofs.steps.EntriesLemmas.{guards_of, guards_shut, turns_within}
-use Rattle.span_script.proofs.spans.OpenSpansLemmas.{any_counted, pick}
 
 -- ---- a history with one effect more
 

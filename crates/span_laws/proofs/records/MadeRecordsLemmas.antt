@@ -1,27 +1,8 @@
 -- Each record is that of a span which a request of the history made, by what that says.
 use Rattle.std.proofs.Common.{◌≡◌, ℕ, ◌+◌, ◌<◌, ◌≤◌, List, [], ◌∷◌, ◌++◌, length, fold, Option, Some, None, Ok, refl, sym, ap, subst, ◌∙◌, arith, inl, inr}
-use Rattle.std.proofs.lemmas.List.{append-nil, get_or_push, length_push}
-use Rattle.std.proofs.lemmas.Bool.{cases_eq}
-use Rattle.std.proofs.lemmas.Bool.Decides.{nat_tests}
-use Rattle.otel_base.specs.declared.context.Context.{Context}
-use Rattle.otel_base.specs.declared.context.SpanContext.{SpanContext}
-use Rattle.otel_base.specs.declared.record.Record.{Record}
-use Rattle.otel_base.specs.Ids.{ids_of}
-use Rattle.otel_base.specs.RecorderIds.{recorder_ids}
+use Rattle.span_laws.proofs.Common.{get_or_push, length_push, cases_eq, nat_tests, Context, SpanContext, Record, ids_of, recorder_ids, Making, TimedOp, SpanData, data_at_making, after_op, after_stamped, Stands, MomentsRise, content_is, parent_is, Request, effect_of, Setup, Effect, History, MadeSpan, Tables, after_effect, made_of, no_made_span, no_tables, tables, with_item, IsHistory, none, more, occurrences, IsRecordOf, Began, EachRecord, IsRecord, all_ops, closed_at, records_of_history, place_in, starting_order}
+use Rattle.std.proofs.lemmas.List.{append-nil}
 use Rattle.otel_state.specs.declared.op.Op.TheVariants as ops
-use Rattle.otel_state.specs.Content.{Making}
-use Rattle.otel_state.specs.Deeds.{TimedOp}
-use Rattle.otel_state.specs.States.{SpanData, data_at_making, after_op, after_stamped, Stands}
-use Rattle.otel_state.specs.Times.{MomentsRise}
-use Rattle.otel_state.proofs.Summing.{content_is, parent_is}
-use Rattle.span_script.specs.declared.request.Request.{Request}
-use Rattle.span_script.specs.Effects.{effect_of}
-use Rattle.span_script.specs.Setups.{Setup}
-use Rattle.span_script.specs.Tables.{Effect, History, MadeSpan, Tables, after_effect, made_of, no_made_span, no_tables, tables, with_item}
-use Rattle.span_laws.specs.Laws.{IsHistory, none, more, occurrences}
-use Rattle.span_laws.specs.Makings.{IsRecordOf}
-use Rattle.span_laws.specs.Records.{Began, EachRecord, IsRecord, all_ops, closed_at, records_of_history}
-use Rattle.span_laws.specs.Starts.{place_in, starting_order}
 use Rattle.span_laws.proofs.records.HistoriesLemmas.{IsClosed, done_in, whole}
 use Rattle.span_laws.proofs.spans.RequestedSpansLemmas.{made_by}
 use Rattle.span_laws.proofs.spans.OccurrencesLemmas.{get_push_other}

@@ -1,38 +1,10 @@
 -- What a request sees of a span's own context is that of the span's record.
-use Rattle.std.proofs.Common.{◌≡◌, ℕ, ◌<◌, ◌&&◌, List, [], ◌∷◌, ◌++◌, Bool, true, false, fold, flat_map, filter, map, not, ◌==◌, Option, Some, None, Ok, refl, sym, ap, ap₂, subst, ◌∙◌, arith, append_assoc}
-use Rattle.std.specs.Prelude.{if◌then◌else◌, is_some, filter_map, slice_get}
-use Rattle.std.specs.List.{AllByRecursion, cons_option}
+use Rattle.std.proofs.Common.{◌≡◌, ℕ, ◌<◌, ◌&&◌, List, [], ◌∷◌, ◌++◌, Bool, true, false, fold, flat_map, filter, map, not, ◌==◌, Option, Some, None, Ok, refl, sym, ap, ap₂, subst, ◌∙◌, arith, append_assoc, if◌then◌else◌, is_some, filter_map, slice_get}
+use Rattle.span_laws.proofs.Common.{AllByRecursion, cons_option, fold-append, flat_map-append, Context, SpanContext, Record, ids_of, recorder_ids, TimedOp, deed, before_start, is_start, last_or, own_of, SpanData, own_is, parent_is, with_start, parent_source, own_or, data_at, current_of, is_in, Place, Request, here_at, effect_of, is_open, parent_at, Setup, Effect, History, MadeSpan, Scope, Tables, after_effect, made_of, no_tables, tables, is_drop, IsHistory, occurrences, HasContextOf, SeesOwn, context_of_lane, context_span, parent_context, EachRecord, all_ops, ops_from, ops_in, ops_of, records_of_history, start_in, place_in, starting_order, starts_of, with_started}
 use Rattle.std.specs.Option.{option_to_list}
-use Rattle.std.proofs.lemmas.List.Sums.{fold-append}
-use Rattle.std.proofs.lemmas.Grind.{flat_map-append}
-use Rattle.otel_base.specs.declared.context.Context.{Context}
-use Rattle.otel_base.specs.declared.context.SpanContext.{SpanContext}
-use Rattle.otel_base.specs.declared.record.Record.{Record}
-use Rattle.otel_base.specs.Ids.{ids_of}
-use Rattle.otel_base.specs.RecorderIds.{recorder_ids}
 use Rattle.otel_base.specs.Stack.{empty_context}
 use Rattle.otel_state.specs.declared.op.Op.TheVariants as ops
-use Rattle.otel_state.specs.Deeds.{TimedOp, deed}
-use Rattle.otel_state.specs.Opening.{before_start, is_start, last_or, own_of}
-use Rattle.otel_state.specs.States.{SpanData}
-use Rattle.otel_state.proofs.Summing.{own_is, parent_is}
-use Rattle.otel_layer.specs.Recording.{with_start}
-use Rattle.otel_layer.specs.Steps.{parent_source}
-use Rattle.otel_layer.specs.Table.{own_or, data_at}
-use Rattle.trace_base.specs.Spans.{current_of, is_in}
-use Rattle.span_script.specs.declared.request.Place.{Place}
 use Rattle.span_script.specs.declared.request.Place.TheVariants as place
-use Rattle.span_script.specs.declared.request.Request.{Request}
-use Rattle.span_script.specs.calls.Here.{here_at}
-use Rattle.span_script.specs.Effects.{effect_of}
-use Rattle.span_script.specs.calls.Spans.{is_open, parent_at}
-use Rattle.span_script.specs.Setups.{Setup}
-use Rattle.span_script.specs.Tables.{Effect, History, MadeSpan, Scope, Tables, after_effect, made_of, no_tables, tables}
-use Rattle.span_laws.specs.Closes.{is_drop}
-use Rattle.span_laws.specs.Laws.{IsHistory, occurrences}
-use Rattle.span_laws.specs.Makings.{HasContextOf, SeesOwn, context_of_lane, context_span, parent_context}
-use Rattle.span_laws.specs.Records.{EachRecord, all_ops, ops_from, ops_in, ops_of, records_of_history, start_in}
-use Rattle.span_laws.specs.Starts.{place_in, starting_order, starts_of, with_started}
 use Rattle.span_laws.proofs.records.HistoriesLemmas.{IsClosed, begun, done_in, fits, open_made, ops_parts, whole}
 use Rattle.span_laws.proofs.records.MadeRecordsLemmas.{legal_step, made_stays}
 use Rattle.span_laws.proofs.spans.MakingsLemmas.{first_of}

@@ -1,9 +1,6 @@
 -- Records beside their spans.
 use Rattle.std.proofs.Common.{◌≡◌, ℕ, ◌<◌, List, [], ◌∷◌, ◌++◌, length, map, refl, ap, ◌∙◌, arith}
-use Rattle.std.proofs.lemmas.Bool.Decides.{nat_tests}
-use Rattle.otel_base.specs.declared.record.Record.{Record}
-use Rattle.span_laws.specs.Laws.{occurrences}
-use Rattle.span_laws.specs.Records.{EachRecord}
+use Rattle.span_laws.proofs.Common.{nat_tests, Record, occurrences, EachRecord}
 use Rattle.span_laws.proofs.spans.OccurrencesLemmas.{occurs_cons}
 
 pub each_append : (P : ℕ → Record → Type 0) (xs ys : List ℕ) (rs qs : List Record) → EachRecord P xs rs → EachRecord P ys qs → EachRecord P (xs ++ ys) (rs ++ qs)

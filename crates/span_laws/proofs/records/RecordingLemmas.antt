@@ -1,33 +1,10 @@
 -- What is recorded of the open spans, as an effect starts spans, makes one, does ops and closes spans.
-use Rattle.std.proofs.Common.{◌≡◌, ℕ, ◌+◌, ◌<◌, ◌≤◌, ◌==◌, ◌&&◌, ◌||◌, List, [], ◌∷◌, ◌++◌, length, Bool, true, false, cond, not, fold, Option, Some, None, refl, sym, ap, subst, ◌∙◌, arith, inl, inr, append_assoc}
-use Rattle.std.specs.Prelude.{if◌then◌else◌, is_some}
-use Rattle.std.specs.List.{AllByRecursion}
-use Rattle.std.proofs.lemmas.List.{append-nil, length_push}
-use Rattle.std.proofs.lemmas.Bool.{cases_Bool, cases_eq, eq-eqb, ne_eqb, cond-true, cond-false, true≢false}
-use Rattle.std.proofs.lemmas.Bool.Decides.{nat_tests}
-use Rattle.otel_base.specs.declared.context.Context.{Context}
-use Rattle.otel_base.specs.declared.context.SpanContext.{SpanContext}
-use Rattle.otel_base.specs.declared.record.Record.{Record}
-use Rattle.otel_base.specs.Ids.{ids_of}
-use Rattle.otel_base.specs.RecorderIds.{recorder_ids}
-use Rattle.otel_state.specs.declared.op.Op.{Op}
+use Rattle.std.proofs.Common.{◌≡◌, ℕ, ◌+◌, ◌<◌, ◌≤◌, ◌==◌, ◌&&◌, ◌||◌, List, [], ◌∷◌, ◌++◌, length, Bool, true, false, cond, not, fold, Option, Some, None, refl, sym, ap, subst, ◌∙◌, arith, inl, inr, append_assoc, if◌then◌else◌, is_some}
+use Rattle.span_laws.proofs.Common.{AllByRecursion, length_push, cases_Bool, cases_eq, cond-true, cond-false, nat_tests, Context, SpanContext, Record, ids_of, recorder_ids, Op, GREATEST, content, TimedOp, deed, parent_context_of, SpanData, record_of, MomentsRise, open_by, data_at, waits, waits_by, Recording, started_under, with_start, with_starts, with_applied, without_closed, with_close, data_after, told_at_op, told_at_removed, is_in, Setup, MadeSpan, SpanOp, Effect, with_span_made, occurrences, EachRecord, all_ops, start_in, with_started, place_in}
+use Rattle.std.proofs.lemmas.List.{append-nil}
+use Rattle.std.proofs.lemmas.Bool.{eq-eqb, ne_eqb, true≢false}
 use Rattle.otel_state.specs.declared.op.Op.TheVariants as ops
-use Rattle.otel_state.specs.declared.times.TheConstants.{GREATEST}
-use Rattle.otel_state.specs.Content.{content}
-use Rattle.otel_state.specs.Deeds.{TimedOp, deed}
-use Rattle.otel_state.specs.Opening.{parent_context_of}
-use Rattle.otel_state.specs.States.{SpanData, record_of}
-use Rattle.otel_state.specs.Times.{MomentsRise, open_by}
-use Rattle.otel_layer.specs.Table.{data_at, waits, waits_by}
-use Rattle.otel_layer.specs.Recording.{Recording, started_under, with_start, with_starts, with_applied, without_closed, with_close, data_after}
-use Rattle.otel_layer.proofs.Finding.{told_at_op, told_at_removed}
-use Rattle.trace_base.specs.Spans.{is_in}
-use Rattle.span_script.specs.Setups.{Setup}
-use Rattle.span_script.specs.Tables.{MadeSpan, SpanOp, Effect, with_span_made}
 use Rattle.span_script.specs.Tables as table
-use Rattle.span_laws.specs.Laws.{occurrences}
-use Rattle.span_laws.specs.Records.{EachRecord, all_ops, start_in}
-use Rattle.span_laws.specs.Starts.{with_started, place_in}
 use Rattle.span_laws.proofs.spans.OccurrencesLemmas.{occurs_cons}
 use Rattle.span_laws.proofs.records.PairsLemmas.{each_map}
 use Rattle.span_laws.proofs.spans.PlacesLemmas.{present, placed, place_new, place_other, places_stay}

@@ -1,28 +1,12 @@
 -- What the records of a history tell.
-use Rattle.std.proofs.Common.{◌≡◌, ℕ, length, true, false, Some, Ok, arith}
-use Rattle.std.specs.Prelude.{IsTrue}
-use Rattle.std.proofs.lemmas.Bool.Decides.{nat_tests}
-use Rattle.otel_base.specs.declared.record.Record.{Record}
-use Rattle.otel_state.specs.Content.{attributes_of, counted_of}
-use Rattle.otel_state.specs.Laws.{TellsTimes, was_entered}
-use Rattle.otel_state.specs.Times.{last_exit}
-use Rattle.trace_base.specs.Spans.{is_in}
-use Rattle.span_script.specs.declared.request.Request.{Request}
-use Rattle.span_script.specs.Effects.{effect_of}
-use Rattle.span_script.specs.Setups.{Setup}
-use Rattle.span_script.specs.Tables.{Effect, ScopeGuard, History, Tables, made_of, records_of, slot_at, tables}
-use Rattle.span_laws.specs.Closes.{is_drop}
-use Rattle.span_laws.specs.Laws.{IsHistory}
-use Rattle.span_laws.specs.Records.{EachRecord, closed_at, ops_of, records_of_history}
-use Rattle.span_laws.specs.Starts.{place_in, starting_order}
-use Rattle.span_laws.specs.Telling.{TellsAttributes, TellsSpan}
+use Rattle.std.proofs.Common.{◌≡◌, ℕ, length, true, false, Some, Ok, arith, IsTrue}
+use Rattle.span_laws.proofs.Common.{nat_tests, Record, attributes_of, counted_of, TellsTimes, was_entered, last_exit, is_in, Request, effect_of, Setup, Effect, ScopeGuard, History, Tables, made_of, records_of, slot_at, tables, is_drop, IsHistory, EachRecord, closed_at, ops_of, records_of_history, place_in, starting_order, TellsAttributes, TellsSpan, slot_open}
 use Rattle.span_laws.proofs.records.HistoriesLemmas.{IsClosed, done_in, effect_each, fits, whole}
 use Rattle.span_laws.proofs.spans.MakingsLemmas.{first_of}
 use Rattle.span_laws.proofs.spans.OccurrencesLemmas.{is_in_counted}
 use Rattle.span_laws.proofs.records.PairsLemmas.{each_length, each_map}
 use Rattle.span_laws.proofs.steps.StepsLemmas.{step_of}
 use Rattle.span_laws.proofs.records.ContentsLemmas.{attributes_told, span_told, times_told}
-use Rattle.span_script.proofs.spans.OpenSpansLemmas.{slot_open}
 
 pub as_many_as_closed : (setup : Setup) (h : History) → IsHistory setup h → length (records_of_history setup h) ≡ length (tables setup h).closed
 as_many_as_closed setup h legal = each_length (IsClosed setup (tables setup h).spans h) (tables setup h).closed (records_of_history setup h) (whole setup h legal).each

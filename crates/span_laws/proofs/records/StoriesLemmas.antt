@@ -1,24 +1,7 @@
 -- What an open span has come to: its making and its ops so far.
-use Rattle.std.proofs.Common.{◌≡◌, ℕ, ◌+◌, ◌-◌, ◌<◌, ◌≤◌, List, [], ◌∷◌, ◌++◌, Bool, true, false, fold, Option, Some, None, refl, sym, ap, subst, ◌∙◌, arith}
-use Rattle.std.specs.Prelude.{if◌then◌else◌, min}
-use Rattle.std.proofs.lemmas.List.Sums.{fold_push}
-use Rattle.otel_base.specs.declared.context.Context.{Context}
-use Rattle.otel_base.specs.declared.context.SpanContext.{SpanContext}
-use Rattle.otel_base.specs.declared.record.Record.{Record}
-use Rattle.otel_base.specs.Ids.{ids_of, ids_or_zeros}
-use Rattle.otel_base.specs.RecorderIds.{recorder_ids}
-use Rattle.otel_state.specs.declared.op.Op.{Op}
+use Rattle.std.proofs.Common.{◌≡◌, ℕ, ◌+◌, ◌-◌, ◌<◌, ◌≤◌, List, [], ◌∷◌, ◌++◌, Bool, true, false, fold, Option, Some, None, refl, sym, ap, subst, ◌∙◌, arith, if◌then◌else◌, min}
+use Rattle.span_laws.proofs.Common.{fold_push, Context, SpanContext, Record, ids_of, ids_or_zeros, recorder_ids, Op, GREATEST, Making, content, Deed, TimedOp, deed, parent_context_of, SpanData, after_op, first_start, unless_started, Stands, record_of, MomentsRise, open_by, appended, entries_is, parent_is, content_is, data_after, Setup, Began, IsRecord, all_ops}
 use Rattle.otel_state.specs.declared.op.Op.TheVariants as ops
-use Rattle.otel_state.specs.declared.times.TheConstants.{GREATEST}
-use Rattle.otel_state.specs.Content.{Making, content}
-use Rattle.otel_state.specs.Deeds.{Deed, TimedOp, deed}
-use Rattle.otel_state.specs.Opening.{parent_context_of}
-use Rattle.otel_state.specs.States.{SpanData, after_op, first_start, unless_started, Stands, record_of}
-use Rattle.otel_state.specs.Times.{MomentsRise, open_by}
-use Rattle.otel_state.proofs.Summing.{appended, entries_is, parent_is, content_is}
-use Rattle.otel_layer.specs.Recording.{data_after}
-use Rattle.span_script.specs.Setups.{Setup}
-use Rattle.span_laws.specs.Records.{Began, IsRecord, all_ops}
 
 -- the moment of the last op, else of the making
 abbrev pub last_at : ℕ → List TimedOp → ℕ

@@ -1,20 +1,10 @@
 -- The spans that are closed and those that are open are all that were made.
 use Rattle.std.proofs.Common.{◌≡◌, ℕ, zero, suc, ◌+◌, ◌≤◌, ◌&&◌, List, [], ◌∷◌, length, cond, not, nat_lt, Option, count_by, sum_by, refl, ap, ◌∙◌, arith, inl, inr}
-use Rattle.std.specs.List.{range_with_len}
-use Rattle.std.proofs.lemmas.List.Sums.{sum_by_push}
-use Rattle.std.proofs.lemmas.Bool.{cases_Bool, cases_lt}
-use Rattle.std.proofs.lemmas.Bool.Decides.{nat_tests}
-use Rattle.trace_base.specs.Spans.{is_in}
-use Rattle.span_script.specs.Setups.{Setup}
-use Rattle.span_script.specs.Tables.{Scope, History, tables}
-use Rattle.span_script.specs.calls.Spans.{is_open, open_spans}
-use Rattle.span_laws.specs.Laws.{IsHistory, occurrences}
-use Rattle.span_laws.specs.Starts.{starting_order}
+use Rattle.span_laws.proofs.Common.{range_with_len, sum_by_push, cases_Bool, cases_lt, nat_tests, is_in, Setup, Scope, History, tables, is_open, open_spans, IsHistory, occurrences, starting_order, range_more}
 use Rattle.span_laws.proofs.spans.IdsLemmas.{started_once}
 use Rattle.span_laws.proofs.spans.OccurrencesLemmas.{is_in_counted, occurs_cons}
 use Rattle.span_laws.proofs.spans.PlacesLemmas.{present}
 use Rattle.span_laws.proofs.records.HistoriesLemmas.{whole}
-use Rattle.span_script.proofs.spans.OpenCountLemmas.{range_more}
 
 -- how often each of the first n numbers stands in a list, in sum
 abbrev among : List ℕ → ℕ → ℕ

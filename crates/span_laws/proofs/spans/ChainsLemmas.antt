@@ -1,21 +1,11 @@
 -- What closes is one chain.
 use Rattle.std.proofs.Common.{◌≡◌, ℕ, ◌==◌, ◌||◌, List, [], ◌∷◌, ◌++◌, Bool, true, false, filter, not, slice_set, Option, Some, None, option_map, Ok, refl, sym, ap, subst, ◌∙◌, arith, inl, inr}
-use Rattle.std.proofs.lemmas.Bool.{cases_Bool, eq-eqb, eqb-true, or_right, cond-true, cond-false, true≢false}
-use Rattle.std.proofs.lemmas.Bool.Decides.{nat_tests}
-use Rattle.trace_base.specs.Spans.{is_in}
-use Rattle.span_script.specs.declared.request.Request.{Request}
-use Rattle.span_script.specs.Effects.{effect_of}
-use Rattle.span_script.specs.calls.Spans.{holds, is_open, closed_of}
-use Rattle.span_script.specs.Setups.{Setup}
-use Rattle.span_script.specs.Tables.{Scope, MadeSpan, ScopeGuard, Effect, History, with_item, spend, slot_at, made_of, tables}
-use Rattle.span_laws.specs.Closes.{BeginsWith, is_drop}
-use Rattle.span_laws.specs.Laws.{IsHistory}
+use Rattle.span_laws.proofs.Common.{cases_Bool, or_right, cond-true, cond-false, nat_tests, is_in, Request, effect_of, holds, is_open, closed_of, Setup, Scope, MadeSpan, ScopeGuard, Effect, History, with_item, spend, slot_at, made_of, tables, BeginsWith, is_drop, IsHistory, any_counted, pick, slot_open, some_is}
+use Rattle.std.proofs.lemmas.Bool.{eq-eqb, eqb-true, true≢false}
 use Rattle.span_laws.proofs.spans.ClosesLemmas.{AreMine, IsSound, named, step_stands}
 use Rattle.span_laws.proofs.records.HistoriesLemmas.{fits, whole}
 use Rattle.span_laws.proofs.spans.OccurrencesLemmas.{slot_push}
 use Rattle.span_laws.proofs.steps.StepsLemmas.{Spends, no_spending, one_spent, step_of}
-use Rattle.span_script.proofs.spans.OpenSpansLemmas.{any_counted, pick, slot_open}
-use Rattle.span_script.proofs.steps.SlotsLemmas.{some_is}
 
 the_rest : (a b : ℕ) (x y : Scope) → ◌≡◌ {A = Scope} (a ∷ x) (b ∷ y) → x ≡ y
 the_rest a b x y e = cc e

@@ -1,15 +1,8 @@
 -- A child closes before its parent.
 use Rattle.std.proofs.Common.{◌≡◌, ℕ, zero, suc, ◌<◌, ◌≤◌, ◌==◌, ◌||◌, List, [], ◌∷◌, ◌++◌, length, Bool, true, false, slice_set, Option, None, refl, sym, ap, subst, ◌∙◌, arith, inl, inr, append_assoc}
-use Rattle.std.proofs.lemmas.List.{append-nil, get_or_push}
-use Rattle.std.proofs.lemmas.List.Sums.{fold_push}
-use Rattle.std.proofs.lemmas.Bool.{cases_eq, eq-eqb, eqb-true, or_right}
-use Rattle.std.proofs.lemmas.Bool.Decides.{nat_tests}
-use Rattle.trace_base.specs.Spans.{is_in}
-use Rattle.span_script.specs.calls.Spans.{is_open}
-use Rattle.span_script.specs.Setups.{Setup}
-use Rattle.span_script.specs.Tables.{Scope, MadeSpan, ScopeGuard, History, Tables, with_item, spend, no_made_span, made_of, no_tables, after_effect, tables}
-use Rattle.span_laws.specs.Closes.{BeginsWith, is_drop}
-use Rattle.span_laws.specs.Laws.{IsHistory, none, more, occurrences}
+use Rattle.span_laws.proofs.Common.{get_or_push, fold_push, cases_eq, or_right, nat_tests, is_in, is_open, Setup, Scope, MadeSpan, ScopeGuard, History, Tables, with_item, spend, no_made_span, made_of, no_tables, after_effect, tables, BeginsWith, is_drop, IsHistory, none, more, occurrences}
+use Rattle.std.proofs.lemmas.List.{append-nil}
+use Rattle.std.proofs.lemmas.Bool.{eq-eqb, eqb-true}
 use Rattle.span_laws.proofs.spans.ChainsLemmas.{chain_front, in_line, open_above}
 use Rattle.span_laws.proofs.spans.ClosesLemmas.{AreMine, IsSound, known_open, named, step_stands}
 use Rattle.span_laws.proofs.records.HistoriesLemmas.{fits, whole}

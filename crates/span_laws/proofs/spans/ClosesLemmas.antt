@@ -1,22 +1,12 @@
 -- Each span closes once, when no handle holds it any more.
-use Rattle.std.specs.Prelude.{is_some}
-use Rattle.std.proofs.Common.{◌≡◌, ℕ, ◌<◌, ◌≤◌, ◌&&◌, ◌||◌, ◌==◌, Bool, List, [], ◌∷◌, ◌++◌, length, true, cond, not, nat_lt, Option, Some, None, option_map, slice_set, refl, sym, ap, subst, ◌∙◌, arith, inl, inr}
-use Rattle.std.proofs.lemmas.List.{append-nil, length_push, get_or_push}
-use Rattle.std.proofs.lemmas.Bool.{cases_eq, cases_lt, eq-eqb, lt-ltb}
-use Rattle.std.proofs.lemmas.Bool.Decides.{nat_tests}
-use Rattle.trace_base.specs.Spans.{is_in, current_of}
-use Rattle.trace_base.proofs.Entering.{counted_if_any}
-use Rattle.trace_base.proofs.Holding.{current_in}
-use Rattle.span_script.specs.Setups.{Setup}
-use Rattle.span_script.specs.Tables.{Scope, MadeSpan, ScopeGuard, Effect, Tables, with_item, spend, slot_at, no_made_span, made_of, scope_of, no_tables, after_effect}
-use Rattle.span_script.specs.calls.Spans.{holds, is_open, closed_of, current_scope}
-use Rattle.span_laws.specs.Laws.{occurrences}
+use Rattle.std.proofs.Common.{◌≡◌, ℕ, ◌<◌, ◌≤◌, ◌&&◌, ◌||◌, ◌==◌, Bool, List, [], ◌∷◌, ◌++◌, length, true, cond, not, nat_lt, Option, Some, None, option_map, slice_set, refl, sym, ap, subst, ◌∙◌, arith, inl, inr, is_some}
+use Rattle.span_laws.proofs.Common.{length_push, get_or_push, cases_eq, cases_lt, nat_tests, is_in, current_of, counted_if_any, current_in, Setup, Scope, MadeSpan, ScopeGuard, Effect, Tables, with_item, spend, slot_at, no_made_span, made_of, scope_of, no_tables, after_effect, holds, is_open, closed_of, current_scope, occurrences, any_counted, slot_open, named_push, named_set, some_is}
+use Rattle.std.proofs.lemmas.List.{append-nil}
+use Rattle.std.proofs.lemmas.Bool.{eq-eqb, lt-ltb}
 use Rattle.span_laws.proofs.steps.GuardsLemmas.{IsGuarded}
 use Rattle.span_laws.proofs.steps.GuardsLemmas as guarding
 use Rattle.span_laws.proofs.spans.OccurrencesLemmas.{occurs_cons, occurs_append, occurs_filter, is_in_counted, held_push, held_set, get_push_other}
 use Rattle.span_laws.proofs.steps.StepsLemmas.{IsKnown, no_scope, of_handle, Names, no_name, another, new_span, Spends, no_spending, one_spent, IsFit, IsStep}
-use Rattle.span_script.proofs.spans.OpenSpansLemmas.{any_counted, slot_open}
-use Rattle.span_script.proofs.steps.SlotsLemmas.{named_push, named_set, some_is}
 
 -- from each span of a scope on it is that span's own scope
 abbrev pub AreMine : List MadeSpan → Scope → Type 0

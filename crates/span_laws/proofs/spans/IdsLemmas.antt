@@ -1,22 +1,7 @@
 -- The ids of spans and of records.
-use Rattle.std.proofs.Common.{◌≡◌, ℕ, ◌+◌, ◌<◌, ◌≤◌, ◌==◌, List, [], ◌∷◌, ◌++◌, length, true, map, fold, Option, Some, None, refl, sym, ap, subst, ◌∙◌, arith, inl, inr}
-use Rattle.std.specs.Prelude.{flat_map}
-use Rattle.std.specs.List.{range_with_len}
-use Rattle.std.proofs.lemmas.Bool.{cases_Bool, cases_eq, cases_lt, eq-eqb, ne_eqb, cond-true, cond-false}
-use Rattle.std.proofs.lemmas.Bool.Decides.{nat_tests}
-use Rattle.otel_base.specs.declared.context.Context.{Context}
-use Rattle.otel_base.specs.declared.context.SpanContext.{SpanContext}
-use Rattle.otel_base.specs.declared.record.Record.{Record}
-use Rattle.otel_base.specs.Ids.{ids_or_zeros}
-use Rattle.otel_layer.specs.Table.{data_at}
-use Rattle.trace_base.specs.Spans.{is_in}
-use Rattle.span_script.specs.calls.Spans.{is_open}
-use Rattle.span_script.specs.Setups.{Setup}
-use Rattle.span_script.specs.Tables.{History, tables}
-use Rattle.span_laws.specs.Laws.{IsHistory, occurrences}
-use Rattle.span_laws.specs.Records.{EachRecord, records_of_history}
-use Rattle.span_laws.specs.Starts.{with_started, starts_of, starting_order, place_from, place_in}
-use Rattle.span_laws.specs.Telling.{id_of, id_in_data}
+use Rattle.std.proofs.Common.{◌≡◌, ℕ, ◌+◌, ◌<◌, ◌≤◌, ◌==◌, List, [], ◌∷◌, ◌++◌, length, true, map, fold, Option, Some, None, refl, sym, ap, subst, ◌∙◌, arith, inl, inr, flat_map}
+use Rattle.span_laws.proofs.Common.{range_with_len, cases_Bool, cases_eq, cases_lt, cond-true, cond-false, nat_tests, Context, SpanContext, Record, ids_or_zeros, data_at, is_in, is_open, Setup, History, tables, IsHistory, occurrences, EachRecord, records_of_history, with_started, starts_of, starting_order, place_from, place_in, id_of, id_in_data}
+use Rattle.std.proofs.lemmas.Bool.{eq-eqb, ne_eqb}
 use Rattle.span_laws.proofs.records.HistoriesLemmas.{IsClosed, whole, closed_once}
 use Rattle.span_laws.proofs.spans.OccurrencesLemmas.{occurs_cons, occurs_append, is_in_counted}
 use Rattle.span_laws.proofs.records.PairsLemmas.{each_equal}

@@ -1,17 +1,8 @@
 -- Where spans start early, the order of starts is that of making.
 use Rattle.std.proofs.Common.{◌≡◌, ℕ, zero, suc, ◌+◌, ◌<◌, ◌≤◌, ◌==◌, ◌||◌, List, [], ◌∷◌, ◌++◌, length, Bool, true, false, fold, Option, Some, None, refl, sym, ap, ◌∙◌, arith, inl, inr}
-use Rattle.std.specs.List.{AllByRecursion, range_with_len}
+use Rattle.span_laws.proofs.Common.{AllByRecursion, range_with_len, cases_eq, cond-true, cond-false, length_push, fold_push, is_in, Setup, MadeSpan, History, Tables, with_item, no_tables, after_effect, tables, range_more, is_drop, IsHistory, none, more, with_started, at_making, starting_order, place_from, place_in}
 use Rattle.std.specs.Option.{option_to_list}
-use Rattle.std.proofs.lemmas.Bool.{cases_eq, eq-eqb, ne_eqb, cond-true, cond-false}
-use Rattle.std.proofs.lemmas.List.{length_push}
-use Rattle.std.proofs.lemmas.List.Sums.{fold_push}
-use Rattle.trace_base.specs.Spans.{is_in}
-use Rattle.span_script.specs.Setups.{Setup}
-use Rattle.span_script.specs.Tables.{MadeSpan, History, Tables, with_item, no_tables, after_effect, tables}
-use Rattle.span_script.proofs.spans.OpenCountLemmas.{range_more}
-use Rattle.span_laws.specs.Closes.{is_drop}
-use Rattle.span_laws.specs.Laws.{IsHistory, none, more}
-use Rattle.span_laws.specs.Starts.{with_started, at_making, starting_order, place_from, place_in}
+use Rattle.std.proofs.lemmas.Bool.{eq-eqb, ne_eqb}
 use Rattle.span_laws.proofs.records.HistoriesLemmas.{closing_made, fits, started_push, starts_made, whole}
 use Rattle.span_laws.proofs.steps.StepsLemmas.{step_of}
 

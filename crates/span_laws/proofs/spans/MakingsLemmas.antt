@@ -1,21 +1,8 @@
 -- A span that is made begins its story.
 use Rattle.std.proofs.Common.{◌≡◌, ℕ, ◌<◌, ◌≤◌, ◌==◌, List, [], ◌∷◌, ◌++◌, length, Bool, true, fold, Option, Some, None, refl, sym, ap, subst, ◌∙◌, arith, inl, inr}
-use Rattle.std.specs.List.{AllByRecursion}
-use Rattle.std.proofs.lemmas.List.{length_push, get_or_push}
-use Rattle.std.proofs.lemmas.Bool.{cases_eq, eq-eqb, ne_eqb, cond-true, cond-false}
-use Rattle.otel_base.specs.declared.context.SpanContext.{SpanContext}
+use Rattle.span_laws.proofs.Common.{AllByRecursion, length_push, get_or_push, cases_eq, cond-true, cond-false, SpanContext, GREATEST, Making, TimedOp, SpanData, data_at_making, after_op, data_at, with_span_data, Recording, told_at_made, Setup, MadeSpan, with_item, made_of, no_made_span, with_span_made, Began, with_started, place_in}
+use Rattle.std.proofs.lemmas.Bool.{eq-eqb, ne_eqb}
 use Rattle.otel_state.specs.declared.op.Op.TheVariants as ops
-use Rattle.otel_state.specs.declared.times.TheConstants.{GREATEST}
-use Rattle.otel_state.specs.Content.{Making}
-use Rattle.otel_state.specs.Deeds.{TimedOp}
-use Rattle.otel_state.specs.States.{SpanData, data_at_making, after_op}
-use Rattle.otel_layer.specs.Table.{data_at, with_span_data}
-use Rattle.otel_layer.specs.Recording.{Recording}
-use Rattle.otel_layer.proofs.Finding.{told_at_made}
-use Rattle.span_script.specs.Setups.{Setup}
-use Rattle.span_script.specs.Tables.{MadeSpan, with_item, made_of, no_made_span, with_span_made}
-use Rattle.span_laws.specs.Records.{Began}
-use Rattle.span_laws.specs.Starts.{with_started, place_in}
 use Rattle.span_laws.proofs.spans.OccurrencesLemmas.{get_push_other}
 use Rattle.span_laws.proofs.spans.PlacesLemmas.{place_none}
 use Rattle.span_laws.proofs.records.RecordingLemmas.{AreStories}

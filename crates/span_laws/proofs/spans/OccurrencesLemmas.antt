@@ -1,15 +1,7 @@
 -- How often a span stands in a list, and how many slots hold it.
 use Rattle.std.proofs.Common.{◌≡◌, ℕ, zero, suc, ◌+◌, ◌==◌, List, [], ◌∷◌, ◌++◌, length, Bool, true, false, cond, nat_lt, filter, count_by, get_or, slice_set, Option, Some, None, refl, sym, ap, ◌∙◌, arith, inl, inr}
-use Rattle.std.proofs.lemmas.List.Sums.{sum_by-cons, sum_by-append, sum_by-set, sum_by_push}
+use Rattle.span_laws.proofs.Common.{sum_by-cons, sum_by-append, sum_by-set, sum_by_push, cases_eq, cases_Bool, nat_tests, is_in, Scope, slot_at, holds, occurrences, named_within, any_counted}
 use Rattle.std.proofs.lemmas.List.{get_or-set_other}
-use Rattle.std.proofs.lemmas.Bool.{cases_eq, cases_Bool}
-use Rattle.std.proofs.lemmas.Bool.Decides.{nat_tests}
-use Rattle.trace_base.specs.Spans.{is_in}
-use Rattle.span_script.specs.Tables.{Scope, slot_at}
-use Rattle.span_script.specs.calls.Spans.{holds}
-use Rattle.span_laws.specs.Laws.{occurrences}
-use Rattle.span_script.proofs.steps.SlotsLemmas.{named_within}
-use Rattle.span_script.proofs.spans.OpenSpansLemmas.{any_counted}
 
 pub occurs_cons : (s x : ℕ) (xs : List ℕ) → occurrences s (x ∷ xs) ≡ cond (x == s) 1 0 + occurrences s xs
 occurs_cons s x xs = sum_by-cons (λ x. cond (x == s) 1 0) x xs

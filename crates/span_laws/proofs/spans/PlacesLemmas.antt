@@ -1,9 +1,7 @@
 -- The places of spans in the order of their starts.
-use Rattle.std.proofs.Common.{◌≡◌, ℕ, ◌+◌, ◌<◌, ◌≤◌, ◌==◌, ◌||◌, List, [], ◌∷◌, ◌++◌, length, Bool, true, false, fold, refl, sym, ap, subst, ◌∙◌, arith, inl, inr}
-use Rattle.std.specs.Prelude.{if◌then◌else◌}
-use Rattle.std.proofs.lemmas.Bool.{cases_Bool, eq-eqb, eqb-true, ne_eqb, cond-true, cond-false}
-use Rattle.trace_base.specs.Spans.{is_in}
-use Rattle.span_laws.specs.Starts.{with_started, place_from, place_in}
+use Rattle.std.proofs.Common.{◌≡◌, ℕ, ◌+◌, ◌<◌, ◌≤◌, ◌==◌, ◌||◌, List, [], ◌∷◌, ◌++◌, length, Bool, true, false, fold, refl, sym, ap, subst, ◌∙◌, arith, inl, inr, if◌then◌else◌}
+use Rattle.span_laws.proofs.Common.{cases_Bool, cond-true, cond-false, is_in, with_started, place_from, place_in}
+use Rattle.std.proofs.lemmas.Bool.{eq-eqb, eqb-true, ne_eqb}
 
 -- a span that isn't there has no place
 pub absent : (n : ℕ) (order : List ℕ) (s : ℕ) → is_in s order ≡ false → place_from n order s ≡ 0

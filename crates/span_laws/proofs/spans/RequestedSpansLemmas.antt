@@ -1,35 +1,11 @@
 -- A span is made exactly by a request for one that is admitted, and as that says.
-use Rattle.std.proofs.Common.{◌≡◌, ℕ, [], ◌∷◌, length, Bool, true, false, cond, Option, Some, None, Ok, Err, refl, sym, ap, subst, ◌∙◌}
-use Rattle.std.specs.Prelude.{is_some, slice_get, ◌==◌, if◌then◌else◌, not}
-use Rattle.std.specs.Option.{option_map_or, option_to_list}
-use Rattle.otel_state.specs.declared.settings.LayerSettings.{LayerSettings}
-use Rattle.otel_state.specs.fields.FirstAttributes.{first_attributes}
-use Rattle.otel_state.specs.fields.SpanFields.{span_update}
-use Rattle.otel_layer.specs.Recording.{Recording, with_starts}
-use Rattle.otel_layer.specs.Steps.{parent_source, context_from}
-use Rattle.trace_base.specs.declared.callsite.Callsite.{Callsite}
-use Rattle.trace_base.specs.declared.field.ValueSet.{ValueSet}
-use Rattle.trace_base.specs.Spans.{current_of}
-use Rattle.span_script.specs.declared.request.Call.{Call}
+use Rattle.std.proofs.Common.{◌≡◌, ℕ, [], ◌∷◌, length, Bool, true, false, cond, Option, Some, None, Ok, Err, refl, sym, ap, subst, ◌∙◌, is_some, slice_get, ◌==◌, if◌then◌else◌, not}
+use Rattle.span_laws.proofs.Common.{option_map_or, LayerSettings, first_attributes, span_update, Recording, with_starts, parent_source, context_from, Callsite, ValueSet, current_of, Call, Place, Request, TextRead, text_read, Resolved, refuse_if, Here, here_at, ◌>>=◌, need, effect_of, effect_of_call, is_bad_moment, attach_effect, detach_effect, enter_effect, exit_effect, is_full, is_shared, meets_full, entry_call, admits_at, reload_by, follow_effect, context_around, disabled_effect, drop_effect, exchange_effect, is_borrowed, lane_in, new_span_data_at, span_effect, parent_at, scope_at, scope_or_current, Fields, all_values, Setup, event_site, span_site, Effect, History, MadeSpan, Scope, Tables, slot_at, tables, IsHistory, IsMadeBy, asks_admitted, context_of_lane, is_making, parent_context}
+use Rattle.std.specs.Option.{option_to_list}
 use Rattle.span_script.specs.declared.request.Call.TheVariants as call
-use Rattle.span_script.specs.declared.request.Place.{Place}
 use Rattle.span_script.specs.declared.request.Place.TheVariants as place
-use Rattle.span_script.specs.declared.request.Request.{Request}
 use Rattle.span_script.specs.declared.reply.Refusal.TheVariants as refusal
 use Rattle.span_script.specs.declared.reply.What.TheVariants as what
-use Rattle.span_script.specs.Admission.{TextRead, text_read}
-use Rattle.span_script.specs.calls.Here.{Resolved, refuse_if, Here, here_at, ◌>>=◌, need}
-use Rattle.span_script.specs.Effects.{effect_of, effect_of_call, is_bad_moment}
-use Rattle.span_script.specs.calls.Contexts.{attach_effect, detach_effect}
-use Rattle.span_script.specs.calls.Entries.{enter_effect, exit_effect, is_full, is_shared, meets_full, entry_call}
-use Rattle.span_script.specs.calls.Filter.{admits_at, reload_by}
-use Rattle.span_script.specs.calls.Links.{follow_effect}
-use Rattle.span_script.specs.calls.Spans.{context_around, disabled_effect, drop_effect, exchange_effect, is_borrowed, lane_in, new_span_data_at, span_effect, parent_at, scope_at, scope_or_current}
-use Rattle.span_script.specs.Fields.{Fields, all_values}
-use Rattle.span_script.specs.Setups.{Setup, event_site, span_site}
-use Rattle.span_script.specs.Tables.{Effect, History, MadeSpan, Scope, Tables, slot_at, tables}
-use Rattle.span_laws.specs.Laws.{IsHistory}
-use Rattle.span_laws.specs.Makings.{IsMadeBy, asks_admitted, context_of_lane, is_making, parent_context}
 use Rattle.span_laws.proofs.records.HistoriesLemmas.{fits, whole}
 use Rattle.span_laws.proofs.steps.StepsLemmas.{IsFit, allowed, found, starts_keep, the_effect, unrefused}
 

@@ -1,25 +1,8 @@
 -- Which spans start, in which order, read off what is recorded.
 use Rattle.std.proofs.Common.{◌≡◌, ℕ, ◌<◌, ◌≤◌, ◌==◌, ◌&&◌, List, [], ◌∷◌, ◌++◌, length, Bool, true, false, cond, not, fold, Option, Some, None, Ok, refl, sym, ap, ◌∙◌, arith, inl, inr, append_assoc}
-use Rattle.std.specs.List.{AllByRecursion}
+use Rattle.span_laws.proofs.Common.{AllByRecursion, cases_Bool, cond-true, cond-false, nat_tests, Context, SpanContext, GREATEST, TimedOp, SpanData, Recording, with_start, with_close, data_at, waits, waits_by, is_in, Setup, Request, Effect, History, Tables, done_by, tables, effect_of, is_drop, IsHistory, occurrences, with_started, starting_order, place_in}
 use Rattle.std.specs.Option.{option_to_list}
 use Rattle.std.proofs.lemmas.List.{append-nil}
-use Rattle.std.proofs.lemmas.Bool.{cases_Bool, cond-true, cond-false}
-use Rattle.std.proofs.lemmas.Bool.Decides.{nat_tests}
-use Rattle.otel_base.specs.declared.context.Context.{Context}
-use Rattle.otel_base.specs.declared.context.SpanContext.{SpanContext}
-use Rattle.otel_state.specs.declared.times.TheConstants.{GREATEST}
-use Rattle.otel_state.specs.Deeds.{TimedOp}
-use Rattle.otel_state.specs.States.{SpanData}
-use Rattle.otel_layer.specs.Recording.{Recording, with_start, with_close}
-use Rattle.otel_layer.specs.Table.{data_at, waits, waits_by}
-use Rattle.trace_base.specs.Spans.{is_in}
-use Rattle.span_script.specs.Setups.{Setup}
-use Rattle.span_script.specs.declared.request.Request.{Request}
-use Rattle.span_script.specs.Tables.{Effect, History, Tables, done_by, tables}
-use Rattle.span_script.specs.Effects.{effect_of}
-use Rattle.span_laws.specs.Closes.{is_drop}
-use Rattle.span_laws.specs.Laws.{IsHistory, occurrences}
-use Rattle.span_laws.specs.Starts.{with_started, starting_order, place_in}
 use Rattle.span_laws.proofs.records.HistoriesLemmas.{closing_once, did, done_in, fits, moved, shut, started_push, whole}
 use Rattle.span_laws.proofs.spans.MakingsLemmas.{first_of}
 use Rattle.span_laws.proofs.spans.OccurrencesLemmas.{occurs_cons}

@@ -1,14 +1,8 @@
 -- The start of a span among several starts.
-use Rattle.std.proofs.Common.{◌≡◌, ℕ, ◌==◌, ◌&&◌, ◌||◌, List, [], ◌∷◌, ◌++◌, Bool, true, false, not, refl, sym, ap, ◌∙◌, inl, inr}
-use Rattle.std.specs.Prelude.{if◌then◌else◌}
-use Rattle.std.proofs.lemmas.Bool.{cases_Bool, eq-eqb, eqb-true, ne_eqb, cond-true, cond-false}
-use Rattle.otel_base.specs.declared.context.SpanContext.{SpanContext}
+use Rattle.std.proofs.Common.{◌≡◌, ℕ, ◌==◌, ◌&&◌, ◌||◌, List, [], ◌∷◌, ◌++◌, Bool, true, false, not, refl, sym, ap, ◌∙◌, inl, inr, if◌then◌else◌}
+use Rattle.span_laws.proofs.Common.{cases_Bool, cond-true, cond-false, SpanContext, TimedOp, is_in, in_push, in_push_same, start_in, with_started}
+use Rattle.std.proofs.lemmas.Bool.{eq-eqb, eqb-true, ne_eqb}
 use Rattle.otel_state.specs.declared.op.Op.TheVariants as ops
-use Rattle.otel_state.specs.Deeds.{TimedOp}
-use Rattle.trace_base.specs.Spans.{is_in}
-use Rattle.trace_base.proofs.Holding.{in_push, in_push_same}
-use Rattle.span_laws.specs.Records.{start_in}
-use Rattle.span_laws.specs.Starts.{with_started}
 use Rattle.span_laws.proofs.records.StoriesLemmas.{stamp}
 
 or_false : (b : Bool) → b ≡ (b || false)

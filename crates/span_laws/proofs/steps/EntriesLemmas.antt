@@ -1,20 +1,11 @@
 -- A span's open entries are at most its open guards.
-use Rattle.std.proofs.Common.{◌≡◌, ℕ, ◌+◌, ◌-◌, ◌≤◌, ◌==◌, ◌||◌, List, [], ◌∷◌, ◌++◌, Bool, true, false, cond, count_by, fold, slice_set, Option, Some, None, refl, sym, ap, subst, ◌∙◌, arith, inl, inr}
-use Rattle.std.specs.Prelude.{if◌then◌else◌}
-use Rattle.std.specs.List.{AllByRecursion}
-use Rattle.std.proofs.lemmas.Bool.{cases_lt, true≢false}
-use Rattle.std.proofs.lemmas.List.Sums.{sum_by-set}
-use Rattle.trace_base.specs.Spans.{is_in}
-use Rattle.trace_base.proofs.Entering.{count_push}
-use Rattle.otel_state.specs.Deeds.{deed}
-use Rattle.span_script.specs.Tables.{Scope, SpanOp, ScopeGuard, either_after, slot_at, own_span}
-use Rattle.span_script.specs.calls.Spans.{is_open}
+use Rattle.std.proofs.Common.{◌≡◌, ℕ, ◌+◌, ◌-◌, ◌≤◌, ◌==◌, ◌||◌, List, [], ◌∷◌, ◌++◌, Bool, true, false, cond, count_by, fold, slice_set, Option, Some, None, refl, sym, ap, subst, ◌∙◌, arith, inl, inr, if◌then◌else◌}
+use Rattle.span_laws.proofs.Common.{AllByRecursion, cases_lt, sum_by-set, is_in, count_push, deed, Scope, SpanOp, ScopeGuard, either_after, slot_at, own_span, is_open, pick, slot_open, named_within}
+use Rattle.std.proofs.lemmas.Bool.{true≢false}
 use Rattle.span_laws.proofs.steps.GuardsLemmas.{IsGuarded, Enters, no_entry, skips, enters_by, exits_by}
 use Rattle.span_laws.proofs.records.RecordingLemmas.{turned_by}
 use Rattle.span_laws.proofs.steps.StepsLemmas.{IsCalm, Turns}
 use Rattle.span_laws.proofs.records.StoriesLemmas.{turned}
-use Rattle.span_script.proofs.spans.OpenSpansLemmas.{pick, slot_open}
-use Rattle.span_script.proofs.steps.SlotsLemmas.{named_within}
 
 -- an open guard of an entry of a span
 abbrev pub is_own : ℕ → Scope → Bool

@@ -1,18 +1,9 @@
 -- Each entry of a lane has an open guard, whose handle is unspent and of the guard's scope.
-use Rattle.std.specs.Prelude.{◌&&◌, ◌||◌}
-use Rattle.std.proofs.Common.{◌≡◌, ℕ, zero, suc, ◌<◌, ◌==◌, List, [], ◌∷◌, ◌++◌, Bool, true, false, cond, count_by, slice_set, Option, Some, None, option_map, refl, sym, ap, subst, ◌∙◌, arith, inl, inr}
-use Rattle.std.proofs.lemmas.Bool.{cases_eq, eq-eqb, eqb-true, ne_eqb, cond-true, cond-false, and_from, and_parts, true≢false}
-use Rattle.std.proofs.lemmas.List.Sums.{sum_by-set, get_or-le-sum_by}
-use Rattle.trace_base.specs.Spans.{times_in, without_last}
-use Rattle.trace_base.proofs.Entering.{count_push}
-use Rattle.trace_base.proofs.Holding.{times_without}
-use Rattle.span_script.specs.Setups.{id_at}
+use Rattle.std.proofs.Common.{◌≡◌, ℕ, zero, suc, ◌<◌, ◌==◌, List, [], ◌∷◌, ◌++◌, Bool, true, false, cond, count_by, slice_set, Option, Some, None, option_map, refl, sym, ap, subst, ◌∙◌, arith, inl, inr, ◌&&◌, ◌||◌}
+use Rattle.span_laws.proofs.Common.{cases_eq, cond-true, cond-false, and_from, and_parts, sum_by-set, get_or-le-sum_by, times_in, without_last, count_push, times_without, id_at, Scope, ScopeGuard, with_item, either_after, slot_at, own_span, lanes_with_entry, lanes_with_exit, borrows, is_borrowed, pick, named_push, named_set, named_within, some_is}
+use Rattle.std.proofs.lemmas.Bool.{eq-eqb, eqb-true, ne_eqb, true≢false}
 use Rattle.span_script.specs.Balance.{guards, opened_by}
-use Rattle.span_script.specs.Tables.{Scope, ScopeGuard, with_item, either_after, slot_at, own_span, lanes_with_entry, lanes_with_exit}
-use Rattle.span_script.specs.calls.Spans.{borrows, is_borrowed}
 use Rattle.span_laws.proofs.spans.OccurrencesLemmas.{slot_push, slot_kept}
-use Rattle.span_script.proofs.spans.OpenSpansLemmas.{pick}
-use Rattle.span_script.proofs.steps.SlotsLemmas.{named_push, named_set, named_within, some_is}
 
 -- an open guard of a span on the lane of an id
 abbrev pub is_on : List ℕ → ℕ → ℕ → Option ScopeGuard → Bool

@@ -1,14 +1,8 @@
 -- The history of a script is legal.
 use Rattle.std.proofs.Common.{◌≡◌, List, [], ◌∷◌, ◌++◌, Ok, Err, refl, sym, subst}
 use Rattle.std.proofs.lemmas.List.{append-nil}
-use Rattle.span_script.specs.declared.request.Request.{Request}
-use Rattle.span_script.specs.Setups.{Setup}
-use Rattle.span_script.specs.Tables.{Effect, History, tables}
-use Rattle.span_script.specs.calls.Here.{Resolved}
-use Rattle.span_script.specs.Effects.{effect_of}
+use Rattle.span_laws.proofs.Common.{Request, Setup, Effect, History, tables, Resolved, effect_of, goes_on_with, stays_with, IsHistory, none, more}
 use Rattle.span_script.specs.Outcomes.{history_from, history_of}
-use Rattle.span_script.proofs.runs.RunLemmas.{goes_on_with, stays_with}
-use Rattle.span_laws.specs.Laws.{IsHistory, none, more}
 
 legal_by : (setup : Setup) (h : History) (request : Request) (requests : List Request) (r : Resolved) → effect_of setup (tables setup h) request ≡ r → IsHistory setup h
     → ((e : Effect) → IsHistory setup (h ++ e ∷ []) → IsHistory setup ((h ++ e ∷ []) ++ history_from setup (tables setup (h ++ e ∷ [])) requests))

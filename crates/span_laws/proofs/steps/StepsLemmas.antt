@@ -1,34 +1,12 @@
 -- What the effect of each request does to handles, guards, spans and entries, whatever its kind.
-use Rattle.std.proofs.Common.{◌≡◌, ℕ, ◌≤◌, ◌==◌, ◌||◌, List, [], ◌∷◌, ◌++◌, length, not, Bool, true, false, cond, Option, Some, None, option_map, slice_set, slice_get, Ok, Err, refl, sym, ap, subst, ◌∙◌, arith}
-use Rattle.std.specs.List.{AllByRecursion}
+use Rattle.std.proofs.Common.{◌≡◌, ℕ, ◌≤◌, ◌==◌, ◌||◌, List, [], ◌∷◌, ◌++◌, length, not, Bool, true, false, cond, Option, Some, None, option_map, slice_set, slice_get, Ok, Err, refl, sym, ap, subst, ◌∙◌, arith, is_some}
+use Rattle.span_laws.proofs.Common.{AllByRecursion, nat_tests, Context, ids_of, is_valid, Op, LayerSettings, GREATEST, Making, deed, event_of, first_attributes, span_update, Recording, started_under, with_starts, parent_source, new_span_data, data_at, waits, Callsite, ValueSet, Lane, is_in, current_of, Request, Place, Call, Setup, span_site, event_site, Here, here_at, Resolved, refuse_if, ◌>>=◌, need, op_on, ops_effect, is_bad_moment, effect_of, effect_of_call, context_effect, own_context, attach_effect, detach_effect, active, enter_effect, meets_full, entry_call, exit_effect, is_shared, is_full, callsite_of, update_ops, hooks_of_values, admits_at, reload_by, follow_effect, happens_at, is_open, holds, closed_of, is_borrowed, scope_at, parent_at, lane_in, new_span_data_at, span_effect, disabled_effect, clone_effect, drop_effect, current_scope, scope_or_current, exchange_effect, Scope, MadeSpan, SpanOp, ScopeGuard, FilterHook, Effect, Tables, with_item, either_after, slot_at, own_span, Fields, all_values, values_of, TextRead, text_read, is_drop, occurrences, Began, at_making, any_counted, slot_open}
 use Rattle.std.specs.Option.{option_to_list}
-use Rattle.std.specs.Prelude.{is_some}
 use Rattle.std.proofs.lemmas.Bool.{eq-eqb, eqb-true}
-use Rattle.std.proofs.lemmas.Bool.Decides.{nat_tests}
-use Rattle.otel_base.specs.declared.context.Context.{Context}
-use Rattle.otel_base.specs.Ids.{ids_of, is_valid}
 use Rattle.otel_metrics.specs.declared.measure.Measure.{Measure}
-use Rattle.otel_state.specs.declared.op.Op.{Op}
 use Rattle.otel_state.specs.declared.op.Op.TheVariants as ops
-use Rattle.otel_state.specs.declared.settings.LayerSettings.{LayerSettings}
-use Rattle.otel_state.specs.declared.times.TheConstants.{GREATEST}
-use Rattle.otel_state.specs.Content.{Making}
-use Rattle.otel_state.specs.Deeds.{deed}
-use Rattle.otel_state.specs.fields.EventFields.{event_of}
-use Rattle.otel_state.specs.fields.FirstAttributes.{first_attributes}
-use Rattle.otel_state.specs.fields.SpanFields.{span_update}
 use Rattle.otel_layer.specs.Asking.{link_of, event_at}
-use Rattle.otel_layer.specs.Recording.{Recording, started_under, with_starts}
-use Rattle.otel_layer.specs.Steps.{parent_source, new_span_data}
-use Rattle.otel_layer.specs.Table.{data_at, waits}
-use Rattle.trace_base.specs.declared.callsite.Callsite.{Callsite}
-use Rattle.trace_base.specs.declared.field.ValueSet.{ValueSet}
-use Rattle.trace_base.specs.declared.lane.Lane.{Lane}
-use Rattle.trace_base.specs.Spans.{is_in, current_of}
-use Rattle.span_script.specs.declared.request.Request.{Request}
-use Rattle.span_script.specs.declared.request.Place.{Place}
 use Rattle.span_script.specs.declared.request.Place.TheVariants as place
-use Rattle.span_script.specs.declared.request.Call.{Call}
 use Rattle.span_script.specs.declared.request.Call.TheVariants as call
 use Rattle.span_script.specs.declared.reply.Reply.{Reply}
 use Rattle.span_script.specs.declared.reply.Reply.TheVariants as reply
@@ -36,27 +14,10 @@ use Rattle.span_script.specs.declared.reply.Refusal.{Refusal}
 use Rattle.span_script.specs.declared.reply.Refusal.TheVariants as refusal
 use Rattle.span_script.specs.declared.reply.What.{What}
 use Rattle.span_script.specs.declared.reply.What.TheVariants as what
-use Rattle.span_script.specs.Setups.{Setup, span_site, event_site}
-use Rattle.span_script.specs.calls.Here.{Here, here_at, Resolved, refuse_if, ◌>>=◌, need, op_on, ops_effect}
-use Rattle.span_script.specs.Effects.{is_bad_moment, effect_of, effect_of_call}
-use Rattle.span_script.specs.calls.Contexts.{context_effect, own_context, attach_effect, detach_effect}
-use Rattle.span_script.specs.calls.Entries.{active, enter_effect, meets_full, entry_call, exit_effect, is_shared, is_full}
-use Rattle.span_script.specs.calls.Fields.{callsite_of, update_ops, hooks_of_values}
-use Rattle.span_script.specs.calls.Filter.{admits_at, reload_by}
-use Rattle.span_script.specs.calls.Links.{follow_effect, happens_at}
-use Rattle.span_script.specs.calls.Spans.{is_open, holds, closed_of, is_borrowed, scope_at, parent_at, lane_in, new_span_data_at, span_effect, disabled_effect, clone_effect, drop_effect, current_scope, scope_or_current, exchange_effect}
-use Rattle.span_script.specs.Tables.{Scope, MadeSpan, SpanOp, ScopeGuard, FilterHook, Effect, Tables, with_item, either_after, slot_at, own_span}
-use Rattle.span_script.specs.Fields.{Fields, all_values, values_of}
-use Rattle.span_script.specs.Admission.{TextRead, text_read}
-use Rattle.span_laws.specs.Closes.{is_drop}
-use Rattle.span_laws.specs.Laws.{occurrences}
-use Rattle.span_laws.specs.Records.{Began}
-use Rattle.span_laws.specs.Starts.{at_making}
 use Rattle.span_laws.proofs.records.EventOpsLemmas.{each_counted, each_on, each_told}
 use Rattle.span_laws.proofs.steps.GuardsLemmas.{Enters, no_entry, skips, enters_by, exits_by}
 use Rattle.span_laws.proofs.levels.HooksLemmas.{Hears, of_making, of_open, heard_entry, heard_exit, heard_record, heard_close}
 use Rattle.span_laws.proofs.spans.OccurrencesLemmas.{held_push, held_set, is_in_counted, none_in, occurs_filter, slot_push}
-use Rattle.span_script.proofs.spans.OpenSpansLemmas.{any_counted, slot_open}
 
 -- a scope that an unspent handle has, or none
 pub data IsKnown (hs : List (Option Scope)) : Scope → Type 0 where

@@ -1,17 +1,9 @@
 -- What is kept fits after an entry and after an exit.
-use Rattle.std.proofs.Common.{◌≡◌, ℕ, ◌+◌, ◌<◌, List, [], ◌∷◌, ◌++◌, length, cond, count_by, set, Option, Some, None, refl, sym, ap, subst, ◌∙◌, arith, inl, inr}
-use Rattle.std.specs.Prelude.{◌==◌, ◌&&◌}
-use Rattle.std.proofs.lemmas.Bool.{eq-eqb, eqb-true, ne_eqb, cases_eq, cases_Bool, cases_lt, cond-true, cond-false, and_from}
-use Rattle.std.proofs.lemmas.List.{length_push, get_or_past, get_or_push, get_or_append_left, get_or-set_same, get_or-set_other}
-use Rattle.std.proofs.lemmas.List.Sums.{sum_by-set, get_or-le-sum_by}
-use Rattle.trace_base.specs.Spans.{Span, Entries, Spans, span_at, entries_on, with_entries, is_in, times_in, open_children, without_last, with_hold, less_hold, without_hold}
-use Rattle.trace_base.specs.Calls.{with_span_entry, with_span_exit}
-use Rattle.trace_base.specs.Conditions.{HasOwnHold, IsLive, MayExit}
-use Rattle.trace_base.proofs.Entering.{count_push, any_if_counted, made_if_held, with_same, with_other}
-use Rattle.trace_base.proofs.Holding.{keeps_children, less_more, less_holds, times_without, first_if_in}
+use Rattle.std.proofs.Common.{◌≡◌, ℕ, ◌+◌, ◌<◌, List, [], ◌∷◌, ◌++◌, length, cond, count_by, set, Option, Some, None, refl, sym, ap, subst, ◌∙◌, arith, inl, inr, ◌==◌, ◌&&◌}
+use Rattle.span_script.proofs.Common.{cases_eq, cases_Bool, cases_lt, cond-true, cond-false, and_from, length_push, get_or_past, get_or_push, get_or_append_left, sum_by-set, get_or-le-sum_by, Span, Entries, Spans, span_at, entries_on, with_entries, is_in, times_in, open_children, without_last, with_hold, less_hold, without_hold, with_span_entry, with_span_exit, HasOwnHold, IsLive, MayExit, count_push, any_if_counted, made_if_held, with_same, with_other, keeps_children, less_more, less_holds, times_without, first_if_in, slot_at, lanes_with, OpenGuard, names_span, guards, Balanced}
+use Rattle.std.proofs.lemmas.Bool.{eq-eqb, eqb-true, ne_eqb}
+use Rattle.std.proofs.lemmas.List.{get_or-set_same, get_or-set_other}
 use Rattle.trace_base.proofs.Moving.{entry_moves, exit_moves}
-use Rattle.span_script.specs.Tables.{slot_at, lanes_with}
-use Rattle.span_script.specs.Balance.{OpenGuard, names_span, guards, Balanced}
 
 -- open children stay
 enter_children : (x : Spans) (id lane q : ℕ) → IsLive x.made id → open_children (with_span_entry x id lane).made q ≡ open_children x.made q

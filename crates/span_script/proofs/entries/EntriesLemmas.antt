@@ -1,45 +1,17 @@
 -- Entries and exits, served.
-use Rattle.std.specs.Prelude.{Result, IfOk, IfErr, ◌==◌, ◌≢◌, ◌&&◌, nat_lt, count_by, if◌then◌else◌, not}
-use Rattle.std.proofs.Common.{◌≡◌, ℕ, ◌+◌, ◌<◌, List, [], ◌∷◌, ◌++◌, length, Bool, true, false, fold, get_or, set, slice_set, Option, Some, None, option_map, map, refl, sym, ap, subst, ◌∙◌, arith, inl, inr, cond, Ok, Err}
-use Rattle.std.proofs.lemmas.Bool.{cases_eq, cases_Bool, eq-eqb, ne_eqb, cond-true, cond-false}
-use Rattle.std.proofs.lemmas.List.{length-set, length-map, length_push, map_push}
-use Rattle.trace_base.specs.declared.lane.Lane.{Lane}
-use Rattle.trace_base.specs.Gate.{Worlds}
-use Rattle.trace_base.specs.Spans.{Span, Spans, span_at, with_hold, without_hold, without_last, is_in, times_in, entries_on}
-use Rattle.trace_base.specs.Calls.{SubscriberCall, Enter, Exit, with_span_entry, with_span_exit}
-use Rattle.trace_base.specs.Sound.{OneEach}
+use Rattle.std.proofs.Common.{◌≡◌, ℕ, ◌+◌, ◌<◌, List, [], ◌∷◌, ◌++◌, length, Bool, true, false, fold, get_or, set, slice_set, Option, Some, None, option_map, map, refl, sym, ap, subst, ◌∙◌, arith, inl, inr, cond, Ok, Err, Result, IfOk, IfErr, ◌==◌, ◌≢◌, ◌&&◌, nat_lt, count_by, if◌then◌else◌, not}
+use Rattle.span_script.proofs.Common.{cases_eq, cases_Bool, cond-true, cond-false, length-map, length_push, map_push, Lane, Worlds, Span, Spans, span_at, with_hold, without_hold, without_last, is_in, times_in, entries_on, SubscriberCall, Enter, Exit, with_span_entry, with_span_exit, OneEach, count_cons, member_of, spans_in, Handle, Held, ReplacedOn, Guard, Attach, id_at, Token, empty_context, LayerSettings, SpanData, is_token, data_at, own_or, Recording, no_recording, with_start, with_starts, with_applied, source_of, RecordsCall, Enters, Exits, Scope, MadeSpan, ScopeGuard, FilterHook, HookEnter, HookExit, Effect, Tables, after_effect, recorded_by, slot_at, own_span, lanes_with_entry, lanes_with_exit, with_attached, with_detached, open_part, quiet_effect, EntryOf, Attached, here_at, Resolved, refuse_if, ◌>>=◌, need, effect_of_call, active, attached_by, meets_full, entry_call, enter_effect, is_shared, exit_effect, after_filter_hook, hooks_of_span, borrows, is_borrowed, names_handle, is_named, is_shared_by, Reply, Refusal, Balanced, named_by, opened_by, Views, IsScope, ContextSlots, State, state_of, LaneValue, lane_value, lane_at, StandsFor, RecordingFits, AllContextsFit, MadeFit, IsKept, Served, IsRefusal, held_of, guard_of, lane_of, held_by, Parts, ServesResolved, holds_other, FilterState, CallsLaw, aside_in}
+use Rattle.std.proofs.lemmas.Bool.{eq-eqb, ne_eqb}
+use Rattle.std.proofs.lemmas.List.{length-set}
 use Rattle.trace_base.proofs.Sound.{one_with}
-use Rattle.trace_base.proofs.Entering.{count_cons}
-use Rattle.span_handles.specs.Worlds.{member_of, spans_in}
-use Rattle.span_handles.specs.Handles.{Handle, Held, ReplacedOn}
-use Rattle.span_script.specs.declared.slots.Guard.{Guard}
-use Rattle.span_script.specs.declared.contexts.Attach.{Attach}
 use Rattle.span_script.specs.declared.reply.Reply.TheVariants as reply
 use Rattle.span_script.specs.declared.request.Call.TheVariants as call
 use Rattle.span_script.specs.declared.reply.Refusal.TheVariants as refusal
 use Rattle.span_script.specs.declared.reply.What.TheVariants as what
-use Rattle.span_script.specs.Setups.{id_at}
-use Rattle.otel_layer.specs.declared.tokens.Token.{Token}
 use Rattle.std.specs.Option.{option_to_list}
-use Rattle.otel_base.specs.Stack.{empty_context}
 use Rattle.otel_state.specs.declared.op.Op.TheVariants as ops
-use Rattle.otel_state.specs.declared.settings.LayerSettings.{LayerSettings}
-use Rattle.otel_state.specs.States.{SpanData}
-use Rattle.otel_layer.specs.Core.{is_token}
-use Rattle.otel_layer.specs.Table.{data_at, own_or}
-use Rattle.otel_layer.specs.Recording.{Recording, no_recording, with_start, with_starts, with_applied, source_of, RecordsCall, Enters, Exits}
-use Rattle.span_script.specs.Tables.{Scope, MadeSpan, ScopeGuard, FilterHook, HookEnter, HookExit, Effect, Tables, after_effect, recorded_by, slot_at, own_span, lanes_with_entry, lanes_with_exit, with_attached, with_detached, open_part, quiet_effect, EntryOf, Attached}
-use Rattle.span_script.specs.calls.Here.{here_at, Resolved, refuse_if, ◌>>=◌, need}
-use Rattle.span_script.specs.Effects.{effect_of_call}
-use Rattle.span_script.specs.calls.Entries.{active, attached_by, meets_full, entry_call, enter_effect, is_shared, exit_effect}
-use Rattle.span_script.specs.calls.Filter.{after_filter_hook, hooks_of_span}
-use Rattle.span_script.specs.calls.Spans.{borrows, is_borrowed}
-use Rattle.span_script.specs.Slots.{names_handle, is_named, is_shared_by}
 use Rattle.span_script.proofs.spans.ChainsLemmas.{borrowed_is}
-use Rattle.span_script.specs.declared.reply.Reply.{Reply}
-use Rattle.span_script.specs.declared.reply.Refusal.{Refusal}
-use Rattle.span_script.specs.Balance.{Balanced, named_by, opened_by}
-use Rattle.span_script.specs.Fits.{Views, IsScope, ContextSlots, State, state_of, LaneValue, lane_value, lane_at, Fits, StandsFor, RecordingFits, AllContextsFit, MadeFit, IsKept, Served, IsRefusal, held_of, guard_of, lane_of, held_by, Parts, ServesResolved}
+use Rattle.span_script.specs.Fits.{Fits}
 use Rattle.span_script.proofs.steps.BalanceLemmas.{spans_entered, spans_exited, balanced_enter, balanced_exit, entered_most, exited_less, named_slot}
 use Rattle.span_script.proofs.entries.EntriesFitLemmas.{fits_live}
 use Rattle.span_script.proofs.spans.MadeSpansLemmas.{made_if, made_held, made_released}
@@ -48,13 +20,10 @@ use Rattle.span_script.proofs.steps.SlotsLemmas.{find, held_slot, named_push, na
 use Rattle.span_script.proofs.steps.CallsLemmas.{ShownOn, shown_on}
 use Rattle.span_script.proofs.steps.LanesLemmas.{lanes_step, lanes_same, id_seen, ids_same, names_same}
 use Rattle.span_script.proofs.steps.KnownSpansLemmas.{knows_it}
-use Rattle.trace_base.proofs.Holding.{holds_other}
 use Rattle.span_script.proofs.steps.RecordingLemmas.{recorded_settings, start_open, starts_fold, entry_tokens}
 use Rattle.span_script.proofs.lane_contexts.LaneContextsLemmas.{all_skipped, all_entered, all_exited}
 use Rattle.span_script.proofs.steps.ServesLemmas.{AllFit, serve, known_still, kept_served, call_count, call_sites, call_cached, call_aside, call_whole, call_lanes}
 use Rattle.span_script.proofs.filter.FilterLemmas.{IsKnownHeard, count_heard, AreKnown, heard_none}
-use Rattle.env_filter.specs.Filtering.{FilterState}
-use Rattle.span_script.specs.SubscriberLaws.{CallsLaw, aside_in}
 
 the_guard : (a b : ScopeGuard) → ◌≡◌ {A = Option ScopeGuard} (Some a) (Some b) → a ≡ b
 the_guard a b e = cc e

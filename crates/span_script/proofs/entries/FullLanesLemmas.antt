@@ -1,29 +1,10 @@
 -- An entry on a lane with as many contexts as may be.
-use Rattle.std.specs.Prelude.{◌&&◌, ◌||◌, ◌≢◌}
-use Rattle.std.proofs.Common.{◌≡◌, ℕ, ◌<◌, List, [], ◌∷◌, length, get_or, Bool, true, false, Option, Some, None, Err, map, refl, sym, ap, subst, ◌∙◌, arith, inl, inr, slice_get, Ok}
-use Rattle.std.proofs.lemmas.Bool.{cases_Bool, eq-eqb, eqb-true, cond-true, true≢false}
-use Rattle.std.proofs.lemmas.List.{length-map}
-use Rattle.otel_base.specs.declared.stack.TheConstants.{MAX_CONTEXTS}
-use Rattle.otel_base.specs.declared.context.Context.{Context}
-use Rattle.otel_base.specs.declared.enter_error.EnterError.{EnterError}
+use Rattle.std.proofs.Common.{◌≡◌, ℕ, ◌<◌, List, [], ◌∷◌, length, get_or, Bool, true, false, Option, Some, None, Err, map, refl, sym, ap, subst, ◌∙◌, arith, inl, inr, slice_get, Ok, ◌&&◌, ◌||◌, ◌≢◌}
+use Rattle.span_script.proofs.Common.{cases_Bool, cond-true, length-map, MAX_CONTEXTS, Context, EnterError, SpanData, data_at, knows_span, Recording, no_recording, Lane, Spans, Handle, Held, MeetsFullLane, Refusal, id_at, named_by, opened_by, Scope, Attached, Tables, slot_at, here_at, Resolved, refuse_if, ◌>>=◌, need, meets_full, enter_effect, entry_call, refused_entry, Views, State, state_of, LaneValue, lane_value, lane_at, StandsFor, IsKept, is_for_memory, held_by, held_of, Parts, FilterWithRoom, layer_or}
+use Rattle.std.proofs.lemmas.Bool.{eq-eqb, eqb-true, true≢false}
 use Rattle.otel_base.specs.declared.enter_error.EnterError.TheVariants as errors
-use Rattle.otel_state.specs.States.{SpanData}
-use Rattle.otel_layer.specs.Table.{data_at, knows_span}
-use Rattle.otel_layer.specs.Recording.{Recording, no_recording}
-use Rattle.trace_base.specs.declared.lane.Lane.{Lane}
-use Rattle.trace_base.specs.Spans.{Spans}
-use Rattle.span_handles.specs.Handles.{Handle, Held}
-use Rattle.span_handles.specs.Entries.{MeetsFullLane}
 use Rattle.span_script.specs.declared.reply.Refusal.TheVariants as refusal
-use Rattle.span_script.specs.declared.reply.Refusal.{Refusal}
 use Rattle.span_script.specs.declared.reply.What.TheVariants as what
-use Rattle.span_script.specs.Setups.{id_at}
-use Rattle.span_script.specs.Balance.{named_by, opened_by}
-use Rattle.span_script.specs.Tables.{Scope, Attached, Tables, slot_at}
-use Rattle.span_script.specs.calls.Here.{here_at, Resolved, refuse_if, ◌>>=◌, need}
-use Rattle.span_script.specs.calls.Entries.{meets_full, enter_effect, entry_call}
-use Rattle.span_script.specs.calls.Refusals.{refused_entry}
-use Rattle.span_script.specs.Fits.{Views, State, state_of, LaneValue, lane_value, lane_at, StandsFor, IsKept, is_for_memory, held_by, held_of, Parts}
 use Rattle.span_script.proofs.steps.BalanceLemmas.{named_slot}
 use Rattle.span_script.proofs.entries.EntriesFitLemmas.{fits_live}
 use Rattle.span_script.proofs.steps.LanesLemmas.{lane_seen, id_seen}
@@ -31,8 +12,6 @@ use Rattle.span_script.proofs.steps.KnownSpansLemmas.{knows_it}
 use Rattle.span_script.proofs.steps.SlotsLemmas.{find, held_slot}
 use Rattle.span_script.proofs.runs.RefusalsLemmas.{within_get}
 use Rattle.span_script.proofs.runs.TakeLemmas.{seen_there}
-use Rattle.env_filter.specs.Filtering.{FilterWithRoom}
-use Rattle.env_filter.specs.Reloading.{layer_or}
 
 -- an entry of a span that the layer knows attaches where the layer activates
 abbrev pub Activates : {S : Type 0} → Views S → (S → ℕ → Bool) → Type 0

@@ -1,44 +1,14 @@
 -- Ops on spans that leave all else as it is, served; and events.
-use Rattle.std.specs.Prelude.{slice_get, option_and_then, is_some, IfSome}
-use Rattle.std.proofs.lemmas.List.{length-map}
-use Rattle.std.proofs.Common.{◌≡◌, ℕ, ◌<◌, List, [], ◌∷◌, length, Bool, true, false, fold, get_or, Option, Some, None, Ok, option_map, map, refl, sym, ap, subst, ◌∙◌, arith}
+use Rattle.span_script.proofs.Common.{length-map, Measure, Token, Recording, no_recording, with_start, with_applied, Lane, Callsite, Kind, ValueSet, Parent, Worlds, FilterState, IsNewFilter, enables_in, Spans, span_at, entries_on, place_on, SubscriberCall, OneEach, member_of, spans_in, kept_in, Has, Reply, Place, id_at, if_event, event_site, Scope, SpanOp, FilterHook, Effect, Tables, own_span, recorded_by, quiet_effect, Fields, all_values, text_filter, here_at, Resolved, ◌>>=◌, need, ops_on, effect_of_call, if_enabled, counted_ops, event_effect, after_filter_hook, scope_at, place_for, TellsOnly, LetsThrough, Balanced, named_by, opened_by, Views, shown_of, State, state_of, lane_value, held_by, StandsFor, MadeFit, LanesFit, IsKept, Served, Parts, with_counted, with_event_by, AddsMeasures, CallsLaw, aside_in}
+use Rattle.std.proofs.Common.{◌≡◌, ℕ, ◌<◌, List, [], ◌∷◌, length, Bool, true, false, fold, get_or, Option, Some, None, Ok, option_map, map, refl, sym, ap, subst, ◌∙◌, arith, slice_get, option_and_then, is_some, IfSome}
 use Rattle.otel_state.specs.fields.EventFields.{event_of}
 use Rattle.otel_state.specs.declared.op.Op.TheVariants as ops
-use Rattle.otel_metrics.specs.declared.measure.Measure.{Measure}
 use Rattle.otel_metrics.specs.Measures.{measures}
 use Rattle.env_directives.specs.orders.Choice.{admits}
-use Rattle.otel_layer.specs.declared.tokens.Token.{Token}
-use Rattle.otel_layer.specs.Recording.{Recording, no_recording, with_start, with_applied}
-use Rattle.trace_base.specs.declared.lane.Lane.{Lane}
-use Rattle.trace_base.specs.declared.callsite.Callsite.{Callsite}
-use Rattle.trace_base.specs.declared.callsite.Kind.{Kind}
 use Rattle.trace_base.specs.declared.callsite.Kind.TheVariants as kinds
-use Rattle.trace_base.specs.declared.field.ValueSet.{ValueSet}
-use Rattle.trace_base.specs.declared.span.Parent.{Parent}
-use Rattle.trace_base.specs.Gate.{Worlds}
-use Rattle.env_filter.specs.Filtering.{FilterState, IsNewFilter, enables_in}
-use Rattle.trace_base.specs.Spans.{Spans, span_at, entries_on, place_on}
-use Rattle.trace_base.specs.Calls.{SubscriberCall}
-use Rattle.trace_base.specs.Sound.{OneEach}
-use Rattle.span_handles.specs.Worlds.{member_of, spans_in, kept_in, Has}
-use Rattle.span_script.specs.declared.reply.Reply.{Reply}
 use Rattle.span_script.specs.declared.reply.Reply.TheVariants as reply
 use Rattle.span_script.specs.declared.request.Call.TheVariants as call
-use Rattle.span_script.specs.declared.request.Place.{Place}
 use Rattle.span_script.specs.declared.reply.What.TheVariants as what
-use Rattle.span_script.specs.Setups.{id_at, if_event, event_site}
-use Rattle.span_script.specs.Tables.{Scope, SpanOp, FilterHook, Effect, Tables, own_span, recorded_by, quiet_effect}
-use Rattle.span_script.specs.Fields.{Fields, all_values}
-use Rattle.span_script.specs.Admission.{text_filter}
-use Rattle.span_script.specs.calls.Here.{here_at, Resolved, ◌>>=◌, need, ops_on}
-use Rattle.span_script.specs.Effects.{effect_of_call}
-use Rattle.span_script.specs.calls.Events.{if_enabled, counted_ops, event_effect}
-use Rattle.span_script.specs.calls.Filter.{after_filter_hook}
-use Rattle.span_script.specs.calls.Spans.{scope_at}
-use Rattle.span_script.specs.Slots.{place_for, TellsOnly, LetsThrough}
-use Rattle.span_script.specs.Balance.{Balanced, named_by, opened_by}
-use Rattle.span_script.specs.Fits.{Views, shown_of, State, state_of, lane_value, held_by, StandsFor, MadeFit, LanesFit, IsKept, Served, Parts}
-use Rattle.span_stack.specs.Counting.{with_counted, with_event_by}
 use Rattle.span_script.proofs.filter.CounterLemmas.{adds_same}
 use Rattle.span_script.proofs.steps.StepLemmas.{fits_step}
 use Rattle.span_script.proofs.filter.FilterLemmas.{AreKnown, heard_none, agree_by, enables_alike}
@@ -48,7 +18,6 @@ use Rattle.span_script.proofs.steps.RecordingLemmas.{recorded_settings, recorded
 use Rattle.span_script.proofs.spans.MoreHandlesLemmas.{find_up}
 use Rattle.span_script.proofs.steps.ServesLemmas.{serve, known_still, all_same, kept_served}
 use Rattle.span_script.proofs.spans.SitesLemmas.{the_callsite, found_site_is}
-use Rattle.span_script.specs.SubscriberLaws.{AddsMeasures, CallsLaw, aside_in}
 
 -- the callsite of an event at a place
 pub site_is : (sites : List Callsite) (site : ℕ) (callsite : Callsite) → event_site sites site ≡ Some callsite → slice_get sites site ≡ Some callsite

@@ -1,43 +1,22 @@
 -- Fields that are declared or not, recorded on spans, and asked for.
-use Rattle.std.specs.Prelude.{◌&&◌, is_some, slice_get, filter_map, option_and_then}
-use Rattle.std.specs.List.{list_all, cons_option}
-use Rattle.std.proofs.lemmas.Bool.{cond-true, cond-false, true≢false}
-use Rattle.std.proofs.Common.{◌≡◌, ℕ, suc, ◌<◌, ◌≤◌, List, [], ◌∷◌, length, Bool, true, false, Option, Some, None, Ok, Err, option_map, map, refl, sym, ap, subst, ◌∙◌, arith}
-use Rattle.otel_layer.specs.Recording.{Recording, no_recording}
-use Rattle.trace_base.specs.declared.callsite.Callsite.{Callsite}
+use Rattle.span_script.proofs.Common.{list_all, cons_option, cond-true, cond-false, Recording, no_recording, Callsite, ValueSet, Parent, Worlds, Spans, SubscriberCall, member_of, Handle, Held, IsSite, RecordsAt, RecordsOn, callsite_in, field_at, field_in, place_under, Place, id_at, span_site, event_site, Scope, Tables, slot_at, site_of, Fields, declared_value, declares, declared_by, all_values, values_of, values_by, here_at, ◌>>=◌, need, ops_effect, effect_of_call, event_effect, scope_at, new_effect, place_for, Views, State, state_of, StandsFor, IsScope, IsKept, Served, held_by, held_of, Parts, get_or-map, CallsLaw}
+use Rattle.std.proofs.lemmas.Bool.{true≢false}
+use Rattle.std.proofs.Common.{◌≡◌, ℕ, suc, ◌<◌, ◌≤◌, List, [], ◌∷◌, length, Bool, true, false, Option, Some, None, Ok, Err, option_map, map, refl, sym, ap, subst, ◌∙◌, arith, ◌&&◌, is_some, slice_get, filter_map, option_and_then}
 use Rattle.trace_base.specs.declared.field.Field.{Field}
-use Rattle.trace_base.specs.declared.field.ValueSet.{ValueSet}
-use Rattle.trace_base.specs.declared.span.Parent.{Parent}
 use Rattle.trace_base.specs.Field.{place_of, named_field}
-use Rattle.trace_base.specs.Gate.{Worlds}
-use Rattle.trace_base.specs.Spans.{Spans}
-use Rattle.trace_base.specs.Calls.{SubscriberCall}
-use Rattle.span_handles.specs.Worlds.{member_of}
-use Rattle.span_handles.specs.Handles.{Handle, Held, IsSite, RecordsAt, RecordsOn, callsite_in, field_at, field_in, place_under}
 use Rattle.span_script.specs.declared.reply.Reply.TheVariants as reply
 use Rattle.span_script.specs.declared.reply.Refusal.TheVariants as refusal
 use Rattle.span_script.specs.declared.reply.What.TheVariants as what
 use Rattle.span_script.specs.declared.request.Call.TheVariants as call
-use Rattle.span_script.specs.declared.request.Place.{Place}
-use Rattle.span_script.specs.Setups.{id_at, span_site, event_site}
-use Rattle.span_script.specs.Tables.{Scope, Tables, slot_at, site_of}
-use Rattle.span_script.specs.Fields.{Fields, declared_value, declares, declared_by, all_values, values_of, values_by}
-use Rattle.span_script.specs.calls.Here.{here_at, ◌>>=◌, need, ops_effect}
-use Rattle.span_script.specs.Effects.{effect_of_call}
-use Rattle.span_script.specs.calls.Events.{event_effect}
 use Rattle.span_script.specs.calls.Fields.{update_ops, hooks_of_values, record_effect, callsite_of}
-use Rattle.span_script.specs.calls.Spans.{scope_at, new_effect}
-use Rattle.span_script.specs.Slots.{place_for}
-use Rattle.span_script.specs.Fits.{Views, State, state_of, Fits, StandsFor, IsScope, IsKept, Served, held_by, held_of, Parts}
+use Rattle.span_script.specs.Fits.{Fits}
 use Rattle.span_script.proofs.steps.SlotsLemmas.{Found, find, held_slot}
 use Rattle.span_script.proofs.spans.MoreHandlesLemmas.{find_up}
 use Rattle.span_script.proofs.spans.SitesLemmas.{site_found, the_callsite}
 use Rattle.span_script.proofs.filter.FilterLemmas.{AreKnown}
 use Rattle.span_script.proofs.events.EventsLemmas.{Does, does_none, serves_ops, keeps_ops, site_is as event_is}
 use Rattle.span_script.proofs.spans.MakingsLemmas.{site_is}
-use Rattle.std.proofs.Math.ListN.{get_or-map}
 use Rattle.span_script.specs.declared.request.Place.TheVariants as place
-use Rattle.span_script.specs.SubscriberLaws.{CallsLaw}
 
 -- ---- places that aren't there
 

@@ -1,12 +1,7 @@
 -- What stands beside the filter in place: the filter that counts, and the measures that wait.
 use Rattle.std.proofs.Common.{◌≡◌, ℕ, List, [], ◌++◌, None, option_map, sym, ap, ◌∙◌}
 use Rattle.std.proofs.lemmas.List.{append-nil}
-use Rattle.trace_base.specs.Gate.{Worlds}
-use Rattle.span_handles.specs.Worlds.{member_of}
-use Rattle.otel_metrics.specs.declared.measure.Measure.{Measure}
-use Rattle.span_stack.specs.Reading.{StackWorlds, counter_in, measures_in}
-use Rattle.span_script.specs.Fits.{Views, shown_of, stack_views, State}
-use Rattle.span_script.specs.SubscriberLaws.{AddsMeasures, Aside, aside_in}
+use Rattle.span_script.proofs.Common.{Worlds, member_of, Measure, StackWorlds, counter_in, measures_in, Views, shown_of, stack_views, State, AddsMeasures, Aside, aside_in}
 
 pub adds_none : (before later : Aside) → later.0 ≡ before.0 → later.1 ≡ before.1 → AddsMeasures before later []
 adds_none before later counter measures = record { counter = counter; measures = measures ∙ sym (append-nil before.1) }

@@ -1,29 +1,15 @@
 -- The filter in force, and the cache, after one effect more.
-use Rattle.std.proofs.Common.{◌≡◌, ℕ, zero, suc, ◌+◌, ◌<◌, List, [], ◌∷◌, ◌++◌, length, fold, Option, Some, None, option_map, map, slice_get, refl, sym, ap, subst, ◌∙◌, arith, inl, inr}
-use Rattle.std.specs.Prelude.{is_some, nat_eq, IfSome}
-use Rattle.std.proofs.lemmas.Bool.{cases_eq, eq-eqb, ne_eqb, cond-true, cond-false}
-use Rattle.std.specs.Option.{option_map_or}
-use Rattle.trace_base.specs.declared.callsite.Callsite.{Callsite}
-use Rattle.trace_base.specs.declared.subscriber.Interest.{Interest}
+use Rattle.std.proofs.Common.{◌≡◌, ℕ, zero, suc, ◌+◌, ◌<◌, List, [], ◌∷◌, ◌++◌, length, fold, Option, Some, None, option_map, map, slice_get, refl, sym, ap, subst, ◌∙◌, arith, inl, inr, is_some, nat_eq, IfSome}
+use Rattle.span_script.proofs.Common.{cases_eq, cond-true, cond-false, option_map_or, Callsite, Interest, Worlds, IsFresh, interests_of_sites, member_of, Stacks, in_place, stack_interest, layer_or, sometimes, Directive, FilterState, FilterWithRoom, IsNewFilter, plain, interest_in, is_admitted, enables_in, Setup, id_at, FilterHook, HookNew, HookRecord, HookEnter, HookExit, HookClose, Effect, Tables, after_effect, with_item, newer, hooks_since, after_filter_hook, in_force, filter_at, text_filter, Views, ShownFilter, first_of, shown_of, counter_by, State, FilteringFits}
+use Rattle.std.proofs.lemmas.Bool.{eq-eqb, ne_eqb}
 use Rattle.trace_base.specs.declared.subscriber.Interest.TheVariants as interests
-use Rattle.trace_base.specs.Gate.{Worlds, IsFresh, interests_of_sites}
 use Rattle.span_registry.specs.Both.{joint_interest}
-use Rattle.span_handles.specs.Worlds.{member_of}
-use Rattle.span_stack.specs.Reading.{Stacks, in_place, stack_interest}
-use Rattle.env_filter.specs.Reloading.{layer_or, sometimes}
 use Rattle.env_directives.specs.orders.Table.{Table}
-use Rattle.env_directives.specs.declared.env.directive.Directive.{Directive}
 use Rattle.env_filter.specs.spans.Keyed.{put}
 use Rattle.env_filter.specs.spans.Kept.{with_open_level, without_open_level}
 use Rattle.env_filter.specs.spans.Levels.{OpenLevel}
 use Rattle.env_filter.specs.spans.Watching.{MatchState, new_match_state, with_values, level_of_match}
-use Rattle.env_filter.specs.Filtering.{FilterState, FilterWithRoom, IsNewFilter, plain, interest_in, is_admitted, enables_in}
-use Rattle.span_script.specs.Setups.{Setup, id_at}
-use Rattle.span_script.specs.Tables.{FilterHook, HookNew, HookRecord, HookEnter, HookExit, HookClose, Effect, Tables, after_effect, with_item, newer, hooks_since}
-use Rattle.span_script.specs.calls.Filter.{after_filter_hook, in_force, filter_at}
-use Rattle.span_script.specs.Admission.{text_filter}
 use Rattle.span_script.proofs.filter.CounterLemmas.{AddsTo}
-use Rattle.span_script.specs.Fits.{Views, ShownFilter, first_of, shown_of, counter_by, State, FilteringFits}
 
 -- one after another
 heard_both : (f : FilterState) (xs ys : List FilterHook) → fold after_filter_hook f (xs ++ ys) ≡ fold after_filter_hook (fold after_filter_hook f xs) ys

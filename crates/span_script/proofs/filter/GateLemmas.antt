@@ -1,18 +1,6 @@
 -- The gate's answer is that of the filter in force.
 use Rattle.std.proofs.Common.{◌≡◌, ℕ, ◌<◌, List, [], ◌∷◌, length, get_or, Bool, refl, Some, None, option_map, slice_get, sym, ap, ◌∙◌, arith}
-use Rattle.std.proofs.lemmas.List.{length-map}
-use Rattle.trace_base.specs.declared.callsite.Callsite.{Callsite}
-use Rattle.trace_base.specs.declared.lane.Lane.{Lane}
-use Rattle.trace_base.specs.Gate.{IsFresh}
-use Rattle.trace_base.specs.Spans.{Spans}
-use Rattle.env_filter.specs.Filtering.{FilterState, is_admitted, interest_in}
-use Rattle.trace_base.specs.declared.subscriber.Interest.{Interest}
-use Rattle.span_handles.specs.Worlds.{member_of}
-use Rattle.span_script.specs.Setups.{id_at}
-use Rattle.span_script.specs.Tables.{Tables}
-use Rattle.span_script.specs.calls.Filter.{filter_at, admits_at}
-use Rattle.span_script.specs.Slots.{LetsThrough}
-use Rattle.span_script.specs.Fits.{Views, shown_of, State, state_of, StandsFor, FilteringFits, IsKept, Parts}
+use Rattle.span_script.proofs.Common.{length-map, Callsite, Lane, IsFresh, Spans, FilterState, is_admitted, interest_in, Interest, member_of, id_at, Tables, filter_at, admits_at, LetsThrough, Views, shown_of, State, state_of, StandsFor, FilteringFits, IsKept, Parts}
 use Rattle.span_script.proofs.filter.FilterLemmas.{InPlace, Agree, in_place_by, admits_alike, rows_of, rows_fresh}
 use Rattle.span_script.proofs.steps.LanesLemmas.{id_seen}
 

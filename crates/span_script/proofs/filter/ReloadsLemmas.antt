@@ -1,34 +1,15 @@
 -- Asking the gate, and another filter in force, served.
-use Rattle.std.specs.Prelude.{slice_get}
-use Rattle.std.proofs.Common.{◌≡◌, ℕ, ◌<◌, List, [], length, Bool, get_or, Some, None, Ok, option_map, map, refl, sym, ap, subst, ◌∙◌, arith}
-use Rattle.trace_base.specs.declared.callsite.Callsite.{Callsite}
-use Rattle.trace_base.specs.declared.lane.Lane.{Lane}
-use Rattle.trace_base.specs.declared.subscriber.Interest.{Interest}
-use Rattle.trace_base.specs.Gate.{Worlds, IsFresh}
-use Rattle.trace_base.specs.Spans.{Spans, span_at}
-use Rattle.trace_base.specs.Sound.{OneEach}
-use Rattle.env_filter.specs.Filtering.{FilterState, interest_in}
-use Rattle.otel_layer.specs.Recording.{Recording, no_recording}
-use Rattle.span_handles.specs.Worlds.{Alike, member_of, spans_in}
+use Rattle.std.proofs.Common.{◌≡◌, ℕ, ◌<◌, List, [], length, Bool, get_or, Some, None, Ok, option_map, map, refl, sym, ap, subst, ◌∙◌, arith, slice_get}
+use Rattle.span_script.proofs.Common.{Callsite, Lane, Interest, Worlds, IsFresh, Spans, span_at, OneEach, FilterState, interest_in, Recording, no_recording, Alike, member_of, spans_in, text_filter, filter_if, IsTextFilter, id_at, Effect, Tables, after_effect, quiet_effect, here_at, ◌>>=◌, need, effect_of_call, enabled_effect, reload_effect, reload_by, Balanced, named_by, opened_by, LetsThrough, Views, shown_of, State, state_of, lane_value, StandsFor, FilteringFits, MadeFit, LanesFit, IsKept, Served, Parts, AddsMeasures, aside_in}
 use Rattle.span_script.specs.declared.reply.Reply.TheVariants as reply
 use Rattle.span_script.specs.declared.reply.What.TheVariants as what
 use Rattle.span_script.specs.declared.request.Call.TheVariants as call
-use Rattle.span_script.specs.Admission.{text_filter, filter_if, IsTextFilter}
-use Rattle.span_script.specs.Setups.{id_at}
-use Rattle.span_script.specs.Tables.{Effect, Tables, after_effect, quiet_effect}
-use Rattle.span_script.specs.calls.Here.{here_at, ◌>>=◌, need}
-use Rattle.span_script.specs.Effects.{effect_of_call}
-use Rattle.span_script.specs.calls.Filter.{enabled_effect, reload_effect, reload_by}
-use Rattle.span_script.specs.Balance.{Balanced, named_by, opened_by}
-use Rattle.span_script.specs.Slots.{LetsThrough}
-use Rattle.span_script.specs.Fits.{Views, shown_of, State, state_of, lane_value, StandsFor, FilteringFits, MadeFit, LanesFit, IsKept, Served, Parts}
 use Rattle.span_script.proofs.filter.FilterLemmas.{cached_rows, rows_of}
 use Rattle.span_script.proofs.filter.GateLemmas.{answered}
 use Rattle.span_script.proofs.runs.RefusalsLemmas.{within_get}
 use Rattle.span_script.proofs.steps.ServesLemmas.{serve_with, known_still, all_same, kept_served}
 use Rattle.span_script.proofs.steps.StepLemmas.{fits_step}
 use Rattle.span_script.proofs.events.EventsLemmas.{does_none, serves_ops, keeps_ops}
-use Rattle.span_script.specs.SubscriberLaws.{AddsMeasures, aside_in}
 
 module _ {S : Type 0} (spans : S → Spans) (views : Views S) (attaches : S → Bool) (kept : S → ℕ → ℕ → ℕ) (is_whole : S → Type 0) (parts : Parts S) (at lane : ℕ) where
   abbrev now : State

@@ -8,15 +8,13 @@ use Rattle.env_directives.specs.reading.Reading.{Read, reading}
 use Rattle.env_directives.specs.reading.Separators.{comma_pieces}
 use Rattle.env_directives.specs.declared.directive.ParseError.{ParseError}
 use Rattle.env_directives.specs.declared.directive.ParseError.TheVariants as fault
-use Rattle.env_directives.specs.declared.env.directive.Directive.{Directive}
+use Rattle.span_script.proofs.Common.{Directive, FilterState, TextRead, with_piece_read, with_piece, pieces_read, text_read, fault_in, IsTextFilter, IsUnread, unread_by}
 use Rattle.env_directives.proofs.forms.FaultsLemmas.{Explained}
 use Rattle.env_directives.proofs.forms.GrammarLemmas.{directive_reads, level_told, field_told}
 use Rattle.env_directives.proofs.forms.ReadingsLemmas.{reading_explained}
 use Rattle.env_filter.specs.declared.pieces.Ignored.{Ignored}
 use Rattle.env_filter.specs.texts.Building.{BuilderValue, default_builder, filter_by, IsFilterOf, HasFilterFaultAt}
-use Rattle.env_filter.specs.Filtering.{FilterState}
 use Rattle.env_filter.specs.texts.Pieces.{is_memory, ReadsPiece, ReadsAll, ReadsText, IsFirstFault}
-use Rattle.span_script.specs.Admission.{TextRead, with_piece_read, with_piece, pieces_read, text_read, fault_in, IsTextFilter, IsUnread, unread_by}
 use Rattle.span_script.specs.declared.open_error.OpenError.{OpenError}
 
 -- a piece that is a directive, before those behind it

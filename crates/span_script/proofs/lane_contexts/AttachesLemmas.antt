@@ -1,34 +1,12 @@
 -- Attaches to a lane, served.
-use Rattle.std.specs.Prelude.{◌==◌, Result}
-use Rattle.std.proofs.Common.{◌≡◌, ℕ, ◌<◌, List, [], ◌∷◌, ◌++◌, length, get_or, set, false, count_by, Option, Some, None, Ok, Err, option_map, map, refl, sym, ap, subst, ◌∙◌, arith, slice_get}
-use Rattle.std.proofs.lemmas.Bool.{ne_eqb, eq-eqb, cond-true, cond-false, true≢false}
-use Rattle.std.proofs.lemmas.List.{length-map, length_push, map_push}
-use Rattle.otel_base.specs.declared.stack.TheConstants.{MAX_CONTEXTS}
-use Rattle.otel_base.specs.declared.context.Context.{Context}
-use Rattle.otel_base.specs.declared.enter_error.EnterError.{EnterError}
+use Rattle.std.proofs.Common.{◌≡◌, ℕ, ◌<◌, List, [], ◌∷◌, ◌++◌, length, get_or, set, false, count_by, Option, Some, None, Ok, Err, option_map, map, refl, sym, ap, subst, ◌∙◌, arith, slice_get, ◌==◌, Result}
+use Rattle.span_script.proofs.Common.{cond-true, cond-false, length-map, length_push, map_push, MAX_CONTEXTS, Context, EnterError, has_number, Lane, Spans, count_push, Recording, no_recording, member_of, kept_in, Attach, Guard, Refusal, refused_entry, id_at, GuardOf, Attached, ScopeGuard, Effect, Tables, slot_at, with_attached, here_at, Resolved, refuse_if, ◌>>=◌, need, effect_of_call, attach_effect, is_full, Balanced, OpenGuard, named_by, opened_by, Views, ContextSlots, State, state_of, LaneValue, lane_value, lane_at, lane_of, StandsFor, AllContextsFit, IsKept, Served, is_for_memory, LanesFit, Parts, aside_in}
+use Rattle.std.proofs.lemmas.Bool.{ne_eqb, eq-eqb, true≢false}
 use Rattle.otel_base.specs.declared.enter_error.EnterError.TheVariants as errors
-use Rattle.otel_base.specs.Stack.{has_number}
-use Rattle.trace_base.specs.declared.lane.Lane.{Lane}
-use Rattle.trace_base.specs.Spans.{Spans}
-use Rattle.trace_base.proofs.Entering.{count_push}
-use Rattle.otel_layer.specs.Recording.{Recording, no_recording}
-use Rattle.span_handles.specs.Worlds.{member_of, kept_in}
-use Rattle.span_script.specs.declared.contexts.Attach.{Attach}
-use Rattle.span_script.specs.declared.slots.Guard.{Guard}
 use Rattle.span_script.specs.declared.reply.Refusal.TheVariants as refusal
-use Rattle.span_script.specs.declared.reply.Refusal.{Refusal}
 use Rattle.span_script.specs.declared.reply.Reply.TheVariants as reply
 use Rattle.span_script.specs.declared.reply.What.TheVariants as what
 use Rattle.span_script.specs.declared.request.Call.TheVariants as call
-use Rattle.span_script.specs.calls.Refusals.{refused_entry}
-use Rattle.span_script.specs.Setups.{id_at}
-use Rattle.span_script.specs.Tables.{GuardOf, Attached, ScopeGuard, Effect, Tables, slot_at, with_attached}
-use Rattle.span_script.specs.calls.Here.{here_at, Resolved, refuse_if, ◌>>=◌, need}
-use Rattle.span_script.specs.Effects.{effect_of_call}
-use Rattle.span_script.specs.calls.Contexts.{attach_effect}
-use Rattle.span_script.specs.calls.Entries.{is_full}
-use Rattle.span_script.specs.Balance.{Balanced, OpenGuard, named_by, opened_by}
-use Rattle.span_script.specs.Fits.{Views, ContextSlots, State, state_of, LaneValue, lane_value, lane_at, lane_of, StandsFor, AllContextsFit, IsKept, Served, is_for_memory, LanesFit, Parts}
 use Rattle.span_script.proofs.filter.CounterLemmas.{adds_same}
 use Rattle.span_script.proofs.steps.BalanceLemmas.{quiet_guard}
 use Rattle.span_script.proofs.steps.LanesLemmas.{lane_seen, lanes_same, same_lane, id_seen, ids_same, names_same, are_attached, lanes_after}
@@ -37,7 +15,6 @@ use Rattle.span_script.proofs.steps.SlotsLemmas.{named_push}
 use Rattle.span_script.proofs.filter.FilterLemmas.{heard_none}
 use Rattle.span_script.proofs.steps.ServesLemmas.{serve, known_still, kept_served}
 use Rattle.span_script.proofs.steps.StepLemmas.{fits_step}
-use Rattle.span_script.specs.SubscriberLaws.{aside_in}
 
 -- an attach that went well met no full lane
 pub not_full : (number : ℕ) (P : Type 0) → (P → ◌≡◌ {A = Result ℕ EnterError} (Ok number) (Err errors.Full)) → P → ⊥

@@ -1,36 +1,15 @@
 -- Contexts that are made, served.
 use Rattle.std.proofs.Common.{◌≡◌, ℕ, ◌<◌, List, [], ◌∷◌, ◌++◌, length, Bool, Option, Some, None, Ok, option_map, map, refl, sym, ap, subst, ◌∙◌, arith}
-use Rattle.otel_base.specs.declared.context.Context.{Context}
-use Rattle.otel_base.specs.declared.context.SpanContext.{SpanContext}
-use Rattle.otel_base.specs.Ids.{ids_of}
-use Rattle.otel_base.specs.Stack.{empty_context}
-use Rattle.otel_state.specs.States.{SpanData}
-use Rattle.trace_base.specs.Gate.{Worlds}
-use Rattle.trace_base.specs.Spans.{Spans, span_at}
-use Rattle.trace_base.specs.Sound.{OneEach}
-use Rattle.otel_layer.specs.declared.tokens.Token.{Token}
-use Rattle.otel_layer.specs.Table.{data_at, own_or}
-use Rattle.otel_layer.specs.Parts.{PartCall, Shows, context_at}
-use Rattle.otel_layer.specs.Asking.{AsksContext, ShowsOn, context_or_empty}
-use Rattle.otel_layer.specs.Recording.{Recording, no_recording, with_starts}
-use Rattle.span_handles.specs.Worlds.{Has, member_of, spans_in, kept_in}
-use Rattle.span_handles.specs.Handles.{Handle, Held}
+use Rattle.span_script.proofs.Common.{Context, SpanContext, ids_of, empty_context, SpanData, Worlds, Spans, span_at, OneEach, Token, data_at, own_or, PartCall, Shows, context_at, AsksContext, ShowsOn, context_or_empty, Recording, no_recording, with_starts, Has, member_of, spans_in, kept_in, Handle, Held, Scope, Effect, Tables, recorded_by, slot_at, own_span, open_part, here_at, Resolved, ◌>>=◌, need, effect_of_call, context_effect, own_context, Balanced, named_by, opened_by, Views, ContextSlots, State, state_of, lane_value, lane_of, held_by, held_of, StandsFor, MadeFit, LanesFit, IsKept, Served, Parts, AddsMeasures, AsksLaw, aside_in}
 use Rattle.span_script.specs.declared.reply.Reply.TheVariants as reply
 use Rattle.span_script.specs.declared.reply.What.TheVariants as what
 use Rattle.span_script.specs.declared.request.Call.TheVariants as call
-use Rattle.span_script.specs.Tables.{Scope, Effect, Tables, recorded_by, slot_at, own_span, open_part}
-use Rattle.span_script.specs.calls.Here.{here_at, Resolved, ◌>>=◌, need}
-use Rattle.span_script.specs.Effects.{effect_of_call}
-use Rattle.span_script.specs.calls.Contexts.{context_effect, own_context}
-use Rattle.span_script.specs.Balance.{Balanced, named_by, opened_by}
-use Rattle.span_script.specs.Fits.{Views, ContextSlots, State, state_of, lane_value, lane_of, held_by, held_of, StandsFor, MadeFit, LanesFit, IsKept, Served, Parts}
 use Rattle.span_script.proofs.filter.CounterLemmas.{adds_same}
 use Rattle.span_script.proofs.steps.SlotsLemmas.{find, held_slot}
 use Rattle.span_script.proofs.steps.StepLemmas.{fits_step}
 use Rattle.span_script.proofs.steps.RecordingLemmas.{recorded_settings, recorded_tokens, starts_fold, start_open}
 use Rattle.span_script.proofs.filter.FilterLemmas.{heard_none}
 use Rattle.span_script.proofs.steps.ServesLemmas.{serve, known_still, all_same, kept_served}
-use Rattle.span_script.specs.SubscriberLaws.{AddsMeasures, AsksLaw, aside_in}
 
 -- the own context of a scope's span, by the open part of what was recorded
 pub own_open : (line : Scope) (at : ℕ) (r x : Recording) → open_part r ≡ x → own_context r at line ≡ own_context x at line

@@ -1,29 +1,12 @@
 -- Detaches from a lane, served.
-use Rattle.std.specs.Prelude.{◌==◌, slice_set, not}
-use Rattle.std.proofs.Common.{◌≡◌, ℕ, ◌+◌, ◌<◌, List, [], ◌∷◌, length, get_or, set, true, count_by, Option, Some, None, option_map, map, refl, sym, ap, subst, ◌∙◌, arith, inl, inr, Ok}
-use Rattle.std.proofs.lemmas.Bool.{cases_Bool, cases_eq, ne_eqb, eq-eqb, eqb-true, cond-true, cond-false}
-use Rattle.std.proofs.lemmas.List.{map-set}
-use Rattle.std.proofs.Math.ListN.{get_or-map}
-use Rattle.otel_base.specs.declared.context.Context.{Context}
-use Rattle.otel_base.specs.Stack.{has_number, without_number}
-use Rattle.trace_base.specs.declared.lane.Lane.{Lane}
-use Rattle.trace_base.specs.Gate.{Worlds}
-use Rattle.trace_base.specs.Spans.{Spans}
-use Rattle.trace_base.proofs.Entering.{count_cons}
-use Rattle.otel_layer.specs.Core.{kept_by}
-use Rattle.otel_layer.specs.Recording.{Recording, no_recording}
-use Rattle.span_handles.specs.Worlds.{member_of, kept_in}
-use Rattle.span_script.specs.declared.contexts.Attach.{Attach}
+use Rattle.std.proofs.Common.{◌≡◌, ℕ, ◌+◌, ◌<◌, List, [], ◌∷◌, length, get_or, set, true, count_by, Option, Some, None, option_map, map, refl, sym, ap, subst, ◌∙◌, arith, inl, inr, Ok, ◌==◌, slice_set, not}
+use Rattle.span_script.proofs.Common.{cases_Bool, cases_eq, cond-true, cond-false, map-set, get_or-map, Context, has_number, without_number, Lane, Worlds, Spans, count_cons, kept_by, Recording, no_recording, member_of, kept_in, Attach, id_at, GuardOf, Effect, Tables, slot_at, with_detached, here_at, Resolved, refuse_if, ◌>>=◌, need, effect_of_call, detach_effect, Views, ContextSlots, State, state_of, lane_of, numbers_by, StandsFor, ContextsFit, AllContextsFit, IsKept, Served, Parts, FilterWithRoom, layer_or, none_kept, aside_in}
+use Rattle.std.proofs.lemmas.Bool.{ne_eqb, eq-eqb, eqb-true}
 use Rattle.span_script.specs.declared.reply.Refusal.TheVariants as refusal
 use Rattle.span_script.specs.declared.reply.Reply.TheVariants as reply
 use Rattle.span_script.specs.declared.reply.What.TheVariants as what
 use Rattle.span_script.specs.declared.request.Call.TheVariants as call
-use Rattle.span_script.specs.Setups.{id_at}
-use Rattle.span_script.specs.Tables.{GuardOf, Effect, Tables, slot_at, with_detached}
-use Rattle.span_script.specs.calls.Here.{here_at, Resolved, refuse_if, ◌>>=◌, need}
-use Rattle.span_script.specs.Effects.{effect_of_call}
-use Rattle.span_script.specs.calls.Contexts.{detach_effect}
-use Rattle.span_script.specs.Fits.{Views, ContextSlots, State, state_of, lane_of, numbers_by, StandsFor, Fits, ContextsFit, AllContextsFit, IsKept, Served, Parts}
+use Rattle.span_script.specs.Fits.{Fits}
 use Rattle.span_script.proofs.filter.CounterLemmas.{adds_same}
 use Rattle.span_script.proofs.lane_contexts.OwnersLemmas.{owned_has}
 use Rattle.span_script.proofs.steps.LanesLemmas.{id_seen, ids_same, names_same, are_attached, lanes_after}
@@ -34,9 +17,6 @@ use Rattle.span_script.proofs.filter.FilterLemmas.{heard_none}
 use Rattle.span_script.proofs.steps.ServesLemmas.{serve, known_still, kept_served}
 use Rattle.span_script.proofs.steps.StepLemmas.{fits_step}
 use Rattle.span_script.proofs.runs.TakeLemmas.{seen_there}
-use Rattle.env_filter.specs.Filtering.{FilterWithRoom}
-use Rattle.env_filter.specs.Reloading.{layer_or, none_kept}
-use Rattle.span_script.specs.SubscriberLaws.{aside_in}
 
 -- a guard of an attach, as its table tells it
 attach_told : (k : State) (t : Tables) → Fits k t → (n : ℕ) → slot_at t.attaches n ≡ option_map lane_of (slot_at k.contexts.attaches n)

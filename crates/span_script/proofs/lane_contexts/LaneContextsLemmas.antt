@@ -1,19 +1,8 @@
 -- The contexts of all lanes after an entry, an exit, an attach or a detach on one.
-use Rattle.std.specs.Prelude.{◌==◌, if◌then◌else◌, slice_set}
-use Rattle.std.proofs.Common.{◌≡◌, ℕ, ◌<◌, List, [], ◌∷◌, ◌++◌, length, Bool, true, false, get_or, set, Option, Some, None, option_map, map, refl, sym, ap, subst, ◌∙◌, arith, inl, inr}
-use Rattle.std.proofs.lemmas.Bool.{cases_eq, eq-eqb, ne_eqb, cond-true, cond-false}
-use Rattle.std.proofs.lemmas.List.{length-set, length-map, map-set, get_or-set_same, get_or-set_other}
-use Rattle.otel_base.specs.declared.context.Context.{Context}
-use Rattle.otel_base.specs.Stack.{has_number, without_number}
-use Rattle.otel_state.specs.Stack.{last_passing}
-use Rattle.trace_base.specs.declared.lane.Lane.{Lane}
-use Rattle.trace_base.specs.Spans.{without_last}
-use Rattle.otel_layer.specs.declared.tokens.Token.{Token}
-use Rattle.otel_layer.specs.Core.{is_token}
-use Rattle.otel_layer.specs.Recording.{AttachesOwn, Detaches}
-use Rattle.span_script.specs.declared.contexts.Attach.{Attach}
-use Rattle.span_script.specs.Tables.{Owner, EntryOf, GuardOf, Attached, is_owner, is_by, slot_at, with_attached, with_detached}
-use Rattle.span_script.specs.Fits.{LaneValue, lane_value, no_lane_value, lane_at, numbers_by, ContextsFit, AllContextsFit}
+use Rattle.std.proofs.Common.{◌≡◌, ℕ, ◌<◌, List, [], ◌∷◌, ◌++◌, length, Bool, true, false, get_or, set, Option, Some, None, option_map, map, refl, sym, ap, subst, ◌∙◌, arith, inl, inr, ◌==◌, if◌then◌else◌, slice_set}
+use Rattle.span_script.proofs.Common.{cases_eq, cond-true, cond-false, length-map, map-set, Context, has_number, without_number, last_passing, Lane, without_last, Token, is_token, AttachesOwn, Detaches, Attach, Owner, EntryOf, GuardOf, Attached, is_owner, is_by, slot_at, with_attached, with_detached, LaneValue, lane_value, no_lane_value, lane_at, numbers_by, ContextsFit, AllContextsFit}
+use Rattle.std.proofs.lemmas.Bool.{eq-eqb, ne_eqb}
+use Rattle.std.proofs.lemmas.List.{length-set, get_or-set_same, get_or-set_other}
 use Rattle.span_script.proofs.steps.LanesLemmas.{lane_seen}
 use Rattle.span_script.proofs.lane_contexts.OwnersLemmas.{contexts_push, contexts_same, contexts_take}
 use Rattle.span_script.proofs.lane_contexts.NumbersLemmas.{entry_same, entry_own, entry_other, entry_quiet, exit_own, exit_others, exit_other, exit_quiet, attach_own, attach_other, detach_own, detach_others, detach_other}

@@ -1,19 +1,8 @@
 -- The numbers that owners keep, after an entry, an exit, an attach and a detach.
-use Rattle.std.specs.Prelude.{◌==◌, ◌&&◌, ◌||◌, if◌then◌else◌, filter, slice_set}
-use Rattle.std.specs.List.{list_any}
-use Rattle.std.proofs.Common.{◌≡◌, ℕ, zero, suc, List, [], ◌∷◌, ◌++◌, length, Bool, true, false, Option, Some, None, map, count_by, refl, sym, ap, ◌∙◌, arith, inl, inr}
-use Rattle.std.proofs.lemmas.Bool.{cases_Bool, cases_eq, eq-eqb, eqb-true, ne_eqb, cond-true, cond-false, or_parts, true≢false, and_parts}
+use Rattle.span_script.proofs.Common.{list_any, cases_Bool, cases_eq, cond-true, cond-false, or_parts, and_parts, Context, has_number, last_passing, without_last, count_cons, Token, is_token, is_number, keeps_as, kept_by, Attach, Owner, EntryOf, GuardOf, Attached, is_owner, is_by, slot_at, numbers_of, tokens_of, kept_on, numbers_by, HaveOwnNumbers, ContextsFit}
+use Rattle.std.proofs.Common.{◌≡◌, ℕ, zero, suc, List, [], ◌∷◌, ◌++◌, length, Bool, true, false, Option, Some, None, map, count_by, refl, sym, ap, ◌∙◌, arith, inl, inr, ◌==◌, ◌&&◌, ◌||◌, if◌then◌else◌, filter, slice_set}
+use Rattle.std.proofs.lemmas.Bool.{eq-eqb, eqb-true, ne_eqb, true≢false}
 use Rattle.std.proofs.lemmas.List.{append-nil, get_or-set_same, get_or-set_other}
-use Rattle.otel_base.specs.declared.context.Context.{Context}
-use Rattle.otel_base.specs.Stack.{has_number}
-use Rattle.otel_state.specs.Stack.{last_passing}
-use Rattle.trace_base.specs.Spans.{without_last}
-use Rattle.trace_base.proofs.Entering.{count_cons}
-use Rattle.otel_layer.specs.declared.tokens.Token.{Token}
-use Rattle.otel_layer.specs.Core.{is_token, is_number, keeps_as, kept_by}
-use Rattle.span_script.specs.declared.contexts.Attach.{Attach}
-use Rattle.span_script.specs.Tables.{Owner, EntryOf, GuardOf, Attached, is_owner, is_by, slot_at}
-use Rattle.span_script.specs.Fits.{numbers_of, tokens_of, kept_on, numbers_by, HaveOwnNumbers, ContextsFit}
 use Rattle.span_script.proofs.lane_contexts.OwnersLemmas.{other_owner, owner_is, map_more, tokens_push, without_other, without_same}
 use Rattle.span_script.proofs.steps.SlotsLemmas.{named_within}
 

@@ -1,17 +1,7 @@
 -- The contexts of a lane, and who attached each.
-use Rattle.std.specs.Prelude.{◌||◌, if◌then◌else◌, filter, eqb}
-use Rattle.std.specs.List.{list_any}
-use Rattle.std.proofs.Common.{◌≡◌, ℕ, List, [], ◌∷◌, ◌++◌, Bool, true, false, Option, Some, None, map, refl, sym, ap, subst, ◌∙◌, inl, inr}
-use Rattle.std.proofs.lemmas.Bool.{cases_Bool, eq-eqb, eqb-true, ne_eqb, cond-true, cond-false, or_parts, or_cases, true≢false}
-use Rattle.otel_base.specs.declared.context.Context.{Context}
-use Rattle.otel_base.specs.Stack.{has_number, without_number, last_context}
-use Rattle.otel_state.specs.Stack.{last_passing}
-use Rattle.trace_base.specs.Spans.{without_last}
-use Rattle.otel_layer.specs.declared.tokens.Token.{Token}
-use Rattle.otel_layer.specs.Core.{is_token}
-use Rattle.span_script.specs.Tables.{Owner, EntryOf, GuardOf, Attached, is_owner, is_by}
-use Rattle.span_script.specs.calls.Spans.{last_attached}
-use Rattle.span_script.specs.Fits.{numbers_of, tokens_of, HaveOwnNumbers, ContextsFit}
+use Rattle.span_script.proofs.Common.{list_any, cases_Bool, cond-true, cond-false, or_parts, or_cases, Context, has_number, without_number, last_context, last_passing, without_last, Token, is_token, Owner, EntryOf, GuardOf, Attached, is_owner, is_by, last_attached, numbers_of, tokens_of, HaveOwnNumbers, ContextsFit}
+use Rattle.std.proofs.Common.{◌≡◌, ℕ, List, [], ◌∷◌, ◌++◌, Bool, true, false, Option, Some, None, map, refl, sym, ap, subst, ◌∙◌, inl, inr, ◌||◌, if◌then◌else◌, filter, eqb}
+use Rattle.std.proofs.lemmas.Bool.{eq-eqb, eqb-true, ne_eqb, true≢false}
 use Rattle.span_script.proofs.steps.SlotsLemmas.{some_is}
 
 -- ---- owners

@@ -1,35 +1,16 @@
 -- What is asked of the span extension, served.
-use Rattle.std.specs.Prelude.{IsTrue, ◌≢◌, Bool, true, false, is_some, slice_get, if◌then◌else◌}
-use Rattle.std.proofs.Common.{◌≡◌, ℕ, List, [], ◌∷◌, Option, Some, None, Result, Ok, Err, map, refl, sym, ap, subst, ◌∙◌}
-use Rattle.otel_base.specs.declared.context.Context.{Context}
-use Rattle.otel_base.specs.declared.context.SpanContext.{SpanContext}
+use Rattle.std.proofs.Common.{◌≡◌, ℕ, List, [], ◌∷◌, Option, Some, None, Result, Ok, Err, map, refl, sym, ap, subst, ◌∙◌, IsTrue, ◌≢◌, Bool, true, false, is_some, slice_get, if◌then◌else◌}
+use Rattle.span_script.proofs.Common.{Context, SpanContext, KeyValue, is_valid, ids_of, Op, SpanData, reply_after, is_growing, Worlds, Spans, data_at, with_op, waits, waits_by, PartCall, Applies, AppliesTo, AppliesOn, AsksDone, AsksParent, link_of, event_at, done_answer, parent_reply, parent_answer, Recording, no_recording, Alike, member_of, Handle, Held, Scope, SpanOp, Tables, slot_at, own_span, here_at, Resolved, ◌>>=◌, need, op_on, ops_effect, effect_of_call, link_ops, happens_at, set_while, is_set, named_by, opened_by, Views, State, state_of, held_by, held_of, StandsFor, IsKept, Served, Parts, AddsMeasures, AsksLaw, aside_in}
 use Rattle.otel_base.specs.declared.memory.Memory.{Memory}
 use Rattle.otel_base.specs.declared.status.Status.{Status}
-use Rattle.otel_base.specs.declared.value.KeyValue.{KeyValue}
-use Rattle.otel_base.specs.Ids.{is_valid, ids_of}
-use Rattle.otel_state.specs.declared.op.Op.{Op}
 use Rattle.otel_state.specs.declared.op.Op.TheVariants as ops
 use Rattle.otel_state.specs.declared.op.OpReply.{OpReply}
 use Rattle.otel_state.specs.declared.op.SetParentError.{SetParentError}
-use Rattle.otel_state.specs.States.{SpanData, reply_after, is_growing}
-use Rattle.trace_base.specs.Gate.{Worlds}
-use Rattle.trace_base.specs.Spans.{Spans}
-use Rattle.otel_layer.specs.Table.{data_at, with_op, waits, waits_by}
-use Rattle.otel_layer.specs.Parts.{PartCall, Applies, AppliesTo}
-use Rattle.otel_layer.specs.Asking.{AppliesOn, AsksDone, AsksParent, link_of, event_at, done_answer, parent_reply, parent_answer}
-use Rattle.otel_layer.specs.Recording.{Recording, no_recording}
-use Rattle.span_handles.specs.Worlds.{Alike, member_of}
-use Rattle.span_handles.specs.Handles.{Handle, Held}
 use Rattle.span_script.specs.declared.reply.Refusal.TheVariants as refusal
 use Rattle.span_script.specs.declared.reply.Reply.TheVariants as reply
 use Rattle.span_script.specs.declared.reply.What.TheVariants as what
 use Rattle.span_script.specs.declared.request.Call.TheVariants as call
-use Rattle.span_script.specs.Tables.{Scope, SpanOp, Tables, slot_at, own_span}
-use Rattle.span_script.specs.calls.Here.{here_at, Resolved, ◌>>=◌, need, op_on, ops_effect}
-use Rattle.span_script.specs.Effects.{effect_of_call}
-use Rattle.span_script.specs.calls.Links.{link_ops, happens_at, set_while, is_set}
-use Rattle.span_script.specs.Balance.{named_by, opened_by}
-use Rattle.span_script.specs.Fits.{Views, State, state_of, held_by, held_of, Fits, StandsFor, IsKept, Served, Parts}
+use Rattle.span_script.specs.Fits.{Fits}
 use Rattle.span_script.proofs.filter.CounterLemmas.{adds_nothing}
 use Rattle.span_script.proofs.steps.BalanceLemmas.{named_slot}
 use Rattle.span_script.proofs.filter.FilterLemmas.{heard_none}
@@ -37,7 +18,6 @@ use Rattle.span_script.proofs.entries.EntriesFitLemmas.{fits_live}
 use Rattle.span_script.proofs.steps.LanesLemmas.{kept_alike}
 use Rattle.span_script.proofs.steps.SlotsLemmas.{Found, find, held_slot}
 use Rattle.span_script.proofs.events.EventsLemmas.{Does, does_none, serves_ops, keeps_ops}
-use Rattle.span_script.specs.SubscriberLaws.{AddsMeasures, AsksLaw, aside_in}
 
 -- ---- the answers of ops
 

@@ -1,29 +1,11 @@
 -- A span that is followed, served.
-use Rattle.std.specs.Prelude.{◌≢◌}
-use Rattle.std.proofs.Common.{◌≡◌, ℕ, List, [], ◌∷◌, Bool, Option, Some, None, Ok, Err, map, refl, sym, ap, subst, ◌∙◌}
-use Rattle.otel_base.specs.Ids.{ids_of}
-use Rattle.otel_base.specs.Stack.{empty_context}
-use Rattle.otel_state.specs.States.{SpanData}
-use Rattle.trace_base.specs.Gate.{Worlds}
-use Rattle.trace_base.specs.Spans.{Spans}
-use Rattle.trace_base.specs.Calls.{SubscriberCall}
-use Rattle.otel_layer.specs.Asking.{link_of}
-use Rattle.otel_layer.specs.Steps.{with_link}
-use Rattle.otel_layer.specs.Table.{data_at, with_op, own_or, ids_at}
-use Rattle.otel_layer.specs.Recording.{Recording, no_recording, with_start}
-use Rattle.span_handles.specs.Worlds.{member_of}
-use Rattle.span_handles.specs.Handles.{Handle, Held, FollowsOn, AreOfOne}
+use Rattle.std.proofs.Common.{◌≡◌, ℕ, List, [], ◌∷◌, Bool, Option, Some, None, Ok, Err, map, refl, sym, ap, subst, ◌∙◌, ◌≢◌}
+use Rattle.span_script.proofs.Common.{ids_of, empty_context, SpanData, Worlds, Spans, SubscriberCall, link_of, with_link, data_at, with_op, own_or, ids_at, Recording, no_recording, with_start, member_of, Handle, Held, FollowsOn, AreOfOne, Scope, SpanOp, Effect, Tables, slot_at, here_at, ◌>>=◌, need, op_on, effect_of_call, own_context, follow_effect, named_by, opened_by, Views, State, state_of, held_by, held_of, StandsFor, IsKept, Served, Parts, CallsLaw}
 use Rattle.span_script.specs.declared.reply.Refusal.TheVariants as refusal
 use Rattle.span_script.specs.declared.reply.Reply.TheVariants as reply
 use Rattle.span_script.specs.declared.reply.What.TheVariants as what
 use Rattle.span_script.specs.declared.request.Call.TheVariants as call
-use Rattle.span_script.specs.Tables.{Scope, SpanOp, Effect, Tables, slot_at}
-use Rattle.span_script.specs.calls.Here.{here_at, ◌>>=◌, need, op_on}
-use Rattle.span_script.specs.Effects.{effect_of_call}
-use Rattle.span_script.specs.calls.Contexts.{own_context}
-use Rattle.span_script.specs.calls.Links.{follow_effect}
-use Rattle.span_script.specs.Balance.{named_by, opened_by}
-use Rattle.span_script.specs.Fits.{Views, State, state_of, held_by, held_of, Fits, StandsFor, IsKept, Served, Parts}
+use Rattle.span_script.specs.Fits.{Fits}
 use Rattle.span_script.proofs.steps.BalanceLemmas.{named_slot}
 use Rattle.span_script.proofs.entries.EntriesFitLemmas.{fits_live}
 use Rattle.span_script.proofs.lane_contexts.ContextsLemmas.{own_open}
@@ -31,7 +13,6 @@ use Rattle.span_script.proofs.steps.KnownSpansLemmas.{start_known}
 use Rattle.span_script.proofs.steps.SlotsLemmas.{Found, find, held_slot}
 use Rattle.span_script.proofs.runs.RefusalsLemmas.{refuses_unknown}
 use Rattle.span_script.proofs.events.EventsLemmas.{Starts, does_none, starts_then, serves_starts, keeps_starts}
-use Rattle.span_script.specs.SubscriberLaws.{CallsLaw}
 
 -- the link to a known span is one to its own context
 linked_is : (o : Option SpanData) → o ≢ None → (s at : ℕ) (spans : List (ℕ × SpanData)) → with_link s at (ids_at o) spans ≡ with_op s at (link_of (ids_of (own_or empty_context o)) []) spans

@@ -1,29 +1,11 @@
 -- A pipeline without requests.
-use Rattle.std.proofs.Common.{◌≡◌, ℕ, ◌<◌, List, [], ◌∷◌, ◌++◌, length, Bool, true, false, Option, Some, None, option_map, map, refl, sym, ap, subst, ◌∙◌, arith, zero, suc, slice_get}
-use Rattle.std.proofs.lemmas.List.{length-map}
-use Rattle.trace_base.specs.declared.lane.Lane.{Lane}
-use Rattle.trace_base.specs.declared.callsite.Callsite.{Callsite}
-use Rattle.trace_base.specs.Gate.{Worlds, AreSame, IsFresh}
-use Rattle.trace_base.specs.declared.subscriber.Interest.{Interest}
-use Rattle.std.specs.Prelude.{IfSome, is_some}
-use Rattle.env_filter.specs.Filtering.{FilterState, FilterWithRoom, plain, IsNewFilter, interest_in}
-use Rattle.otel_metrics.specs.declared.measure.Measure.{Measure}
-use Rattle.span_script.specs.Admission.{filter_if, text_filter, IsTextFilter, IsCounter}
+use Rattle.std.proofs.Common.{◌≡◌, ℕ, ◌<◌, List, [], ◌∷◌, ◌++◌, length, Bool, true, false, Option, Some, None, option_map, map, refl, sym, ap, subst, ◌∙◌, arith, zero, suc, slice_get, IfSome, is_some}
+use Rattle.span_script.proofs.Common.{length-map, Lane, Callsite, Worlds, AreSame, IsFresh, Interest, FilterState, FilterWithRoom, plain, IsNewFilter, interest_in, Measure, filter_if, text_filter, IsTextFilter, IsCounter, Spans, span_at, Has, Replaced, member_of, spans_in, kept_in, no_spans, new_recording, Handle, Guard, Setup, HasOwnIds, id_at, Recording, no_recording, Owner, EntryOf, GuardOf, no_tables, nothing_recorded, open_part, Context, Views, ShownFilter, shown_of, ContextSlots, State, state_of, StandsFor, RecordingFits, FilteringFits, numbers_by, ContextsFit, LaneValue, lane_value, lane_at, LanesFit, IsKept, Parts, AddsMeasures, SameLaw, aside_in}
 use Rattle.span_script.proofs.filter.CounterLemmas.{adds_nothing}
 use Rattle.span_script.proofs.filter.FilterLemmas.{cached_rows}
-use Rattle.trace_base.specs.Spans.{Spans, span_at}
-use Rattle.span_handles.specs.Worlds.{Has, Replaced, member_of, spans_in, kept_in, no_spans}
-use Rattle.span_stack.specs.Reading.{new_recording}
-use Rattle.span_handles.specs.Handles.{Handle}
-use Rattle.span_script.specs.declared.slots.Guard.{Guard}
 use Rattle.span_script.specs.declared.settings.Texts.{Texts}
-use Rattle.span_script.specs.Setups.{Setup, HasOwnIds, id_at}
-use Rattle.otel_layer.specs.Recording.{Recording, no_recording}
-use Rattle.span_script.specs.Tables.{Owner, EntryOf, GuardOf, no_tables, nothing_recorded, open_part}
-use Rattle.otel_base.specs.declared.context.Context.{Context}
-use Rattle.span_script.specs.Fits.{Views, ShownFilter, shown_of, ContextSlots, State, state_of, Fits, StandsFor, RecordingFits, FilteringFits, numbers_by, ContextsFit, LaneValue, lane_value, lane_at, LanesFit, IsKept, Parts}
+use Rattle.span_script.specs.Fits.{Fits}
 use Rattle.span_script.proofs.steps.SlotsLemmas.{some_is}
-use Rattle.span_script.specs.SubscriberLaws.{AddsMeasures, SameLaw, aside_in}
 
 -- nothing fits no tables
 pub new_fits : (setup : Setup) (lanes : List LaneValue) (recording : Recording) (filter : Option ShownFilter) (cached : List (List Interest)) (counter : Option ShownFilter) (measures : List Measure) (base : Setup) (dispatch : ℕ) (spans : Spans) → spans ≡ no_spans

@@ -1,21 +1,9 @@
 -- Requests that are refused, and steps as a whole.
-use Rattle.std.proofs.Common.{◌≡◌, ℕ, ◌<◌, zero, suc, List, [], ◌∷◌, length, false, Option, Some, None, Ok, Err, option_map, map, refl, sym, ap, subst, ◌∙◌, arith}
-use Rattle.std.specs.Prelude.{Result, IfOk, IfErr, slice_get}
-use Rattle.std.proofs.lemmas.Bool.{cond-false}
-use Rattle.std.proofs.lemmas.List.{length-map}
-use Rattle.std.proofs.lemmas.List.Sums.{fold_push}
-use Rattle.std.proofs.Math.ListN.{get_or-map}
-use Rattle.trace_base.specs.declared.lane.Lane.{Lane}
-use Rattle.span_handles.specs.Handles.{Handle}
-use Rattle.span_script.specs.declared.request.Request.{Request}
-use Rattle.span_script.specs.declared.reply.Reply.{Reply}
-use Rattle.span_script.specs.declared.reply.Refusal.{Refusal}
+use Rattle.std.proofs.Common.{◌≡◌, ℕ, ◌<◌, zero, suc, List, [], ◌∷◌, length, false, Option, Some, None, Ok, Err, option_map, map, refl, sym, ap, subst, ◌∙◌, arith, Result, IfOk, IfErr, slice_get}
+use Rattle.span_script.proofs.Common.{cond-false, length-map, fold_push, get_or-map, Lane, Handle, Request, Reply, Refusal, Scope, Tables, History, tables, after_effect, no_tables, slot_at, Resolved, ◌>>=◌, need, is_bad_moment, effect_of, effect_of_call, State, StandsFor, Served, ServedByHistory, IsRefusal, held_by, held_of}
 use Rattle.span_script.specs.declared.reply.Refusal.TheVariants as refusal
 use Rattle.span_script.specs.declared.reply.What.TheVariants as what
-use Rattle.span_script.specs.Tables.{Scope, Tables, History, tables, after_effect, no_tables, slot_at}
-use Rattle.span_script.specs.calls.Here.{Resolved, ◌>>=◌, need}
-use Rattle.span_script.specs.Effects.{is_bad_moment, effect_of, effect_of_call}
-use Rattle.span_script.specs.Fits.{State, Fits, StandsFor, Served, ServedByHistory, IsRefusal, held_by, held_of}
+use Rattle.span_script.specs.Fits.{Fits}
 
 -- a handle that isn't there
 pub refuses_unknown : (view k : State) → view ≡ k → (hs : List (Option Handle)) → view.handles ≡ map held_by hs → (handle : ℕ) → slot_at hs handle ≡ None → (t : Tables) → Fits k t → (go : Scope → Resolved)

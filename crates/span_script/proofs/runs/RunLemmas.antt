@@ -1,22 +1,11 @@
 -- A script that is run at once, request after request.
-use Rattle.std.proofs.Common.{◌≡◌, ℕ, suc, ◌+◌, List, [], ◌∷◌, ◌++◌, length, map, fold, Option, Some, Ok, Err, refl, sym, ap, subst, ◌∙◌, append_assoc, slice_get, add-one, arith, inl, inr}
-use Rattle.std.specs.Prelude.{option_and_then, Result, IfOk, MatchOption, MatchResult, is_ok, ◌⊎◌}
+use Rattle.std.proofs.Common.{◌≡◌, ℕ, suc, ◌+◌, List, [], ◌∷◌, ◌++◌, length, map, fold, Option, Some, Ok, Err, refl, sym, ap, subst, ◌∙◌, append_assoc, slice_get, add-one, arith, inl, inr, option_and_then, Result, IfOk, MatchOption, MatchResult, is_ok, ◌⊎◌}
 use Rattle.std.proofs.lemmas.Bool.{true≢false}
 use Rattle.std.proofs.lemmas.Option.{slice_get_past}
-use Rattle.std.proofs.lemmas.List.{append-nil, map-append, length-map, length_push}
+use Rattle.span_script.proofs.Common.{map-append, length-map, length_push, fold_push, Record, Reply, Refusal, Request, Setup, Effect, History, Tables, no_tables, tables, after_effect, records_of, Resolved, effect_of, open_spans, State, StandsFor, ServedByHistory}
+use Rattle.std.proofs.lemmas.List.{append-nil}
 use Rattle.std.proofs.Math.Nat.{add-zero}
-use Rattle.std.proofs.lemmas.List.Sums.{fold_push}
-use Rattle.otel_base.specs.declared.record.Record.{Record}
-use Rattle.span_script.specs.declared.reply.Reply.{Reply}
-use Rattle.span_script.specs.declared.reply.Refusal.{Refusal}
 use Rattle.span_script.specs.declared.outcome.Outcome.{Outcome}
-use Rattle.span_script.specs.declared.request.Request.{Request}
-use Rattle.span_script.specs.Setups.{Setup}
-use Rattle.span_script.specs.Tables.{Effect, History, Tables, no_tables, tables, after_effect, records_of}
-use Rattle.span_script.specs.calls.Here.{Resolved}
-use Rattle.span_script.specs.Effects.{effect_of}
-use Rattle.span_script.specs.calls.Spans.{open_spans}
-use Rattle.span_script.specs.Fits.{State, StandsFor, ServedByHistory}
 use Rattle.span_script.specs.Outcomes.{followed_by, history_from, history_of, records_from, records_of_history, refusal_at, refused_behind, outcome_of, HasReplies, Ran}
 
 -- where a script stands: the history so far, which goes on with what is left of its requests

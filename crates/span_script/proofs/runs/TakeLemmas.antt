@@ -1,15 +1,7 @@
 -- A record or a measure that is taken, and how many spans are open.
-use Rattle.std.specs.Prelude.{MatchOption}
-use Rattle.std.proofs.Common.{◌≡◌, ℕ, List, [], ◌∷◌, drop, Bool, Option, Some, None, map, refl, sym, ap, subst, ◌∙◌, arith, slice_get}
-use Rattle.trace_base.specs.Gate.{Worlds}
-use Rattle.trace_base.specs.Spans.{Spans}
-use Rattle.span_handles.specs.Worlds.{Alike, member_of}
-use Rattle.otel_base.specs.declared.record.Record.{Record}
-use Rattle.std.specs.Option.{option_map_or}
-use Rattle.otel_layer.specs.Recording.{no_recording}
-use Rattle.span_script.specs.Tables.{Tables}
-use Rattle.otel_metrics.specs.declared.measure.Measure.{Measure}
-use Rattle.span_script.specs.Fits.{Views, State, state_of, Fits, StandsFor, LanesFit, IsKept, lane_value, Parts}
+use Rattle.std.proofs.Common.{◌≡◌, ℕ, List, [], ◌∷◌, drop, Bool, Option, Some, None, map, refl, sym, ap, subst, ◌∙◌, arith, slice_get, MatchOption}
+use Rattle.span_script.proofs.Common.{Worlds, Spans, Alike, member_of, Record, option_map_or, no_recording, Tables, Measure, Views, State, state_of, StandsFor, LanesFit, IsKept, lane_value, Parts}
+use Rattle.span_script.specs.Fits.{Fits}
 
 -- what is kept, but that some of the records and measures were taken
 abbrev pub but_taken : State → List Record → List Measure → State

@@ -1,22 +1,9 @@
 -- A handle is dropped, and a chain of spans closes.
-use Rattle.std.specs.Prelude.{◌==◌, ◌||◌}
-use Rattle.std.proofs.Common.{◌≡◌, ℕ, zero, suc, ◌+◌, ◌<◌, ◌≤◌, List, [], ◌∷◌, Bool, true, false, cond, count_by, slice_set, Option, Some, None, option_map, map, refl, sym, ap, subst, ◌∙◌, arith, inl, inr}
-use Rattle.std.proofs.lemmas.Bool.{cases_eq, eq-eqb, ne_eqb, cond-true, cond-false, or_parts}
-use Rattle.std.proofs.lemmas.List.{length-set, map-set, get_or-set_other}
-use Rattle.std.proofs.lemmas.List.Sums.{sum_by-set}
-use Rattle.std.proofs.Math.ListN.{get_or-map}
-use Rattle.trace_base.specs.Spans.{Span, Spans, Entries, entries_on, span_at, less_hold, without_hold, next_of, first_entries, is_open_child, is_child_of, open_children}
-use Rattle.trace_base.proofs.Entering.{made_if_held}
-use Rattle.trace_base.proofs.Holding.{children_set, keeps_children, less_last, less_more, less_holds, holds_set, holds_other}
-use Rattle.trace_base.specs.Sound.{OneEach}
-use Rattle.span_handles.specs.Worlds.{ReleasesChain, all_released, releases}
-use Rattle.span_script.specs.Setups.{id_at}
-use Rattle.span_script.specs.Balance.{Balanced, OpenGuard, names_span, named_by, opened_on, opened_by}
-use Rattle.span_script.specs.Tables.{Scope, MadeSpan, ScopeGuard, Tables, after_effect, slot_at, own_span}
-use Rattle.span_script.specs.calls.Here.{here_at}
-use Rattle.span_script.specs.calls.Spans.{drop_effect, borrows, is_borrowed}
-use Rattle.span_script.specs.Slots.{is_named}
-use Rattle.span_script.specs.Fits.{ContextSlots, State, Fits, MadeFit, guard_of, lane_of}
+use Rattle.std.proofs.Common.{◌≡◌, ℕ, zero, suc, ◌+◌, ◌<◌, ◌≤◌, List, [], ◌∷◌, Bool, true, false, cond, count_by, slice_set, Option, Some, None, option_map, map, refl, sym, ap, subst, ◌∙◌, arith, inl, inr, ◌==◌, ◌||◌}
+use Rattle.span_script.proofs.Common.{cases_eq, cond-true, cond-false, or_parts, map-set, sum_by-set, get_or-map, Span, Spans, Entries, entries_on, span_at, less_hold, without_hold, next_of, first_entries, is_open_child, is_child_of, open_children, made_if_held, children_set, keeps_children, less_last, less_more, less_holds, holds_set, holds_other, OneEach, ReleasesChain, all_released, releases, id_at, Balanced, OpenGuard, names_span, named_by, opened_on, opened_by, Scope, MadeSpan, ScopeGuard, Tables, after_effect, slot_at, own_span, here_at, drop_effect, borrows, is_borrowed, is_named, ContextSlots, State, MadeFit, guard_of, lane_of}
+use Rattle.std.proofs.lemmas.Bool.{eq-eqb, ne_eqb}
+use Rattle.std.proofs.lemmas.List.{length-set, get_or-set_other}
+use Rattle.span_script.specs.Fits.{Fits}
 use Rattle.span_script.proofs.steps.SlotsLemmas.{named_within}
 use Rattle.span_script.proofs.steps.StepLemmas.{fits_step}
 use Rattle.span_script.proofs.steps.BalanceLemmas.{named_slot, released_less, set_none}

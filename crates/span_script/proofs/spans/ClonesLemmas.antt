@@ -1,36 +1,20 @@
 -- Clones, served.
-use Rattle.std.proofs.Common.{◌≡◌, ℕ, ◌+◌, ◌<◌, ◌≤◌, List, [], ◌∷◌, ◌++◌, length, Bool, Option, Some, None, Ok, option_map, map, refl, sym, ap, subst, ◌∙◌, arith, inl, inr}
-use Rattle.std.specs.Prelude.{is_some}
-use Rattle.std.proofs.lemmas.Bool.{cases_eq}
-use Rattle.std.proofs.lemmas.List.{length-map, length_push, map_push, get_or_append_left}
-use Rattle.trace_base.specs.Gate.{Worlds}
-use Rattle.trace_base.specs.Spans.{Spans, span_at}
-use Rattle.trace_base.specs.Calls.{SubscriberCall, CloneSpan}
-use Rattle.trace_base.specs.Sound.{OneEach}
-use Rattle.span_handles.specs.Worlds.{member_of, spans_in, kept_in}
-use Rattle.span_handles.specs.Handles.{Handle, Held, id_of, ReplacedOn}
+use Rattle.std.proofs.Common.{◌≡◌, ℕ, ◌+◌, ◌<◌, ◌≤◌, List, [], ◌∷◌, ◌++◌, length, Bool, Option, Some, None, Ok, option_map, map, refl, sym, ap, subst, ◌∙◌, arith, inl, inr, is_some}
+use Rattle.span_script.proofs.Common.{cases_eq, length-map, length_push, map_push, get_or_append_left, Worlds, Spans, span_at, SubscriberCall, CloneSpan, OneEach, member_of, spans_in, kept_in, Handle, Held, id_of, ReplacedOn, Recording, no_recording, Scope, MadeSpan, ScopeGuard, Effect, Tables, slot_at, own_span, here_at, ◌>>=◌, need, effect_of_call, clone_effect, Balanced, named_by, opened_by, Views, State, state_of, lane_value, StandsFor, MadeFit, LanesFit, IsKept, Served, IsScope, held_of, held_by, site_by, Parts, holds_other, CallsLaw, aside_in}
 use Rattle.span_script.specs.declared.reply.Reply.TheVariants as reply
 use Rattle.span_script.specs.declared.request.Call.TheVariants as call
 use Rattle.span_script.specs.declared.reply.What.TheVariants as what
-use Rattle.otel_layer.specs.Recording.{Recording, no_recording}
-use Rattle.span_script.specs.Tables.{Scope, MadeSpan, ScopeGuard, Effect, Tables, slot_at, own_span}
-use Rattle.span_script.specs.calls.Here.{here_at, ◌>>=◌, need}
-use Rattle.span_script.specs.Effects.{effect_of_call}
-use Rattle.span_script.specs.calls.Spans.{clone_effect}
-use Rattle.span_script.specs.Balance.{Balanced, named_by, opened_by}
-use Rattle.span_script.specs.Fits.{Views, State, state_of, lane_value, Fits, StandsFor, MadeFit, LanesFit, IsKept, Served, IsScope, held_of, held_by, site_by, Parts}
+use Rattle.span_script.specs.Fits.{Fits}
 use Rattle.span_script.proofs.steps.SlotsLemmas.{find, held_slot, named_within}
 use Rattle.span_script.proofs.spans.SitesLemmas.{site_found}
 use Rattle.span_script.proofs.steps.StepLemmas.{fits_step}
 use Rattle.span_script.proofs.steps.CallsLemmas.{ShownOn, shown_on}
-use Rattle.trace_base.proofs.Holding.{holds_other}
 use Rattle.span_script.proofs.steps.BalanceLemmas.{held_most, named_slot}
 use Rattle.span_script.proofs.entries.EntriesFitLemmas.{fits_live}
 use Rattle.span_script.proofs.spans.MadeSpansLemmas.{made_held}
 use Rattle.span_script.proofs.steps.ServesLemmas.{serve, known_still, all_same, kept_served, call_count, call_sites, call_cached, call_aside, call_whole}
 use Rattle.span_script.proofs.filter.FilterLemmas.{heard_none}
 use Rattle.span_script.proofs.spans.MoreHandlesLemmas.{spans_held, balanced_clone}
-use Rattle.span_script.specs.SubscriberLaws.{CallsLaw, aside_in}
 
 pub held_scope_most : (spans : Spans) (line : Scope) (q : ℕ) → (span_at (spans_held spans line).made q).holds ≤ (span_at spans.made q).holds + 1
 held_scope_most spans [] q = omega arith

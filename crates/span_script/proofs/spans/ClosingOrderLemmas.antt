@@ -1,17 +1,8 @@
 -- The spans that a chain closes, in order: those of the line that are open no more.
-use Rattle.std.specs.Prelude.{◌==◌, not, nat_lt, slice_set}
-use Rattle.std.proofs.Common.{◌≡◌, ℕ, ◌<◌, List, [], ◌∷◌, true, false, Option, Some, None, map, refl, sym, ap, subst, ◌∙◌, arith, inl, inr}
-use Rattle.std.proofs.lemmas.Bool.{cases_eq, eq-eqb, ne_eqb, cond-true, cond-false, lt-ltb}
-use Rattle.trace_base.specs.Spans.{Span, Spans, span_at, less_hold, without_hold, next_of}
-use Rattle.trace_base.proofs.Entering.{made_if_held}
-use Rattle.trace_base.proofs.Holding.{less_holds, holds_set}
-use Rattle.span_handles.specs.Worlds.{ReleasesChain, all_released, releases, closed_in}
-use Rattle.std.proofs.lemmas.List.{map-set}
-use Rattle.span_script.specs.Tables.{Scope, MadeSpan, after_effect, slot_at, own_span, made_of}
-use Rattle.span_script.specs.calls.Here.{Here}
-use Rattle.span_script.specs.calls.Spans.{is_open, closed_of, drop_effect}
-use Rattle.span_script.specs.Balance.{named_by, opened_by}
-use Rattle.span_script.specs.Fits.{State, Fits, MadeFit, IsScope, parent_in}
+use Rattle.std.proofs.Common.{◌≡◌, ℕ, ◌<◌, List, [], ◌∷◌, true, false, Option, Some, None, map, refl, sym, ap, subst, ◌∙◌, arith, inl, inr, ◌==◌, not, nat_lt, slice_set}
+use Rattle.span_script.proofs.Common.{cases_eq, cond-true, cond-false, Span, Spans, span_at, less_hold, without_hold, next_of, made_if_held, less_holds, holds_set, ReleasesChain, all_released, releases, closed_in, map-set, Scope, MadeSpan, after_effect, slot_at, own_span, made_of, Here, is_open, closed_of, drop_effect, named_by, opened_by, State, MadeFit, IsScope, parent_in}
+use Rattle.std.proofs.lemmas.Bool.{eq-eqb, ne_eqb, lt-ltb}
+use Rattle.span_script.specs.Fits.{Fits}
 use Rattle.span_script.proofs.spans.ChainsLemmas.{Loose, loose_released, chain_ends, spent_loose}
 use Rattle.span_script.proofs.spans.OpenSpansLemmas.{open_slot, slot_open, up_in, opens}
 use Rattle.span_script.proofs.steps.BalanceLemmas.{named_slot}

@@ -1,36 +1,14 @@
 -- Handles of a lane's current span, and handles that are exchanged for one of these, served.
-use Rattle.std.proofs.Common.{◌≡◌, ℕ, ◌+◌, ◌<◌, ◌≤◌, List, [], ◌∷◌, ◌++◌, length, Bool, true, false, cond, set, slice_set, get_or, Option, Some, None, Ok, Err, option_map, map, refl, sym, ap, subst, ◌∙◌, arith}
-use Rattle.std.specs.Prelude.{is_some, IfSome}
-use Rattle.std.specs.Option.{option_map_or}
-use Rattle.std.proofs.lemmas.Bool.{cond-true, cond-false}
-use Rattle.std.proofs.lemmas.List.{length-map, length-set, length_push, map_push, map-set, set-append_left, get_or_append_left, get_or-set_other}
-use Rattle.std.proofs.lemmas.List.Sums.{sum_by-set}
-use Rattle.std.proofs.Math.ListN.{get_or-map}
-use Rattle.trace_base.specs.declared.lane.Lane.{Lane}
+use Rattle.std.proofs.Common.{◌≡◌, ℕ, ◌+◌, ◌<◌, ◌≤◌, List, [], ◌∷◌, ◌++◌, length, Bool, true, false, cond, set, slice_set, get_or, Option, Some, None, Ok, Err, option_map, map, refl, sym, ap, subst, ◌∙◌, arith, is_some, IfSome}
+use Rattle.span_script.proofs.Common.{option_map_or, cond-true, cond-false, length-map, length_push, map_push, map-set, set-append_left, get_or_append_left, sum_by-set, get_or-map, Lane, Worlds, Spans, span_at, with_hold, current_of, entries_on, SubscriberCall, CloneSpan, IsLive, OneEach, count_push, Has, member_of, spans_in, kept_in, no_spans, Handle, Held, id_of, ReplacedOn, Copies, IsCurrent, Guard, id_at, Recording, no_recording, Scope, MadeSpan, ScopeGuard, Effect, Tables, slot_at, slots_after, own_span, site_of, Here, here_at, Resolved, refuse_if, ◌>>=◌, need, effect_of_call, clone_effect, current_scope, scope_or_current, exchange_effect, is_borrowed, is_named, Balanced, names_span, named_by, opened_by, Views, State, state_of, LaneValue, lane_value, StandsFor, MadeFit, LanesFit, IsKept, Served, IsScope, held_of, held_by, site_by, Parts, AddsMeasures, CallsLaw, aside_in}
+use Rattle.std.proofs.lemmas.List.{length-set, get_or-set_other}
 use Rattle.trace_base.specs.declared.span.Parent.TheVariants as parent
-use Rattle.trace_base.specs.Gate.{Worlds}
-use Rattle.trace_base.specs.Spans.{Spans, span_at, with_hold, current_of, entries_on}
-use Rattle.trace_base.specs.Calls.{SubscriberCall, CloneSpan}
-use Rattle.trace_base.specs.Conditions.{IsLive}
-use Rattle.trace_base.specs.Sound.{OneEach}
-use Rattle.trace_base.proofs.Entering.{count_push}
-use Rattle.span_handles.specs.Worlds.{Has, member_of, spans_in, kept_in, no_spans}
-use Rattle.span_handles.specs.Handles.{Handle, Held, id_of, ReplacedOn, Copies, IsCurrent}
-use Rattle.span_script.specs.declared.slots.Guard.{Guard}
 use Rattle.span_script.specs.declared.reply.Reply.TheVariants as reply
 use Rattle.span_script.specs.declared.reply.Refusal.TheVariants as refusal
 use Rattle.span_script.specs.declared.reply.What.TheVariants as what
 use Rattle.span_script.specs.declared.request.Call.TheVariants as call
 use Rattle.span_script.specs.declared.request.Place.TheVariants as place
-use Rattle.span_script.specs.Setups.{id_at}
-use Rattle.otel_layer.specs.Recording.{Recording, no_recording}
-use Rattle.span_script.specs.Tables.{Scope, MadeSpan, ScopeGuard, Effect, Tables, slot_at, slots_after, own_span, site_of}
-use Rattle.span_script.specs.calls.Here.{Here, here_at, Resolved, refuse_if, ◌>>=◌, need}
-use Rattle.span_script.specs.Effects.{effect_of_call}
-use Rattle.span_script.specs.calls.Spans.{clone_effect, current_scope, scope_or_current, exchange_effect, is_borrowed}
-use Rattle.span_script.specs.Slots.{is_named}
-use Rattle.span_script.specs.Balance.{Balanced, names_span, named_by, opened_by}
-use Rattle.span_script.specs.Fits.{Views, State, state_of, LaneValue, lane_value, Fits, StandsFor, MadeFit, LanesFit, IsKept, Served, IsScope, held_of, held_by, site_by, Parts}
+use Rattle.span_script.specs.Fits.{Fits}
 use Rattle.span_script.proofs.filter.CounterLemmas.{adds_same}
 use Rattle.span_script.proofs.steps.SlotsLemmas.{Found, find, held_slot, named_within}
 use Rattle.span_script.proofs.spans.SitesLemmas.{site_slot, site_found, copied_site}
@@ -44,7 +22,6 @@ use Rattle.span_script.proofs.filter.FilterLemmas.{heard_none}
 use Rattle.span_script.proofs.spans.MoreHandlesLemmas.{find_up, spans_held, balanced_decline, another_handle}
 use Rattle.span_script.proofs.spans.ClonesLemmas.{held_scope_most, clone_live, one_clone, made_clone, the_scope, enabled_is, still_named_more, held_spans, clone_kept, clone_recorded, clone_filter}
 use Rattle.span_script.proofs.spans.ChainsLemmas.{not_borrowed, opened_handle, borrowed_is, still_spent}
-use Rattle.span_script.specs.SubscriberLaws.{AddsMeasures, CallsLaw, aside_in}
 
 -- ---- balance
 

@@ -1,37 +1,20 @@
 -- A handle that is dropped, served.
-use Rattle.std.specs.Prelude.{◌||◌, ◌&&◌, not}
-use Rattle.std.proofs.Common.{◌≡◌, ℕ, ◌<◌, List, [], ◌∷◌, length, Bool, true, false, fold, slice_set, Option, Some, None, Err, option_map, map, refl, sym, ap, subst, ◌∙◌, inl, inr, Ok}
-use Rattle.std.proofs.lemmas.Bool.{cases_lt, cond-true, cond-false, lt-ltb, le-ltb, true≢false}
-use Rattle.std.proofs.lemmas.List.{map-set}
-use Rattle.trace_base.specs.Gate.{Worlds}
-use Rattle.trace_base.specs.Spans.{is_in, Spans, span_at}
-use Rattle.trace_base.specs.Calls.{SubscriberCall}
-use Rattle.env_filter.specs.Filtering.{FilterState}
-use Rattle.span_stack.specs.Filtered.{without_span, FiltersChain}
+use Rattle.std.proofs.Common.{◌≡◌, ℕ, ◌<◌, List, [], ◌∷◌, length, Bool, true, false, fold, slice_set, Option, Some, None, Err, option_map, map, refl, sym, ap, subst, ◌∙◌, inl, inr, Ok, ◌||◌, ◌&&◌, not}
+use Rattle.span_script.proofs.Common.{cases_lt, cond-true, cond-false, map-set, Worlds, is_in, Spans, span_at, SubscriberCall, FilterState, without_span, FiltersChain, member_of, spans_in, kept_in, Has, Chain, ReleasesChain, closed_in, ChainShown, Handle, Held, ReplacedOn, Guard, Recording, no_recording, RecordsChain, with_close, Scope, HookClose, Effect, Tables, after_effect, recorded_by, slot_at, here_at, Resolved, refuse_if, ◌>>=◌, need, effect_of_call, after_filter_hook, is_open, closed_of, drop_effect, is_borrowed, is_named, Views, State, state_of, lane_value, StandsFor, LanesFit, IsKept, Served, held_of, held_by, site_by, Parts, AddsMeasures, aside_in, ChainsLaw}
+use Rattle.std.proofs.lemmas.Bool.{lt-ltb, le-ltb, true≢false}
 use Rattle.span_script.proofs.filter.CounterLemmas.{adds_same}
 use Rattle.span_script.proofs.filter.FilterLemmas.{AreKnown, heard_none}
-use Rattle.span_handles.specs.Worlds.{member_of, spans_in, kept_in, Has, Chain, ReleasesChain, closed_in, ChainShown}
-use Rattle.span_handles.specs.Handles.{Handle, Held, ReplacedOn}
-use Rattle.span_script.specs.declared.slots.Guard.{Guard}
 use Rattle.span_script.specs.declared.reply.Refusal.TheVariants as refusal
 use Rattle.span_script.specs.declared.reply.Reply.TheVariants as reply
 use Rattle.span_script.specs.declared.request.Call.TheVariants as call
 use Rattle.span_script.specs.declared.reply.What.TheVariants as what
-use Rattle.otel_layer.specs.Recording.{Recording, no_recording, RecordsChain, with_close}
-use Rattle.span_script.specs.Tables.{Scope, HookClose, Effect, Tables, after_effect, recorded_by, slot_at}
-use Rattle.span_script.specs.calls.Here.{here_at, Resolved, refuse_if, ◌>>=◌, need}
-use Rattle.span_script.specs.Effects.{effect_of_call}
-use Rattle.span_script.specs.calls.Filter.{after_filter_hook}
-use Rattle.span_script.specs.calls.Spans.{is_open, closed_of, drop_effect, is_borrowed}
-use Rattle.span_script.specs.Slots.{is_named}
-use Rattle.span_script.specs.Fits.{Views, State, state_of, lane_value, Fits, StandsFor, LanesFit, IsKept, Served, held_of, held_by, site_by, Parts}
+use Rattle.span_script.specs.Fits.{Fits}
 use Rattle.span_script.proofs.steps.SlotsLemmas.{find, held_slot}
 use Rattle.span_script.proofs.steps.RecordingLemmas.{recorded_settings, recorded_tokens}
 use Rattle.span_script.proofs.steps.ServesLemmas.{serve, known_still, all_same, kept_served}
 use Rattle.span_script.proofs.spans.OpenSpansLemmas.{opens, set_open, in_filter}
 use Rattle.span_script.proofs.spans.ClosingOrderLemmas.{drop_order}
 use Rattle.span_script.proofs.spans.ChainsLemmas.{ReleasedOn, fits_dropped, borrowed_is}
-use Rattle.span_script.specs.SubscriberLaws.{AddsMeasures, aside_in, ChainsLaw}
 
 -- a span with holds after a drop had holds before, and isn't closed
 drop_known : (k next : State) (t : Tables) (at lane handle : ℕ) (line : Scope) → Fits k t → slot_at t.handles handle ≡ Some line → Fits next (after_effect t (drop_effect (here_at k.setup t at lane) handle line)) → (s : ℕ) → 0 < (span_at next.spans.made s).holds

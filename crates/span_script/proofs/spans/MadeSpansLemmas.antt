@@ -1,11 +1,7 @@
 -- Spans that are kept fit those that were made.
 use Rattle.std.proofs.Common.{◌≡◌, ℕ, ◌+◌, ◌<◌, List, length, Bool, true, false, cond, set, refl, sym, ap, ◌∙◌, arith, inl, inr}
-use Rattle.std.proofs.lemmas.Bool.{cases_eq, cases_lt}
-use Rattle.std.proofs.lemmas.List.{length-set, get_or-set_same, get_or-set_other, get_or_past}
-use Rattle.trace_base.specs.Spans.{Span, no_span, span_at, with_hold, less_hold, without_hold}
-use Rattle.trace_base.proofs.Holding.{less_more, less_last, less_holds}
-use Rattle.span_script.specs.Tables.{MadeSpan}
-use Rattle.span_script.specs.Fits.{MadeFit}
+use Rattle.span_script.proofs.Common.{cases_eq, cases_lt, get_or_past, Span, no_span, span_at, with_hold, less_hold, without_hold, less_more, less_last, less_holds, MadeSpan, MadeFit}
+use Rattle.std.proofs.lemmas.List.{length-set, get_or-set_same, get_or-set_other}
 
 -- a span with the same parent and callsite, or closed
 abbrev pub AsMade : Span → Span → Type 0

@@ -1,58 +1,22 @@
 -- Makings, served.
-use Rattle.std.proofs.Common.{◌≡◌, ℕ, ◌+◌, ◌<◌, ◌≤◌, ◌^◌, List, [], ◌∷◌, ◌++◌, length, Bool, true, false, fold, get_or, Option, Some, None, Ok, option_map, map, refl, sym, ap, subst, ◌∙◌, arith, inl, inr}
-use Rattle.std.specs.Prelude.{IfSome, slice_get, is_some, ◌≢◌, option_and_then}
-use Rattle.std.proofs.lemmas.Bool.{cases_eq, cases_lt, cond-true, cond-false}
-use Rattle.std.proofs.lemmas.List.{length-map, length_push, map_push, get_or_past, get_or_push, get_or_append_left}
-use Rattle.trace_base.specs.declared.lane.Lane.{Lane}
-use Rattle.trace_base.specs.declared.span.Parent.{Parent}
-use Rattle.trace_base.specs.declared.callsite.Callsite.{Callsite}
-use Rattle.trace_base.specs.declared.field.ValueSet.{ValueSet}
-use Rattle.trace_base.specs.Gate.{Worlds}
-use Rattle.env_filter.specs.Filtering.{FilterState}
-use Rattle.trace_base.specs.Spans.{Span, Spans, no_span, span_at, held_by_child, entries_on, place_on, current_of}
-use Rattle.trace_base.specs.Calls.{SubscriberCall, NewSpan, with_new_span}
-use Rattle.trace_base.specs.Conditions.{IsLivePlace, HasFewHolds, AreFew, HasFewHoldsAbove}
-use Rattle.trace_base.specs.Sound.{OneEach}
-use Rattle.span_handles.specs.Worlds.{Shown, Replaced, member_of, spans_in, kept_in, no_spans, Has}
-use Rattle.span_handles.specs.Handles.{Handle, Makes, MayMake, no_handle}
+use Rattle.std.proofs.Common.{◌≡◌, ℕ, ◌+◌, ◌<◌, ◌≤◌, ◌^◌, List, [], ◌∷◌, ◌++◌, length, Bool, true, false, fold, get_or, Option, Some, None, Ok, option_map, map, refl, sym, ap, subst, ◌∙◌, arith, inl, inr, IfSome, slice_get, is_some, ◌≢◌, option_and_then}
+use Rattle.span_script.proofs.Common.{cases_eq, cases_lt, cond-true, cond-false, length-map, length_push, map_push, get_or_past, get_or_push, get_or_append_left, Lane, Parent, Callsite, ValueSet, Worlds, FilterState, Span, Spans, no_span, span_at, held_by_child, entries_on, place_on, current_of, SubscriberCall, NewSpan, with_new_span, IsLivePlace, HasFewHolds, AreFew, HasFewHoldsAbove, OneEach, Shown, Replaced, member_of, spans_in, kept_in, no_spans, Has, Handle, Makes, MayMake, no_handle, Place, Setup, id_at, name_at, if_span, span_site, Context, KeyValue, empty_context, LayerSettings, SpanData, data_at_making, after_op, Token, parent_source, around, context_from, new_span_data, data_at, with_span_data, Recording, source_of, no_recording, with_start, with_starts, Kind, length_held, holds_other, Scope, MadeSpan, Attached, no_made_span, HookNew, Effect, Tables, recorded_by, open_part, slot_at, own_span, made_of, here_at, ◌>>=◌, need, effect_of_call, after_filter_hook, admits_at, lane_in, new_span_data_at, context_around, parent_at, new_effect, span_effect, disabled_effect, scope_at, Fields, all_values, place_for, MakesOnly, LetsThrough, Balanced, named_by, opened_by, Views, State, state_of, lane_value, StandsFor, MadeFit, LanesFit, IsKept, Served, IsScope, held_of, guard_of, held_by, site_by, Parts, parent_in, CallsLaw, SameLaw, aside_in}
 use Rattle.span_handles.proofs.Showing.{seen_before}
 use Rattle.span_script.specs.declared.reply.Reply.TheVariants as reply
-use Rattle.span_script.specs.declared.request.Place.{Place}
 use Rattle.span_script.specs.declared.request.Call.TheVariants as call
 use Rattle.span_script.specs.declared.reply.What.TheVariants as what
-use Rattle.span_script.specs.Setups.{Setup, id_at, name_at, if_span, span_site}
 use Rattle.std.specs.Option.{option_to_list}
-use Rattle.otel_base.specs.declared.context.Context.{Context}
-use Rattle.otel_base.specs.declared.value.KeyValue.{KeyValue}
-use Rattle.otel_base.specs.Stack.{empty_context}
 use Rattle.otel_state.specs.declared.op.Op.TheVariants as ops
-use Rattle.otel_state.specs.declared.settings.LayerSettings.{LayerSettings}
 use Rattle.otel_state.specs.fields.FirstAttributes.{first_attributes}
 use Rattle.otel_state.specs.fields.SpanFields.{span_update}
-use Rattle.otel_state.specs.States.{SpanData, data_at_making, after_op}
-use Rattle.otel_layer.specs.declared.tokens.Token.{Token}
-use Rattle.otel_layer.specs.Steps.{parent_source, around, context_from, new_span_data}
-use Rattle.otel_layer.specs.Table.{data_at, with_span_data}
-use Rattle.otel_layer.specs.Recording.{Recording, source_of, no_recording, with_start, with_starts}
-use Rattle.trace_base.specs.declared.callsite.Kind.{Kind}
 use Rattle.trace_base.specs.declared.callsite.Kind.TheVariants as kinds
 use Rattle.trace_base.specs.declared.span.Parent.TheVariants as parent
-use Rattle.trace_base.proofs.Entering.{length_held}
-use Rattle.trace_base.proofs.Holding.{holds_other}
-use Rattle.span_script.specs.Tables.{Scope, MadeSpan, Attached, no_made_span, HookNew, Effect, Tables, recorded_by, open_part, slot_at, own_span, made_of}
-use Rattle.span_script.specs.calls.Here.{here_at, ◌>>=◌, need}
-use Rattle.span_script.specs.Effects.{effect_of_call}
-use Rattle.span_script.specs.calls.Filter.{after_filter_hook, admits_at}
-use Rattle.span_script.specs.calls.Spans.{lane_in, new_span_data_at, context_around, parent_at, new_effect, span_effect, disabled_effect, scope_at}
 use Rattle.span_script.proofs.filter.CounterLemmas.{adds_nothing, adds_same}
 use Rattle.span_script.proofs.steps.KnownSpansLemmas.{recorded_known, new_known}
 use Rattle.span_script.proofs.lane_contexts.OwnersLemmas.{last_is}
 use Rattle.span_script.proofs.lane_contexts.LaneContextsLemmas.{own_fit}
 use Rattle.span_script.proofs.steps.RecordingLemmas.{recorded_settings, recorded_tokens, starts_fold, starts_open, entry_settings, entry_counting}
-use Rattle.span_script.specs.Fields.{Fields, all_values}
-use Rattle.span_script.specs.Slots.{place_for, MakesOnly, LetsThrough}
-use Rattle.span_script.specs.Balance.{Balanced, named_by, opened_by}
-use Rattle.span_script.specs.Fits.{Views, State, state_of, lane_value, Fits, StandsFor, MadeFit, LanesFit, IsKept, Served, IsScope, held_of, guard_of, held_by, site_by, Parts, parent_in}
+use Rattle.span_script.specs.Fits.{Fits}
 use Rattle.span_script.proofs.steps.SlotsLemmas.{find}
 use Rattle.span_script.proofs.spans.ScopesLemmas.{new_line}
 use Rattle.span_script.proofs.spans.SitesLemmas.{got_within, the_callsite, found_site_is}
@@ -66,7 +30,6 @@ use Rattle.span_script.proofs.spans.MadeSpansLemmas.{made_held}
 use Rattle.span_script.proofs.steps.ServesLemmas.{serve, known_still, all_same, kept_served}
 use Rattle.span_script.proofs.spans.ClonesLemmas.{the_scope, still_named_more}
 use Rattle.span_script.proofs.spans.MoreHandlesLemmas.{balanced_decline, balanced_new, find_up}
-use Rattle.span_script.specs.SubscriberLaws.{CallsLaw, SameLaw, aside_in}
 
 -- the spans with a new one under a scope
 made_pushed : (xs : List Span) (ms : List MadeSpan) (up : Scope) (site : ℕ) (told : SpanData) → MadeFit xs ms → MadeFit (xs ++ record { holds = 1; parent = own_span up; site = site } ∷ []) (ms ++ record { site = site; scope = length ms ∷ up; made_with = told } ∷ [])

@@ -1,25 +1,12 @@
 -- A handle more, of a span that is there or of a new one.
-use Rattle.std.specs.Prelude.{◌==◌, IfSome}
-use Rattle.std.proofs.Common.{◌≡◌, ℕ, ◌+◌, ◌<◌, List, [], ◌∷◌, ◌++◌, length, cond, count_by, Option, Some, None, option_map, map, refl, sym, ap, subst, ◌∙◌, arith, inl, inr}
-use Rattle.std.proofs.lemmas.Bool.{cases_eq, cases_lt, eq-eqb, ne_eqb, cond-true, cond-false}
-use Rattle.std.proofs.lemmas.List.{length-set, length_push, map_push, get_or_past, get_or_push, get_or_append_left}
-use Rattle.std.proofs.Math.ListN.{get_or-map}
-use Rattle.trace_base.specs.Spans.{Span, Spans, no_span, span_at, with_hold, first_entries, is_open_child, is_child_of, open_children, entries_on, current_of, place_on}
-use Rattle.trace_base.specs.Calls.{with_new_span}
-use Rattle.trace_base.specs.Conditions.{IsLive, IsLivePlace}
-use Rattle.trace_base.specs.declared.span.Parent.{Parent}
+use Rattle.std.proofs.Common.{◌≡◌, ℕ, ◌+◌, ◌<◌, List, [], ◌∷◌, ◌++◌, length, cond, count_by, Option, Some, None, option_map, map, refl, sym, ap, subst, ◌∙◌, arith, inl, inr, ◌==◌, IfSome}
+use Rattle.span_script.proofs.Common.{cases_eq, cases_lt, cond-true, cond-false, length_push, map_push, get_or_past, get_or_push, get_or_append_left, get_or-map, Span, Spans, no_span, span_at, with_hold, first_entries, is_open_child, is_child_of, open_children, entries_on, current_of, place_on, with_new_span, IsLive, IsLivePlace, Parent, count_push, made_if_held, keeps_children, holds_set, holds_other, current_in, first_if_in, place_under, Balanced, OpenGuard, names_span, named_by, opened_by, Place, Scope, ScopeGuard, Tables, slot_at, own_span, scope_of, scope_at, parent_at, place_for, State, IsScope, held_of}
+use Rattle.std.proofs.lemmas.Bool.{eq-eqb, ne_eqb}
+use Rattle.std.proofs.lemmas.List.{length-set}
 use Rattle.trace_base.specs.declared.span.Parent.TheVariants as parent
-use Rattle.trace_base.proofs.Entering.{count_push, made_if_held}
-use Rattle.trace_base.proofs.Holding.{keeps_children, holds_set, holds_other, current_in, first_if_in}
-use Rattle.span_handles.specs.Handles.{place_under}
-use Rattle.span_script.specs.Balance.{Balanced, OpenGuard, names_span, named_by, opened_by}
 use Rattle.span_script.proofs.entries.EntriesFitLemmas.{fits_live}
-use Rattle.span_script.specs.declared.request.Place.{Place}
 use Rattle.span_script.specs.declared.request.Place.TheVariants as place
-use Rattle.span_script.specs.Tables.{Scope, ScopeGuard, Tables, slot_at, own_span, scope_of}
-use Rattle.span_script.specs.calls.Spans.{scope_at, parent_at}
-use Rattle.span_script.specs.Slots.{place_for}
-use Rattle.span_script.specs.Fits.{State, Fits, IsScope, held_of}
+use Rattle.span_script.specs.Fits.{Fits}
 use Rattle.span_script.proofs.steps.SlotsLemmas.{named_within}
 use Rattle.span_script.proofs.steps.BalanceLemmas.{named_slot}
 

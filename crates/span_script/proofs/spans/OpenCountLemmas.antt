@@ -1,15 +1,9 @@
 -- How many spans are open, by the first ids.
 use Rattle.std.proofs.Common.{◌≡◌, ℕ, zero, suc, ◌+◌, ◌<◌, ◌≤◌, List, [], ◌∷◌, ◌++◌, length, Bool, false, cond, count_by, nat_lt, Option, option_map, map, refl, sym, ap, subst, ◌∙◌, arith, add-one, inl, inr}
-use Rattle.std.specs.List.{range_with_len}
-use Rattle.std.proofs.lemmas.Bool.{cond-true, cond-false, lt-ltb, le-ltb, cases_eq}
-use Rattle.std.proofs.lemmas.List.{length-map, map-id}
+use Rattle.span_script.proofs.Common.{range_with_len, cond-true, cond-false, cases_eq, length-map, Span, span_at, count_push, Handle, Tables, is_open, open_spans, State, StandsFor, held_by, held_of}
+use Rattle.std.proofs.lemmas.Bool.{lt-ltb, le-ltb}
+use Rattle.std.proofs.lemmas.List.{map-id}
 use Rattle.std.proofs.lemmas.List.FromFn.{map-range_with_len_more}
-use Rattle.trace_base.specs.Spans.{Span, span_at}
-use Rattle.trace_base.proofs.Entering.{count_push}
-use Rattle.span_handles.specs.Handles.{Handle}
-use Rattle.span_script.specs.Tables.{Tables}
-use Rattle.span_script.specs.calls.Spans.{is_open, open_spans}
-use Rattle.span_script.specs.Fits.{State, StandsFor, held_by, held_of}
 use Rattle.span_script.proofs.spans.OpenSpansLemmas.{opens}
 
 pub range_more : (n : ℕ) → range_with_len 0 (suc n) ≡ range_with_len 0 n ++ n ∷ []

@@ -1,21 +1,11 @@
 -- A span has a hold exactly while some unspent handle names it or a descendant.
-use Rattle.std.specs.Prelude.{◌==◌, ◌||◌, ◌&&◌, not, nat_lt, filter}
-use Rattle.std.proofs.Common.{◌≡◌, ℕ, zero, suc, ◌+◌, ◌<◌, ◌≤◌, List, [], ◌∷◌, length, Bool, true, false, cond, count_by, get_or, slice_set, Option, Some, None, map, refl, sym, ap, subst, ◌∙◌, arith, inl, inr, ◌⊎◌}
-use Rattle.std.proofs.lemmas.Bool.{cases_eq, cases_lt, cases_Bool, eq-eqb, eqb-true, ne_eqb, cond-true, cond-false, or_cases, or_right, and_parts, lt-ltb, le-ltb, true≢false}
-use Rattle.std.proofs.lemmas.List.Sums.{get_or-le-sum_by, sum_by-cons}
-use Rattle.trace_base.specs.Spans.{Span, no_span, span_at, entries_on, is_in, times_in, first_entries, is_child_of, is_open_child, Entries, has_entry}
-use Rattle.trace_base.specs.Conditions.{IsLive}
-use Rattle.trace_base.proofs.Entering.{count_cons, counted_if_any, made_if_held}
-use Rattle.trace_base.specs.Sound.{has_lane, OneEach}
-use Rattle.span_script.specs.Balance.{OpenGuard, names_span, guards, named_by, opened_by}
+use Rattle.std.proofs.Common.{◌≡◌, ℕ, zero, suc, ◌+◌, ◌<◌, ◌≤◌, List, [], ◌∷◌, length, Bool, true, false, cond, count_by, get_or, slice_set, Option, Some, None, map, refl, sym, ap, subst, ◌∙◌, arith, inl, inr, ◌⊎◌, ◌==◌, ◌||◌, ◌&&◌, not, nat_lt, filter}
+use Rattle.span_script.proofs.Common.{cases_eq, cases_lt, cases_Bool, cond-true, cond-false, or_cases, or_right, and_parts, get_or-le-sum_by, sum_by-cons, Span, no_span, span_at, entries_on, is_in, times_in, first_entries, is_child_of, is_open_child, Entries, has_entry, IsLive, count_cons, counted_if_any, made_if_held, has_lane, OneEach, OpenGuard, names_span, guards, named_by, opened_by, Scope, MadeSpan, Tables, after_effect, slot_at, own_span, made_of, Here, holds, is_open, closed_of, drop_effect, State, IsScope, parent_in, list_any}
+use Rattle.std.proofs.lemmas.Bool.{eq-eqb, eqb-true, ne_eqb, lt-ltb, le-ltb, true≢false}
 use Rattle.span_script.proofs.entries.EntriesFitLemmas.{fits_live}
 use Rattle.span_script.proofs.steps.SlotsLemmas.{named_within}
-use Rattle.span_script.specs.Tables.{Scope, MadeSpan, Tables, after_effect, slot_at, own_span, made_of}
-use Rattle.span_script.specs.calls.Here.{Here}
-use Rattle.span_script.specs.calls.Spans.{holds, is_open, closed_of, drop_effect}
-use Rattle.span_script.specs.Fits.{State, Fits, IsScope, parent_in}
+use Rattle.span_script.specs.Fits.{Fits}
 use Rattle.span_script.proofs.steps.BalanceLemmas.{named_slot}
-use Rattle.std.specs.List.{list_any}
 use Rattle.std.proofs.lemmas.Bool.Decides.{nat_tests}
 
 or_left_true : (a b : Bool) → a ≡ true → (a || b) ≡ true

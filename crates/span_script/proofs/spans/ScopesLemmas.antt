@@ -1,10 +1,6 @@
 -- Scopes stay scopes when one more span is made.
-use Rattle.std.proofs.Common.{◌≡◌, ℕ, ◌<◌, zero, suc, List, [], ◌∷◌, ◌++◌, length, Option, Some, None, option_map, map, refl, sym, ap, subst, ◌∙◌, arith, inl, inr}
-use Rattle.std.specs.Prelude.{IfSome}
-use Rattle.std.proofs.lemmas.Bool.{cases_eq}
-use Rattle.std.proofs.lemmas.List.{length_push, get_or_push, get_or_append_left}
-use Rattle.span_script.specs.Tables.{Scope, MadeSpan, no_made_span, made_of, own_span, site_of, slot_at, with_item}
-use Rattle.span_script.specs.Fits.{IsScope, IsLaterThanParent}
+use Rattle.std.proofs.Common.{◌≡◌, ℕ, ◌<◌, zero, suc, List, [], ◌∷◌, ◌++◌, length, Option, Some, None, option_map, map, refl, sym, ap, subst, ◌∙◌, arith, inl, inr, IfSome}
+use Rattle.span_script.proofs.Common.{cases_eq, length_push, get_or_push, get_or_append_left, Scope, MadeSpan, no_made_span, made_of, own_span, site_of, slot_at, with_item, IsScope, IsLaterThanParent}
 
 pub made_left : (made : List MadeSpan) (m : MadeSpan) (s : ℕ) → s < length made → made_of (made ++ m ∷ []) s ≡ made_of made s
 made_left made m s within = get_or_append_left made (m ∷ []) _ s within

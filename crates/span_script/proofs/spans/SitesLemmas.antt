@@ -1,13 +1,7 @@
 -- The callsites of handles are those of their spans.
-use Rattle.std.proofs.Common.{◌≡◌, ℕ, ◌<◌, zero, suc, List, [], ◌∷◌, length, Option, Some, None, option_map, map, sym, ap, ◌∙◌, arith, slice_get, refl, true}
-use Rattle.std.proofs.Math.ListN.{get_or-map}
-use Rattle.trace_base.specs.Gate.{Worlds}
-use Rattle.trace_base.specs.Calls.{SubscriberCall}
-use Rattle.span_handles.specs.Handles.{Handle, Copies}
-use Rattle.span_script.specs.Tables.{Scope, MadeSpan, Tables, slot_at, own_span, site_of, made_of}
-use Rattle.span_script.specs.Fits.{State, Fits, site_by}
-use Rattle.trace_base.specs.declared.callsite.Callsite.{Callsite}
-use Rattle.std.specs.Prelude.{is_some}
+use Rattle.std.proofs.Common.{◌≡◌, ℕ, ◌<◌, zero, suc, List, [], ◌∷◌, length, Option, Some, None, option_map, map, sym, ap, ◌∙◌, arith, slice_get, refl, true, is_some}
+use Rattle.span_script.proofs.Common.{get_or-map, Worlds, SubscriberCall, Handle, Copies, Scope, MadeSpan, Tables, slot_at, own_span, site_of, made_of, State, site_by, Callsite}
+use Rattle.span_script.specs.Fits.{Fits}
 use Rattle.std.proofs.lemmas.Bool.{true≢false}
 
 pub site_slot : (hs : List (Option Handle)) (n : ℕ) (handle : Handle) → slot_at hs n ≡ Some handle → slot_at (map site_by hs) n ≡ Some handle.site

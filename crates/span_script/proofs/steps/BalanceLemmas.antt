@@ -1,17 +1,8 @@
 -- Holds, entries and guards after what disabled handles do, and the numbers of holds.
-use Rattle.std.proofs.Common.{◌≡◌, ℕ, Bool, zero, suc, ◌+◌, ◌≤◌, List, [], ◌∷◌, ◌++◌, length, set, Option, Some, None, map, refl, sym, ap, subst, ◌∙◌, arith, inl, inr}
-use Rattle.std.specs.Prelude.{◌==◌, slice_set}
-use Rattle.std.proofs.lemmas.Bool.{cases_eq, cases_Bool, cases_lt, cond-true, cond-false}
-use Rattle.std.proofs.lemmas.List.{length-set, map_push, map-set, get_or_past}
-use Rattle.std.proofs.Math.ListN.{get_or-map}
-use Rattle.trace_base.specs.Spans.{Span, Spans, no_span, span_at, is_in, times_in, entries_on, with_hold, less_hold, without_hold}
-use Rattle.trace_base.specs.Calls.{with_span_entry, with_span_exit}
-use Rattle.trace_base.proofs.Entering.{count_push}
-use Rattle.trace_base.proofs.Holding.{less_holds, holds_set, holds_other}
-use Rattle.span_script.specs.Setups.{id_at}
-use Rattle.span_script.specs.Balance.{Balanced, OpenGuard, guards, named_by, opened_on, opened_by}
+use Rattle.std.proofs.Common.{◌≡◌, ℕ, Bool, zero, suc, ◌+◌, ◌≤◌, List, [], ◌∷◌, ◌++◌, length, set, Option, Some, None, map, refl, sym, ap, subst, ◌∙◌, arith, inl, inr, ◌==◌, slice_set}
+use Rattle.span_script.proofs.Common.{cases_eq, cases_Bool, cases_lt, cond-true, cond-false, map_push, map-set, get_or_past, get_or-map, Span, Spans, no_span, span_at, is_in, times_in, entries_on, with_hold, less_hold, without_hold, with_span_entry, with_span_exit, count_push, less_holds, holds_set, holds_other, id_at, Balanced, OpenGuard, guards, named_by, opened_on, opened_by, Scope, ScopeGuard, slot_at, own_span, lanes_with, lanes_with_entry, lanes_with_exit}
+use Rattle.std.proofs.lemmas.List.{length-set}
 use Rattle.span_script.proofs.entries.EntriesFitLemmas.{fits_enter, fits_exit}
-use Rattle.span_script.specs.Tables.{Scope, ScopeGuard, slot_at, own_span, lanes_with, lanes_with_entry, lanes_with_exit}
 use Rattle.span_script.proofs.steps.SlotsLemmas.{named_push}
 
 -- a guard of a disabled handle

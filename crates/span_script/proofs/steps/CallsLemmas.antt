@@ -1,20 +1,6 @@
 -- What a call on the subscriber of a handle makes of the plain data.
 use Rattle.std.proofs.Common.{◌≡◌, ℕ, ◌<◌, [], ◌∷◌, length, Bool, Option, None, option_map, refl, sym, ap, subst, slice_get}
-use Rattle.std.specs.Option.{option_map_or}
-use Rattle.trace_base.specs.Gate.{Worlds}
-use Rattle.trace_base.specs.Spans.{Spans}
-use Rattle.trace_base.specs.Calls.{SubscriberCall}
-use Rattle.trace_base.specs.Conditions.{HasOwnHold}
-use Rattle.span_handles.specs.Worlds.{Has, Shown, member_of, spans_in}
-use Rattle.otel_layer.specs.Recording.{no_recording}
-use Rattle.span_stack.specs.Counting.{RecordsCallBy}
-use Rattle.span_stack.specs.Filtered.{filter_after}
-use Rattle.span_stack.specs.Measured.{measured_by}
-use Rattle.span_handles.specs.Handles.{Held, HasOn, IsKnown, ReplacedOn}
-use Rattle.span_handles.specs.Entries.{IsThere}
-use Rattle.span_script.specs.Tables.{Scope}
-use Rattle.span_script.specs.Fits.{Views, held_of}
-use Rattle.span_script.specs.SubscriberLaws.{AddsMeasures, aside_in, CallsLaw}
+use Rattle.span_script.proofs.Common.{option_map_or, Worlds, Spans, SubscriberCall, HasOwnHold, Has, Shown, member_of, spans_in, no_recording, RecordsCallBy, filter_after, measured_by, Held, HasOn, IsKnown, ReplacedOn, IsThere, Scope, Views, held_of, AddsMeasures, aside_in, CallsLaw}
 
 -- what is read of a subscriber that is there
 pub has_by : {S A : Type 0} (read : S → A) (none : A) (world : Worlds S) (dispatch : ℕ) (P : A → Type 0) → P (option_map_or read (slice_get world.subscribers dispatch) none) → Has (λ s. P (read s)) world dispatch

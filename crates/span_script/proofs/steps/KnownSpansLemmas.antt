@@ -1,15 +1,8 @@
 -- Spans that are known to the layer stay so until they close.
-use Rattle.std.specs.Prelude.{◌==◌, ◌||◌, ◌≢◌}
-use Rattle.std.specs.List.{list_any}
-use Rattle.std.proofs.Common.{◌≡◌, ℕ, List, [], ◌∷◌, fold, Bool, true, false, Option, Some, None, refl, sym, ap, ◌∙◌, inl, inr}
-use Rattle.std.proofs.lemmas.Bool.{cases_Bool, eq-eqb, cond-true, cond-false, or_parts, true≢false}
-use Rattle.otel_base.specs.declared.context.Context.{Context}
-use Rattle.otel_state.specs.declared.op.Op.{Op}
-use Rattle.otel_state.specs.States.{SpanData}
-use Rattle.otel_layer.specs.Table.{data_at, knows_span, with_span_data, waits}
-use Rattle.otel_layer.specs.Recording.{Recording, with_start, with_starts, with_applied, with_close, without_closed, data_after, data_started}
+use Rattle.span_script.proofs.Common.{list_any, cases_Bool, cond-true, cond-false, or_parts, Context, Op, SpanData, data_at, knows_span, with_span_data, waits, Recording, with_start, with_starts, with_applied, with_close, without_closed, data_after, data_started, MadeSpan, SpanOp, Effect, with_span_made, recorded_by}
+use Rattle.std.proofs.Common.{◌≡◌, ℕ, List, [], ◌∷◌, fold, Bool, true, false, Option, Some, None, refl, sym, ap, ◌∙◌, inl, inr, ◌==◌, ◌||◌, ◌≢◌}
+use Rattle.std.proofs.lemmas.Bool.{eq-eqb, true≢false}
 use Rattle.otel_layer.proofs.Finding.{told_at_op, told_at_start, told_at_removed}
-use Rattle.span_script.specs.Tables.{MadeSpan, SpanOp, Effect, with_span_made, recorded_by}
 
 abbrev IsKnown : ℕ → Recording → Type 0
 IsKnown s r = data_at s r.spans ≢ None

@@ -1,24 +1,10 @@
 -- Lanes, and what every pipeline keeps.
-use Rattle.std.proofs.Common.{◌≡◌, ℕ, Bool, false, zero, suc, ◌<◌, ◌≤◌, List, [], ◌∷◌, length, count_by, get_or, set, Option, Some, None, map, refl, sym, ap, subst, ◌∙◌, arith, inl, inr}
-use Rattle.std.specs.Prelude.{Result, Ok, Err, OnErr, ◌==◌}
-use Rattle.std.proofs.lemmas.Bool.{cases_eq, eq-eqb, ne_eqb, cond-true, cond-false}
-use Rattle.std.proofs.lemmas.List.{length-set, length-map, map-set, get_or-set_same, get_or-set_other}
-use Rattle.trace_base.specs.declared.lane.Lane.{Lane}
-use Rattle.trace_base.specs.Gate.{Worlds}
-use Rattle.trace_base.specs.Spans.{Spans}
-use Rattle.trace_base.specs.lanes.Contexts.{attached_as, AreAttached, KeepsAttached}
-use Rattle.span_handles.specs.Worlds.{Has, Alike, member_of, spans_in, kept_in}
-use Rattle.span_handles.specs.Handles.{Handle, Held, ReplacedOn}
-use Rattle.span_handles.specs.Entries.{LeavesLane}
-use Rattle.span_script.specs.declared.slots.Guard.{Guard}
-use Rattle.span_script.specs.declared.contexts.Attach.{Attach}
-use Rattle.otel_layer.specs.Recording.{no_recording}
-use Rattle.span_script.specs.Tables.{Scope, slot_at}
+use Rattle.std.proofs.Common.{◌≡◌, ℕ, Bool, false, zero, suc, ◌<◌, ◌≤◌, List, [], ◌∷◌, length, count_by, get_or, set, Option, Some, None, map, refl, sym, ap, subst, ◌∙◌, arith, inl, inr, Result, Ok, Err, OnErr, ◌==◌}
+use Rattle.span_script.proofs.Common.{cases_eq, cond-true, cond-false, length-map, map-set, Lane, Worlds, Spans, attached_as, AreAttached, KeepsAttached, Has, Alike, member_of, spans_in, kept_in, Handle, Held, ReplacedOn, LeavesLane, Guard, Attach, no_recording, Scope, slot_at, id_at, name_at, Views, State, state_of, LaneValue, lane_value, no_lane_value, lane_at, held_by, LanesFit, IsKept, held_of, StandsFor, Parts, AddsMeasures, SameLaw, aside_in}
+use Rattle.std.proofs.lemmas.Bool.{eq-eqb, ne_eqb}
+use Rattle.std.proofs.lemmas.List.{length-set, get_or-set_same, get_or-set_other}
 use Rattle.span_script.proofs.filter.CounterLemmas.{adds_nothing, adds_same}
 use Rattle.span_script.proofs.steps.SlotsLemmas.{find, held_slot, Found}
-use Rattle.span_script.specs.Setups.{id_at, name_at}
-use Rattle.span_script.specs.Fits.{Views, State, state_of, LaneValue, lane_value, no_lane_value, lane_at, held_by, LanesFit, IsKept, held_of, StandsFor, Parts}
-use Rattle.span_script.specs.SubscriberLaws.{AddsMeasures, SameLaw, aside_in}
 
 pub on_err : {T E : Type 0} (result : Result T E) (P : Type 0) → P → OnErr result P
 on_err (Ok v) P p = tt

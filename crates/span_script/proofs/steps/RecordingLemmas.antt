@@ -2,13 +2,7 @@
 use Rattle.std.specs.Option.{option_to_list}
 use Rattle.std.proofs.Common.{◌≡◌, ℕ, List, [], ◌∷◌, ◌++◌, length, fold, Option, Some, None, refl, sym, ap, ◌∙◌}
 use Rattle.std.proofs.lemmas.List.{append-nil, append_assoc}
-use Rattle.otel_base.specs.declared.context.Context.{Context}
-use Rattle.otel_base.specs.declared.record.Record.{Record}
-use Rattle.otel_state.specs.States.{SpanData}
-use Rattle.otel_layer.specs.declared.tokens.Token.{Token}
-use Rattle.otel_layer.specs.Table.{data_at, waits}
-use Rattle.otel_layer.specs.Recording.{Recording, started_under, with_start, with_starts, with_applied, with_close, without_closed, closed_started}
-use Rattle.span_script.specs.Tables.{MadeSpan, SpanOp, Effect, Tables, after_effect, with_span_made, recorded_by, open_part, records_of}
+use Rattle.span_script.proofs.Common.{Context, Record, SpanData, Token, data_at, waits, Recording, started_under, with_start, with_starts, with_applied, with_close, without_closed, closed_started, MadeSpan, SpanOp, Effect, Tables, after_effect, with_span_made, recorded_by, open_part, records_of}
 
 -- a recording with other entries, and records before its own
 abbrev shifted : List Token → List Record → Recording → Recording

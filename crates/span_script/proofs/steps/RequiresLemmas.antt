@@ -1,19 +1,6 @@
 -- What a call on the subscriber of a handle requires is what every pipeline keeps.
 use Rattle.std.proofs.Common.{◌≡◌, ℕ, ◌<◌, ◌^◌, List, ◌∷◌, length, get_or, Option, Some, None, option_map, map, sym, ap, subst, ◌∙◌, arith}
-use Rattle.std.proofs.lemmas.List.{length-map}
-use Rattle.std.proofs.Math.ListN.{get_or-map}
-use Rattle.trace_base.specs.declared.lane.Lane.{Lane}
-use Rattle.trace_base.specs.Spans.{Spans}
-use Rattle.trace_base.specs.Conditions.{HasOwnHold, HasFewHolds, MayExit}
-use Rattle.trace_base.specs.lanes.Contexts.{AreAttached}
-use Rattle.span_handles.specs.Worlds.{Has, spans_in, kept_in, no_spans}
-use Rattle.span_handles.specs.Handles.{Handle, Held, HasOn, IsKnown}
-use Rattle.span_handles.specs.Entries.{IsThere}
-use Rattle.span_script.specs.declared.slots.Guard.{Guard}
-use Rattle.span_script.specs.Setups.{id_at}
-use Rattle.span_script.specs.Tables.{Scope, slot_at, own_span}
-use Rattle.span_script.specs.Balance.{named_by, opened_on, opened_by}
-use Rattle.span_script.specs.Fits.{Views, state_of, held_by, IsKept, held_of, guard_of, Parts}
+use Rattle.span_script.proofs.Common.{length-map, get_or-map, Lane, Spans, HasOwnHold, HasFewHolds, MayExit, AreAttached, Has, spans_in, kept_in, no_spans, Handle, Held, HasOn, IsKnown, IsThere, Guard, id_at, Scope, slot_at, own_span, named_by, opened_on, opened_by, Views, state_of, held_by, IsKept, held_of, guard_of, Parts}
 use Rattle.span_script.proofs.steps.SlotsLemmas.{Found, find, held_slot}
 use Rattle.span_script.proofs.entries.EntriesFitLemmas.{fits_own, fits_may_exit}
 use Rattle.span_script.proofs.steps.BalanceLemmas.{named_slot, opened_slot}

@@ -1,35 +1,15 @@
 -- What calls on the span of a scope keep, whatever their kind.
-use Rattle.std.proofs.Common.{◌≡◌, ℕ, ◌<◌, List, [], ◌∷◌, ◌++◌, length, Bool, Option, None, false, Ok, Err, refl, sym, ap, subst, ◌∙◌, arith, map}
+use Rattle.std.proofs.Common.{◌≡◌, ℕ, ◌<◌, List, [], ◌∷◌, ◌++◌, length, Bool, Option, None, false, Ok, Err, refl, sym, ap, subst, ◌∙◌, arith, map, ◌==◌, ◌≢◌}
 use Rattle.std.proofs.lemmas.Bool.{true≢false}
-use Rattle.trace_base.specs.declared.lane.Lane.{Lane}
-use Rattle.trace_base.specs.Gate.{Worlds}
-use Rattle.trace_base.specs.Spans.{Spans, span_at}
-use Rattle.trace_base.specs.Calls.{SubscriberCall}
-use Rattle.trace_base.specs.lanes.Contexts.{KeepsAttached, Lanes}
-use Rattle.span_handles.specs.Worlds.{kept_in, Has}
-use Rattle.span_script.specs.declared.reply.Reply.{Reply}
-use Rattle.span_script.specs.declared.reply.Refusal.{Refusal}
+use Rattle.span_script.proofs.Common.{Lane, Worlds, Spans, span_at, SubscriberCall, KeepsAttached, Lanes, kept_in, Has, Reply, Refusal, Token, list_any, data_at, Recording, Attach, Setup, Scope, Attached, Effect, Tables, after_effect, recorded_by, Resolved, effect_of_call, Views, State, LaneValue, StandsFor, RecordingFits, FilteringFits, AllContextsFit, LanesFit, IsKept, Served, state_of, lane_value, Parts, is_for_memory, ServesResolved, Serves, Measure, measured_by, AddsMeasures, aside_in}
 use Rattle.span_script.specs.declared.request.Call.{Call}
-use Rattle.otel_layer.specs.declared.tokens.Token.{Token}
-use Rattle.std.specs.Prelude.{◌==◌, ◌≢◌}
-use Rattle.std.specs.List.{list_any}
-use Rattle.otel_layer.specs.Table.{data_at}
-use Rattle.otel_layer.specs.Recording.{Recording}
-use Rattle.span_script.specs.declared.contexts.Attach.{Attach}
-use Rattle.span_script.specs.Setups.{Setup}
-use Rattle.span_script.specs.Tables.{Scope, Attached, Effect, Tables, after_effect, recorded_by}
-use Rattle.span_script.specs.calls.Here.{Resolved}
-use Rattle.span_script.specs.Effects.{effect_of_call}
-use Rattle.span_script.specs.Fits.{Views, State, LaneValue, Fits, StandsFor, RecordingFits, FilteringFits, AllContextsFit, LanesFit, IsKept, Served, state_of, lane_value, Parts, is_for_memory, ServesResolved, Serves}
-use Rattle.otel_metrics.specs.declared.measure.Measure.{Measure}
-use Rattle.span_stack.specs.Measured.{measured_by}
+use Rattle.span_script.specs.Fits.{Fits}
 use Rattle.span_script.proofs.filter.CounterLemmas.{adds_same, measured}
 use Rattle.span_script.proofs.steps.KnownSpansLemmas.{still_known}
 use Rattle.span_script.proofs.steps.RecordingLemmas.{recording_step}
 use Rattle.span_script.proofs.filter.FilterLemmas.{Hears, filtering_step}
 use Rattle.span_script.proofs.steps.CallsLemmas.{ShownOn}
 use Rattle.span_script.specs.declared.reply.Refusal.TheVariants as refusals
-use Rattle.span_script.specs.SubscriberLaws.{AddsMeasures, aside_in}
 
 -- what is said of the fields is said of the value that they make
 pub by_view : (at lane : ℕ) (request : Call) (then : State) (answer : Reply) (view k : State) → view ≡ k → ((t : Tables) → StandsFor view t → Served (effect_of_call view.setup t at lane request) t view then answer)

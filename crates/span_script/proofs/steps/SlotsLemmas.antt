@@ -1,14 +1,8 @@
 -- Lists of slots, of which some are spent.
 use Rattle.std.proofs.Common.{◌≡◌, ℕ, zero, suc, ◌+◌, ◌<◌, List, [], ◌∷◌, ◌++◌, length, Option, Some, None, option_map, map, refl, sym, ap, ◌∙◌, arith, slice_set}
-use Rattle.std.proofs.lemmas.List.{map_push, map-set, length-set, length_push}
-use Rattle.std.proofs.Math.ListN.{get_or-map}
-use Rattle.span_handles.specs.Handles.{Handle, Held, IsOf}
-use Rattle.trace_base.specs.declared.span.Parent.{Parent}
-use Rattle.span_script.specs.declared.request.Place.{Place}
+use Rattle.span_script.proofs.Common.{map_push, map-set, length_push, get_or-map, Handle, Held, IsOf, Parent, Place, parent_of, place_for, held_by, slot_at, with_item, spend, slots_after, with_either, either_after}
+use Rattle.std.proofs.lemmas.List.{length-set}
 use Rattle.span_script.specs.declared.slots.Above.{Above}
-use Rattle.span_script.specs.Slots.{parent_of, place_for}
-use Rattle.span_script.specs.Fits.{held_by}
-use Rattle.span_script.specs.Tables.{slot_at, with_item, spend, slots_after, with_either, either_after}
 
 -- what holds of each name that isn't spent holds after one more, if it holds of that
 pub named_push : {A : Type 0} (P : A → Type 0) (slots : List (Option A)) (o : Option A) → ((n : ℕ) (x : A) → slot_at slots n ≡ Some x → P x) → ((x : A) → o ≡ Some x → P x) → (n : ℕ) (x : A) → slot_at (slots ++ o ∷ []) n ≡ Some x → P x

@@ -1,11 +1,7 @@
 -- One effect more: what fits the tables fits them with the effect, whatever its kind.
 use Rattle.std.proofs.Common.{◌≡◌, ℕ, ◌+◌, ◌≤◌, List, length, Option, Some, None, option_map, map, sym, ap, subst, ◌∙◌, arith}
-use Rattle.trace_base.specs.Spans.{span_at}
-use Rattle.trace_base.specs.Sound.{OneEach}
-use Rattle.span_script.specs.Balance.{Balanced, named_by, opened_by}
-use Rattle.span_script.specs.Setups.{Setup}
-use Rattle.span_script.specs.Tables.{Scope, ScopeGuard, Effect, Tables, after_effect, site_of, slot_at, slots_after, either_after, with_item, lanes_with_entry, lanes_with_exit}
-use Rattle.span_script.specs.Fits.{State, Fits, MadeFit, IsScope, held_of, guard_of, lane_of}
+use Rattle.span_script.proofs.Common.{span_at, OneEach, Balanced, named_by, opened_by, Setup, Scope, ScopeGuard, Effect, Tables, after_effect, site_of, slot_at, slots_after, either_after, with_item, lanes_with_entry, lanes_with_exit, State, MadeFit, IsScope, held_of, guard_of, lane_of}
+use Rattle.span_script.specs.Fits.{Fits}
 use Rattle.span_script.proofs.steps.SlotsLemmas.{named_push, slots_map, either_map, either_count, still_named}
 use Rattle.span_script.proofs.spans.ScopesLemmas.{NewMade, NewSite, lines_with, lines_after, sites_left, sited_after}
 

@@ -1,8 +1,5 @@
 use Rattle.std.proofs.Common.{◌≡◌, Some, refl}
-use Rattle.trace_base.specs.layers.Hooks.{Hook, OnNewSpan, OnRecord, OnFollows, OnEvent, OnEnter, OnExit, OnClose}
-use Rattle.env_filter.specs.Filtering.{FilterState, after_hook}
-use Rattle.span_script.specs.calls.Filter.{hook_of}
-use Rattle.span_script.specs.Tables.{FilterHook, HookNew, HookRecord, HookEnter, HookExit, HookClose}
+use Rattle.span_laws.proofs.Common.{Hook, OnNewSpan, OnRecord, OnFollows, OnEvent, OnEnter, OnExit, OnClose, FilterState, after_hook, hook_of, FilterHook, HookNew, HookRecord, HookEnter, HookExit, HookClose}
 use Rattle.span_laws.specs.Hearing.{filter_hook_of, after_filter_hook_if}
 use Rattle.span_laws.proofs.filters.hears.Goals as goal
 

@@ -1,9 +1,6 @@
-use Rattle.std.proofs.Common.{ap}
-use Rattle.std.specs.Prelude.{Bool}
+use Rattle.std.proofs.Common.{ap, Bool}
 use Rattle.otel_metrics.specs.Measures.{measures}
-use Rattle.otel_state.specs.fields.EventFields.{event_of}
-use Rattle.span_script.specs.calls.Here.{ops_on, ops_effect}
-use Rattle.span_script.specs.calls.Events.{if_enabled, counted_ops}
+use Rattle.span_laws.proofs.Common.{event_of, ops_on, ops_effect, if_enabled, counted_ops}
 use Rattle.span_script.specs.declared.reply.Reply.TheVariants as reply
 use Rattle.span_laws.proofs.filters.refused_events.Goals as goal
 

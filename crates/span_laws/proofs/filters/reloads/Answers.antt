@@ -1,11 +1,6 @@
 use Rattle.std.proofs.Common.{◌≡◌, ℕ, List, [], Some, refl, sym, ap, subst}
 use Rattle.std.proofs.lemmas.List.{append-nil}
-use Rattle.std.proofs.lemmas.List.Sums.{fold_push}
-use Rattle.span_script.specs.calls.Here.{Here}
-use Rattle.span_script.specs.calls.Filter.{reload_effect}
-use Rattle.span_script.specs.Setups.{Setup}
-use Rattle.span_script.specs.Tables.{History, Tables, no_tables, after_effect, tables}
-use Rattle.span_laws.specs.Laws.{IsHistory, none, more}
+use Rattle.span_laws.proofs.Common.{fold_push, Here, reload_effect, Setup, History, Tables, no_tables, after_effect, tables, IsHistory, none, more}
 use Rattle.span_laws.proofs.filters.reloads.Goals as goal
 
 pub returns-clause-gate : goal.returns-clause-gate
