@@ -1,24 +1,13 @@
 -- What stands of the history of a script whose spans don't start at their making: no entry is open of a span that closes, and
 -- the order of starts is read off what is recorded.
 use Rattle.std.proofs.Common.{◌≡◌, ℕ, ◌≤◌, List, [], ◌∷◌, ◌++◌, length, Bool, false, Option, Some, None, Ok, Err, refl, sym, ap, subst, ◌∙◌, arith, append_assoc}
-use Rattle.std.proofs.lemmas.Bool.Decides.{nat_tests}
+use Rattle.span_eager.proofs.Common.{nat_tests, SpanData, data_at, Request, Setup, MadeSpan, Effect, History, Tables, no_tables, tables, done_by, after_effect, Resolved, effect_of, followed_by, history_from, IsHistory, more, occurrences, at_making, starting_order, order_in, effect_order}
 use Rattle.std.proofs.lemmas.Bool.{le-ltb}
 use Rattle.std.proofs.lemmas.List.{append-nil}
 use Rattle.std.proofs.lemmas.List.Sums.{fold_push}
-use Rattle.otel_state.specs.States.{SpanData}
-use Rattle.otel_layer.specs.Table.{data_at}
-use Rattle.span_script.specs.declared.request.Request.{Request}
-use Rattle.span_script.specs.Setups.{Setup}
-use Rattle.span_script.specs.Tables.{MadeSpan, Effect, History, Tables, no_tables, tables, done_by, after_effect}
-use Rattle.span_script.specs.calls.Here.{Resolved}
-use Rattle.span_script.specs.Effects.{effect_of}
-use Rattle.span_script.specs.Outcomes.{followed_by, history_from}
 use Rattle.span_laws.specs.Closes.{is_drop}
-use Rattle.span_laws.specs.Laws.{IsHistory, more, occurrences}
-use Rattle.span_laws.specs.Starts.{at_making, starting_order}
 use Rattle.span_laws.proofs.records.HistoriesLemmas.{closing_once, closing_shut, fits, whole}
 use Rattle.span_laws.proofs.spans.OccurrencesLemmas.{is_in_counted, occurs_cons}
-use Rattle.span_laws.proofs.spans.StartOrdersLemmas.{order_in, effect_order}
 use Rattle.span_laws.proofs.steps.StepsLemmas.{step_of}
 use Rattle.span_eager.proofs.SameRecordings.{AreOnce, Shut, entries_in}
 

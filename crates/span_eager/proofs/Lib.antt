@@ -1,3 +1,4 @@
+pub mod Common
 mod SameSpan
 mod SameSpans
 mod SameRecordings

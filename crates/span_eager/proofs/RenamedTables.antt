@@ -1,17 +1,7 @@
 -- What an early start makes of effects and of tables, and that it is kept by one effect more.
-use Rattle.std.proofs.Common.{◌≡◌, ℕ, suc, ◌≤◌, ◌==◌, ◌||◌, List, [], ◌∷◌, ◌++◌, length, map, fold, Bool, true, false, Option, Some, None, refl, sym, ap, ap₂, subst, subst₂, ◌∙◌, arith, append_assoc}
-use Rattle.std.specs.Prelude.{if◌then◌else◌, option_map}
-use Rattle.std.specs.List.{AllByRecursion, list_any}
-use Rattle.std.proofs.lemmas.List.{map-append, length-append}
-use Rattle.otel_state.specs.declared.settings.LayerSettings.{LayerSettings}
-use Rattle.otel_state.specs.declared.times.TheConstants.{GREATEST}
-use Rattle.otel_state.specs.Deeds.{deed}
-use Rattle.otel_layer.specs.Recording.{Recording, with_start, with_starts, with_applied}
-use Rattle.trace_base.specs.Spans.{without_last}
-use Rattle.span_script.specs.Tables.{MadeSpan, SpanOp, Owner, Attached, is_by, Effect, Tables, with_item, with_attached, with_detached, with_span_made, begun_by, done_by, recorded_by, open_part, after_effect}
-use Rattle.span_laws.proofs.spans.StartOrdersLemmas.{starts_from, closes_from}
-use Rattle.span_eager.specs.Early.{IsSettled}
-use Rattle.span_eager.specs.Renaming.{context_by, reply_by}
+use Rattle.std.proofs.Common.{◌≡◌, ℕ, suc, ◌≤◌, ◌==◌, ◌||◌, List, [], ◌∷◌, ◌++◌, length, map, fold, Bool, true, false, Option, Some, None, refl, sym, ap, ap₂, subst, subst₂, ◌∙◌, arith, append_assoc, if◌then◌else◌, option_map}
+use Rattle.span_eager.proofs.Common.{AllByRecursion, list_any, map-append, LayerSettings, GREATEST, deed, Recording, with_start, with_starts, with_applied, without_last, MadeSpan, SpanOp, Owner, Attached, is_by, Effect, Tables, with_item, with_attached, with_detached, with_span_made, begun_by, done_by, recorded_by, open_part, after_effect, starts_from, closes_from, IsSettled, context_by, reply_by}
+use Rattle.std.proofs.lemmas.List.{length-append}
 use Rattle.span_eager.proofs.SameSpan.{Ids, told_by}
 use Rattle.span_eager.proofs.SameRecordings.{SameRecording, Shut, AreOnce, done_with, later_same, starts_same, made_same, ops_same, closes_same}
 

@@ -1,38 +1,22 @@
 -- What a request changes where spans start at their making is what it changes where they don't, with other ids.
-use Rattle.std.proofs.Common.{◌≡◌, ℕ, zero, suc, ◌≤◌, ◌==◌, ◌&&◌, List, [], ◌∷◌, length, map, fold, min, max, Bool, true, false, Option, Some, None, Ok, Err, IfSome, refl, sym, ap, subst, subst₂, ◌∙◌, arith}
-use Rattle.std.specs.Prelude.{if◌then◌else◌, is_some, option_map, slice_get, option_and_then, not}
-use Rattle.std.specs.List.{AllByRecursion}
+use Rattle.std.proofs.Common.{◌≡◌, ℕ, zero, suc, ◌≤◌, ◌==◌, ◌&&◌, List, [], ◌∷◌, length, map, fold, min, max, Bool, true, false, Option, Some, None, Ok, Err, IfSome, refl, sym, ap, subst, subst₂, ◌∙◌, arith, if◌then◌else◌, is_some, option_map, slice_get, option_and_then, not}
+use Rattle.span_eager.proofs.Common.{AllByRecursion, length-map, slice_get-map, Context, SpanContext, is_valid, ids_of, Op, LayerSettings, GREATEST, deed, SpanData, Recording, source_of, with_start, with_starts, data_at, waits, own_or, current_of, Reply, Refusal, Request, Setup, span_site, event_site, Here, here_at, Resolved, refuse_if, ◌>>=◌, need, op_on, ops_on, ops_effect, effect_of_call, is_bad_moment, effect_of, scope_at, disabled_effect, parent_at, last_attached, context_around, lane_in, span_effect, new_effect, clone_effect, drop_effect, is_borrowed, current_scope, scope_or_current, exchange_effect, Scope, SpanOp, MadeSpan, EntryOf, Attached, HookNew, Tables, slot_at, own_span, site_of, scope_of, made_of, begun_by, quiet_effect, lazy, IsSettled, is_far, gives_far, ids_by, context_by, reply_by}
 use Rattle.std.specs.Option.{option_to_list}
-use Rattle.std.proofs.lemmas.List.{length-map}
-use Rattle.std.proofs.lemmas.Option.{slice_get-map}
 use Rattle.env_directives.specs.orders.Choice.{admits}
-use Rattle.otel_base.specs.declared.context.Context.{Context}
-use Rattle.otel_base.specs.declared.context.SpanContext.{SpanContext}
 use Rattle.otel_base.specs.declared.value.KeyValue.{KeyValue}
 use Rattle.otel_base.specs.declared.stack.TheConstants.{MAX_CONTEXTS}
-use Rattle.otel_base.specs.Ids.{is_valid, ids_of}
 use Rattle.otel_base.specs.Stack.{empty_context}
 use Rattle.otel_metrics.specs.Measures.{measures}
-use Rattle.otel_state.specs.declared.op.Op.{Op}
 use Rattle.otel_state.specs.declared.op.Op.TheVariants as ops
-use Rattle.otel_state.specs.declared.settings.LayerSettings.{LayerSettings}
-use Rattle.otel_state.specs.declared.times.TheConstants.{GREATEST}
 use Rattle.otel_state.specs.fields.EventFields.{event_of}
-use Rattle.otel_state.specs.Deeds.{deed}
-use Rattle.otel_state.specs.States.{SpanData}
 use Rattle.otel_layer.specs.Asking.{link_of, event_at}
-use Rattle.otel_layer.specs.Recording.{Recording, source_of, with_start, with_starts}
 use Rattle.otel_layer.specs.Steps.{parent_source, context_from, new_span_data}
-use Rattle.otel_layer.specs.Table.{data_at, waits, own_or}
 use Rattle.trace_base.specs.declared.callsite.Callsite.{Callsite}
 use Rattle.trace_base.specs.declared.field.ValueSet.{ValueSet}
 use Rattle.trace_base.specs.declared.lane.Lane.{Lane}
 use Rattle.trace_base.specs.declared.span.Parent.{Parent}
 use Rattle.trace_base.specs.declared.span.Parent.TheVariants as parent
-use Rattle.trace_base.specs.Spans.{current_of}
-use Rattle.span_script.specs.declared.reply.Reply.{Reply}
 use Rattle.span_script.specs.declared.reply.Reply.TheVariants as reply
-use Rattle.span_script.specs.declared.reply.Refusal.{Refusal}
 use Rattle.span_script.specs.declared.reply.Refusal.TheVariants as refusal
 use Rattle.span_script.specs.declared.reply.What.{What}
 use Rattle.span_script.specs.declared.reply.What.TheVariants as what
@@ -40,22 +24,14 @@ use Rattle.span_script.specs.declared.request.Place.{Place}
 use Rattle.span_script.specs.declared.request.Place.TheVariants as place
 use Rattle.span_script.specs.declared.request.Call.{Call}
 use Rattle.span_script.specs.declared.request.Call.TheVariants as call
-use Rattle.span_script.specs.declared.request.Request.{Request}
 use Rattle.span_script.specs.Admission.{TextRead, text_read, text_filter}
 use Rattle.span_script.specs.Fields.{Fields, all_values, declared_by}
-use Rattle.span_script.specs.Setups.{Setup, span_site, event_site}
-use Rattle.span_script.specs.calls.Here.{Here, here_at, Resolved, refuse_if, ◌>>=◌, need, op_on, ops_on, ops_effect}
-use Rattle.span_script.specs.Effects.{effect_of_call, is_bad_moment, effect_of}
 use Rattle.span_script.specs.calls.Contexts.{context_effect, own_context, attach_effect, detach_effect}
 use Rattle.span_script.specs.calls.Entries.{active, enter_effect, is_full, meets_full, entry_call, exit_effect, is_shared, attached_by as attaches_by}
 use Rattle.span_script.specs.calls.Events.{if_enabled, counted_ops, event_effect}
 use Rattle.span_script.specs.calls.Fields.{callsite_of, update_ops, hooks_of_values, record_effect}
 use Rattle.span_script.specs.calls.Filter.{admits_at, enabled_effect, reload_by}
 use Rattle.span_script.specs.calls.Links.{follow_effect, set_while, is_set, link_ops, happens_at}
-use Rattle.span_script.specs.calls.Spans.{scope_at, disabled_effect, parent_at, last_attached, context_around, lane_in, span_effect, new_effect, clone_effect, drop_effect, is_borrowed, current_scope, scope_or_current, exchange_effect}
-use Rattle.span_script.specs.Tables.{Scope, SpanOp, MadeSpan, EntryOf, Attached, HookNew, Tables, slot_at, own_span, site_of, scope_of, made_of, begun_by, quiet_effect}
-use Rattle.span_eager.specs.Early.{lazy, IsSettled, is_far, gives_far}
-use Rattle.span_eager.specs.Renaming.{ids_by, context_by, reply_by}
 use Rattle.span_eager.proofs.SameSpan.{Ids, early_ids, op_by, told_by, valid_by, ids_of_by}
 use Rattle.span_eager.proofs.SameSpans.{SameAt, same_at}
 use Rattle.span_eager.proofs.SameRecordings.{SameRecording, done_with, early_stays, none_waits, has_started}

@@ -1,23 +1,8 @@
 -- An early start changes ids alone.
-use Rattle.std.proofs.Common.{◌≡◌, ℕ, zero, suc, ◌+◌, ◌≤◌, List, [], ◌∷◌, ◌++◌, length, map, true, Option, Some, None, refl, ap, ◌∙◌, arith}
-use Rattle.std.specs.Prelude.{slice_get, count_by}
-use Rattle.std.specs.Option.{option_map_or}
-use Rattle.std.specs.List.{range_with_len}
-use Rattle.std.proofs.lemmas.Bool.Decides.{nat_tests}
-use Rattle.std.proofs.lemmas.List.{length-map}
-use Rattle.std.proofs.lemmas.Option.{slice_get_past}
-use Rattle.span_script.specs.declared.reply.Reply.{Reply}
-use Rattle.span_script.specs.declared.request.Request.{Request}
-use Rattle.span_script.specs.Setups.{Setup}
-use Rattle.span_script.specs.Tables.{Effect, History, Tables, no_tables, nothing_recorded, tables, after_effect}
-use Rattle.span_script.specs.calls.Spans.{is_open, open_spans}
-use Rattle.span_script.specs.Outcomes.{history_of, outcome_of}
-use Rattle.span_laws.specs.Laws.{none}
-use Rattle.span_laws.specs.Starts.{starting_order}
+use Rattle.std.proofs.Common.{◌≡◌, ℕ, zero, suc, ◌+◌, ◌≤◌, List, [], ◌∷◌, ◌++◌, length, map, true, Option, Some, None, refl, ap, ◌∙◌, arith, slice_get, count_by}
+use Rattle.span_eager.proofs.Common.{option_map_or, range_with_len, nat_tests, length-map, slice_get_past, Reply, Request, Setup, Effect, History, Tables, no_tables, nothing_recorded, tables, after_effect, is_open, open_spans, history_of, outcome_of, none, starting_order, lazy, eager_id, answers, is_far, MayStartEarly, new_id, reply_by, answer_by, outcome_with}
 use Rattle.span_laws.proofs.spans.AllSpansLemmas.{started_few}
 use Rattle.span_laws.proofs.steps.LegalLemmas.{scripts_are_legal}
-use Rattle.span_eager.specs.Early.{lazy, eager_id, answers, is_far, MayStartEarly}
-use Rattle.span_eager.specs.Renaming.{new_id, reply_by, answer_by, outcome_with}
 use Rattle.span_eager.proofs.SameSpan.{Ids}
 use Rattle.span_eager.proofs.RenamedTables.{made_by}
 use Rattle.span_eager.proofs.LazyHistories.{goes_on}

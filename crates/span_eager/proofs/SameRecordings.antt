@@ -1,29 +1,11 @@
 -- The same of all that is recorded: what a start, a making, an op and a close make of it.
-use Rattle.std.proofs.Common.{◌≡◌, ℕ, suc, ◌+◌, ◌≤◌, ◌==◌, ◌&&◌, ◌||◌, List, [], ◌∷◌, ◌++◌, length, map, fold, Bool, true, false, Option, Some, None, refl, sym, ap, ap₂, subst, ◌∙◌, arith, inl, inr, append_assoc}
-use Rattle.std.specs.Prelude.{is_some, option_map}
-use Rattle.std.specs.List.{AllByRecursion}
-use Rattle.std.proofs.lemmas.Bool.{cases_Bool, eq-eqb, eqb-true, true≢false}
-use Rattle.std.proofs.lemmas.List.{map-append, length-append}
-use Rattle.otel_base.specs.declared.context.Context.{Context}
-use Rattle.otel_base.specs.declared.context.SpanContext.{SpanContext}
-use Rattle.otel_base.specs.declared.record.Record.{Record}
+use Rattle.std.proofs.Common.{◌≡◌, ℕ, suc, ◌+◌, ◌≤◌, ◌==◌, ◌&&◌, ◌||◌, List, [], ◌∷◌, ◌++◌, length, map, fold, Bool, true, false, Option, Some, None, refl, sym, ap, ap₂, subst, ◌∙◌, arith, inl, inr, append_assoc, is_some, option_map}
+use Rattle.span_eager.proofs.Common.{AllByRecursion, cases_Bool, map-append, Context, SpanContext, Record, ids_of, recorder_ids, is_in, Op, LayerSettings, GREATEST, Deed, deed, SpanData, first_start, after_op, record_of, Recording, with_applied, started_under, with_start, without_closed, closed_started, with_close, data_at, update, with_op, waits, waits_by, SpanOp, if_waiting, starting, starts_from, closes_from, settles, IsSettled, record_by}
+use Rattle.std.proofs.lemmas.Bool.{eq-eqb, eqb-true, true≢false}
+use Rattle.std.proofs.lemmas.List.{length-append}
 use Rattle.otel_base.specs.declared.record.SpanKind.{SpanKind}
-use Rattle.otel_base.specs.Ids.{ids_of}
-use Rattle.otel_base.specs.RecorderIds.{recorder_ids}
-use Rattle.trace_base.specs.Spans.{is_in}
-use Rattle.otel_state.specs.declared.op.Op.{Op}
 use Rattle.otel_state.specs.declared.op.Op.TheVariants as ops
-use Rattle.otel_state.specs.declared.settings.LayerSettings.{LayerSettings}
-use Rattle.otel_state.specs.declared.times.TheConstants.{GREATEST}
-use Rattle.otel_state.specs.Deeds.{Deed, deed}
-use Rattle.otel_state.specs.States.{SpanData, first_start, after_op, record_of}
-use Rattle.otel_layer.specs.Recording.{Recording, with_applied, started_under, with_start, without_closed, closed_started, with_close}
-use Rattle.otel_layer.specs.Table.{data_at, update, with_op, waits, waits_by}
 use Rattle.otel_layer.proofs.Finding.{told_at_removed}
-use Rattle.span_script.specs.Tables.{SpanOp}
-use Rattle.span_laws.proofs.spans.StartOrdersLemmas.{if_waiting, starting, starts_from, closes_from}
-use Rattle.span_eager.specs.Early.{settles, IsSettled}
-use Rattle.span_eager.specs.Renaming.{record_by}
 use Rattle.span_eager.proofs.SameSpan.{Ids, SameTold, Quiet, op_by, told_by, early_ids, changed_alike, start_alike, made_alike, record_alike}
 use Rattle.span_eager.proofs.SameSpans.{SameSpans, SameAt, Below, same_at, same_later, same_update, update_same, same_push, next_unknown, unknown_by, pushed_told, pushed_update, same_remove, below_more, below_push, below_update, below_remove, updated_told, others_told}
 

@@ -1,25 +1,8 @@
 -- A script whose spans start at their making, beside the same one without that.
-use Rattle.std.proofs.Common.{◌≡◌, ℕ, ◌≤◌, ◌||◌, List, [], ◌∷◌, ◌++◌, length, map, fold, Bool, true, false, Option, Ok, Err, refl, sym, ap, ap₂, subst, subst₂, ◌∙◌, arith, append_assoc}
-use Rattle.std.specs.Prelude.{if◌then◌else◌, slice_get, option_and_then, nat_lt}
-use Rattle.std.proofs.lemmas.Bool.Decides.{nat_tests}
-use Rattle.std.proofs.lemmas.List.{map-append, length-map}
-use Rattle.otel_base.specs.declared.record.Record.{Record}
-use Rattle.otel_state.specs.declared.settings.LayerSettings.{LayerSettings}
-use Rattle.otel_state.specs.declared.times.TheConstants.{GREATEST}
-use Rattle.otel_layer.specs.Recording.{Recording, with_start}
-use Rattle.span_script.specs.declared.reply.Reply.{Reply}
-use Rattle.span_script.specs.declared.reply.Refusal.{Refusal}
+use Rattle.std.proofs.Common.{◌≡◌, ℕ, ◌≤◌, ◌||◌, List, [], ◌∷◌, ◌++◌, length, map, fold, Bool, true, false, Option, Ok, Err, refl, sym, ap, ap₂, subst, subst₂, ◌∙◌, arith, append_assoc, if◌then◌else◌, slice_get, option_and_then, nat_lt}
+use Rattle.span_eager.proofs.Common.{nat_tests, map-append, length-map, Record, LayerSettings, GREATEST, Recording, with_start, Reply, Refusal, Request, Setup, Effect, History, Tables, done_by, recorded_by, open_part, records_of, after_effect, Resolved, ◌>>=◌, need, effect_of, effect_of_call, is_bad_moment, followed_by, history_from, records_from, refusal_at, starts_from, closes_from, lazy, answers_from, AreSettled, AreFar, record_by, reply_by, answer_by}
 use Rattle.span_script.specs.declared.reply.Refusal.TheVariants as refusal
 use Rattle.span_script.specs.declared.reply.What.TheVariants as what
-use Rattle.span_script.specs.declared.request.Request.{Request}
-use Rattle.span_script.specs.Setups.{Setup}
-use Rattle.span_script.specs.Tables.{Effect, History, Tables, done_by, recorded_by, open_part, records_of, after_effect}
-use Rattle.span_script.specs.calls.Here.{Resolved, ◌>>=◌, need}
-use Rattle.span_script.specs.Effects.{effect_of, effect_of_call, is_bad_moment}
-use Rattle.span_script.specs.Outcomes.{followed_by, history_from, records_from, refusal_at}
-use Rattle.span_laws.proofs.spans.StartOrdersLemmas.{starts_from, closes_from}
-use Rattle.span_eager.specs.Early.{lazy, answers_from, AreSettled, AreFar}
-use Rattle.span_eager.specs.Renaming.{record_by, reply_by, answer_by}
 use Rattle.span_eager.proofs.SameSpan.{Ids}
 use Rattle.span_eager.proofs.LazyHistories.{AreShut, order_from}
 use Rattle.span_eager.proofs.SameRecordings.{SameRecording, later_same, early_stays, starts_same}

@@ -1,11 +1,8 @@
 -- The same of all spans that are known.
-use Rattle.std.proofs.Common.{◌≡◌, ℕ, ◌<◌, ◌≤◌, ◌==◌, List, [], ◌∷◌, ◌++◌, true, false, Option, Some, None, refl, sym, ap, subst, subst₂, ◌∙◌, arith, inl, inr}
-use Rattle.std.specs.Prelude.{option_map}
-use Rattle.std.specs.List.{AllByRecursion}
+use Rattle.std.proofs.Common.{◌≡◌, ℕ, ◌<◌, ◌≤◌, ◌==◌, List, [], ◌∷◌, ◌++◌, true, false, Option, Some, None, refl, sym, ap, subst, subst₂, ◌∙◌, arith, inl, inr, option_map}
+use Rattle.span_eager.proofs.Common.{AllByRecursion, cases_Bool, cond-true, cond-false, SpanData, data_at, update, is_id}
 use Rattle.std.specs.Map.{remove_entry}
-use Rattle.std.proofs.lemmas.Bool.{cases_Bool, cond-true, cond-false, eq-eqb, eqb-true, ne_eqb, true≢false}
-use Rattle.otel_state.specs.States.{SpanData}
-use Rattle.otel_layer.specs.Table.{data_at, update, is_id}
+use Rattle.std.proofs.lemmas.Bool.{eq-eqb, eqb-true, ne_eqb, true≢false}
 use Rattle.span_eager.proofs.SameSpan.{SameTold, later_alike}
 
 abbrev pub SameSpans : (ℕ → ℕ) → ℕ → List (ℕ × SpanData) → List (ℕ × SpanData) → Type 0

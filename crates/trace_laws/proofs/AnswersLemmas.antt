@@ -1,24 +1,8 @@
 -- What is written for request lines are the lines of their answers, and the last line is that of the outcome.
-use Rattle.std.proofs.Common.{◌≡◌, ℕ, suc, ◌+◌, List, [], ◌∷◌, ◌++◌, length, fold, Bool, true, false, Option, Some, None, Result, Ok, Err, refl, sym, ap, ◌∙◌, arith, append_assoc}
-use Rattle.std.specs.Prelude.{if◌then◌else◌, slice_get, option_and_then}
+use Rattle.std.proofs.Common.{◌≡◌, ℕ, suc, ◌+◌, List, [], ◌∷◌, ◌++◌, length, fold, Bool, true, false, Option, Some, None, Result, Ok, Err, refl, sym, ap, ◌∙◌, arith, append_assoc, if◌then◌else◌, slice_get, option_and_then}
 use Rattle.std.proofs.lemmas.List.{length-append}
-use Rattle.std.proofs.lemmas.List.Sums.{fold_push}
-use Rattle.span_script.specs.declared.reply.Refusal.{Refusal}
-use Rattle.span_script.specs.declared.request.Request.{Request}
-use Rattle.span_script.specs.calls.Here.{Resolved}
-use Rattle.span_script.specs.Effects.{effect_of}
-use Rattle.span_script.specs.calls.Spans.{open_spans}
-use Rattle.span_script.specs.Outcomes.{followed_by, history_from, records_from, refusal_at}
-use Rattle.span_script.specs.Setups.{Setup}
-use Rattle.span_script.specs.Tables.{Effect, History, Tables, after_effect, no_tables, records_of, tables}
-use Rattle.span_eager.specs.Early.{answers_from}
-use Rattle.trace_eager.specs.Written.{in_front, numbers_of, requests_of}
+use Rattle.trace_laws.proofs.Common.{fold_push, Refusal, Request, Resolved, effect_of, open_spans, followed_by, history_from, records_from, refusal_at, Setup, Effect, History, Tables, after_effect, no_tables, records_of, tables, answers_from, in_front, numbers_of, requests_of, Told, is_blank, Report, with_text_before, told_step, effect_of_line, effect_of_request, report_on_effect, report_on, answer_text, answer_count, request_spelled, answer_lines, last_line, unread_from, unread_or}
 use Rattle.trace_pipeline.specs.declared.signal.Signal.TheVariants as signal
-use Rattle.trace_pipeline.specs.declared.told.Told.{Told}
-use Rattle.trace_pipeline.specs.Lines.{is_blank}
-use Rattle.trace_pipeline.specs.Report.{Report, with_text_before, told_step, effect_of_line, effect_of_request, report_on_effect, report_on, answer_text, answer_count}
-use Rattle.trace_pipeline.specs.reading.Spelled.{request_spelled}
-use Rattle.trace_laws.specs.Written.{answer_lines, last_line, unread_from, unread_or}
 
 module _ (setup : Setup) where
   -- what stands on lines, behind a history, after so many lines and records

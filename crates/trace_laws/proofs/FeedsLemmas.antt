@@ -1,25 +1,16 @@
 -- No line that is written has a line feed before its end, so the lines of a text are those that were written.
-use Rattle.std.proofs.Common.{◌≡◌, ℕ, zero, suc, ◌+◌, ◌/◌, ◌%◌, ◌&&◌, ◌||◌, nat_lt, List, [], ◌∷◌, ◌++◌, length, Bool, true, false, cond, not, refl, ap, ◌∙◌, arith, append_assoc, decimal}
-use Rattle.std.specs.Prelude.{◌==◌, pos, negsuc, if◌then◌else◌}
+use Rattle.std.proofs.Common.{◌≡◌, ℕ, zero, suc, ◌+◌, ◌/◌, ◌%◌, ◌&&◌, ◌||◌, nat_lt, List, [], ◌∷◌, ◌++◌, length, Bool, true, false, cond, not, refl, ap, ◌∙◌, arith, append_assoc, decimal, ◌==◌, pos, negsuc, if◌then◌else◌}
 use Rattle.std.specs.Char.{digit_char}
 use Rattle.std.specs.Fmt.{digit_glyph, digits, digits_onto}
-use Rattle.std.specs.List.{list_all}
-use Rattle.std.proofs.lemmas.Bool.{and_parts}
+use Rattle.trace_laws.proofs.Common.{list_all, and_parts, Record, Reply, lines_of, record_lines, end_data, end_text, record_text, reply_data, reply_text, records_in, answer_lines}
 use Rattle.std.proofs.lemmas.Bool.Decides.{nat_tests}
 use Rattle.std.proofs.lemmas.List.{length-append}
 use Rattle.std.proofs.lemmas.List.Folds.{list_all-append}
 use Rattle.json.specs.Print.{escape, escape_byte, escape_letter, quoted}
 use Rattle.serde_json.specs.Data.{Num, unsigned, negative, float, Data, null, boolean, number, string, array, object, Items, no_items, item, Members, no_members, member}
 use Rattle.serde_json.specs.Written.{comma_if, compact_text, items_text, members_text, number_text}
-use Rattle.otel_base.specs.declared.record.Record.{Record}
-use Rattle.span_script.specs.declared.reply.Reply.{Reply}
-use Rattle.trace_pipeline.specs.Lines.{lines_of}
 use Rattle.trace_pipeline.specs.reading.Object.{line_of}
 use Rattle.trace_pipeline.specs.values.RecordData.{record_data}
-use Rattle.trace_pipeline.specs.Report.{record_lines}
-use Rattle.trace_pipeline.specs.text.Texts.{end_data, end_text, record_text, reply_data, reply_text}
-use Rattle.trace_laws.specs.Sums.{records_in}
-use Rattle.trace_laws.specs.Written.{answer_lines}
 
 abbrev is_inner : ℕ → Bool
 is_inner b = not (b == 10)

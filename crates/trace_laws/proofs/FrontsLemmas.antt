@@ -1,20 +1,7 @@
 -- Fronts of a history are legal, and answers are parted as the spans that requests closed.
-use Rattle.std.proofs.Common.{◌≡◌, ℕ, List, [], ◌∷◌, ◌++◌, length, map, flat_map, fold, Some, Ok, Err, refl, sym, ap, subst, ◌∙◌, arith, append_assoc, append-nil}
-use Rattle.std.specs.Prelude.{slice_get, IsErr}
-use Rattle.std.proofs.lemmas.List.Sums.{fold_push}
-use Rattle.otel_base.specs.declared.record.Record.{Record}
-use Rattle.span_script.specs.declared.reply.Reply.{Reply}
-use Rattle.span_script.specs.declared.request.Request.{Request}
-use Rattle.span_script.specs.calls.Here.{Resolved}
-use Rattle.span_script.specs.Effects.{effect_of}
-use Rattle.span_script.specs.Outcomes.{followed_by, history_from, records_from}
-use Rattle.span_script.specs.Setups.{Setup}
-use Rattle.span_script.specs.Tables.{Effect, History, Tables, after_effect, no_tables, records_of, tables}
-use Rattle.span_eager.specs.Early.{answers_from}
-use Rattle.span_laws.specs.Laws.{IsHistory, more}
-use Rattle.span_laws.specs.Records.{EachRecord}
+use Rattle.std.proofs.Common.{◌≡◌, ℕ, List, [], ◌∷◌, ◌++◌, length, map, flat_map, fold, Some, Ok, Err, refl, sym, ap, subst, ◌∙◌, arith, append_assoc, append-nil, slice_get, IsErr}
+use Rattle.trace_laws.proofs.Common.{fold_push, Record, Reply, Request, Resolved, effect_of, followed_by, history_from, records_from, Setup, Effect, History, Tables, after_effect, no_tables, records_of, tables, answers_from, IsHistory, more, EachRecord, AnswersEach, closed_by}
 use Rattle.span_laws.proofs.records.RecordsLemmas.{as_many_as_close}
-use Rattle.trace_laws.specs.Headline.{AnswersEach, closed_by}
 
 -- the closed spans of the tables behind a history
 pub closed_is : (t : Tables) (h : History) → (fold after_effect t h).closed ≡ t.closed ++ closed_by h

@@ -1,18 +1,8 @@
 -- What a script's answers tell of its spans.
-use Rattle.std.proofs.Common.{◌≡◌, ℕ, ◌≤◌, ◌&&◌, List, [], ◌∷◌, ◌++◌, length, Bool, not, Option, Some, Ok, refl, sym, ap, subst, ◌∙◌, inl, inr}
-use Rattle.std.specs.Prelude.{nat_lt, slice_get}
-use Rattle.std.proofs.lemmas.Bool.{cases_lt, lt-ltb, le-ltb}
-use Rattle.otel_base.specs.declared.record.Record.{Record}
-use Rattle.span_script.specs.declared.request.Request.{Request}
-use Rattle.span_script.specs.Admission.{opening_read}
-use Rattle.span_script.specs.calls.Spans.{is_open}
-use Rattle.span_script.specs.Outcomes.{history_of, records_of_history}
-use Rattle.span_script.specs.Setups.{Setup, setup_by}
-use Rattle.span_script.specs.Tables.{Effect, History, no_tables, tables}
-use Rattle.span_eager.specs.Early.{answers}
-use Rattle.span_laws.specs.Laws.{IsHistory, none, occurrences}
+use Rattle.std.proofs.Common.{◌≡◌, ℕ, ◌≤◌, ◌&&◌, List, [], ◌∷◌, ◌++◌, length, Bool, not, Option, Some, Ok, refl, sym, ap, subst, ◌∙◌, inl, inr, nat_lt, slice_get}
+use Rattle.trace_laws.proofs.Common.{cases_lt, Record, Request, opening_read, is_open, history_of, records_of_history, Setup, setup_by, Effect, History, no_tables, tables, answers, IsHistory, none, occurrences, EachRecord, Script, script_from, requests_of, lines_of, output, AnswersEach, AreAnswers, HoldsCalls, TellsSpans, TellsScript, IsOutput, first_line, opened_text}
+use Rattle.std.proofs.lemmas.Bool.{lt-ltb, le-ltb}
 use Rattle.span_laws.specs.Makings.{HasContextOf}
-use Rattle.span_laws.specs.Records.{EachRecord}
 use Rattle.span_laws.proofs.spans.ChildrenLemmas.{children_first}
 use Rattle.span_laws.proofs.records.HistoriesLemmas.{closed_once, closed_when_ended, only_made_closed}
 use Rattle.span_laws.proofs.records.MadeRecordsLemmas.{IsStepOf, each_known}
@@ -20,13 +10,7 @@ use Rattle.span_laws.proofs.spans.RequestedSpansLemmas.{if_admitted}
 use Rattle.span_laws.proofs.records.OwnContextsLemmas.{is_under}
 use Rattle.span_laws.proofs.steps.LegalLemmas.{scripts_are_legal}
 use Rattle.trace_base.specs.Spans.{is_in}
-use Rattle.trace_eager.specs.Renamed.{Script, script_from}
-use Rattle.trace_eager.specs.Written.{requests_of}
 use Rattle.trace_pipeline.specs.declared.signal.Signal.TheVariants as signal
-use Rattle.trace_pipeline.specs.Lines.{lines_of}
-use Rattle.trace_pipeline.specs.Report.{output}
-use Rattle.trace_laws.specs.Headline.{AnswersEach, AreAnswers, HoldsCalls, TellsSpans, TellsScript}
-use Rattle.trace_laws.specs.Written.{IsOutput, first_line, opened_text}
 use Rattle.trace_laws.proofs.FrontsLemmas.{answers_each, closed_is, front_legal, front_step, is_refused, records_are, replies_are}
 use Rattle.trace_laws.proofs.OutputLemmas.{is_output}
 

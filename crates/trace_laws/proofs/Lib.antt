@@ -1,3 +1,4 @@
+pub mod Common
 mod AnswersLemmas
 pub mod OutputLemmas
 mod FrontsLemmas

@@ -1,35 +1,15 @@
 -- The summary of a made script counts what is written of it.
-use Rattle.std.proofs.Common.{◌≡◌, ℕ, ◌+◌, ◌≤◌, List, [], ◌∷◌, ◌++◌, length, map, Bool, true, Option, Some, None, Ok, Err, refl, sym, ap, ap₂, subst, ◌∙◌, arith, append-nil}
-use Rattle.std.specs.Prelude.{option_and_then, if◌then◌else◌}
-use Rattle.std.specs.List.{range_with_len, sum_by}
+use Rattle.std.proofs.Common.{◌≡◌, ℕ, ◌+◌, ◌≤◌, List, [], ◌∷◌, ◌++◌, length, map, Bool, true, Option, Some, None, Ok, Err, refl, sym, ap, ap₂, subst, ◌∙◌, arith, append-nil, option_and_then, if◌then◌else◌}
+use Rattle.trace_laws.proofs.Common.{range_with_len, Record, Refusal, Reply, Request, OpeningRead, opening_read, Resolved, effect_of, open_spans, history_from, history_of, outcome_of, records_of_history, refusal_at, refused_behind, Setup, Effect, History, Tables, after_effect, no_tables, tables, answers, answers_from, Script, script_from, numbers_of, requests_of, Told, lines_of, IsValid, Report, accepts, report_on_opening, output, report_on, end_text, Counts, records_in, IsOutput, first_line, answer_lines, last_line, opened_text, outcome_text, unread_from}
+use Rattle.std.specs.List.{sum_by}
 use Rattle.std.proofs.lemmas.List.{length-append}
 use Rattle.std.proofs.lemmas.List.FromFn.{length-range_with_len}
 use Rattle.std.proofs.lemmas.Option.{slice_get_past}
-use Rattle.otel_base.specs.declared.record.Record.{Record}
-use Rattle.span_script.specs.declared.reply.Refusal.{Refusal}
-use Rattle.span_script.specs.declared.reply.Reply.{Reply}
-use Rattle.span_script.specs.declared.request.Request.{Request}
-use Rattle.span_script.specs.Admission.{OpeningRead, opening_read}
-use Rattle.span_script.specs.calls.Here.{Resolved}
-use Rattle.span_script.specs.Effects.{effect_of}
-use Rattle.span_script.specs.calls.Spans.{open_spans}
-use Rattle.span_script.specs.Outcomes.{history_from, history_of, outcome_of, records_of_history, refusal_at, refused_behind}
-use Rattle.span_script.specs.Setups.{Setup}
-use Rattle.span_script.specs.Tables.{Effect, History, Tables, after_effect, no_tables, tables}
 use Rattle.span_script.proofs.runs.RunLemmas.{goes_on_with}
-use Rattle.span_eager.specs.Early.{answers, answers_from}
-use Rattle.trace_eager.specs.Renamed.{Script, script_from}
-use Rattle.trace_eager.specs.Written.{numbers_of, requests_of}
 use Rattle.trace_pipeline.specs.declared.signal.Signal.TheVariants as signal
-use Rattle.trace_pipeline.specs.declared.told.Told.{Told}
 use Rattle.trace_pipeline.specs.Generated.{made_lines, made_requests, made_script, made_settings, made_setup, request_line}
-use Rattle.trace_pipeline.specs.Lines.{lines_of}
 use Rattle.trace_pipeline.specs.Replay.{busy_of, events_of, history_unless_refused, history_after, summary_of}
-use Rattle.trace_pipeline.specs.Report.{IsValid, Report, accepts, report_on_opening, output, report_on}
-use Rattle.trace_pipeline.specs.text.Texts.{end_text}
 use Rattle.trace_pipeline.proofs.made.LinesLemmas.{Each, HasLine, made_each, script_lines, settings_read}
-use Rattle.trace_laws.specs.Sums.{Counts, records_in}
-use Rattle.trace_laws.specs.Written.{IsOutput, first_line, answer_lines, last_line, opened_text, outcome_text, unread_from}
 use Rattle.trace_laws.proofs.FeedsLemmas.{all_lines, end_line}
 use Rattle.trace_laws.proofs.FrontsLemmas.{records_are}
 use Rattle.trace_laws.proofs.OutputLemmas.{is_output}

@@ -1,3 +1,4 @@
+pub mod Common
 -- Reading and writing.
 pub mod texts
 pub mod readings

@@ -1,9 +1,6 @@
 -- Whether the numbers of a list differ, told by a set of those that were seen.
 use Rattle.std.proofs.Common.{◌≡◌, ℕ, ◌+◌, ◌<◌, length, get_or, drop, is_eq, nat_cmp, arith, List, [], ◌∷◌, Bool, true, false, not, ◌&&◌, ◌||◌, ◌==◌, cond, refl, ap, ◌∙◌, sym}
-use Rattle.std.specs.List.{list_any}
-use Rattle.std.proofs.lemmas.List.{drop_more}
-use Rattle.std.proofs.lemmas.Bool.Decides.{nat_tests}
-use Rattle.trace_pipeline.specs.forms.SettingsForm.{Lane, lane_ids, all_differ}
+use Rattle.trace_pipeline.proofs.Common.{list_any, drop_more, nat_tests, Lane, lane_ids, all_differ}
 
 -- no number is in the set
 abbrev pub all_new : (ℕ → Bool) → List ℕ → Bool

@@ -1,9 +1,6 @@
 -- Where no two ids of a list are equal, each has its own place.
 use Rattle.std.proofs.Common.{◌≡◌, ℕ, zero, suc, ◌<◌, ◌==◌, List, [], ◌∷◌, length, true, false, not, refl, sym, ap, arith}
-use Rattle.std.specs.List.{list_any}
-use Rattle.std.proofs.lemmas.Bool.{or_parts, and_parts, eqb-false, not-true}
-use Rattle.span_script.specs.Setups.{HasOwnIds, id_at}
-use Rattle.trace_pipeline.specs.forms.SettingsForm.{all_differ}
+use Rattle.trace_pipeline.proofs.Common.{list_any, or_parts, and_parts, eqb-false, not-true, HasOwnIds, id_at, all_differ}
 
 -- an id that is equal to none stands at no place
 other : (n : ℕ) (ns : List ℕ) (m : ℕ) → m < length ns → list_any (λ x. n == x) ns ≡ false → n ≡ id_at ns m → ⊥

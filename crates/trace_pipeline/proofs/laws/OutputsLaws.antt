@@ -1,17 +1,10 @@
 -- How the output of a script with one line more begins, and that no line is refused for what is told.
-use Rattle.std.proofs.Common.{◌≡◌, ℕ, List, [], ◌∷◌, ◌++◌, refl, sym, ap, ◌∙◌, append_assoc, ◌+◌}
-use Rattle.std.specs.Prelude.{Bool, true, false, if◌then◌else◌, Result, Ok, Err}
-use Rattle.otel_base.specs.declared.record.Record.{Record}
+use Rattle.std.proofs.Common.{◌≡◌, ℕ, List, [], ◌∷◌, ◌++◌, refl, sym, ap, ◌∙◌, append_assoc, ◌+◌, Bool, true, false, if◌then◌else◌, Result, Ok, Err}
+use Rattle.trace_pipeline.proofs.Common.{Record, Setup, setup_by, History, Effect, tables, records_of, is_blank, OpeningRead, opening_read, settings_spelled, Report, with_text_before, answer_text, answer_count, effect_of_line, report_on_effect, report_on_opening, report_on_settings, report_on, report_from, accepts}
 use Rattle.span_script.specs.declared.settings.Settings.{Settings}
 use Rattle.trace_pipeline.specs.declared.signal.Signal.{Signal}
 use Rattle.trace_pipeline.specs.declared.signal.Signal.TheVariants as signal
 use Rattle.trace_pipeline.specs.declared.told.Told.{Told}
-use Rattle.span_script.specs.Setups.{Setup, setup_by}
-use Rattle.span_script.specs.Tables.{History, Effect, tables, records_of}
-use Rattle.trace_pipeline.specs.Lines.{is_blank}
-use Rattle.span_script.specs.Admission.{OpeningRead, opening_read}
-use Rattle.trace_pipeline.specs.reading.Spelled.{settings_spelled}
-use Rattle.trace_pipeline.specs.Report.{Report, with_text_before, answer_text, answer_count, effect_of_line, report_on_effect, report_on_opening, report_on_settings, report_on, report_from, accepts}
 use Rattle.trace_pipeline.specs.Laws.{GoesOn}
 
 -- ---- what is told

@@ -1,28 +1,10 @@
 -- The lines of made scripts stand apart, and spell their requests.
 use Rattle.std.proofs.Common.{◌≡◌, ℕ, zero, suc, ◌+◌, ◌*◌, ◌<◌, ◌≤◌, ◌^◌, ◌==◌, ◌++◌, List, [], ◌∷◌, length, map, true, false, Some, Ok, option_and_then, decimal, refl, ap, ◌∙◌, arith, append_assoc, length-append}
 use Rattle.std.specs.Prelude.{⊤, ok_or, flat_map}
-use Rattle.std.proofs.lemmas.Bool.{and_parts}
-use Rattle.std.proofs.lemmas.Bool.Decides.{nat_tests}
-use Rattle.std.specs.Str.{is_utf8, chars}
-use Rattle.json.specs.Print.{escape_byte}
-use Rattle.json.specs.Tree.{depth}
-use Rattle.serde_json.specs.Data.{number, object, Members, member}
-use Rattle.serde_json.specs.Find.{as_object}
-use Rattle.serde_json.specs.Read.{of_json, max_depth}
-use Rattle.serde_json.specs.Written.{outline, compact_text}
-use Rattle.serde_json.proofs.OnLiterals.{serde_json_on_literals}
-use Rattle.serde_json.proofs.Numbers.{number_of-decimal}
-use Rattle.span_script.specs.declared.request.Call.{Call}
+use Rattle.trace_pipeline.proofs.Common.{and_parts, nat_tests, is_utf8, escape_byte, depth, number, object, Members, member, as_object, of_json, max_depth, outline, compact_text, serde_json_on_literals, number_of-decimal, Call, Request, BadLine, all_of, made_settings, root_fields, row_fields, round, rounds, made_requests, request_members, request_line, settings_line, made_lines, made_script, lines_of, is_blank, request_form, new_form, drop_form, enter_form, exit_form, event_form, settings_form, callsite_form, lane_form, error_flags, span_flags, layer_form, request_spelled, settings_spelled}
+use Rattle.std.specs.Str.{chars}
 use Rattle.span_script.specs.declared.request.Call.TheVariants as call
 use Rattle.span_script.specs.declared.request.Place.TheVariants as place
-use Rattle.span_script.specs.declared.request.Request.{Request}
-use Rattle.trace_pipeline.specs.declared.told.Told.TheVariants.{BadLine}
-use Rattle.trace_pipeline.specs.forms.Forms.{all_of}
-use Rattle.trace_pipeline.specs.Generated.{made_settings, root_fields, row_fields, round, rounds, made_requests, request_members, request_line, settings_line, made_lines, made_script}
-use Rattle.trace_pipeline.specs.Lines.{lines_of, is_blank}
-use Rattle.trace_pipeline.specs.forms.RequestForm.{request_form, new_form, drop_form, enter_form, exit_form, event_form}
-use Rattle.trace_pipeline.specs.forms.SettingsForm.{settings_form, callsite_form, lane_form, error_flags, span_flags, layer_form}
-use Rattle.trace_pipeline.specs.reading.Spelled.{request_spelled, settings_spelled}
 use Rattle.trace_pipeline.proofs.readings.FieldsLemmas.{fields_read}
 use Rattle.trace_pipeline.proofs.readings.LinesLemmas.{read_value}
 use Rattle.trace_pipeline.proofs.texts.PlainTextsLemmas.{is_plain, are_plain, IsPlain, room, text_plain, text_length, has_numbers, plain_utf8}

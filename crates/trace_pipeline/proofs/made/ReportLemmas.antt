@@ -1,15 +1,7 @@
 -- A made script whose requests have effects is valid.
 use Rattle.std.proofs.Common.{◌≡◌, ℕ, ◌+◌, ◌≤◌, List, [], ◌∷◌, ◌++◌, map, Option, Some, true, refl, ap, ◌∙◌, Ok, Err}
-use Rattle.span_script.specs.declared.request.Request.{Request}
-use Rattle.span_script.specs.Admission.{OpeningRead, opening_read}
-use Rattle.span_script.specs.calls.Here.{Resolved}
-use Rattle.span_script.specs.Effects.{effect_of}
-use Rattle.span_script.specs.Setups.{Setup}
-use Rattle.span_script.specs.Tables.{History, Effect, tables, records_of}
+use Rattle.trace_pipeline.proofs.Common.{Request, OpeningRead, opening_read, Resolved, effect_of, Setup, History, Effect, tables, records_of, made_settings, made_setup, made_requests, request_line, made_script, history_unless_refused, history_after, Report, told_step, effect_of_line, effect_of_request, report_on_effect, report_on_opening, report_on, answer_count, accepts, IsValid}
 use Rattle.trace_pipeline.specs.declared.signal.Signal.TheVariants as signal
-use Rattle.trace_pipeline.specs.Generated.{made_settings, made_setup, made_requests, request_line, made_script}
-use Rattle.trace_pipeline.specs.Replay.{history_unless_refused, history_after}
-use Rattle.trace_pipeline.specs.Report.{Report, told_step, effect_of_line, effect_of_request, report_on_effect, report_on_opening, report_on, answer_count, accepts, IsValid}
 use Rattle.trace_pipeline.proofs.made.LinesLemmas.{Each, HasLine, made_each, script_lines, script_short, settings_read}
 
 step_accepted : (resolved : Resolved) (next : Effect → Option History) (go : Effect → Report) (line : ℕ) (h : History) → history_unless_refused resolved next ≡ Some h

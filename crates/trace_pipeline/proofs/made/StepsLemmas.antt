@@ -1,34 +1,22 @@
 -- Each request of a made script has an effect, whatever the filter lets through.
-use Rattle.std.proofs.Common.{◌≡◌, ℕ, zero, suc, ◌+◌, ◌-◌, ◌*◌, ◌%◌, ◌^◌, ◌<◌, ◌≤◌, ◌==◌, ◌&&◌, ◌||◌, List, [], ◌∷◌, ◌++◌, length, Bool, true, false, if◌then◌else◌, Option, Some, None, Ok, refl, sym, ap, subst, ◌∙◌, arith, append_assoc, append-nil, length-append}
-use Rattle.std.specs.Prelude.{slice_get, slice_set, is_some, option_map, codes}
+use Rattle.std.proofs.Common.{◌≡◌, ℕ, zero, suc, ◌+◌, ◌-◌, ◌*◌, ◌%◌, ◌^◌, ◌<◌, ◌≤◌, ◌==◌, ◌&&◌, ◌||◌, List, [], ◌∷◌, ◌++◌, length, Bool, true, false, if◌then◌else◌, Option, Some, None, Ok, refl, sym, ap, subst, ◌∙◌, arith, append_assoc, append-nil, length-append, slice_get, slice_set, is_some, option_map, codes}
 use Rattle.std.specs.Option.{option_to_list}
-use Rattle.std.specs.List.{list_any}
-use Rattle.std.proofs.lemmas.Bool.Decides.{nat_tests}
-use Rattle.std.proofs.lemmas.List.{get_or-append-add, set-append_right}
-use Rattle.std.proofs.lemmas.List.Folds.{list_any-append}
+use Rattle.trace_pipeline.proofs.Common.{list_any, nat_tests, set-append_right, list_any-append, Call, Request, LAST_MOMENT, id_at, Scope, EntryOf, Attached, is_by, ScopeGuard, Effect, Tables, History, tables, after_effect, slot_at, scope_of, with_attached, with_detached, here_at, Resolved, effect_of, effect_of_call, is_bad_moment, made_site, made_setup, root_fields, row_fields, round, rounds, made_requests, history_unless_refused, history_after}
+use Rattle.std.proofs.lemmas.List.{get_or-append-add}
 use Rattle.std.proofs.lemmas.List.Sums.{fold-append}
 use Rattle.otel_base.specs.declared.context.Context.{Context}
 use Rattle.trace_base.specs.declared.callsite.Callsite.{Callsite}
 use Rattle.trace_base.specs.declared.callsite.Kind.TheVariants as kind
 use Rattle.trace_base.specs.declared.field.ValueSet.{ValueSet}
 use Rattle.trace_base.specs.Spans.{without_last, current_of}
-use Rattle.span_script.specs.declared.request.Call.{Call}
 use Rattle.span_script.specs.declared.request.Call.TheVariants as call
 use Rattle.span_script.specs.declared.request.Place.{Place}
 use Rattle.span_script.specs.declared.request.Place.TheVariants as put
-use Rattle.span_script.specs.declared.request.Request.{Request}
-use Rattle.span_script.specs.declared.request.TheConstants.{LAST_MOMENT}
 use Rattle.span_script.specs.Fields.{values_of}
-use Rattle.span_script.specs.Setups.{id_at}
-use Rattle.span_script.specs.Tables.{Scope, EntryOf, Attached, is_by, ScopeGuard, Effect, Tables, History, tables, after_effect, slot_at, scope_of, with_attached, with_detached}
-use Rattle.span_script.specs.calls.Here.{here_at, Resolved}
-use Rattle.span_script.specs.Effects.{effect_of, effect_of_call, is_bad_moment}
 use Rattle.span_script.specs.calls.Entries.{enter_effect, exit_effect, attached_by, active, is_full}
 use Rattle.span_script.specs.calls.Events.{event_effect}
 use Rattle.span_script.specs.calls.Filter.{admits_at}
 use Rattle.span_script.specs.calls.Spans.{borrows, is_borrowed, new_effect, span_effect, disabled_effect, drop_effect}
-use Rattle.trace_pipeline.specs.Generated.{made_site, made_setup, root_fields, row_fields, round, rounds, made_requests}
-use Rattle.trace_pipeline.specs.Replay.{history_unless_refused, history_after}
 use Rattle.trace_pipeline.proofs.made.LinesLemmas.{asked, root_call, below_call, event_call}
 
 -- ---- histories, a request more at a time

@@ -1,17 +1,11 @@
 -- The value of each attribute, status and time is read as it.
 use Rattle.std.proofs.Common.{◌≡◌, ℕ, ◌≤◌, pos, negsuc, List, [], ◌∷◌, Some, option_map, option_and_then, refl, ap, ◌∙◌, arith}
-use Rattle.std.proofs.lemmas.Bool.Decides.{nat_tests}
+use Rattle.trace_pipeline.proofs.Common.{nat_tests, LAST_MOMENT, otel_value_of, key_value, attribute_spelled, error_status_form, status_spelled, IsOtelValue, AreAttributes, at_most, each, items, attribute_value, attribute_data, status_data}
 use Rattle.otel_base.specs.declared.status.Status.{Status}
 use Rattle.otel_base.specs.declared.status.Status.TheVariants as status
 use Rattle.otel_base.specs.declared.value.KeyValue.{KeyValue}
 use Rattle.otel_base.specs.declared.value.OtelValue.{OtelValue}
 use Rattle.otel_base.specs.declared.value.OtelValue.TheVariants as otel
-use Rattle.span_script.specs.declared.request.TheConstants.{LAST_MOMENT}
-use Rattle.trace_pipeline.specs.forms.AttributeForm.{otel_value_of, key_value, attribute_spelled, error_status_form, status_spelled}
-use Rattle.trace_pipeline.specs.values.FieldData.{IsOtelValue, AreAttributes}
-use Rattle.trace_pipeline.specs.forms.Forms.{at_most, each}
-use Rattle.trace_pipeline.specs.reading.Object.{items}
-use Rattle.trace_pipeline.specs.values.RecordData.{attribute_value, attribute_data, status_data}
 use Rattle.trace_pipeline.proofs.readings.FieldsLemmas.{texts_read, small_number}
 
 pub otel_read : (v : OtelValue) → IsOtelValue v → otel_value_of (attribute_value v) ≡ Some v

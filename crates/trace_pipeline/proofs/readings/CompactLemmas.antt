@@ -2,26 +2,14 @@
 use Rattle.std.proofs.Common.{negsuc, ◌≡◌, ℕ, suc, ◌<◌, ◌≤◌, ◌^◌, List, [], ◌∷◌, ◌++◌, length, get_or, take, drop, true, false, Bool, Some, None, Option, option_and_then, option_map, unwrap_or, refl, sym, ap, ◌∙◌, arith, append_assoc, append-nil, Bor, decimal, MatchOption, IfSome, ◌+◌, ◌-◌, nat_eq, length-append}
 use Rattle.std.specs.Prelude.{⊤}
 use Rattle.std.specs.Str.{IsUtf8}
-use Rattle.std.specs.Cmp.Lexicographic.{pointwise}
+use Rattle.trace_pipeline.proofs.Common.{pointwise, strip_prefix_is, Decides-eqb, json_tokens, depth, items_depth, members_depth, HasNumbers, ItemsHaveNumbers, MembersHaveNumbers, escape, quoted, IsNumber-decimal, IsNumber-signed_decimal, Data, null, boolean, unsigned, negative, number, string, array, object, Items, no_items, item, Members, no_members, member, put, as_object, of_json, of_items, of_members, read, max_depth, outline, items_outline, members_outline, compact_text, items_text, members_text, number_of-decimal, number_of-negative, line_members, line_value, nested_value, plain_data, onto, ReadsValue, BeginsWithValue, BeginsItems, BeginsMembers, BeginsNested}
 use Rattle.std.proofs.Math.ListN.{take-append-drop}
 use Rattle.std.proofs.Math.Seq.{drop-cons}
-use Rattle.std.proofs.lemmas.Slice.Eq.{strip_prefix_is}
-use Rattle.std.proofs.lemmas.Bool.Decides.{Decides-eqb}
 use Rattle.json.specs.Token.{Token}
 use Rattle.json.specs.Json.{value, if_last}
-use Rattle.json.specs.Tree.{json_tokens, depth, items_depth, members_depth, HasNumbers, ItemsHaveNumbers, MembersHaveNumbers}
-use Rattle.json.specs.Print.{escape, quoted}
-use Rattle.json.proofs.Printed.Decimals.{IsNumber-decimal, IsNumber-signed_decimal}
 use Rattle.json.proofs.Printed.Tokens.{tokens-print}
 use Rattle.json.proofs.Printed.Trees.{value-json_tokens, ArePrintable-json_tokens}
-use Rattle.serde_json.specs.Data.{Data, null, boolean, unsigned, negative, number, string, array, object, Items, no_items, item, Members, no_members, member, put}
-use Rattle.serde_json.specs.Find.{as_object}
-use Rattle.serde_json.specs.Read.{of_json, of_items, of_members, read, max_depth}
-use Rattle.serde_json.specs.Written.{outline, items_outline, members_outline, compact_text, items_text, members_text}
-use Rattle.serde_json.proofs.Numbers.{number_of-decimal, number_of-negative}
 use Rattle.serde_json.proofs.Texts.{print-outline}
-use Rattle.trace_pipeline.specs.reading.Spelled.{line_members, line_value}
-use Rattle.trace_pipeline.specs.text.Compact.{nested_value, plain_data, onto, ReadsValue, BeginsWithValue, BeginsItems, BeginsMembers, BeginsNested}
 use Rattle.trace_pipeline.specs.declared.read.plain.Plain.{Plain}
 use Rattle.trace_pipeline.proofs.readings.LinesLemmas.{read_value}
 

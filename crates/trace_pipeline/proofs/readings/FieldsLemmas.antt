@@ -1,19 +1,8 @@
 -- The value of each field is read as the field.
 use Rattle.std.proofs.Common.{◌≡◌, ◌≢◌, ℕ, suc, ◌-◌, ◌^◌, ◌<◌, ℤ, pos, negsuc, neg_ℤ, List, [], ◌∷◌, true, Some, None, option_map, option_and_then, nat_lt, nat_le, decimal, refl, ap, subst, ◌∙◌, arith, ◌&&◌, if◌then◌else◌}
-use Rattle.std.specs.Fmt.{signed_decimal}
-use Rattle.std.specs.Str.Parse.{AllDigits, IsNumeral}
-use Rattle.std.proofs.lemmas.Bool.Decides.{nat_tests}
-use Rattle.std.proofs.lemmas.Fmt.{decimal_is_IsNumeral_wide}
+use Rattle.trace_pipeline.proofs.Common.{signed_decimal, AllDigits, IsNumeral, nat_tests, decimal_is_IsNumeral_wide, string, as_str, Value, i128_word, below_zero, from_zero, written_value, written_field, HasBits, IsValue, AreValues, error_form, typed_form, value_spelled, field_of, at_most, each, items}
 use Rattle.std.proofs.lemmas.Str.Parse.{digit_from_value}
-use Rattle.serde_json.specs.Data.{string}
-use Rattle.serde_json.specs.Find.{as_str}
-use Rattle.trace_base.specs.declared.field.Value.{Value}
 use Rattle.trace_base.specs.declared.field.Value.TheVariants.{Bool as Truth, I64, U64, I128, U128, Str, Debug, Error}
-use Rattle.trace_pipeline.specs.text.Decimals.{i128_word, below_zero, from_zero}
-use Rattle.trace_pipeline.specs.values.FieldData.{written_value, written_field, HasBits, IsValue, AreValues}
-use Rattle.trace_pipeline.specs.forms.FieldForm.{error_form, typed_form, value_spelled, field_of}
-use Rattle.trace_pipeline.specs.forms.Forms.{at_most, each}
-use Rattle.trace_pipeline.specs.reading.Object.{items}
 use Rattle.trace_pipeline.proofs.texts.DecimalsLemmas.{decimal_read, no_minus}
 
 -- ---- signed numbers

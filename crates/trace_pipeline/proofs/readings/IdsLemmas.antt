@@ -1,11 +1,7 @@
 -- The digits of an id are read as the id.
-use Rattle.std.proofs.Common.{◌≡◌, ℕ, zero, suc, ◌+◌, ◌*◌, ◌/◌, ◌%◌, ◌^◌, ◌<◌, ◌≤◌, List, [], ◌∷◌, length, Option, Some, option_and_then, refl, sym, ap, ◌∙◌, arith}
-use Rattle.std.specs.Fmt.{digit_glyph}
-use Rattle.std.specs.Prelude.{false}
-use Rattle.std.proofs.lemmas.Bool.Decides.{nat_tests}
-use Rattle.std.proofs.Math.Nat.{pow-succ', pow-le-pow_right}
+use Rattle.std.proofs.Common.{◌≡◌, ℕ, zero, suc, ◌+◌, ◌*◌, ◌/◌, ◌%◌, ◌^◌, ◌<◌, ◌≤◌, List, [], ◌∷◌, length, Option, Some, option_and_then, refl, sym, ap, ◌∙◌, arith, false}
+use Rattle.trace_pipeline.proofs.Common.{digit_glyph, nat_tests, pow-succ', pow-le-pow_right, hex16, hex32, hex_word, go_on, digit_value}
 use Rattle.std.proofs.lemmas.List.{length-append}
-use Rattle.trace_pipeline.specs.text.Hex.{hex16, hex32, hex_word, go_on, digit_value}
 use Rattle.trace_pipeline.proofs.texts.HexLemmas.{last_digits, last_digits-hex16, last_digits-onto}
 
 glyph_value : (d : ℕ) → d < 16 → digit_value (digit_glyph false d) ≡ Some d

@@ -1,10 +1,7 @@
 -- The value of a line, beside what its reader says of it.
 use Rattle.std.proofs.Common.{◌≡◌, ℕ, List, Bool, true, false, Some, None, refl, if◌then◌else◌}
-use Rattle.std.specs.Str.{IsUtf8, is_utf8}
-use Rattle.std.proofs.lemmas.Str.{IsUtf8-from_is_utf8, is_utf8-from_IsUtf8}
-use Rattle.serde_json.specs.Data.{Data}
-use Rattle.serde_json.specs.Read.{read}
-use Rattle.trace_pipeline.specs.reading.Spelled.{line_value}
+use Rattle.trace_pipeline.proofs.Common.{is_utf8, IsUtf8-from_is_utf8, is_utf8-from_IsUtf8, Data, read, line_value}
+use Rattle.std.specs.Str.{IsUtf8}
 
 pub read_value : (line : List ℕ) (d : Data) → IsUtf8 line → read line ≡ Some d → line_value line ≡ Some d
 read_value line d text is = rw (is_utf8-from_IsUtf8 line text) is

@@ -1,16 +1,8 @@
 -- Taking an entry of a map, beside taking the member of its object.
 use Rattle.std.proofs.Common.{◌≡◌, ℕ, List, [], ◌∷◌, length, Option, Some, None, option_map, String, Global, Ordering, Less, Equal, Greater, string_bytes, nat_cmp, is_eq, cond, Bool, refl, ap, ◌∙◌, arith}
-use Rattle.std.specs.Cmp.Lexicographic.{slice_cmp}
+use Rattle.trace_pipeline.proofs.Common.{slice_cmp, match_ordering, is_at, Members, member, get_member, view, members_view, Entry, view-lookup, without_member, no_more, members_of}
 use Rattle.std.specs.Map.{remove_entry, lookup}
-use Rattle.std.specs.Ordering.{match_ordering}
-use Rattle.std.specs.BTreeMap.{is_at}
 use Rattle.serde_json.specs.declared.value.Value.{Value}
-use Rattle.serde_json.specs.Data.{Members, member}
-use Rattle.serde_json.specs.Find.{get_member}
-use Rattle.serde_json.specs.View.{view, members_view}
-use Rattle.serde_json.proofs.Views.{Entry, view-lookup}
-use Rattle.trace_pipeline.specs.forms.Forms.{without_member, no_more}
-use Rattle.trace_pipeline.specs.text.Compact.{members_of}
 use Rattle.trace_pipeline.proofs.readings.CompactLemmas.{Entry as Flat}
 
 -- whether a key is the name

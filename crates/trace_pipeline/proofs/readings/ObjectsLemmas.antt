@@ -1,11 +1,7 @@
 -- Values of JSON and what they are made of: arrays, and a record's lane.
 use Rattle.std.proofs.Common.{◌≡◌, ℕ, List, [], ◌∷◌, ◌++◌, map, Option, Some, None, refl, ap, ◌∙◌}
-use Rattle.serde_json.specs.Data.{Data, item, array}
-use Rattle.serde_json.specs.View.{view, items_of, items_view}
+use Rattle.trace_pipeline.proofs.Common.{Data, item, array, view, items_of, items_view, with_lane, items, array_of, by_name, lane_members}
 use Rattle.serde_json.specs.declared.value.Value.{Value}
-use Rattle.trace_pipeline.specs.values.Building.{with_lane}
-use Rattle.trace_pipeline.specs.reading.Object.{items, array_of, by_name}
-use Rattle.trace_pipeline.specs.values.RecordData.{lane_members}
 
 items_of_map : {A : Type 0} → (f : A → Data) (xs : List A) → items_of (map f xs) ≡ items f xs
 items_of_map f [] = refl

@@ -1,12 +1,7 @@
 -- Members in the order of their names.
 use Rattle.std.proofs.Common.{◌≡◌, ℕ, zero, suc, ◌+◌, ◌<◌, List, [], ◌∷◌, ◌++◌, length, get_or, Ordering, Less, Equal, Greater, nat_cmp, refl, sym, ap, ◌∙◌, arith}
-use Rattle.std.proofs.lemmas.Cmp.{nat_list_cmp_total}
-use Rattle.std.specs.Cmp.Lexicographic.{slice_cmp}
+use Rattle.trace_pipeline.proofs.Common.{nat_list_cmp_total, slice_cmp, match_ordering, ordering_reverse, ordering_then, Data, Members, no_members, member, put, plain_data, onto, members_of, Before, MembersInOrder, GoesLast}
 use Rattle.std.specs.Cmp.{nat_cmp_is}
-use Rattle.std.specs.Ordering.{match_ordering, ordering_reverse, ordering_then}
-use Rattle.serde_json.specs.Data.{Data, Members, no_members, member, put}
-use Rattle.trace_pipeline.specs.text.Compact.{plain_data, onto, members_of}
-use Rattle.trace_pipeline.specs.reading.Placed.{Before, MembersInOrder, GoesLast}
 use Rattle.trace_pipeline.proofs.readings.CompactLemmas.{Entry, Named, held, onto_push}
 
 -- the first bytes tell how names compare, where they differ

@@ -2,16 +2,8 @@
 use Rattle.std.proofs.Common.{◌≡◌, ℕ, zero, suc, ◌+◌, ◌<◌, ◌≤◌, List, [], ◌∷◌, ◌++◌, length, get_or, take, drop, remove, Some, None, Ordering, Less, Equal, Greater, is_eq, Bool, true, false, true≢false, bytes_eq, nat_cmp, refl, sym, ap, subst, ◌∙◌, arith}
 use Rattle.std.proofs.Math.Seq.{drop-cons}
 use Rattle.std.proofs.lemmas.List.{get_or-drop, length-drop}
-use Rattle.std.proofs.lemmas.Cmp.{nat_list_cmp_total, tied_itself}
+use Rattle.trace_pipeline.proofs.Common.{nat_list_cmp_total, tied_itself, bytes_eq-Decides, slice_cmp, match_ordering, Data, Members, no_members, member, put, get_member, without_member, plain_data, onto, FindsMember, FitsIn}
 use Rattle.std.proofs.lemmas.Map.Text.{is_eq-slice_cmp}
-use Rattle.std.proofs.lemmas.Slice.Eq.{bytes_eq-Decides}
-use Rattle.std.specs.Cmp.Lexicographic.{slice_cmp}
-use Rattle.std.specs.Ordering.{match_ordering}
-use Rattle.serde_json.specs.Data.{Data, Members, no_members, member, put}
-use Rattle.serde_json.specs.Find.{get_member}
-use Rattle.trace_pipeline.specs.forms.Forms.{without_member}
-use Rattle.trace_pipeline.specs.text.Compact.{plain_data, onto}
-use Rattle.trace_pipeline.specs.reading.Placed.{FindsMember, FitsIn}
 use Rattle.trace_pipeline.proofs.readings.CompactLemmas.{Entry, onto_push}
 
 abbrev pub Passed : List ℕ → List Entry → ℕ → Type 0

@@ -1,26 +1,10 @@
 -- What common request lines spell.
-use Rattle.std.proofs.Common.{◌≡◌, ◌<◌, ◌≤◌, ◌^◌, ℕ, List, ◌++◌, [], Some, Ok, option_and_then, codes, decimal, refl, ap, ◌∙◌, arith}
-use Rattle.std.specs.Prelude.{ok_or}
+use Rattle.std.proofs.Common.{◌≡◌, ◌<◌, ◌≤◌, ◌^◌, ℕ, List, ◌++◌, [], Some, Ok, option_and_then, codes, decimal, refl, ap, ◌∙◌, arith, ok_or}
 use Rattle.std.specs.Str.{IsUtf8}
-use Rattle.json.specs.Print.{escape_byte}
-use Rattle.json.specs.Tree.{HasNumbers, depth}
-use Rattle.json.proofs.Printed.Decimals.{IsNumber-decimal}
-use Rattle.serde_json.specs.Data.{Data, Members, unsigned, number, string, object, member, no_members}
-use Rattle.serde_json.specs.Find.{as_object}
-use Rattle.serde_json.specs.Read.{of_json, max_depth, read}
-use Rattle.serde_json.specs.Written.{outline, compact_text}
-use Rattle.serde_json.proofs.Numbers.{number_of-decimal}
+use Rattle.trace_pipeline.proofs.Common.{escape_byte, HasNumbers, depth, IsNumber-decimal, Data, Members, unsigned, number, string, object, member, no_members, as_object, of_json, max_depth, read, outline, compact_text, number_of-decimal, Request, BadLine, Value, ReadsValue, fields_of, all_of, request_form, new_form, drop_form, enter_form, exit_form, event_form, request_spelled}
 use Rattle.span_script.specs.declared.request.Call.TheVariants as call
 use Rattle.span_script.specs.declared.request.Place.TheVariants as place
-use Rattle.span_script.specs.declared.request.Request.{Request}
-use Rattle.trace_pipeline.specs.declared.told.Told.TheVariants.{BadLine}
-use Rattle.trace_base.specs.declared.field.Value.{Value}
-use Rattle.trace_pipeline.specs.text.Compact.{ReadsValue}
-use Rattle.trace_pipeline.specs.forms.FieldForm.{fields_of}
-use Rattle.trace_pipeline.specs.forms.Forms.{all_of}
 use Rattle.trace_pipeline.specs.text.QuickLines.{line_from, two_numbers}
-use Rattle.trace_pipeline.specs.forms.RequestForm.{request_form, new_form, drop_form, enter_form, exit_form, event_form}
-use Rattle.trace_pipeline.specs.reading.Spelled.{request_spelled}
 use Rattle.trace_pipeline.proofs.readings.LinesLemmas.{read_value}
 use Rattle.trace_pipeline.proofs.readings.CompactLemmas.{read_compact}
 

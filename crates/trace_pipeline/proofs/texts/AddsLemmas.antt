@@ -1,14 +1,7 @@
 -- Texts that are added one after another.
 use Rattle.std.proofs.Common.{◌≡◌, ℕ, ◌+◌, ◌<◌, ◌≤◌, List, [], ◌∷◌, ◌++◌, length, get_or, drop, drop_of_length-le, Bool, true, sym, ap, subst, ◌∙◌, append_assoc, append-nil}
 use Rattle.std.specs.Str.{IsUtf8}
-use Rattle.std.proofs.lemmas.Str.{IsUtf8-append, IsUtf8-nil}
-use Rattle.std.proofs.lemmas.List.{drop_more}
-use Rattle.json.specs.Print.{escape, quoted}
-use Rattle.json.proofs.Printed.Utf8.{IsUtf8-quoted}
-use Rattle.serde_json.specs.Data.{Data}
-use Rattle.serde_json.specs.Written.{compact_text, items_text, comma_if}
-use Rattle.trace_pipeline.specs.reading.Object.{items}
-use Rattle.trace_pipeline.specs.text.Writes.{AddsText}
+use Rattle.trace_pipeline.proofs.Common.{IsUtf8-append, IsUtf8-nil, drop_more, escape, quoted, IsUtf8-quoted, Data, compact_text, items_text, comma_if, items, AddsText}
 
 pub begun : (old : List ℕ) → AddsText old old []
 begun old = (sym (append-nil old), IsUtf8-nil)

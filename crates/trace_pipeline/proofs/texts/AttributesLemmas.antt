@@ -1,8 +1,6 @@
 -- Attributes that stand in a text.
 use Rattle.std.proofs.Common.{◌≡◌, refl}
-use Rattle.serde_json.specs.Data.{Data, null, boolean, number, string, array, object}
-use Rattle.trace_pipeline.specs.forms.AttributeForm.{list_of, otel_value_of}
-use Rattle.trace_pipeline.specs.text.Compact.{nested_value}
+use Rattle.trace_pipeline.proofs.Common.{Data, null, boolean, number, string, array, object, list_of, otel_value_of, nested_value}
 
 -- a value that nests is a list, or none of an attribute
 pub list_nested : (d : Data) → otel_value_of (nested_value d) ≡ list_of (nested_value d)

@@ -1,12 +1,7 @@
 -- A text that is read as a number of 128 bits, beside the number whose decimal it is.
 use Rattle.std.proofs.Common.{◌≡◌, ◌≢◌, ℕ, ◌-◌, ◌^◌, ◌<◌, List, [], ◌∷◌, drop, Bool, true, false, Some, None, Result, Ok, Err, option_and_then, bytes_eq, decimal, nat_le, refl, sym, ap, subst, ◌∙◌, arith, if◌then◌else◌}
-use Rattle.std.specs.Str.Parse.{ParsesUnsigned, digits_value, starts_with_minus}
-use Rattle.std.proofs.lemmas.Bool.{false_from_ne_true, ne_eqb}
-use Rattle.std.proofs.lemmas.Bool.Decides.{nat_tests}
-use Rattle.std.proofs.lemmas.Fmt.{decimal_is_IsNumeral_wide, parse-decimal_wide}
-use Rattle.std.proofs.lemmas.Slice.Eq.{bytes_eq-Decides}
-use Rattle.trace_pipeline.specs.forms.Forms.{at_most}
-use Rattle.trace_pipeline.specs.text.Decimals.{u128_word, i128_word, if_decimal, below_zero, from_zero}
+use Rattle.trace_pipeline.proofs.Common.{ParsesUnsigned, digits_value, starts_with_minus, false_from_ne_true, nat_tests, decimal_is_IsNumeral_wide, parse-decimal_wide, bytes_eq-Decides, at_most, u128_word, i128_word, if_decimal, below_zero, from_zero}
+use Rattle.std.proofs.lemmas.Bool.{ne_eqb}
 
 fits : (n : ℕ) → n < 2 ^ 128 → at_most (2 ^ 128 - 1) n ≡ Some n
 fits n small = grind (arith, nat_tests, small)

@@ -1,8 +1,8 @@
 -- What stands for a text's bytes.
 use Rattle.std.proofs.Common.{◌≡◌, ℕ, ◌+◌, ◌<◌, ◌≤◌, List, [], ◌∷◌, ◌++◌, length, get_or, take, drop, refl, sym, ap, ◌∙◌, append_assoc}
 use Rattle.std.proofs.Math.ListN.{take-append-drop}
-use Rattle.std.proofs.lemmas.List.{drop_more, take_all}
-use Rattle.json.specs.Print.{escape, escape_byte}
+use Rattle.trace_pipeline.proofs.Common.{drop_more, escape, escape_byte}
+use Rattle.std.proofs.lemmas.List.{take_all}
 use Rattle.json.proofs.Printed.Strings.{escape_byte_plain}
 
 pub plain_byte : (x : ℕ) → (x ≡ 34 → ⊥) → (x ≡ 92 → ⊥) → 32 ≤ x → escape_byte x ≡ x ∷ []

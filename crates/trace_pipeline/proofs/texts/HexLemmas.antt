@@ -1,16 +1,9 @@
 -- The digits of an id, put down from the last to the first.
-use Rattle.std.proofs.Common.{◌≡◌, ℕ, zero, suc, ◌+◌, ◌-◌, ◌/◌, ◌%◌, ◌^◌, ◌<◌, ◌≤◌, ◌==◌, List, [], ◌∷◌, ◌++◌, length, Bool, true, false, cond, refl, sym, ap, ◌∙◌, arith, append-nil, subst, drop, slice_set, Result, Ok, Err, MatchResult, IsOk}
-use Rattle.std.specs.Prelude.{replicate}
-use Rattle.std.specs.Fmt.{digit_glyph, digits, digits_onto}
+use Rattle.std.proofs.Common.{◌≡◌, ℕ, zero, suc, ◌+◌, ◌-◌, ◌/◌, ◌%◌, ◌^◌, ◌<◌, ◌≤◌, ◌==◌, List, [], ◌∷◌, ◌++◌, length, Bool, true, false, cond, refl, sym, ap, ◌∙◌, arith, append-nil, subst, drop, slice_set, Result, Ok, Err, MatchResult, IsOk, replicate}
+use Rattle.trace_pipeline.proofs.Common.{digit_glyph, digits, digits_onto, pow-succ', IsUtf8-from_ascii, IsUtf8-append, drop-set, nat_tests, escape, escape_byte, hex16, hex32}
 use Rattle.std.specs.Str.{IsUtf8, IsAscii}
-use Rattle.std.proofs.Math.Nat.{pow-succ'}
-use Rattle.std.proofs.lemmas.Str.{IsUtf8-from_ascii, IsUtf8-append}
 use Rattle.std.proofs.lemmas.Str.Ascii.{IsAscii-nil, IsAscii-cons}
-use Rattle.std.proofs.lemmas.List.{drop-set}
 use Rattle.std.proofs.lemmas.Bool.{eqb-true}
-use Rattle.std.proofs.lemmas.Bool.Decides.{nat_tests}
-use Rattle.json.specs.Print.{escape, escape_byte}
-use Rattle.trace_pipeline.specs.text.Hex.{hex16, hex32}
 use Rattle.trace_pipeline.proofs.texts.EscapesLemmas.{plain_byte, escape_append}
 
 -- the last k digits of n, in front of some text

@@ -1,8 +1,6 @@
 -- An integer's text.
 use Rattle.std.proofs.Common.{◌≡◌, refl, ℤ, pos, negsuc}
-use Rattle.std.specs.Fmt.{signed_decimal}
-use Rattle.serde_json.specs.Written.{number_text}
-use Rattle.serde_json.specs.Find.{of_integer}
+use Rattle.trace_pipeline.proofs.Common.{signed_decimal, number_text, of_integer}
 
 pub integer_text : (z : ℤ) → number_text (of_integer z) ≡ signed_decimal z
 integer_text (pos n) = refl

@@ -1,6 +1,5 @@
 use Rattle.std.proofs.Common.{refl}
-use Rattle.trace_pipeline.specs.reading.Object.{line_of}
-use Rattle.trace_pipeline.specs.text.Texts.{measure_text}
+use Rattle.trace_pipeline.proofs.Common.{line_of, measure_text}
 use Rattle.trace_pipeline.proofs.texts.AddsLemmas.{then, retold}
 use Rattle.trace_pipeline.proofs.write.add_measure_line.Goals as goal
 

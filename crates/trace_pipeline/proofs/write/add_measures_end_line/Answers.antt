@@ -1,6 +1,5 @@
 use Rattle.std.proofs.Common.{refl}
-use Rattle.trace_pipeline.specs.reading.Object.{line_of}
-use Rattle.trace_pipeline.specs.text.Texts.{measures_end_text}
+use Rattle.trace_pipeline.proofs.Common.{line_of, measures_end_text}
 use Rattle.trace_pipeline.proofs.texts.AddsLemmas.{then, retold}
 use Rattle.trace_pipeline.proofs.write.add_measures_end_line.Goals as goal
 

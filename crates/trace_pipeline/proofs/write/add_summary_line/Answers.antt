@@ -1,6 +1,5 @@
 use Rattle.std.proofs.Common.{refl}
-use Rattle.trace_pipeline.specs.reading.Object.{line_of}
-use Rattle.trace_pipeline.specs.Replay.{summary_text}
+use Rattle.trace_pipeline.proofs.Common.{line_of, summary_text}
 use Rattle.trace_pipeline.proofs.texts.AddsLemmas.{then, retold}
 use Rattle.trace_pipeline.proofs.write.add_summary_line.Goals as goal
 

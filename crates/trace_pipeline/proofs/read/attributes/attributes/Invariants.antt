@@ -1,9 +1,5 @@
 use Rattle.std.proofs.Common.{◌≡◌}
-use Rattle.std.specs.Vec.Iter.{into_iter_items}
-use Rattle.trace_pipeline.specs.reading.Object.{items}
-use Rattle.trace_pipeline.specs.reading.Left.{value_data}
-use Rattle.trace_pipeline.specs.forms.Forms.{each}
-use Rattle.trace_pipeline.specs.forms.AttributeForm.{attribute_spelled}
+use Rattle.trace_pipeline.proofs.Common.{into_iter_items, items, value_data, each, attribute_spelled}
 use Rattle.trace_pipeline.proofs.readings.ItemsLemmas.{with_front}
 use Rattle.trace_pipeline.proofs.read.attributes.attributes.Given as goal
 

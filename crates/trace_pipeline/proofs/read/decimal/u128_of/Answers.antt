@@ -1,5 +1,5 @@
 use Rattle.std.proofs.Common.{sym}
-use Rattle.std.proofs.lemmas.Bool.{both_ways}
+use Rattle.trace_pipeline.proofs.Common.{both_ways}
 use Rattle.trace_pipeline.proofs.texts.DecimalsLemmas.{is_spelled, no_decimal, no_number}
 use Rattle.trace_pipeline.proofs.read.decimal.u128_of.Goals as goal
 

@@ -1,9 +1,5 @@
 use Rattle.std.proofs.Common.{◌≡◌}
-use Rattle.std.specs.Vec.Iter.{into_iter_items}
-use Rattle.serde_json.specs.Find.{as_str}
-use Rattle.trace_pipeline.specs.reading.Object.{items}
-use Rattle.trace_pipeline.specs.reading.Left.{value_data}
-use Rattle.trace_pipeline.specs.forms.Forms.{each}
+use Rattle.trace_pipeline.proofs.Common.{into_iter_items, as_str, items, value_data, each}
 use Rattle.trace_pipeline.proofs.readings.ItemsLemmas.{with_front}
 use Rattle.trace_pipeline.proofs.read.fields.texts.Given as goal
 

@@ -1,10 +1,6 @@
 use Rattle.std.proofs.Common.{◌≡◌, ◌++◌, [], ◌∷◌, Some, refl, ap, sym, ◌∙◌, arith, rules}
 use Rattle.std.specs.Str.{IsUtf8}
-use Rattle.serde_json.specs.Data.{array}
-use Rattle.trace_pipeline.specs.text.Compact.{plain_data}
-use Rattle.trace_pipeline.specs.reading.Left.{value_data}
-use Rattle.trace_pipeline.specs.reading.Object.{items}
-use Rattle.trace_pipeline.specs.declared.read.scan.TheConstants.{DEEPEST}
+use Rattle.trace_pipeline.proofs.Common.{array, plain_data, value_data, items, DEEPEST}
 use Rattle.trace_pipeline.specs.declared.read.value.Value.TheVariants.{Plain}
 use Rattle.trace_pipeline.proofs.readings.CompactLemmas.{Pair, AllRead-push, items_first, items_on, items_text_end, array_read}
 use Rattle.trace_pipeline.proofs.readings.ValuesLemmas.{one_more}

@@ -1,8 +1,6 @@
 -- the items that were read, as they stand in the text and as they are kept
 use Rattle.std.proofs.Common.{◌≡◌, List}
-use Rattle.trace_pipeline.specs.reading.Left.{value_data}
-use Rattle.trace_pipeline.specs.reading.Object.{items}
-use Rattle.trace_pipeline.specs.declared.read.scan.TheConstants.{DEEPEST}
+use Rattle.trace_pipeline.proofs.Common.{value_data, items, DEEPEST}
 use Rattle.trace_pipeline.proofs.readings.CompactLemmas.{Pair, AllRead, GoesItems, read_items}
 use Rattle.trace_pipeline.proofs.read.flat.items.Given as goal
 

@@ -1,5 +1,5 @@
 use Rattle.std.proofs.Common.{ℕ, List, ◌++◌, ◌∙◌, ap}
-use Rattle.json.specs.Print.{quoted}
+use Rattle.trace_pipeline.proofs.Common.{quoted}
 use Rattle.trace_pipeline.proofs.read.flat.member.Goals as goal
 
 pub returns : goal.returns

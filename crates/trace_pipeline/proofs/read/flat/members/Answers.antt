@@ -1,9 +1,6 @@
 use Rattle.std.proofs.Common.{◌≡◌, ◌++◌, [], ◌∷◌, Some, refl, ap, sym, subst, ◌∙◌, arith, rules}
 use Rattle.std.specs.Str.{IsUtf8}
-use Rattle.serde_json.specs.Data.{no_members, put}
-use Rattle.trace_pipeline.specs.text.Compact.{plain_data, members_of}
-use Rattle.trace_pipeline.specs.declared.read.scan.TheConstants.{DEEPEST}
-use Rattle.trace_pipeline.specs.reading.Placed.{MembersInOrder}
+use Rattle.trace_pipeline.proofs.Common.{no_members, put, plain_data, members_of, DEEPEST, MembersInOrder}
 use Rattle.trace_pipeline.proofs.readings.OrderLemmas.{held_in_order}
 use Rattle.trace_pipeline.proofs.readings.CompactLemmas.{Named, AllNamed-push, held_push, members_first, members_on, members_text_end, object_read}
 use Rattle.trace_pipeline.proofs.read.flat.members.Goals as goal

@@ -1,8 +1,6 @@
 -- the members that were read, as they stand in the text and as they are kept
 use Rattle.std.proofs.Common.{◌≡◌, List}
-use Rattle.serde_json.specs.Data.{no_members}
-use Rattle.trace_pipeline.specs.text.Compact.{members_of}
-use Rattle.trace_pipeline.specs.declared.read.scan.TheConstants.{DEEPEST}
+use Rattle.trace_pipeline.proofs.Common.{no_members, members_of, DEEPEST}
 use Rattle.trace_pipeline.proofs.readings.CompactLemmas.{Named, AllNamed, GoesMembers, held}
 use Rattle.trace_pipeline.proofs.read.flat.members.Given as goal
 

@@ -1,6 +1,5 @@
 use Rattle.std.proofs.Common.{◌≡◌, ◌++◌, [], ◌∷◌, List, ap, sym, subst, ◌∙◌, refl, rules}
-use Rattle.trace_pipeline.specs.text.Compact.{members_of}
-use Rattle.trace_pipeline.specs.reading.Placed.{MembersInOrder, GoesLast}
+use Rattle.trace_pipeline.proofs.Common.{members_of, MembersInOrder, GoesLast}
 use Rattle.trace_pipeline.proofs.readings.CompactLemmas.{Entry}
 use Rattle.trace_pipeline.proofs.readings.OrderLemmas.{put_at_end}
 use Rattle.trace_pipeline.proofs.read.flat.place.Goals as goal

@@ -1,6 +1,6 @@
 -- the digits that are left go on behind the number so far, which has so many digits
 use Rattle.std.proofs.Common.{◌≡◌, ◌<◌, ◌^◌, drop}
-use Rattle.trace_pipeline.specs.text.Hex.{go_on}
+use Rattle.trace_pipeline.proofs.Common.{go_on}
 use Rattle.trace_pipeline.proofs.read.hex.number_of.Given as goal
 
 abbrev pub invariant-loop-byte : goal.invariant-loop-byte

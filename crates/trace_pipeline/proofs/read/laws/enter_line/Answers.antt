@@ -1,8 +1,6 @@
 use Rattle.std.proofs.Common.{refl}
-use Rattle.std.specs.Str.{is_utf8, chars}
-use Rattle.serde_json.proofs.OnLiterals.{serde_json_on_literals}
-use Rattle.trace_pipeline.specs.forms.RequestForm.{request_form, enter_form}
-use Rattle.trace_pipeline.specs.reading.Spelled.{request_spelled}
+use Rattle.trace_pipeline.proofs.Common.{is_utf8, serde_json_on_literals, request_form, enter_form, request_spelled}
+use Rattle.std.specs.Str.{chars}
 use Rattle.trace_pipeline.proofs.read.laws.enter_line.Goals as goal
 
 pub returns-clause-read : goal.returns-clause-read

@@ -1,11 +1,9 @@
 use Rattle.std.proofs.Common.{◌≡◌, ℕ, Some, None, refl}
-use Rattle.span_script.specs.declared.request.Call.{Call}
+use Rattle.trace_pipeline.proofs.Common.{Call, object_of, request_form, new_form, clone_form, or_current_form, drop_form, enter_form, entered_form, exit_form, record_form, has_field_form, event_form, remote_form, context_form, attach_form, detach_form, enabled_form, reload_form}
 use Rattle.span_script.specs.declared.request.Call.TheVariants as call
 use Rattle.span_script.specs.declared.request.Place.TheVariants as place
 use Rattle.trace_pipeline.specs.forms.ExtensionForm.{follows_form, set_parent_form, add_link_form, set_attribute_form, set_status_form, add_event_form}
-use Rattle.trace_pipeline.specs.forms.Forms.{object_of}
 use Rattle.trace_pipeline.specs.values.RequestData.{IsInRange, request_of, request_data}
-use Rattle.trace_pipeline.specs.forms.RequestForm.{request_form, new_form, clone_form, or_current_form, drop_form, enter_form, entered_form, exit_form, record_form, has_field_form, event_form, remote_form, context_form, attach_form, detach_form, enabled_form, reload_form}
 use Rattle.trace_pipeline.proofs.readings.AttributesLemmas.{otel_read, attributes_read, status_read, time_read}
 use Rattle.trace_pipeline.proofs.readings.FieldsLemmas.{fields_read}
 use Rattle.trace_pipeline.proofs.readings.IdsLemmas.{id_read, long_id_read}

@@ -1,6 +1,5 @@
 use Rattle.std.proofs.Common.{◌+◌, ◌++◌, [], ◌∷◌, Some, ap, sym, ◌∙◌}
-use Rattle.serde_json.specs.Data.{array, no_items}
-use Rattle.trace_pipeline.specs.declared.read.scan.TheConstants.{DEEPEST}
+use Rattle.trace_pipeline.proofs.Common.{array, no_items, DEEPEST}
 use Rattle.trace_pipeline.proofs.texts.FieldsLemmas.{field_more}
 use Rattle.trace_pipeline.proofs.readings.CompactLemmas.{Pair, AllRead-push, items_first, items_on, items_text_end, array_front, read_items}
 use Rattle.trace_pipeline.proofs.read.plain_fields.leading_fields.Goals as goal

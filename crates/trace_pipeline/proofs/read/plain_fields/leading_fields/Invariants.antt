@@ -1,8 +1,6 @@
 -- the fields that were read, as they stand in the text and as they are kept
 use Rattle.std.proofs.Common.{◌≡◌, ◌+◌, List, Some}
-use Rattle.trace_pipeline.specs.forms.FieldForm.{field_of}
-use Rattle.trace_pipeline.specs.forms.Forms.{each}
-use Rattle.trace_pipeline.specs.declared.read.scan.TheConstants.{DEEPEST}
+use Rattle.trace_pipeline.proofs.Common.{field_of, each, DEEPEST}
 use Rattle.trace_pipeline.proofs.readings.CompactLemmas.{Pair, AllRead, GoesItems, read_items}
 use Rattle.trace_pipeline.proofs.read.plain_fields.leading_fields.Given as goal
 

@@ -1,8 +1,5 @@
 use Rattle.std.proofs.Common.{ℕ, List, Some, option_map, sym, ap, ◌∙◌}
-use Rattle.serde_json.specs.Data.{string, array, no_items, item}
-use Rattle.trace_base.specs.declared.field.Value.{Value}
-use Rattle.trace_pipeline.specs.text.Compact.{plain_data}
-use Rattle.trace_pipeline.specs.declared.read.scan.TheConstants.{DEEPEST}
+use Rattle.trace_pipeline.proofs.Common.{string, array, no_items, item, Value, plain_data, DEEPEST}
 use Rattle.trace_pipeline.proofs.texts.FieldsLemmas.{pair_begins}
 use Rattle.trace_pipeline.proofs.read.plain_fields.plain_field.Goals as goal
 

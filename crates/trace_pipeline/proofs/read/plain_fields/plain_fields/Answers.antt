@@ -1,6 +1,6 @@
 use Rattle.std.proofs.Common.{ap, sym, option_and_then, ◌∙◌, arith, rules}
 use Rattle.std.specs.Str.{IsUtf8}
-use Rattle.trace_pipeline.specs.forms.FieldForm.{fields_of}
+use Rattle.trace_pipeline.proofs.Common.{fields_of}
 use Rattle.trace_pipeline.proofs.readings.CompactLemmas.{whole_text_read}
 use Rattle.trace_pipeline.proofs.read.plain_fields.plain_fields.Goals as goal
 

@@ -1,7 +1,6 @@
 use Rattle.std.proofs.Common.{◌≡◌, ◌-◌, suc, sym, subst, ◌∙◌, arith, FitsSigned, w64}
 use Rattle.std.proofs.Math.Facts.{to_z-of_z}
-use Rattle.serde_json.specs.Data.{number, negative}
-use Rattle.trace_pipeline.specs.text.Compact.{BeginsWithValue}
+use Rattle.trace_pipeline.proofs.Common.{number, negative, BeginsWithValue}
 use Rattle.trace_pipeline.proofs.readings.CompactLemmas.{below_begins}
 use Rattle.trace_pipeline.proofs.read.scan.below_value.Goals as goal
 

@@ -1,7 +1,7 @@
 -- The front that is cut off is the nested value's text.
 use Rattle.std.proofs.Common.{◌≡◌, ◌∙◌, ◌++◌, ◌-◌, ap, sym, arith, rules, take, length}
 use Rattle.std.specs.Str.{IsUtf8}
-use Rattle.serde_json.specs.Written.{compact_text}
+use Rattle.trace_pipeline.proofs.Common.{compact_text}
 use Rattle.trace_pipeline.proofs.readings.CompactLemmas.{nested_begins, cut_front}
 use Rattle.trace_pipeline.proofs.read.scan.nested_value.Goals as goal
 

@@ -1,5 +1,5 @@
 use Rattle.std.proofs.Common.{◌≡◌, ◌∙◌, ap, ◌++◌, sym, rules}
-use Rattle.json.specs.Print.{quoted}
+use Rattle.trace_pipeline.proofs.Common.{quoted}
 use Rattle.trace_pipeline.proofs.readings.CompactLemmas.{text_begins}
 use Rattle.trace_pipeline.proofs.read.scan.text_value.Goals as goal
 

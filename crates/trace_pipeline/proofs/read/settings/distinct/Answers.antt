@@ -1,10 +1,6 @@
 -- The set is seen as a function: whether it has a number.
 use Rattle.std.proofs.Common.{nat_cmp, ap, ◌∙◌, sym, arith}
-use Rattle.std.specs.BTreeSet.{contains}
-use Rattle.std.specs.BTreeMap.{is_at}
-use Rattle.std.specs.List.{list_any}
-use Rattle.trace_pipeline.specs.forms.Forms.{provided}
-use Rattle.trace_pipeline.specs.forms.SettingsForm.{lane_ids}
+use Rattle.trace_pipeline.proofs.Common.{contains, is_at, list_any, provided, lane_ids}
 use Rattle.trace_pipeline.proofs.ids.DistinctLemmas.{begins, next_lane, same_lane}
 use Rattle.trace_pipeline.proofs.read.settings.distinct.Goals as goal
 

@@ -1,6 +1,5 @@
 use Rattle.std.proofs.Common.{◌≡◌, drop, nat_cmp}
-use Rattle.std.specs.BTreeSet.{contains}
-use Rattle.trace_pipeline.specs.forms.SettingsForm.{lane_ids, all_differ}
+use Rattle.trace_pipeline.proofs.Common.{contains, lane_ids, all_differ}
 use Rattle.trace_pipeline.proofs.ids.DistinctLemmas.{still_differ}
 use Rattle.trace_pipeline.proofs.read.settings.distinct.Given as goal
 

@@ -1,9 +1,5 @@
 use Rattle.std.proofs.Common.{◌≡◌}
-use Rattle.std.specs.Vec.Iter.{into_iter_items}
-use Rattle.trace_pipeline.specs.forms.SettingsForm.{lane_form}
-use Rattle.trace_pipeline.specs.reading.Object.{items}
-use Rattle.trace_pipeline.specs.reading.Left.{value_data}
-use Rattle.trace_pipeline.specs.forms.Forms.{object_of, each}
+use Rattle.trace_pipeline.proofs.Common.{into_iter_items, lane_form, items, value_data, object_of, each}
 use Rattle.trace_pipeline.proofs.readings.ItemsLemmas.{with_front}
 use Rattle.trace_pipeline.proofs.read.settings.lanes.Given as goal
 

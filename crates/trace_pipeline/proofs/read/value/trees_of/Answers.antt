@@ -1,7 +1,6 @@
 use Rattle.std.proofs.Common.{◌≡◌, ◌∙◌, [], Some, ap, sym, arith}
 use Rattle.std.proofs.lemmas.Grind.{common_steps}
-use Rattle.std.specs.Vec.Iter.{into_iter_items}
-use Rattle.serde_json.specs.View.{items_view}
+use Rattle.trace_pipeline.proofs.Common.{into_iter_items, items_view}
 use Rattle.trace_pipeline.proofs.readings.ValuesLemmas.{in_front, all_in_front}
 use Rattle.trace_pipeline.proofs.read.value.trees_of.Goals as goal
 

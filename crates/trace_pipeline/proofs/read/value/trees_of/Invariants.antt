@@ -1,7 +1,6 @@
 -- the items that were moved, in front of those that are left
 use Rattle.std.proofs.Common.{◌≡◌}
-use Rattle.std.specs.Vec.Iter.{into_iter_items}
-use Rattle.serde_json.specs.View.{items_view}
+use Rattle.trace_pipeline.proofs.Common.{into_iter_items, items_view}
 use Rattle.trace_pipeline.proofs.readings.ValuesLemmas.{in_front}
 use Rattle.trace_pipeline.proofs.read.value.trees_of.Given as goal
 

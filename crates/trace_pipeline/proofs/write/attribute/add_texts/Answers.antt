@@ -1,7 +1,5 @@
 use Rattle.std.proofs.Common.{◌++◌, [], ◌∷◌, false, refl, ap, arith}
-use Rattle.serde_json.specs.Written.{compact_text, comma_if, items_text}
-use Rattle.trace_pipeline.specs.reading.Object.{items}
-use Rattle.serde_json.specs.Data.{string}
+use Rattle.trace_pipeline.proofs.Common.{compact_text, comma_if, items_text, items, string}
 use Rattle.trace_pipeline.proofs.texts.AddsLemmas.{begun, then, retold, item_added, items_added}
 use Rattle.trace_pipeline.proofs.write.attribute.add_texts.Goals as goal
 

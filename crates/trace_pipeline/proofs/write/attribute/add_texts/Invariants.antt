@@ -1,9 +1,6 @@
 -- what is written, and the rest, are all
 use Rattle.std.proofs.Common.{◌≡◌, ◌++◌, ℕ, List, drop, false}
-use Rattle.serde_json.specs.Written.{items_text}
-use Rattle.trace_pipeline.specs.reading.Object.{items}
-use Rattle.serde_json.specs.Data.{string}
-use Rattle.trace_pipeline.specs.text.Writes.{AddsText}
+use Rattle.trace_pipeline.proofs.Common.{items_text, items, string, AddsText}
 use Rattle.trace_pipeline.proofs.write.attribute.add_texts.Given as goal
 
 abbrev pub invariant-loop-text : goal.invariant-loop-text

@@ -1,6 +1,5 @@
 use Rattle.std.proofs.Common.{◌≡◌, ◌++◌, arith, get_or, take, rules}
-use Rattle.json.specs.Print.{escape, escape_byte}
-use Rattle.std.proofs.lemmas.List.{take_rest}
+use Rattle.trace_pipeline.proofs.Common.{escape, escape_byte, take_rest}
 use Rattle.trace_pipeline.proofs.texts.EscapesLemmas.{run_added, all_added}
 use Rattle.trace_pipeline.proofs.write.escape.add_escaped.Goals as goal
 

@@ -1,6 +1,6 @@
 -- what is written, and what stands for the rest, are all
 use Rattle.std.proofs.Common.{◌≡◌, ◌≤◌, ◌++◌, length, take}
-use Rattle.json.specs.Print.{escape}
+use Rattle.trace_pipeline.proofs.Common.{escape}
 use Rattle.trace_pipeline.proofs.write.escape.add_escaped.Given as goal
 
 abbrev pub invariant-loop-run : goal.invariant-loop-run

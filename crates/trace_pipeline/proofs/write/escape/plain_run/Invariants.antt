@@ -1,5 +1,5 @@
 use Rattle.std.proofs.Common.{◌≡◌, ◌≤◌, ◌-◌, length, take}
-use Rattle.json.specs.Print.{escape}
+use Rattle.trace_pipeline.proofs.Common.{escape}
 use Rattle.trace_pipeline.proofs.write.escape.plain_run.Given as goal
 
 abbrev pub invariant-loop-at : goal.invariant-loop-at

@@ -1,9 +1,5 @@
 use Rattle.std.proofs.Common.{List, ℕ, ◌++◌, codes, refl, ap, sym, rules}
-use Rattle.std.specs.Fmt.{signed_decimal}
-use Rattle.json.specs.Print.{escape_byte}
-use Rattle.serde_json.specs.Find.{of_integer}
-use Rattle.serde_json.specs.Written.{number_text}
-use Rattle.trace_pipeline.specs.text.Writes.{AddsText}
+use Rattle.trace_pipeline.proofs.Common.{signed_decimal, escape_byte, of_integer, number_text, AddsText}
 use Rattle.trace_pipeline.proofs.texts.AddsLemmas.{then, retold}
 use Rattle.trace_pipeline.proofs.texts.IntegersLemmas.{integer_text}
 use Rattle.trace_pipeline.proofs.write.measure.add_measure.Goals as goal

@@ -1,5 +1,5 @@
 use Rattle.std.proofs.Common.{◌≡◌, refl, rules}
-use Rattle.std.specs.Fmt.{signed_decimal}
+use Rattle.trace_pipeline.proofs.Common.{signed_decimal}
 use Rattle.trace_pipeline.proofs.texts.AddsLemmas.{then, retold}
 use Rattle.trace_pipeline.proofs.write.pieces.add_long_integer.Goals as goal
 

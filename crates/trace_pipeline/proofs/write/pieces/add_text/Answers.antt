@@ -1,5 +1,5 @@
 use Rattle.std.proofs.Common.{◌≡◌, ◌++◌, [], ◌∷◌, rules}
-use Rattle.json.specs.Print.{escape}
+use Rattle.trace_pipeline.proofs.Common.{escape}
 use Rattle.trace_pipeline.proofs.texts.AddsLemmas.{quoted_added}
 use Rattle.trace_pipeline.proofs.write.pieces.add_text.Goals as goal
 

@@ -1,12 +1,6 @@
 -- The pieces, one after another, are the record's text.
 use Rattle.std.proofs.Common.{◌≡◌, ℕ, List, ◌++◌, codes, decimal, refl, Option, Some, None}
-use Rattle.otel_base.specs.declared.record.Record.{Record}
-use Rattle.json.specs.Print.{escape_byte, quoted}
-use Rattle.serde_json.specs.Written.{compact_text}
-use Rattle.trace_pipeline.specs.text.Hex.{hex16, hex32}
-use Rattle.trace_pipeline.specs.reading.Object.{array_of}
-use Rattle.trace_pipeline.specs.values.RecordData.{attributes_data, event_data, kind_name, link_data, status_data, lane_text, record_object}
-use Rattle.trace_pipeline.specs.text.Writes.{AddsText}
+use Rattle.trace_pipeline.proofs.Common.{Record, escape_byte, quoted, compact_text, hex16, hex32, array_of, attributes_data, event_data, kind_name, link_data, status_data, lane_text, record_object, AddsText}
 use Rattle.trace_pipeline.proofs.texts.AddsLemmas.{then, retold}
 use Rattle.trace_pipeline.proofs.write.record.add_record.Goals as goal
 

@@ -1,5 +1,5 @@
 use Rattle.std.proofs.Common.{refl}
-use Rattle.json.specs.Print.{escape_byte}
+use Rattle.trace_pipeline.proofs.Common.{escape_byte}
 use Rattle.trace_pipeline.proofs.texts.AddsLemmas.{then, retold}
 use Rattle.trace_pipeline.proofs.write.refusal.add_named.Goals as goal
 

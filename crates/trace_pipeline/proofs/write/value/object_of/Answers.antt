@@ -1,8 +1,7 @@
 -- The members, from the last to the first.
 use Rattle.std.proofs.Common.{ap, ◌∙◌, codes}
-use Rattle.serde_json.specs.Data.{object, string, put}
-use Rattle.trace_pipeline.specs.values.Building.{members_of, with_lane}
-use Rattle.trace_pipeline.specs.values.RecordData.{record_object}
+use Rattle.trace_pipeline.proofs.Common.{object, string, put, with_lane, record_object}
+use Rattle.trace_pipeline.specs.values.Building.{members_of}
 use Rattle.trace_pipeline.proofs.readings.ObjectsLemmas.{lane_first}
 use Rattle.trace_pipeline.proofs.write.value.object_of.Goals as goal
 

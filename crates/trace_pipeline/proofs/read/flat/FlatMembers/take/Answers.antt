@@ -1,6 +1,5 @@
 use Rattle.std.proofs.Common.{◌∙◌, ap, sym, get_or, List, Some}
-use Rattle.serde_json.specs.Find.{get_member}
-use Rattle.trace_pipeline.specs.text.Compact.{plain_data, members_of}
+use Rattle.trace_pipeline.proofs.Common.{get_member, plain_data, members_of}
 use Rattle.trace_pipeline.proofs.readings.CompactLemmas.{Entry}
 use Rattle.trace_pipeline.proofs.read.flat.FlatMembers.take.Goals as goal
 

@@ -1,6 +1,5 @@
 use Rattle.std.proofs.Common.{◌∙◌, Some, ap, sym}
-use Rattle.serde_json.specs.Find.{get_member}
-use Rattle.trace_pipeline.specs.reading.Left.{members_left}
+use Rattle.trace_pipeline.proofs.Common.{get_member, members_left}
 use Rattle.trace_pipeline.proofs.readings.MembersLemmas.{found}
 use Rattle.trace_pipeline.proofs.read.object.Object.optional.Goals as goal
 

@@ -1,7 +1,7 @@
 -- All items have their values.
 use Rattle.std.proofs.Common.{map, ap, ◌∙◌, arith}
 use Rattle.std.proofs.lemmas.List.{take_all}
-use Rattle.serde_json.proofs.Views.{view-Array}
+use Rattle.trace_pipeline.proofs.Common.{view-Array}
 use Rattle.trace_pipeline.proofs.readings.ObjectsLemmas.{array_of_values}
 use Rattle.trace_pipeline.proofs.write.value.ItemsToJson.to_json.Goals as goal
 

@@ -1,6 +1,6 @@
 -- The values of the items so far.
 use Rattle.std.proofs.Common.{◌≡◌, map, take}
-use Rattle.serde_json.specs.View.{view}
+use Rattle.trace_pipeline.proofs.Common.{view}
 use Rattle.trace_pipeline.proofs.write.value.ItemsToJson.to_json.Given as goal
 
 abbrev pub invariant-loop-item : goal.invariant-loop-item
