@@ -27,38 +27,57 @@ pub record AddsMeasures (before later : Aside) (added : List Measure) : Type 0 w
   pub measures : later.1 ≡ before.1 ++ added
 
 -- what calls from both sides, spare room and chains of closes are for the plain data
-pub record PlainLaws {S : Type 0} (spans : S → Spans) (attaches : S → Bool) (kept : S → ℕ → ℕ → ℕ) (is_whole : S → Type 0) (does : S → SubscriberCall → S → Type 0) (same : S → S → Type 0) (touches : S → PartCall → S → Type 0) : Type 0 where
-  pub calls : (old new : Worlds S) (dispatch : ℕ) (call : SubscriberCall) → Replaced (λ s t. does s call t) old new dispatch → Shown spans attaches kept is_whole old new dispatch call
+pub record PlainLaws {S : Type 0} (spans : S → Spans) (attaches : S → Bool) (kept : S → ℕ → ℕ → ℕ)
+    (is_whole : S → Type 0) (does : S → SubscriberCall → S → Type 0) (same : S → S → Type 0)
+    (touches : S → PartCall → S → Type 0) : Type 0 where
+  pub calls : (old new : Worlds S) (dispatch : ℕ) (call : SubscriberCall) → Replaced (λ s t. does s call t) old new dispatch
+      → Shown spans attaches kept is_whole old new dispatch call
   pub alike : (old new : Worlds S) (dispatch : ℕ) → Replaced same old new dispatch → Alike spans attaches kept is_whole old new dispatch
-  pub chains : (old new : Worlds S) (dispatch at id : ℕ) → Replaced (λ s t. Chain spans does at (Some id) s t) old new dispatch → ChainShown spans attaches kept is_whole old new dispatch id
-  pub leaves : (old new : Worlds S) (dispatch : ℕ) (call : PartCall) → Replaced (λ s t. touches s call t) old new dispatch → Alike spans attaches kept is_whole old new dispatch
+  pub chains : (old new : Worlds S) (dispatch at id : ℕ) → Replaced (λ s t. Chain spans does at (Some id) s t) old new dispatch
+      → ChainShown spans attaches kept is_whole old new dispatch id
+  pub leaves : (old new : Worlds S) (dispatch : ℕ) (call : PartCall) → Replaced (λ s t. touches s call t) old new dispatch
+      → Alike spans attaches kept is_whole old new dispatch
 
 -- one call is one step of the plain data, of what is recorded and of the filter in place, and adds its measures
-pub record CallsLaw {S : Type 0} (spans : S → Spans) (views : Views S) (attaches : S → Bool) (kept : S → ℕ → ℕ → ℕ) (is_whole : S → Type 0) (does : S → SubscriberCall → S → Type 0) : Type 0 where
-  pub shown : (old new : Worlds S) (dispatch : ℕ) (call : SubscriberCall) → Replaced (λ s t. does s call t) old new dispatch → Shown spans attaches kept is_whole old new dispatch call
+pub record CallsLaw {S : Type 0} (spans : S → Spans) (views : Views S) (attaches : S → Bool) (kept : S → ℕ → ℕ → ℕ)
+    (is_whole : S → Type 0) (does : S → SubscriberCall → S → Type 0) : Type 0 where
+  pub shown : (old new : Worlds S) (dispatch : ℕ) (call : SubscriberCall) → Replaced (λ s t. does s call t) old new dispatch
+      → Shown spans attaches kept is_whole old new dispatch call
   pub recalled : (old new : Worlds S) (dispatch : ℕ) (call : SubscriberCall) → Replaced (λ s t. does s call t) old new dispatch
-      → RecordsCallBy (member_of views.counter None old dispatch) (spans_in spans old dispatch) (member_of views.recorded no_recording old dispatch) call (member_of views.recorded no_recording new dispatch)
-      × (member_of views.filtered None new dispatch ≡ option_map (filter_after (spans_in spans old dispatch) call) (member_of views.filtered None old dispatch))
+      → RecordsCallBy (member_of views.counter None old dispatch) (spans_in spans old dispatch)
+          (member_of views.recorded no_recording old dispatch) call (member_of views.recorded no_recording new dispatch)
+      × (member_of views.filtered None new dispatch
+          ≡ option_map (filter_after (spans_in spans old dispatch) call) (member_of views.filtered None old dispatch))
       × AddsMeasures (aside_in views old dispatch) (aside_in views new dispatch) (measured_by call)
 
 -- spare room is nothing that is kept
-pub record SameLaw {S : Type 0} (spans : S → Spans) (views : Views S) (attaches : S → Bool) (kept : S → ℕ → ℕ → ℕ) (is_whole : S → Type 0) (same : S → S → Type 0) : Type 0 where
+pub record SameLaw {S : Type 0} (spans : S → Spans) (views : Views S) (attaches : S → Bool) (kept : S → ℕ → ℕ → ℕ)
+    (is_whole : S → Type 0) (same : S → S → Type 0) : Type 0 where
   pub shown : (old new : Worlds S) (dispatch : ℕ) → Replaced same old new dispatch → Alike spans attaches kept is_whole old new dispatch
   pub recalled : (old new : Worlds S) (dispatch : ℕ) → Replaced same old new dispatch
-      → (member_of views.recorded no_recording new dispatch ≡ member_of views.recorded no_recording old dispatch) × (member_of views.filtered None new dispatch ≡ member_of views.filtered None old dispatch)
+      → (member_of views.recorded no_recording new dispatch ≡ member_of views.recorded no_recording old dispatch)
+      × (member_of views.filtered None new dispatch ≡ member_of views.filtered None old dispatch)
       × AddsMeasures (aside_in views old dispatch) (aside_in views new dispatch) []
 
 -- a chain of closes closes each span that it closes in the recording, in order, and the filter forgets it
-pub record ChainsLaw {S : Type 0} (spans : S → Spans) (views : Views S) (attaches : S → Bool) (kept : S → ℕ → ℕ → ℕ) (is_whole : S → Type 0) (does : S → SubscriberCall → S → Type 0) : Type 0 where
-  pub shown : (old new : Worlds S) (dispatch at id : ℕ) → Replaced (λ s t. Chain spans does at (Some id) s t) old new dispatch → ChainShown spans attaches kept is_whole old new dispatch id
+pub record ChainsLaw {S : Type 0} (spans : S → Spans) (views : Views S) (attaches : S → Bool) (kept : S → ℕ → ℕ → ℕ)
+    (is_whole : S → Type 0) (does : S → SubscriberCall → S → Type 0) : Type 0 where
+  pub shown : (old new : Worlds S) (dispatch at id : ℕ) → Replaced (λ s t. Chain spans does at (Some id) s t) old new dispatch
+      → ChainShown spans attaches kept is_whole old new dispatch id
   pub recalled : (old new : Worlds S) (dispatch at id : ℕ) → Replaced (λ s t. Chain spans does at (Some id) s t) old new dispatch
-      → RecordsChain at (Some id) (spans_in spans old dispatch) (spans_in spans new dispatch) (member_of views.recorded no_recording old dispatch) (member_of views.recorded no_recording new dispatch)
-      × FiltersChain (Some id) (spans_in spans old dispatch) (spans_in spans new dispatch) (member_of views.filtered None old dispatch) (member_of views.filtered None new dispatch)
+      → RecordsChain at (Some id) (spans_in spans old dispatch) (spans_in spans new dispatch)
+          (member_of views.recorded no_recording old dispatch) (member_of views.recorded no_recording new dispatch)
+      × FiltersChain (Some id) (spans_in spans old dispatch) (spans_in spans new dispatch)
+          (member_of views.filtered None old dispatch) (member_of views.filtered None new dispatch)
       × AddsMeasures (aside_in views old dispatch) (aside_in views new dispatch) []
 
 -- a call from outside leaves the plain data, and is one step of what is recorded
-pub record AsksLaw {S : Type 0} (spans : S → Spans) (views : Views S) (attaches : S → Bool) (kept : S → ℕ → ℕ → ℕ) (is_whole : S → Type 0) (touches : S → PartCall → S → Type 0) : Type 0 where
-  pub shown : (old new : Worlds S) (dispatch : ℕ) (call : PartCall) → Replaced (λ s t. touches s call t) old new dispatch → Alike spans attaches kept is_whole old new dispatch
+pub record AsksLaw {S : Type 0} (spans : S → Spans) (views : Views S) (attaches : S → Bool) (kept : S → ℕ → ℕ → ℕ)
+    (is_whole : S → Type 0) (touches : S → PartCall → S → Type 0) : Type 0 where
+  pub shown : (old new : Worlds S) (dispatch : ℕ) (call : PartCall) → Replaced (λ s t. touches s call t) old new dispatch
+      → Alike spans attaches kept is_whole old new dispatch
   pub recalled : (old new : Worlds S) (dispatch : ℕ) (call : PartCall) → Replaced (λ s t. touches s call t) old new dispatch
-      → RecordsPart (member_of views.recorded no_recording old dispatch) call (member_of views.recorded no_recording new dispatch) × (member_of views.filtered None new dispatch ≡ member_of views.filtered None old dispatch)
+      → RecordsPart
+          (member_of views.recorded no_recording old dispatch) call (member_of views.recorded no_recording new dispatch)
+      × (member_of views.filtered None new dispatch ≡ member_of views.filtered None old dispatch)
       × AddsMeasures (aside_in views old dispatch) (aside_in views new dispatch) []

@@ -12,14 +12,14 @@ ghost use Rattle.span_script.specs.Fits.{State, Fits};
 pub fn holds()
     ensures open { (k : State) (t : Tables) → Fits k t → (s : ℕ)
         → nat_lt 0 (span_at k.spans.made s).holds ≡ is_open t.handles s }
-    ensures closes { (k next : State) (stands : Here) (handle : ℕ) (scope : Scope) → Fits k stands.script
-        → slot_at stands.script.handles handle ≡ Some scope
-        → Fits next (after_effect stands.script (drop_effect stands handle scope)) → (s : ℕ)
-        → is_in s (closed_of (slice_set stands.script.handles handle None) scope)
+    ensures closes { (k next : State) (here : Here) (handle : ℕ) (scope : Scope) → Fits k here.script
+        → slot_at here.script.handles handle ≡ Some scope
+        → Fits next (after_effect here.script (drop_effect here handle scope)) → (s : ℕ)
+        → is_in s (closed_of (slice_set here.script.handles handle None) scope)
         ≡ (nat_lt 0 (span_at k.spans.made s).holds && not (nat_lt 0 (span_at next.spans.made s).holds)) }
-    ensures order { (k next : State) (stands : Here) (handle s : ℕ) (up : Scope) → Fits k stands.script
-        → slot_at stands.script.handles handle ≡ Some (s ∷ up)
-        → Fits next (after_effect stands.script (drop_effect stands handle (s ∷ up)))
+    ensures order { (k next : State) (here : Here) (handle s : ℕ) (up : Scope) → Fits k here.script
+        → slot_at here.script.handles handle ≡ Some (s ∷ up)
+        → Fits next (after_effect here.script (drop_effect here handle (s ∷ up)))
         → (r : ReleasesChain (Some s) k.spans next.spans)
-        → closed_in (Some s) k.spans next.spans r ≡ closed_of (slice_set stands.script.handles handle None) (s ∷ up) }
+        → closed_in (Some s) k.spans next.spans r ≡ closed_of (slice_set here.script.handles handle None) (s ∷ up) }
 {}
