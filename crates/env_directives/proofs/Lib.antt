@@ -1,3 +1,4 @@
+pub mod Common
 pub mod cuts
 pub mod forms
 pub mod printed

@@ -1,3 +1,4 @@
+pub mod Common
 pub mod Wholes
 pub mod Worlds
 pub mod printed

@@ -1,25 +1,9 @@
 -- No level of a table that directives were added to is above its greatest.
-use Rattle.std.proofs.Common.{◌≡◌, ℕ, ◌≤◌, List, [], ◌∷◌, length, map, Bool, Option, Some, None, refl, sym, ap, subst, ◌∙◌, arith, inl, inr}
-use Rattle.std.specs.Prelude.{if◌then◌else◌, IfSome, is_some, count_by}
+use Rattle.std.proofs.Common.{◌≡◌, ℕ, ◌≤◌, List, [], ◌∷◌, length, map, Bool, Option, Some, None, refl, sym, ap, subst, ◌∙◌, arith, inl, inr, if◌then◌else◌, IfSome, is_some, count_by}
 use Rattle.std.specs.List.{filter}
 use Rattle.std.specs.declared.cmp.Ordering.{Ordering}
 use Rattle.std.specs.declared.cmp.Ordering.TheVariants.{Less, Equal, Greater}
-use Rattle.std.specs.Ordering.{match_ordering}
-use Rattle.std.proofs.lemmas.Bool.{cases_Bool, cond-true, cond-false}
-use Rattle.trace_base.specs.declared.level.LevelFilter.{LevelFilter}
-use Rattle.trace_base.specs.declared.level.LevelFilter.TheVariants.{OFF}
-use Rattle.trace_base.specs.words.Level.{greatest_verbosity}
-use Rattle.env_directives.specs.declared.directive.StaticDirective.{StaticDirective}
-use Rattle.env_directives.specs.declared.env.directive.Directive.{Directive}
-use Rattle.env_directives.specs.orders.DirectiveOrder.{directive_cmp}
-use Rattle.env_directives.specs.orders.StaticOrder.{most_specific_first}
-use Rattle.env_directives.specs.orders.Table.{Table, empty_table, with_item_in_order, with_added, with_all_added, more_verbose}
-use Rattle.env_filter.specs.declared.watch.Care.{Care}
-use Rattle.env_filter.specs.spans.Levels.{OpenLevel, is_of_span}
-use Rattle.env_filter.specs.spans.Watching.{MatchState}
-use Rattle.env_filter.specs.Filtering.{FilterState, AreWhole, IsNewFilter, Each, IsAtMostLevel, fresh}
-use Rattle.env_filter.specs.Gating.{first_below, second_below}
-use Rattle.env_filter.specs.Tables.{is_static, is_dynamic, static_of, statics_of, dynamics_of, placed_in, fixed_directive, with_directive, with_tables, has_none, or_default, filter_of}
+use Rattle.env_filter.proofs.Common.{match_ordering, cases_Bool, cond-true, cond-false, LevelFilter, OFF, greatest_verbosity, StaticDirective, Directive, directive_cmp, most_specific_first, Table, empty_table, with_item_in_order, with_added, with_all_added, more_verbose, Care, OpenLevel, is_of_span, MatchState, FilterState, AreWhole, IsNewFilter, Each, IsAtMostLevel, fresh, first_below, second_below, is_static, is_dynamic, static_of, statics_of, dynamics_of, placed_in, fixed_directive, with_directive, with_tables, has_none, or_default, filter_of}
 
 each_more : {X : Type 0} (level : X → LevelFilter) (most more : LevelFilter) → greatest_verbosity most ≤ greatest_verbosity more → (xs : List X) → Each (λ x. IsAtMostLevel most (level x)) xs → Each (λ x. IsAtMostLevel more (level x)) xs
 each_more level most more up [] all = tt

@@ -1,17 +1,8 @@
 -- A filter over a subscriber that takes everything admits by the rule of the gate.
-use Rattle.std.proofs.Common.{◌≡◌, ℕ, Bool, true, false, Option, None, Some, refl, ap, ◌∙◌}
-use Rattle.std.specs.Prelude.{◌&&◌}
-use Rattle.trace_base.specs.declared.callsite.Callsite.{Callsite}
-use Rattle.trace_base.specs.declared.level.Level.{Level}
-use Rattle.trace_base.specs.declared.level.LevelFilter.{LevelFilter}
+use Rattle.std.proofs.Common.{◌≡◌, ℕ, Bool, true, false, Option, None, Some, refl, ap, ◌∙◌, ◌&&◌}
+use Rattle.env_filter.proofs.Common.{Callsite, Level, LevelFilter, Worlds, gate, AdmitsFresh, joint_interest, hint_both, FilterWithRoom, plain, AreWhole, interest_in, hint_in, enables_in, gate_is_admitted, layer_or, sometimes, never_enabled, GateFollows, filter_rule, in_place_rule, IsWholeInPlace, EachSubscriber, AdmitsBy}
 use Rattle.trace_base.specs.declared.subscriber.Interest.{Interest}
 use Rattle.trace_base.specs.declared.subscriber.Interest.TheVariants as interests
-use Rattle.trace_base.specs.Gate.{Worlds, gate, AdmitsFresh}
-use Rattle.span_registry.specs.Both.{joint_interest, hint_both}
-use Rattle.env_filter.specs.Filtering.{FilterWithRoom, plain, AreWhole, interest_in, hint_in, enables_in}
-use Rattle.env_filter.specs.Gating.{gate_is_admitted}
-use Rattle.env_filter.specs.Reloading.{layer_or, sometimes, never_enabled}
-use Rattle.env_filter.specs.Worlds.{GateFollows, filter_rule, in_place_rule, IsWholeInPlace, EachSubscriber, AdmitsBy}
 
 picked_always : (i : Interest) → joint_interest i interests.Always ≡ i
 picked_always interests.Never = refl

@@ -1,14 +1,6 @@
 -- An op that is applied to a span in a table, and the context that one shows.
-use Rattle.std.proofs.Common.{◌≡◌, ℕ, List, Option, Some, None, refl, sym, ap, ◌∙◌}
-use Rattle.std.specs.Prelude.{Result, Ok, Err, OnOk, OnErr, IfOk, IsTrue, unwrap_or}
-use Rattle.otel_base.specs.declared.context.Context.{Context}
-use Rattle.otel_base.specs.declared.context.SpanContext.{SpanContext}
-use Rattle.otel_base.specs.declared.memory.Memory.{Memory}
-use Rattle.otel_state.specs.declared.op.Op.{Op}
-use Rattle.otel_state.specs.declared.op.OpReply.{OpReply}
-use Rattle.otel_state.specs.States.{SpanData, reply, is_growing}
-use Rattle.otel_layer.specs.Table.{with_op}
-use Rattle.otel_layer.specs.Parts.{AppliesTo, context_at}
+use Rattle.std.proofs.Common.{◌≡◌, ℕ, List, Option, Some, None, refl, sym, ap, ◌∙◌, Result, Ok, Err, OnOk, OnErr, IfOk, IsTrue, unwrap_or}
+use Rattle.otel_layer.proofs.Common.{Context, SpanContext, Memory, Op, OpReply, SpanData, reply, is_growing, with_op, AppliesTo, context_at}
 
 none_isnt : (told : SpanData) → (let o : Option SpanData = None in o) ≡ Some told → ⊥
 none_isnt told h = cc

@@ -1,9 +1,7 @@
 -- What an entry attaches is attached.
-use Rattle.std.proofs.Common.{◌≡◌, ℕ, Bool, arith, refl}
-use Rattle.std.specs.Prelude.{◌==◌}
-use Rattle.std.proofs.lemmas.Bool.{eq-eqb, cond-true}
-use Rattle.trace_base.specs.declared.lane.Lane.{Lane}
-use Rattle.trace_base.specs.lanes.Contexts.{KeepsLane, KeepsAttached, AreAttached, attached_as}
+use Rattle.std.proofs.Common.{◌≡◌, ℕ, Bool, arith, refl, ◌==◌}
+use Rattle.otel_layer.proofs.Common.{cond-true, Lane, KeepsLane, KeepsAttached, AreAttached, attached_as}
+use Rattle.std.proofs.lemmas.Bool.{eq-eqb}
 
 pub entered_still : (attaches : Bool) (kept now : ℕ → ℕ → ℕ) (before later : Lane) → ((lane number : ℕ) → kept lane number ≡ 0) → KeepsLane attaches before later × KeepsAttached kept before later now → AreAttached now later
 entered_still attaches kept now before later none h number =

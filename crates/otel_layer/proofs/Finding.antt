@@ -1,20 +1,8 @@
 -- What each change of a recording makes of the state of any span.
-use Rattle.std.proofs.Common.{◌≡◌, ◌≢◌, ◌<◌, ℕ, suc, zero, ◌+◌, List, [], ◌∷◌, ◌++◌, length, Bool, true, false, Option, Some, None, refl, sym, ap, subst, ◌∙◌, inl, inr, arith}
-use Rattle.std.specs.Prelude.{if◌then◌else◌, ◌==◌, unwrap_or}
-use Rattle.std.specs.Map.{remove_entry}
-use Rattle.std.proofs.lemmas.Bool.{cases_Bool, cond-true, cond-false, true≢false, eq-eqb, ne_eqb, eqb-true}
-use Rattle.otel_base.specs.declared.context.Context.{Context}
-use Rattle.otel_base.specs.declared.context.SpanContext.{SpanContext}
-use Rattle.otel_base.specs.Ids.{ids_of}
-use Rattle.otel_base.specs.RecorderIds.{recorder_ids}
-use Rattle.trace_base.specs.Spans.{Spans}
-use Rattle.trace_base.specs.layers.Hooks.{KnownSpans}
-use Rattle.span_registry.specs.Both.{InStep}
-use Rattle.otel_state.specs.declared.op.Op.{Op}
+use Rattle.std.proofs.Common.{◌≡◌, ◌≢◌, ◌<◌, ℕ, suc, zero, ◌+◌, List, [], ◌∷◌, ◌++◌, length, Bool, true, false, Option, Some, None, refl, sym, ap, subst, ◌∙◌, inl, inr, arith, if◌then◌else◌, ◌==◌, unwrap_or}
+use Rattle.otel_layer.proofs.Common.{remove_entry, cases_Bool, cond-true, cond-false, Context, SpanContext, ids_of, recorder_ids, Spans, KnownSpans, InStep, Op, SpanData, after_op, record_of, data_at, knows_span, with_span_data, with_op, waits, waits_by, is_id, Recording, started_under, with_start, without_closed, closed_started, with_close, data_after, data_started, started_by, count_after, Closes}
+use Rattle.std.proofs.lemmas.Bool.{true≢false, eq-eqb, ne_eqb, eqb-true}
 use Rattle.otel_state.specs.declared.op.Op.TheVariants as ops
-use Rattle.otel_state.specs.States.{SpanData, after_op, record_of}
-use Rattle.otel_layer.specs.Table.{data_at, knows_span, with_span_data, with_op, waits, waits_by, is_id}
-use Rattle.otel_layer.specs.Recording.{Recording, started_under, with_start, without_closed, closed_started, with_close, data_after, data_started, started_by, count_after, Closes}
 use Rattle.otel_layer.proofs.Recalling.{untold}
 
 -- ---- an op

@@ -1,15 +1,7 @@
 -- How many entries of a table aren't gaps, and what is left once the gaps are closed.
-use Rattle.std.proofs.Common.{◌≡◌, ℕ, suc, ◌≤◌, List, [], ◌∷◌, ◌++◌, length, Bool, true, cond, Option, Some, None, refl, sym, ap, ◌∙◌, arith, inl, inr}
-use Rattle.std.specs.Prelude.{Result, Ok, Err, filter, is_some, ◌||◌, ◌==◌}
-use Rattle.std.specs.Map.{remove_entry}
-use Rattle.std.proofs.lemmas.Bool.{cases_Bool, cond-true, cond-false, true≢false}
-use Rattle.otel_base.specs.declared.memory.Memory.{Memory}
-use Rattle.otel_layer.specs.declared.table.Entry.{Entry}
-use Rattle.otel_state.specs.declared.op.Op.{Op}
-use Rattle.otel_state.specs.declared.op.OpReply.{OpReply}
-use Rattle.otel_state.specs.States.{SpanData, StateValue, after_op}
-use Rattle.otel_layer.specs.Parts.{AppliesTo}
-use Rattle.otel_layer.specs.Table.{with_entry_read, read_off, is_id, knows_span, update}
+use Rattle.std.proofs.Common.{◌≡◌, ℕ, suc, ◌≤◌, List, [], ◌∷◌, ◌++◌, length, Bool, true, cond, Option, Some, None, refl, sym, ap, ◌∙◌, arith, inl, inr, Result, Ok, Err, filter, is_some, ◌||◌, ◌==◌}
+use Rattle.otel_layer.proofs.Common.{remove_entry, cases_Bool, cond-true, cond-false, Memory, Entry, Op, OpReply, SpanData, StateValue, after_op, AppliesTo, with_entry_read, read_off, is_id, knows_span, update}
+use Rattle.std.proofs.lemmas.Bool.{true≢false}
 
 abbrev pub is_kept : Entry → Bool
 is_kept e = is_some e.state

@@ -1,31 +1,15 @@
 -- The steps of the hooks, put together.
-use Rattle.std.proofs.Common.{◌≡◌, ℕ, ◌+◌, ◌<◌, ◌^◌, List, [], ◌∷◌, ◌++◌, length, Bool, true, cond, ◌-◌, Option, Some, None, refl, sym, ap, subst, ◌∙◌, arith}
-use Rattle.std.specs.Prelude.{if◌then◌else◌, IfSome, ◌==◌, ◌&&◌}
-use Rattle.std.specs.Map.{remove_entry}
-use Rattle.std.proofs.lemmas.Bool.{and_parts, and_from, eq-eqb, cond-true}
-use Rattle.otel_base.specs.declared.context.Context.{Context}
-use Rattle.otel_base.specs.declared.record.Record.{Record}
-use Rattle.otel_base.specs.Stack.{empty_context}
+use Rattle.std.proofs.Common.{◌≡◌, ℕ, ◌+◌, ◌<◌, ◌^◌, List, [], ◌∷◌, ◌++◌, length, Bool, true, cond, ◌-◌, Option, Some, None, refl, sym, ap, subst, ◌∙◌, arith, if◌then◌else◌, IfSome, ◌==◌, ◌&&◌}
+use Rattle.otel_layer.proofs.Common.{remove_entry, and_parts, and_from, cond-true, Context, Record, empty_context, Lane, AreAttached, attached_as, Op, LayerSettings, first_attributes, last_passing, SpanData, Room, HasRoom, data_at_making, after_op, record_of, data_at, with_span_data, with_op, own_or, is_id, RoomFor, Core, is_token, is_number, keeps_as, kept_by, IsWholeCore, StartsSpan, StartsAny, parent_source, around, context_from, new_span_data, MakesSpan, EntersLane, EntersSpan, ClosesSpan, with_moment, last_passes, last_counted}
+use Rattle.std.proofs.lemmas.Bool.{eq-eqb}
 use Rattle.otel_base.specs.Tracer.{TracerCall, Finish, Spares}
 use Rattle.otel_base.specs.Tracer.{Starts as CountsStarts}
 use Rattle.trace_base.specs.declared.callsite.Callsite.{Callsite}
 use Rattle.trace_base.specs.declared.field.ValueSet.{ValueSet}
-use Rattle.trace_base.specs.declared.lane.Lane.{Lane}
 use Rattle.trace_base.specs.declared.span.Parent.{Parent}
-use Rattle.trace_base.specs.lanes.Contexts.{AreAttached, attached_as}
-use Rattle.otel_state.specs.declared.op.Op.{Op}
 use Rattle.otel_state.specs.declared.op.Op.TheVariants as ops
-use Rattle.otel_state.specs.declared.settings.LayerSettings.{LayerSettings}
 use Rattle.otel_state.specs.declared.update.Update.{Update}
-use Rattle.otel_state.specs.fields.FirstAttributes.{first_attributes}
-use Rattle.otel_state.specs.Stack.{last_passing}
-use Rattle.otel_state.specs.States.{SpanData, Room, HasRoom, data_at_making, after_op, record_of}
 use Rattle.otel_layer.specs.declared.tokens.Token.{Token}
-use Rattle.otel_layer.specs.Table.{data_at, with_span_data, with_op, own_or, is_id, RoomFor}
-use Rattle.otel_layer.specs.Core.{Core, is_token, is_number, keeps_as, kept_by, IsWholeCore}
-use Rattle.otel_layer.specs.Steps.{StartsSpan, StartsAny, parent_source, around, context_from, new_span_data, MakesSpan, EntersLane, EntersSpan, ClosesSpan}
-use Rattle.otel_layer.specs.Ready.{with_moment}
-use Rattle.otel_layer.specs.laws.CountsLemmas.{last_passes, last_counted}
 use Rattle.otel_layer.specs.laws.HookLemmas.{whole_kin, starts_kin, removed_length}
 
 pub makes : {T : Type 0} (does : T → TracerCall → T → Type 0) (c between added d : Core T) (id : ℕ) (lane : Lane) (at : ℕ) (place : Parent) (current : Option ℕ) (callsite : Callsite) (values : ValueSet) (source again first : Option ℕ) (active eager : Bool) (put : Parent) (context : Context) (told : SpanData)

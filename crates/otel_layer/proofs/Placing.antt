@@ -1,17 +1,10 @@
 -- A table of states, seen as the list of what its spans have come to.
-use Rattle.std.proofs.Common.{◌≡◌, ℕ, suc, zero, ◌+◌, ◌<◌, ◌≤◌, List, [], ◌∷◌, length, Bool, true, false, cond, get_or, Option, Some, None, refl, sym, ap, ◌∙◌, arith, inl, inr}
-use Rattle.std.specs.Prelude.{Result, Ok, Err, OnOk, OnErr, unwrap_or, is_some, ◌||◌, ◌&&◌, ◌==◌, nat_lt, slice_set}
-use Rattle.std.specs.List.{position, position_or_len, list_any}
-use Rattle.std.specs.Map.{remove_entry, lookup}
-use Rattle.std.proofs.lemmas.Bool.{and_parts, or_parts, cases_Bool, cond-true, cond-false, ltb-false, true≢false}
+use Rattle.std.proofs.Common.{◌≡◌, ℕ, suc, zero, ◌+◌, ◌<◌, ◌≤◌, List, [], ◌∷◌, length, Bool, true, false, cond, get_or, Option, Some, None, refl, sym, ap, ◌∙◌, arith, inl, inr, Result, Ok, Err, OnOk, OnErr, unwrap_or, is_some, ◌||◌, ◌&&◌, ◌==◌, nat_lt, slice_set}
+use Rattle.otel_layer.proofs.Common.{position_or_len, list_any, remove_entry, lookup, and_parts, or_parts, cases_Bool, cond-true, cond-false, Context, SpanContext, Entry, SpanData, StateValue, ids_of, is_of_id, ids_at, waits, waits_by, own_or, with_entry_read, read_off, all_data, entry_ids, is_id, knows_span, update}
+use Rattle.std.specs.List.{position}
+use Rattle.std.proofs.lemmas.Bool.{ltb-false, true≢false}
 use Rattle.std.proofs.lemmas.List.Quantifiers.{position-Some}
 use Rattle.std.proofs.lemmas.List.Recursion.{is_position_or_len}
-use Rattle.otel_base.specs.declared.context.Context.{Context}
-use Rattle.otel_base.specs.declared.context.SpanContext.{SpanContext}
-use Rattle.otel_layer.specs.declared.table.Entry.{Entry}
-use Rattle.otel_state.specs.States.{SpanData, StateValue}
-use Rattle.otel_base.specs.Ids.{ids_of}
-use Rattle.otel_layer.specs.Table.{is_of_id, ids_at, waits, waits_by, own_or, with_entry_read, read_off, all_data, entry_ids, is_id, knows_span, update}
 
 -- ---- one entry
 

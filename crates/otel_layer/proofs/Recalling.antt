@@ -1,25 +1,10 @@
 -- What the hooks of a layer over a recorder make of what it keeps.
-use Rattle.std.proofs.Common.{◌≡◌, ℕ, suc, zero, ◌+◌, List, [], ◌∷◌, ◌++◌, Bool, true, false, Option, Some, None, refl, sym, ap, subst, ◌∙◌, inl, inr}
-use Rattle.std.specs.Prelude.{if◌then◌else◌, is_some}
-use Rattle.std.specs.Map.{remove_entry}
+use Rattle.std.proofs.Common.{◌≡◌, ℕ, suc, zero, ◌+◌, List, [], ◌∷◌, ◌++◌, Bool, true, false, Option, Some, None, refl, sym, ap, subst, ◌∙◌, inl, inr, if◌then◌else◌, is_some}
+use Rattle.otel_layer.proofs.Common.{remove_entry, cases_Bool, Context, SpanContext, Record, ids_of, RecorderValue, recorder_ids, without_number, empty_context, Lane, Hook, OnNewSpan, OnRecord, OnFollows, OnEvent, OnEnter, OnExit, OnClose, SpanData, record_of, Core, Reserves, SameCore, StartsIf, StartsSpan, StartsAny, parent_source, MakesSpan, FollowsSpan, EntersLane, DetachesOwn, EntersSpan, ExitsSpan, ClosesSpan, IfKnown, all_events, Step, DoesHook, data_at, knows_span, with_op, waits, waits_by, own_or, is_id, Recording, recording_of, with_applied, started_under, with_start, with_starts, made_under, with_new_recorded, with_started_link, with_follow, source_of, with_entry_op, with_entry, without_closed, closed_started, with_close, AttachesOwn, Detaches, Enters, Exits, Stays, RecordsHook}
 use Rattle.std.proofs.lemmas.Map.Made.{is_some-lookup}
-use Rattle.std.proofs.lemmas.Bool.{cases_Bool, true≢false}
-use Rattle.otel_base.specs.declared.context.Context.{Context}
-use Rattle.otel_base.specs.declared.context.SpanContext.{SpanContext}
-use Rattle.otel_base.specs.declared.record.Record.{Record}
-use Rattle.otel_base.specs.Ids.{ids_of}
-use Rattle.otel_base.specs.Recorder.{RecorderValue}
+use Rattle.std.proofs.lemmas.Bool.{true≢false}
 use Rattle.otel_base.specs.Recorder.{Records as RecordsBy}
-use Rattle.otel_base.specs.RecorderIds.{recorder_ids}
-use Rattle.otel_base.specs.Stack.{without_number, empty_context}
-use Rattle.trace_base.specs.declared.lane.Lane.{Lane}
-use Rattle.trace_base.specs.layers.Hooks.{Hook, OnNewSpan, OnRecord, OnFollows, OnEvent, OnEnter, OnExit, OnClose}
 use Rattle.otel_state.specs.declared.op.Op.TheVariants as ops
-use Rattle.otel_state.specs.States.{SpanData, record_of}
-use Rattle.otel_layer.specs.Core.{Core}
-use Rattle.otel_layer.specs.Steps.{Reserves, SameCore, StartsIf, StartsSpan, StartsAny, parent_source, MakesSpan, FollowsSpan, EntersLane, DetachesOwn, EntersSpan, ExitsSpan, ClosesSpan, IfKnown, all_events, Step, DoesHook}
-use Rattle.otel_layer.specs.Table.{data_at, knows_span, with_op, waits, waits_by, own_or, is_id}
-use Rattle.otel_layer.specs.Recording.{Recording, recording_of, with_applied, started_under, with_start, with_starts, made_under, with_new_recorded, with_started_link, with_follow, source_of, with_entry_op, with_entry, without_closed, closed_started, with_close, AttachesOwn, Detaches, Enters, Exits, Stays, RecordsHook}
 
 -- ---- room
 

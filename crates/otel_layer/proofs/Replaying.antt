@@ -1,30 +1,16 @@
 -- What the calls of a stack make of what its layer over a recorder keeps.
-use Rattle.std.proofs.Common.{◌≡◌, ◌<◌, ℕ, List, [], ◌∷◌, ◌++◌, length, Bool, true, false, Option, Some, None, slice_get, refl, sym, ap, subst, ◌∙◌, inl, inr, arith}
-use Rattle.std.specs.Prelude.{◌==◌, if◌then◌else◌, fold}
+use Rattle.std.proofs.Common.{◌≡◌, ◌<◌, ℕ, List, [], ◌∷◌, ◌++◌, length, Bool, true, false, Option, Some, None, slice_get, refl, sym, ap, subst, ◌∙◌, inl, inr, arith, ◌==◌, if◌then◌else◌, fold}
 use Rattle.std.specs.Option.{option_map_or}
-use Rattle.std.proofs.lemmas.Bool.{cases_eq, cases_Bool, true≢false, eq-eqb, ne_eqb, cond-true, cond-false}
-use Rattle.otel_base.specs.declared.context.Context.{Context}
-use Rattle.otel_base.specs.Recorder.{RecorderValue}
+use Rattle.otel_layer.proofs.Common.{cases_eq, cases_Bool, cond-true, cond-false, Context, RecorderValue, has_number, without_number, empty_context, Lane, Hook, Spans, next_of, span_at, DoesBoth, InStep, seen_before, seen_later, last_passing, Core, CoreWithRoom, is_token, seen_in, PartCall, Applies, Shows, Touches, TouchesFirst, TouchesNone, IfKnown, SameCore, DoesHook, all_events, data_at, knows_span, own_or, Recording, recording_of, no_recording, with_starts, source_of, with_entry, with_exit, with_close, AttachesOwn, Detaches, Enters, Exits, Stays, RecordsCall, RecordsChain, RecordsPart, layer_recording}
+use Rattle.std.proofs.lemmas.Bool.{true≢false, eq-eqb, ne_eqb}
 use Rattle.otel_base.specs.Recorder.{Records as RecordsBy}
-use Rattle.otel_base.specs.Stack.{has_number, without_number, empty_context}
-use Rattle.trace_base.specs.declared.lane.Lane.{Lane}
 use Rattle.trace_base.specs.Gate.{Worlds}
-use Rattle.trace_base.specs.layers.Hooks.{Hook}
-use Rattle.trace_base.specs.Spans.{Spans, next_of, span_at}
 use Rattle.trace_base.specs.Calls.{SubscriberCall, NewSpan, Records, Follows, Event, Enter, Exit, CloneSpan, TryClose, spans_after_call}
 use Rattle.trace_base.specs.Conditions.{Allowed}
 use Rattle.span_registry.specs.declared.layered.Layered.{Layered}
-use Rattle.span_registry.specs.Both.{DoesBoth, InStep}
 use Rattle.span_registry.specs.Layering.{both_allowed, both_shows}
 use Rattle.span_registry.specs.Registering.{RegistryValue, DoesRegistry}
 use Rattle.span_handles.specs.Worlds.{Replaced, member_of, Chain, ended, closes, all_released, releases, closed_in, no_spans}
-use Rattle.span_handles.proofs.Showing.{seen_before, seen_later}
-use Rattle.otel_state.specs.Stack.{last_passing}
-use Rattle.otel_layer.specs.Core.{Core, CoreWithRoom, is_token, seen_in}
-use Rattle.otel_layer.specs.Parts.{PartCall, Applies, Shows, Touches, TouchesFirst, TouchesNone}
-use Rattle.otel_layer.specs.Steps.{IfKnown, SameCore, DoesHook, all_events}
-use Rattle.otel_layer.specs.Table.{data_at, knows_span, own_or}
-use Rattle.otel_layer.specs.Recording.{Recording, recording_of, no_recording, with_starts, source_of, with_entry, with_exit, with_close, AttachesOwn, Detaches, Enters, Exits, Stays, RecordsCall, RecordsChain, RecordsPart, layer_recording}
 use Rattle.otel_layer.proofs.Finding.{told_at_next}
 use Rattle.otel_layer.proofs.Recalling.{room_recording, start_recording, hook_recording}
 

@@ -1,16 +1,12 @@
 -- Entries whose ids rise, and where one of them is found.
-use Rattle.std.proofs.Common.{◌≡◌, ℕ, suc, zero, ◌+◌, ◌-◌, ◌<◌, ◌≤◌, List, [], ◌∷◌, ◌++◌, length, Bool, true, false, cond, get_or, take, drop, length-append, Option, Some, None, refl, sym, ap, subst, ◌∙◌, arith, inl, inr}
-use Rattle.std.specs.Prelude.{IfSome, filter, ◌&&◌, ◌==◌, nat_lt, is_some}
+use Rattle.std.proofs.Common.{◌≡◌, ℕ, suc, zero, ◌+◌, ◌-◌, ◌<◌, ◌≤◌, List, [], ◌∷◌, ◌++◌, length, Bool, true, false, cond, get_or, take, drop, length-append, Option, Some, None, refl, sym, ap, subst, ◌∙◌, arith, inl, inr, IfSome, filter, ◌&&◌, ◌==◌, nat_lt, is_some}
 use Rattle.std.specs.Bool.{then_some}
 use Rattle.std.specs.List.{position}
-use Rattle.std.specs.Map.{remove_entry}
-use Rattle.std.proofs.lemmas.Bool.{cases_Bool, cond-true, cond-false, lt-ltb, ltb-true, ltb-false, ne_eqb, eq-eqb}
+use Rattle.otel_layer.proofs.Common.{remove_entry, cases_Bool, cond-true, cond-false, Entry, IdsRise, MayRise, RisesTo, IsKept, is_of_id, is_id, entry_ids, with_entry_read, all_data, knows_span, SpanData, StateValue}
+use Rattle.std.proofs.lemmas.Bool.{lt-ltb, ltb-true, ltb-false, ne_eqb, eq-eqb}
 use Rattle.std.proofs.lemmas.List.{map-append}
 use Rattle.std.proofs.lemmas.List.Sums.{position_or_len_is}
-use Rattle.otel_layer.specs.declared.table.Entry.{Entry}
-use Rattle.otel_layer.specs.Table.{IdsRise, MayRise, RisesTo, IsKept, is_of_id, is_id, entry_ids, with_entry_read, all_data, knows_span}
 use Rattle.otel_layer.proofs.Gaps.{read_added, removed_count}
-use Rattle.otel_state.specs.States.{SpanData, StateValue}
 
 -- ---- what keeps ids keeps them rising
 

@@ -1,16 +1,10 @@
 -- A parent is set exactly while its span hasn't started.
-use Rattle.std.proofs.Common.{◌≡◌, ℕ, List, Option, Some, None, sym, ap, ◌∙◌}
-use Rattle.std.specs.Prelude.{Result, Ok, Err, unwrap_or, option_map}
+use Rattle.std.proofs.Common.{◌≡◌, ℕ, List, Option, Some, None, sym, ap, ◌∙◌, Result, Ok, Err, unwrap_or, option_map}
 use Rattle.std.proofs.lemmas.Bool.{true≢false}
-use Rattle.otel_base.specs.declared.context.Context.{Context}
-use Rattle.otel_base.specs.declared.memory.Memory.{Memory}
+use Rattle.otel_layer.proofs.Common.{Context, Memory, OpReply, SpanData, data_at, Applies, AppliesTo, AnswersCallIf}
 use Rattle.otel_state.specs.declared.op.Op.TheVariants as ops
-use Rattle.otel_state.specs.declared.op.OpReply.{OpReply}
 use Rattle.otel_state.specs.declared.op.SetParentError.{SetParentError}
-use Rattle.otel_state.specs.States.{SpanData}
 use Rattle.span_handles.specs.Handles.{Held}
-use Rattle.otel_layer.specs.Table.{data_at}
-use Rattle.otel_layer.specs.Parts.{Applies, AppliesTo, AnswersCallIf}
 use Rattle.otel_layer.specs.Asking.{parent_answer, parent_reply, set_while_waiting}
 
 none_isnt : {A : Type 0} (a : A) → (let o : Option A = None in o) ≡ Some a → ⊥

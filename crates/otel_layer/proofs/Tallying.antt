@@ -1,13 +1,7 @@
 -- An event that is counted, and told where it is taken.
-use Rattle.std.proofs.Common.{◌≡◌, ℕ, ◌≤◌, List, [], ◌∷◌, Bool, true, false, Option, Some, None, refl, sym, ap, ◌∙◌, inl, inr, arith}
-use Rattle.std.specs.Prelude.{if◌then◌else◌, ◌==◌}
-use Rattle.std.proofs.lemmas.Bool.{cases_Bool, cond-true, cond-false}
-use Rattle.otel_state.specs.declared.op.Op.{Op}
+use Rattle.std.proofs.Common.{◌≡◌, ℕ, ◌≤◌, List, [], ◌∷◌, Bool, true, false, Option, Some, None, refl, sym, ap, ◌∙◌, inl, inr, arith, if◌then◌else◌, ◌==◌}
+use Rattle.otel_layer.proofs.Common.{cases_Bool, cond-true, cond-false, Op, SpanData, Room, HasRoom, after_op, Core, after_counted, update, with_op, RoomFor}
 use Rattle.otel_state.specs.declared.op.Op.TheVariants as ops
-use Rattle.otel_state.specs.States.{SpanData, Room, HasRoom, after_op}
-use Rattle.otel_layer.specs.Core.{Core}
-use Rattle.otel_layer.specs.Counting.{after_counted}
-use Rattle.otel_layer.specs.Table.{update, with_op, RoomFor}
 
 pub counted_room : (id : ℕ) (rooms : List (ℕ × Room)) → RoomFor id ops.Counted rooms
 counted_room id rooms = λ room found. (

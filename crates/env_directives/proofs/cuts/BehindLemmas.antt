@@ -1,11 +1,7 @@
 -- What stands behind a bracket, or a brace, where it isn't what should.
-use Rattle.std.proofs.Common.{◌≡◌, ℕ, Bool, true, false, true≢false, List, [], ◌∷◌, ◌++◌, length, ◌<◌, Err, encode_utf8, refl, sym, ap, ◌∙◌, lit<}
-use Rattle.std.specs.Prelude.{◌==◌}
+use Rattle.std.proofs.Common.{◌≡◌, ℕ, Bool, true, false, true≢false, List, [], ◌∷◌, ◌++◌, length, ◌<◌, Err, encode_utf8, refl, sym, ap, ◌∙◌, lit<, ◌==◌}
 use Rattle.std.proofs.lemmas.Bool.{eqb-true}
-use Rattle.std.proofs.lemmas.Str.{encode_ascii}
-use Rattle.env_directives.specs.reading.Reading.{read_end, read_close}
-use Rattle.env_directives.specs.declared.directive.ParseError.TheVariants.{Shape}
-use Rattle.env_directives.specs.declared.env.directive.Directive.{Directive}
+use Rattle.env_directives.proofs.Common.{encode_ascii, read_end, read_close, Shape, Directive}
 
 -- a byte that no text begins with isn't the first one
 other_byte : (stop b : ℕ) (bs : List ℕ) → stop < 128 → ((more : List ℕ) → b ∷ bs ≡ encode_utf8 stop ++ more → ⊥) → (b == stop) ≡ false

@@ -1,15 +1,6 @@
 -- Heads and brackets that are read one cut after the other.
-use Rattle.std.proofs.Common.{◌≡◌, ℕ, Bool, true, List, [], ◌∷◌, ◌++◌, Some, Option, Result, Ok, Err, refl, sym, ap, ◌∙◌, arith, subst, codes}
-use Rattle.std.specs.Prelude.{IfSome}
-use Rattle.std.proofs.lemmas.Bool.Decides.{nat_tests}
-use Rattle.trace_base.specs.declared.level.LevelFilter.TheVariants.{TRACE}
-use Rattle.env_directives.specs.reading.Cuts.{pieces_at, is_among, lacks}
-use Rattle.env_directives.specs.reading.Faults.{HasNoPattern}
-use Rattle.env_directives.specs.reading.Forms.{begins, unless_empty, target_at}
-use Rattle.env_directives.specs.reading.Reading.{AnswersRead, read_fields, read_fielded, read_bracket, reading, LeadsToNoPattern, SpanLeadsToNoPattern}
-use Rattle.env_directives.specs.declared.directive.ParseError.{ParseError}
-use Rattle.env_directives.specs.declared.directive.ParseError.TheVariants.{Shape, Level, Field, Pattern, Equals, Fields, Memory}
-use Rattle.env_directives.specs.declared.env.directive.Directive.{Directive}
+use Rattle.std.proofs.Common.{◌≡◌, ℕ, Bool, true, List, [], ◌∷◌, ◌++◌, Some, Option, Result, Ok, Err, refl, sym, ap, ◌∙◌, arith, subst, codes, IfSome}
+use Rattle.env_directives.proofs.Common.{nat_tests, TRACE, pieces_at, is_among, lacks, HasNoPattern, begins, unless_empty, target_at, AnswersRead, read_fields, read_fielded, read_bracket, reading, LeadsToNoPattern, SpanLeadsToNoPattern, ParseError, Shape, Level, Field, Pattern, Equals, Fields, Memory, Directive}
 use Rattle.env_directives.proofs.cuts.CutsLemmas.{cut_joined, cut_front, cut_stop, cut_off}
 
 -- what a cut gives: the text is joined of its pieces, and these are a front without stops and a stop

@@ -1,12 +1,9 @@
 -- Where a text is cut, and what a cut leaves.
-use Rattle.std.proofs.Common.{◌≡◌, ℕ, ◌<◌, ◌+◌, Bool, true, false, true≢false, List, [], ◌∷◌, ◌++◌, take, drop, length, get_or, Some, None, Option, refl, sym, ap, ◌∙◌, arith, not, subst, append-nil, append_assoc, add-one, drop-cons}
+use Rattle.std.proofs.Common.{◌≡◌, ℕ, ◌<◌, ◌+◌, Bool, true, false, true≢false, List, [], ◌∷◌, ◌++◌, take, drop, length, get_or, Some, None, Option, refl, sym, ap, ◌∙◌, arith, not, subst, append-nil, append_assoc, add-one, drop-cons, ◌==◌, ◌&&◌, ◌||◌, nat_lt, IfSome}
 use Rattle.std.proofs.Math.Seq.{take-suc}
-use Rattle.std.specs.Prelude.{◌==◌, ◌&&◌, ◌||◌, nat_lt, IfSome}
-use Rattle.std.specs.List.{list_all}
+use Rattle.env_directives.proofs.Common.{list_all, IsCharBoundary-before_ascii, IsCharBoundary-after_ascii, Pieces, pieces_at, is_among, lacks}
 use Rattle.std.proofs.lemmas.Bool.{ltb-true, eqb-true}
-use Rattle.std.proofs.lemmas.Str.{IsCharBoundary-before_ascii, IsCharBoundary-after_ascii}
 use Rattle.std.specs.Str.{IsCharBoundary, IsUtf8}
-use Rattle.env_directives.specs.reading.Cuts.{Pieces, pieces_at, is_among, lacks}
 
 -- the same pieces, with a text more in front
 abbrev pub behind_front : List ℕ → Pieces → Pieces

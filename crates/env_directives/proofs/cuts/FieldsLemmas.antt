@@ -1,17 +1,7 @@
 -- Fields that are read one cut after the other.
-use Rattle.std.proofs.Common.{◌≡◌, ℕ, ◌<◌, Bool, true, false, true≢false, List, [], ◌∷◌, ◌++◌, length, Some, None, Option, Result, Ok, Err, refl, sym, ap, ◌∙◌, arith, subst, append-nil, append_assoc, codes}
-use Rattle.std.specs.Prelude.{◌==◌, IfSome}
-use Rattle.std.specs.List.{AllByRecursion}
-use Rattle.std.proofs.lemmas.Bool.Decides.{nat_tests}
+use Rattle.std.proofs.Common.{◌≡◌, ℕ, ◌<◌, Bool, true, false, true≢false, List, [], ◌∷◌, ◌++◌, length, Some, None, Option, Result, Ok, Err, refl, sym, ap, ◌∙◌, arith, subst, append-nil, append_assoc, codes, ◌==◌, IfSome}
+use Rattle.env_directives.proofs.Common.{AllByRecursion, nat_tests, flat_map-append, pieces_at, is_among, lacks, each_with_comma, unless_empty, IsField, FieldsRead, field_ends, more_fields, read_fields, LeadsToNoPattern, AnswersRead, field_of, IsNoPatternField, MayFail, Match, Shape, Level, Field, Pattern, Equals, Fields, Memory, ParseError}
 use Rattle.std.proofs.lemmas.List.{length-append}
-use Rattle.std.proofs.lemmas.Grind.{flat_map-append}
-use Rattle.env_directives.specs.reading.Cuts.{pieces_at, is_among, lacks}
-use Rattle.env_directives.specs.reading.Forms.{each_with_comma, unless_empty, IsField}
-use Rattle.env_directives.specs.reading.Reading.{FieldsRead, field_ends, more_fields, read_fields, LeadsToNoPattern, AnswersRead}
-use Rattle.env_directives.specs.reading.Values.{field_of, IsNoPatternField, MayFail}
-use Rattle.env_directives.specs.declared.env.field.Match.{Match}
-use Rattle.env_directives.specs.declared.directive.ParseError.TheVariants.{Shape, Level, Field, Pattern, Equals, Fields, Memory}
-use Rattle.env_directives.specs.declared.directive.ParseError.{ParseError}
 use Rattle.env_directives.proofs.cuts.CutsLemmas.{cut_joined, cut_front, cut_stop, cut_off}
 
 -- what follows from a cut

@@ -1,12 +1,10 @@
 -- The pieces of a text, as a loop over a `split` at an ASCII character takes them.
-use Rattle.std.specs.Prelude.{◌≡◌, ℕ, List, [], ◌∷◌, true, false, ◌==◌, length, Some, None}
 use Rattle.std.specs.Borrow.{Bor}
 use Rattle.std.specs.Iterator.{AlwaysYields}
 use Rattle.std.specs.Str.Iter.{split_steps}
-use Rattle.std.specs.Str.Pattern.{FindsChar}
+use Rattle.env_directives.proofs.Common.{FindsChar, nonempty}
 use Rattle.std.specs.declared.str.Split.{Split}
-use Rattle.std.proofs.Common.{refl, sym, ap}
-use Rattle.env_directives.specs.reading.Separators.{nonempty}
+use Rattle.std.proofs.Common.{refl, sym, ap, ◌≡◌, ℕ, List, [], ◌∷◌, true, false, ◌==◌, length, Some, None}
 
 -- these pieces come from a split, and then no more
 abbrev pub Gives : Split ℕ → List (List ℕ) → Type 0

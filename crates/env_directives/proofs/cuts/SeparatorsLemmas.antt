@@ -1,15 +1,9 @@
 -- What the cuts of a `str` give, in the words of the definitions.
-use Rattle.std.specs.Prelude.{◌≡◌, ◌≢◌, ℕ, ◌+◌, ◌<◌, ◌≤◌, suc, zero, List, [], ◌∷◌, ◌++◌, length, take, drop, Bool, true, false, eqb, ◌&&◌, Option, None, Some, is_some, MatchBool, IfSome}
-use Rattle.std.specs.List.{starts_with}
-use Rattle.std.specs.Str.Pattern.{FindsText, LacksTextAt, HasMatch, FindsTextSuffix, CutsSuffixes, IsTrimEndMatches}
-use Rattle.std.specs.Cmp.Lexicographic.{bytes_decides}
-use Rattle.std.proofs.Common.{refl, sym, ◌∙◌, ap, arith, append_assoc, append-nil, length-append}
+use Rattle.env_directives.proofs.Common.{starts_with, FindsText, LacksTextAt, HasMatch, FindsTextSuffix, CutsSuffixes, IsTrimEndMatches, bytes_decides, take-append_seam, drop-append_seam, first_so, second_so, cut_once, is_closers, without_closers}
+use Rattle.std.proofs.Common.{refl, sym, ◌∙◌, ap, arith, append_assoc, append-nil, length-append, ◌≡◌, ◌≢◌, ℕ, ◌+◌, ◌<◌, ◌≤◌, suc, zero, List, [], ◌∷◌, ◌++◌, length, take, drop, Bool, true, false, eqb, ◌&&◌, Option, None, Some, is_some, MatchBool, IfSome}
 use borrow.Author.Tests.{eqb-true}
-use Rattle.std.proofs.Math.Seq.{take-append_seam, drop-append_seam}
 use Rattle.std.proofs.lemmas.Bool.{true≢false}
 use Rattle.std.proofs.lemmas.List.{take-append-drop, length-drop}
-use Rattle.std.specs.Cmp.{first_so, second_so}
-use Rattle.env_directives.specs.reading.Separators.{cut_once, is_closers, without_closers}
 
 -- a text begins with n exactly where it is n and something behind it
 begins : (n s : List ℕ) → (rest : List ℕ) → s ≡ n ++ rest → starts_with eqb s n ≡ true

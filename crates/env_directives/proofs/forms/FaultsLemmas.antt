@@ -1,19 +1,7 @@
 -- What is read has a form, and what is refused has the fault that is told.
-use Rattle.std.proofs.Common.{◌≡◌, ℕ, Bool, true, false, List, [], ◌∷◌, ◌++◌, Some, None, Option, Result, Ok, Err, refl, sym, ap, ◌∙◌, arith, subst, append_assoc, append-nil, codes, ◌⊎◌, inl, inr, not, ◌&&◌, if◌then◌else◌}
-use Rattle.std.specs.Prelude.{◌==◌, IfSome, map}
-use Rattle.std.specs.List.{AllByRecursion}
+use Rattle.std.proofs.Common.{◌≡◌, ℕ, Bool, true, false, List, [], ◌∷◌, ◌++◌, Some, None, Option, Result, Ok, Err, refl, sym, ap, ◌∙◌, arith, subst, append_assoc, append-nil, codes, ◌⊎◌, inl, inr, not, ◌&&◌, if◌then◌else◌, ◌==◌, IfSome, map}
+use Rattle.env_directives.proofs.Common.{AllByRecursion, nat_tests, LevelFilter, pieces_at, is_among, lacks, IsEnd, unless_empty, IsField, IsLevelText, each_with_comma, level_behind, FieldsRead, at_level, read_last, read_behind, read_leveled, read_level, read_end, read_close, more_fields, field_ends, read_fields, field_of, ParseError, Shape, Level, Field, Pattern, Equals, Fields, Memory, Directive, Match}
 use Rattle.std.proofs.lemmas.Bool.{eqb-true}
-use Rattle.std.proofs.lemmas.Bool.Decides.{nat_tests}
-use Rattle.trace_base.specs.declared.level.LevelFilter.{LevelFilter}
-use Rattle.env_directives.specs.reading.Cuts.{pieces_at, is_among, lacks}
-use Rattle.env_directives.specs.reading.Faults.{IsEnd}
-use Rattle.env_directives.specs.reading.Forms.{unless_empty, IsField, IsLevelText, each_with_comma, level_behind}
-use Rattle.env_directives.specs.reading.Reading.{FieldsRead, at_level, read_last, read_behind, read_leveled, read_level, read_end, read_close, more_fields, field_ends, read_fields}
-use Rattle.env_directives.specs.reading.Values.{field_of}
-use Rattle.env_directives.specs.declared.directive.ParseError.{ParseError}
-use Rattle.env_directives.specs.declared.directive.ParseError.TheVariants.{Shape, Level, Field, Pattern, Equals, Fields, Memory}
-use Rattle.env_directives.specs.declared.env.directive.Directive.{Directive}
-use Rattle.env_directives.specs.declared.env.field.Match.{Match}
 use Rattle.env_directives.proofs.cuts.CutsLemmas.{cut_joined, cut_front, cut_stop, cut_off}
 
 -- what holds of what was read, and what holds where a level or a field is at fault; other faults are not told but `Shape`

@@ -1,17 +1,7 @@
 -- What is read is the grammar: each form is read as what it means, and what is read has a form.
-use Rattle.std.proofs.Common.{◌≡◌, ℕ, Bool, true, List, [], ◌∷◌, ◌++◌, Some, None, Option, Ok, Err, refl, ap, ◌∙◌, subst, append_assoc, append-nil, codes}
-use Rattle.std.specs.Prelude.{map}
-use Rattle.std.specs.List.{AllByRecursion}
+use Rattle.std.proofs.Common.{◌≡◌, ℕ, Bool, true, List, [], ◌∷◌, ◌++◌, Some, None, Option, Ok, Err, refl, ap, ◌∙◌, subst, append_assoc, append-nil, codes, map}
+use Rattle.env_directives.proofs.Common.{AllByRecursion, LevelFilter, TRACE, is_among, HasNoLevel, HasEmptyField, IsEnd, begins, unless_empty, target_at, text_up_to_fields, Front, bare, spanned, fielded, DirectiveForm, alone, head_comma, leveled, leveled_comma, front_text, form_text, IsHead, IsSpan, IsField, IsOpened, IsDirectiveFront, IsForm, IsLevelText, each_with_comma, directive_at, directive_alone, head_alone, level_behind, directive_of_form, HasForm, at_level, read_last, read_level, read_end, read_close, more_fields, field_ends, read_fields, read_fielded, read_bracket, reading, field_of, Level, Field, Directive}
 use Rattle.std.specs.Option.{option_map}
-use Rattle.trace_base.specs.declared.level.LevelFilter.{LevelFilter}
-use Rattle.trace_base.specs.declared.level.LevelFilter.TheVariants.{TRACE}
-use Rattle.env_directives.specs.reading.Cuts.{is_among}
-use Rattle.env_directives.specs.reading.Faults.{HasNoLevel, HasEmptyField, IsEnd}
-use Rattle.env_directives.specs.reading.Forms.{begins, unless_empty, target_at, text_up_to_fields, Front, bare, spanned, fielded, DirectiveForm, alone, head_comma, leveled, leveled_comma, front_text, form_text, IsHead, IsSpan, IsField, IsOpened, IsDirectiveFront, IsForm, IsLevelText, each_with_comma, directive_at, directive_alone, head_alone, level_behind, directive_of_form, HasForm}
-use Rattle.env_directives.specs.reading.Reading.{at_level, read_last, read_level, read_end, read_close, more_fields, field_ends, read_fields, read_fielded, read_bracket, reading}
-use Rattle.env_directives.specs.reading.Values.{field_of}
-use Rattle.env_directives.specs.declared.directive.ParseError.TheVariants.{Level, Field}
-use Rattle.env_directives.specs.declared.env.directive.Directive.{Directive}
 use Rattle.env_directives.proofs.cuts.CutsLemmas.{cut_whole, cut_at}
 use Rattle.env_directives.proofs.cuts.FieldsLemmas.{fields_cut}
 

@@ -1,19 +1,8 @@
 -- What is read of a directive behind its fields leaves their patterns as they are.
-use Rattle.std.proofs.Common.{◌≡◌, ℕ, Bool, true, false, List, [], ◌∷◌, ◌++◌, Some, None, Option, Ok, Err, refl, sym, subst, if◌then◌else◌, codes}
-use Rattle.std.specs.Prelude.{◌==◌, IfOk, IfSome}
-use Rattle.std.specs.Prelude.{ℤ}
-use Rattle.std.specs.Option.{option_map, option_or}
-use Rattle.trace_base.specs.declared.level.LevelFilter.{LevelFilter}
-use Rattle.trace_base.specs.words.LevelWords.{level_filter_of}
-use Rattle.env_directives.specs.reading.Cuts.{pieces_at}
-use Rattle.env_directives.specs.reading.Forms.{head_alone, level_behind, level_or_target, IsDirective, HasForm}
-use Rattle.env_directives.specs.reading.Reading.{AnswersRead, Read, at_level, read_last, read_leveled, read_level, read_end, read_close}
-use Rattle.env_directives.specs.reading.Values.{HavePatterns, IsPatternIfAny, plain_value, truth_of, u64_of, i64_of}
-use Rattle.env_directives.specs.declared.directive.ParseError.TheVariants.{Shape}
-use Rattle.env_directives.specs.declared.env.directive.Directive.{Directive}
-use Rattle.env_directives.specs.declared.env.field.Match.{Match}
-use Rattle.env_directives.specs.declared.env.field.ValueMatch.{ValueMatch}
-use Rattle.env_directives.specs.declared.env.field.ValueMatch.TheVariants.{Bool as Truth, U64, I64}
+use Rattle.std.proofs.Common.{◌≡◌, ℕ, Bool, true, false, List, [], ◌∷◌, ◌++◌, Some, None, Option, Ok, Err, refl, sym, subst, if◌then◌else◌, codes, ◌==◌, IfOk, IfSome, ℤ}
+use Rattle.env_directives.proofs.Common.{option_or, LevelFilter, level_filter_of, pieces_at, head_alone, level_behind, level_or_target, IsDirective, HasForm, AnswersRead, Read, at_level, read_last, read_leveled, read_level, read_end, read_close, HavePatterns, IsPatternIfAny, plain_value, truth_of, u64_of, i64_of, Shape, Directive, Match, ValueMatch, U64, I64}
+use Rattle.std.specs.Option.{option_map}
+use Rattle.env_directives.specs.declared.env.field.ValueMatch.TheVariants.{Bool as Truth}
 
 -- what was read has the fields of a directive
 abbrev Keeps : Directive → Read → Type 0

@@ -1,13 +1,9 @@
 -- What `parse` reads as a whole number.
-use Rattle.std.proofs.Common.{◌≡◌, ℕ, ◌^◌, ◌<◌, true, false, List, Some, None, refl, arith, inl, inr, ℤ, pos, negsuc, ◌⊎◌}
-use Rattle.std.specs.Prelude.{FitsSigned}
+use Rattle.std.proofs.Common.{◌≡◌, ℕ, ◌^◌, ◌<◌, true, false, List, Some, None, refl, arith, inl, inr, ℤ, pos, negsuc, ◌⊎◌, FitsSigned}
 use Rattle.std.specs.Int.{w64}
-use Rattle.std.specs.Str.Parse.{IsNumeral, digits_value, signed_digits_value, without_leading_plus, without_leading_sign}
-use Rattle.std.proofs.lemmas.Bool.{lt-ltb, cases_lt}
-use Rattle.std.proofs.lemmas.Bool.Decides.{nat_tests}
+use Rattle.env_directives.proofs.Common.{IsNumeral, digits_value, signed_digits_value, without_leading_plus, without_leading_sign, cases_lt, nat_tests, numeral_number, number_of_numeral, u64_of, i64_of, fits_i64}
+use Rattle.std.proofs.lemmas.Bool.{lt-ltb}
 use Rattle.std.proofs.lemmas.Int.{ints}
-use Rattle.trace_base.proofs.LevelNumbers.{numeral_number, number_of_numeral}
-use Rattle.env_directives.specs.reading.Values.{u64_of, i64_of, fits_i64}
 
 abbrev FitsU64 : List ℕ → Type 0
 FitsU64 text = IsNumeral 10 (without_leading_plus text) × (digits_value 10 (without_leading_plus text) < 2 ^ 64)

@@ -1,14 +1,10 @@
 -- What a compiled pattern finds is what its text says.
-use Rattle.std.proofs.Common.{◌≡◌, ℕ, ◌<◌, List, Bool, false, Option, Some, None, get_or, is_some, refl, ap, sym, ◌∙◌, subst}
-use Rattle.std.specs.Option.{IsSomeAnd, option_map_or}
-use Rattle.std.specs.Prelude.{chars}
-use Rattle.regex.specs.Patterns.{Reads, Re, Config, default_config, find_str}
-use Rattle.regex.specs.Strings.{regex_pattern, regex_source, regex_config, IsReadFromSource}
-use Rattle.regex.specs.declared.string.regex.Regex.{Regex}
+use Rattle.std.proofs.Common.{◌≡◌, ℕ, ◌<◌, List, Bool, false, Option, Some, None, get_or, is_some, refl, ap, sym, ◌∙◌, subst, chars}
+use Rattle.env_directives.proofs.Common.{option_map_or, Reads, Re, Config, default_config, find_str, regex_pattern, regex_source, regex_config, IsReadFromSource, Regex, whole_pattern, IsCompiled, is_matched}
+use Rattle.std.specs.Option.{IsSomeAnd}
 use Rattle.regex.proofs.OnLiterals.{IsReadAs, is_match_as_written, same_refl}
 use Rattle.regex_syntax.specs.Grammar.{read}
 use Rattle.regex_syntax.specs.Same.{SameTree}
-use Rattle.env_directives.specs.Patterns.{whole_pattern, IsCompiled, is_matched}
 
 -- what stands in an option of which something holds, and that it does
 pick : {X : Type 0} (o : Option X) (P : X → Type 0) → IsSomeAnd o P → (Q : Re → X → Type 0) (value : X → Re) (same : (x : X) → Q (value x) x) →

@@ -1,18 +1,7 @@
 -- What is read of a whole text has a form, and what is refused has the fault that is told.
-use Rattle.std.proofs.Common.{◌≡◌, ℕ, Bool, true, false, List, [], ◌∷◌, ◌++◌, Some, None, Option, Result, Ok, Err, refl, sym, ap, ◌∙◌, arith, subst, append_assoc, append-nil, codes, ◌⊎◌, inl, inr, if◌then◌else◌, option_map, true≢false}
-use Rattle.std.specs.Prelude.{◌==◌, ◌≢◌, ◌↔◌, IfSome, IfOk, IfErr}
+use Rattle.std.proofs.Common.{◌≡◌, ℕ, Bool, true, false, List, [], ◌∷◌, ◌++◌, Some, None, Option, Result, Ok, Err, refl, sym, ap, ◌∙◌, arith, subst, append_assoc, append-nil, codes, ◌⊎◌, inl, inr, if◌then◌else◌, option_map, true≢false, ◌==◌, ◌≢◌, ◌↔◌, IfSome, IfOk, IfErr}
 use Rattle.std.proofs.lemmas.Bool.{eqb-true}
-use Rattle.std.proofs.lemmas.Bool.Decides.{nat_tests}
-use Rattle.trace_base.specs.declared.level.LevelFilter.TheVariants.{TRACE}
-use Rattle.env_directives.specs.reading.Cuts.{pieces_at, is_among}
-use Rattle.env_directives.specs.reading.Faults.{HasNoLevel, HasEmptyField, HasNoPattern, HasFault}
-use Rattle.env_directives.specs.reading.Forms.{begins, unless_empty, target_at, Front, bare, spanned, fielded, alone, head_comma, leveled, leveled_comma, front_text, IsHead, IsSpan, IsDirectiveFront, directive_at, directive_alone, head_alone, each_with_comma, level_behind, HasForm, IsDirective}
-use Rattle.env_directives.specs.reading.Reading.{read_last, read_level, read_end, read_close, read_fields, read_fielded, read_span, read_bracket, read_head, reading, AnswersRead}
-use Rattle.env_directives.specs.reading.Values.{HavePatterns}
-use Rattle.env_directives.specs.declared.directive.ParseError.{ParseError}
-use Rattle.env_directives.specs.declared.directive.ParseError.TheVariants.{Shape, Level, Field, Pattern, Equals, Fields, Memory}
-use Rattle.env_directives.specs.declared.env.directive.Directive.{Directive}
-use Rattle.env_directives.specs.declared.env.field.Match.{Match}
+use Rattle.env_directives.proofs.Common.{nat_tests, TRACE, pieces_at, is_among, HasNoLevel, HasEmptyField, HasNoPattern, HasFault, begins, unless_empty, target_at, Front, bare, spanned, fielded, alone, head_comma, leveled, leveled_comma, front_text, IsHead, IsSpan, IsDirectiveFront, directive_at, directive_alone, head_alone, each_with_comma, level_behind, HasForm, IsDirective, read_last, read_level, read_end, read_close, read_fields, read_fielded, read_span, read_bracket, read_head, reading, AnswersRead, HavePatterns, ParseError, Shape, Level, Field, Pattern, Equals, Fields, Memory, Directive, Match}
 use Rattle.env_directives.proofs.cuts.CutsLemmas.{cut_joined, cut_front, cut_stop, cut_off}
 use Rattle.env_directives.proofs.forms.FaultsLemmas.{Explained, explained_map, LevelRead, LevelUnread, level_explained, EndRead, EndUnread, end_explained, CloseRead, CloseUnread, close_explained, FieldsMade, FieldsEmpty, fields_explained}
 use Rattle.env_directives.proofs.forms.GrammarLemmas.{at_front, directive_reads, level_told, field_told}

@@ -1,13 +1,9 @@
 -- A text of several directives, read piece by piece.
-use Rattle.std.specs.Prelude.{◌≡◌, ℕ, List, ◌∷◌, Result, Ok, Err}
 use Rattle.std.specs.Result.{IsErrAnd, IsOkAnd}
-use Rattle.std.proofs.Common.{refl, sym, ap, ◌∙◌, subst}
-use Rattle.env_directives.specs.declared.directive.ParseError.{ParseError}
+use Rattle.std.proofs.Common.{refl, sym, ap, ◌∙◌, subst, ◌≡◌, ℕ, List, ◌∷◌, Result, Ok, Err}
+use Rattle.env_directives.proofs.Common.{ParseError, StaticDirective, Table, with_static, all_added, statics_of}
 use Rattle.env_directives.specs.declared.directive.ParseError.TheVariants as fault
-use Rattle.env_directives.specs.declared.directive.StaticDirective.{StaticDirective}
 use Rattle.env_directives.specs.reading.StaticText.{and_then, static_of, Fails, ReadsOrFails}
-use Rattle.env_directives.specs.orders.Table.{Table}
-use Rattle.env_directives.specs.Targets.{with_static, all_added, statics_of}
 
 -- what the pieces that are left make of a table
 abbrev pub read_on : List (List ℕ) → Table StaticDirective → Result (Table StaticDirective) ParseError

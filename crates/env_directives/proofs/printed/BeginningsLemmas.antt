@@ -1,13 +1,8 @@
 -- How the text that a directive prints begins.
-use Rattle.std.proofs.Common.{◌≡◌, ℕ, ◌<◌, ◌≤◌, Bool, true, false, true≢false, List, [], ◌∷◌, ◌++◌, length, get_or, take, drop, encode_utf8, refl, sym, ap, ◌∙◌, arith, append-nil, append_assoc, inl, inr}
-use Rattle.std.specs.Prelude.{◌&&◌}
+use Rattle.std.proofs.Common.{◌≡◌, ℕ, ◌<◌, ◌≤◌, Bool, true, false, true≢false, List, [], ◌∷◌, ◌++◌, length, get_or, take, drop, encode_utf8, refl, sym, ap, ◌∙◌, arith, append-nil, append_assoc, inl, inr, ◌&&◌}
 use Rattle.std.specs.Str.{IsUtf8, chars, encode_utf8_all}
-use Rattle.std.proofs.Math.Utf8.{scalars, scalar}
-use Rattle.std.proofs.Math.Seq.{take-append_seam, get_or-append_seam}
-use Rattle.std.proofs.lemmas.Bool.{cases_lt}
-use Rattle.std.proofs.lemmas.List.{length-append, take-append-le, take-append-drop}
-use Rattle.std.proofs.lemmas.Str.{chars-append, chars-encodes, inside_one, encode_ascii}
-use Rattle.env_directives.specs.reading.Forms.{begins, may_begin}
+use Rattle.env_directives.proofs.Common.{scalars, scalar, take-append_seam, get_or-append_seam, cases_lt, take-append-le, chars-append, chars-encodes, inside_one, encode_ascii, begins, may_begin}
+use Rattle.std.proofs.lemmas.List.{length-append, take-append-drop}
 
 -- a text that begins with a bracket begins as a directive may
 pub bracket_begins : (rest : List ℕ) → begins (91 ∷ rest) ≡ true

@@ -1,19 +1,8 @@
 -- What a directive prints is a text of that directive.
-use Rattle.std.proofs.Common.{◌≡◌, ℕ, ◌<◌, Bool, true, false, List, [], ◌∷◌, ◌++◌, length, Some, None, Option, option_map, refl, sym, ap, ◌∙◌, arith, subst, append-nil, append_assoc, codes, map, not, lit<}
-use Rattle.std.specs.Prelude.{◌==◌, ◌||◌, is_some}
-use Rattle.std.specs.List.{AllByRecursion}
+use Rattle.std.proofs.Common.{◌≡◌, ℕ, ◌<◌, Bool, true, false, List, [], ◌∷◌, ◌++◌, length, Some, None, Option, option_map, refl, sym, ap, ◌∙◌, arith, subst, append-nil, append_assoc, codes, map, not, lit<, ◌==◌, ◌||◌, is_some}
+use Rattle.env_directives.proofs.Common.{AllByRecursion, nat_tests, LevelFilter, filter_text, level_filter_of, filter_of_word, named_filter, ucd_derived, begins, unless_empty, target_at, Front, bare, spanned, fielded, DirectiveForm, alone, head_comma, leveled, leveled_comma, front_text, form_text, IsHead, IsSpan, IsField, IsOpened, IsDirectiveFront, IsForm, each_with_comma, directive_at, head_alone, level_or_target, level_behind, IsLevelText, directive_of_form, HasForm, directive_text, text_if_any, fields_text, HasNoMinusZero, field_of, Directive, Match}
 use Rattle.std.specs.Str.{IsUtf8, chars}
-use Rattle.std.proofs.lemmas.Bool.Decides.{nat_tests}
-use Rattle.trace_base.specs.declared.level.LevelFilter.{LevelFilter}
 use Rattle.trace_base.specs.declared.level.LevelFilter.TheVariants as filter
-use Rattle.trace_base.specs.words.Level.{filter_text}
-use Rattle.trace_base.specs.words.LevelWords.{level_filter_of, filter_of_word, named_filter}
-use Rattle.ucd_derived.proofs.Computing.{ucd_derived}
-use Rattle.env_directives.specs.reading.Forms.{begins, unless_empty, target_at, Front, bare, spanned, fielded, DirectiveForm, alone, head_comma, leveled, leveled_comma, front_text, form_text, IsHead, IsSpan, IsField, IsOpened, IsDirectiveFront, IsForm, each_with_comma, directive_at, head_alone, level_or_target, level_behind, IsLevelText, directive_of_form, HasForm}
-use Rattle.env_directives.specs.printed.Printed.{directive_text, text_if_any, fields_text, HasNoMinusZero}
-use Rattle.env_directives.specs.reading.Values.{field_of}
-use Rattle.env_directives.specs.declared.env.directive.Directive.{Directive}
-use Rattle.env_directives.specs.declared.env.field.Match.{Match}
 use Rattle.env_directives.proofs.printed.BeginningsLemmas.{bracket_begins, IsSeam, first_of, begins_by}
 use Rattle.env_directives.proofs.printed.FieldsLemmas.{again, fields_again, fields_joined}
 

@@ -1,13 +1,6 @@
 -- What a field prints is read as that field.
-use Rattle.std.proofs.Common.{◌≡◌, ◌≢◌, ℕ, Bool, true, false, true≢false, List, [], ◌∷◌, ◌++◌, Some, None, Option, option_map, refl, sym, ap, ◌∙◌, pos, codes, subst, append-nil, append_assoc, map, flat_map, not}
-use Rattle.std.specs.Prelude.{◌&&◌}
-use Rattle.std.specs.List.{AllByRecursion}
-use Rattle.env_directives.specs.reading.Cuts.{pieces_at, is_among, lacks}
-use Rattle.env_directives.specs.reading.Forms.{IsField, each_with_comma}
-use Rattle.env_directives.specs.printed.Printed.{value_text, match_text, fields_text, HasNoMinusZero}
-use Rattle.env_directives.specs.reading.Values.{value_of, field_of}
-use Rattle.env_directives.specs.declared.env.field.Match.{Match}
-use Rattle.env_directives.specs.declared.env.field.ValueMatch.TheVariants.{I64}
+use Rattle.std.proofs.Common.{◌≡◌, ◌≢◌, ℕ, Bool, true, false, true≢false, List, [], ◌∷◌, ◌++◌, Some, None, Option, option_map, refl, sym, ap, ◌∙◌, pos, codes, subst, append-nil, append_assoc, map, flat_map, not, ◌&&◌}
+use Rattle.env_directives.proofs.Common.{AllByRecursion, pieces_at, is_among, lacks, IsField, each_with_comma, value_text, match_text, fields_text, HasNoMinusZero, value_of, field_of, Match, I64}
 use Rattle.env_directives.proofs.cuts.CutsLemmas.{cut_whole, cut_at, cut_joined, cut_front, cut_off}
 use Rattle.env_directives.proofs.printed.ValuesLemmas.{value_again}
 

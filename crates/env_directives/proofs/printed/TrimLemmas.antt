@@ -1,22 +1,11 @@
 -- What a directive prints has no white space at its ends.
-use Rattle.std.proofs.Common.{◌≡◌, ℕ, zero, suc, ◌+◌, ◌<◌, ◌≤◌, Bool, true, false, true≢false, List, [], ◌∷◌, ◌++◌, length, get_or, take, refl, sym, ap, ◌∙◌, arith, subst, append_assoc, inl, inr, ◌⊎◌, not, cond, lit<, codes}
-use Rattle.std.specs.Prelude.{◌==◌, ◌&&◌, ◌||◌, nat_lt}
-use Rattle.std.specs.Char.{is_whitespace}
-use Rattle.std.specs.Str.{IsUtf8, chars, encode_utf8_all, trim, trim_start, trim_end, skip_leading_whitespace, drop_trailing_whitespace}
-use Rattle.std.proofs.Math.Seq.{take-append_seam, get_or-append_seam}
-use Rattle.std.proofs.lemmas.Bool.{cases_lt, eqb-true, ltb-true}
-use Rattle.std.proofs.lemmas.Bool.Decides.{nat_tests}
+use Rattle.std.proofs.Common.{◌≡◌, ℕ, zero, suc, ◌+◌, ◌<◌, ◌≤◌, Bool, true, false, true≢false, List, [], ◌∷◌, ◌++◌, length, get_or, take, refl, sym, ap, ◌∙◌, arith, subst, append_assoc, inl, inr, ◌⊎◌, not, cond, lit<, codes, ◌==◌, ◌&&◌, ◌||◌, nat_lt}
+use Rattle.env_directives.proofs.Common.{is_whitespace, trim, trim_start, trim_end, skip_leading_whitespace, drop_trailing_whitespace, take-append_seam, get_or-append_seam, cases_lt, nat_tests, chars-append, encodes-chars, scalars-chars, IsUtf8-take, IsCharBoundary-before_ascii, scalars, scalar, LevelFilter, filter_text, ucd_derived, begins, may_begin, directive_text, text_if_any, bracket_text, equals_text, Directive}
+use Rattle.std.specs.Str.{IsUtf8, chars, encode_utf8_all}
+use Rattle.std.proofs.lemmas.Bool.{eqb-true, ltb-true}
 use Rattle.std.proofs.lemmas.List.{length-append}
-use Rattle.std.proofs.lemmas.Str.{chars-append, encodes-chars, scalars-chars, IsUtf8-take, IsCharBoundary-before_ascii}
-use Rattle.std.proofs.Math.Utf8.{scalars, scalar}
-use Rattle.trace_base.specs.declared.level.LevelFilter.{LevelFilter}
 use Rattle.trace_base.specs.declared.level.LevelFilter.TheVariants as filter
-use Rattle.trace_base.specs.words.Level.{filter_text}
-use Rattle.ucd_derived.proofs.Computing.{ucd_derived}
 use Rattle.ucd_category.proofs.Computing.{ucd_category}
-use Rattle.env_directives.specs.reading.Forms.{begins, may_begin}
-use Rattle.env_directives.specs.printed.Printed.{directive_text, text_if_any, bracket_text, equals_text}
-use Rattle.env_directives.specs.declared.env.directive.Directive.{Directive}
 
 -- no directive begins with one of n characters from another on
 abbrev none_from : ℕ → ℕ → Bool

@@ -1,21 +1,11 @@
 -- What a value prints is read as that value.
-use Rattle.std.proofs.Common.{◌≡◌, ◌≢◌, ℕ, zero, suc, ◌^◌, ◌<◌, Bool, true, false, true≢false, List, [], ◌∷◌, length, Some, None, Option, refl, sym, ap, ◌∙◌, arith, inl, inr, ◌⊎◌, ℤ, pos, negsuc, codes, subst}
-use Rattle.std.specs.Prelude.{◌==◌, ◌&&◌, nat_lt}
-use Rattle.std.specs.Char.{is_ascii_digit}
+use Rattle.std.proofs.Common.{◌≡◌, ◌≢◌, ℕ, zero, suc, ◌^◌, ◌<◌, Bool, true, false, true≢false, List, [], ◌∷◌, length, Some, None, Option, refl, sym, ap, ◌∙◌, arith, inl, inr, ◌⊎◌, ℤ, pos, negsuc, codes, subst, ◌==◌, ◌&&◌, nat_lt}
+use Rattle.env_directives.proofs.Common.{is_ascii_digit, all_ascii_digits, IsNumeral, digits_value, signed_digits_value, without_leading_plus, without_leading_sign, starts_with_minus, common_steps, digits_number, decimal_value, numeral_number, number_of_numeral, digits_pass, is_among, lacks, value_text, u64_of, i64_of, fits_i64, truth_of, plain_value, value_of, ValueMatch, U64, I64, Debug}
 use Rattle.std.specs.Fmt.{decimal}
-use Rattle.std.specs.Str.{all_ascii_digits}
-use Rattle.std.specs.Str.Parse.{IsNumeral, digits_value, signed_digits_value, without_leading_plus, without_leading_sign, starts_with_minus}
 use Rattle.std.proofs.lemmas.Bool.{lt-ltb, ltb-true}
 use Rattle.std.proofs.lemmas.Fmt.{decimal_is_IsNumeral}
 use Rattle.std.proofs.Math.IntN.{neg_ℤ}
-use Rattle.std.proofs.lemmas.Grind.{common_steps}
-use Rattle.trace_base.specs.words.LevelWords.{digits_number, decimal_value}
-use Rattle.trace_base.proofs.LevelNumbers.{numeral_number, number_of_numeral, digits_pass}
-use Rattle.env_directives.specs.reading.Cuts.{is_among, lacks}
-use Rattle.env_directives.specs.printed.Printed.{value_text}
-use Rattle.env_directives.specs.reading.Values.{u64_of, i64_of, fits_i64, truth_of, plain_value, value_of}
-use Rattle.env_directives.specs.declared.env.field.ValueMatch.{ValueMatch}
-use Rattle.env_directives.specs.declared.env.field.ValueMatch.TheVariants.{Bool as Truth, U64, I64, Debug}
+use Rattle.env_directives.specs.declared.env.field.ValueMatch.TheVariants.{Bool as Truth}
 use Rattle.env_directives.proofs.forms.NumbersLemmas.{u64_read}
 
 -- digits have no byte that ends a field or its name

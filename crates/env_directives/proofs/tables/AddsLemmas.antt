@@ -1,9 +1,7 @@
 -- Directives that are added in turn.
-use Rattle.std.specs.Prelude.{◌≡◌, List, [], ◌∷◌, ◌++◌, length}
 use Rattle.std.specs.declared.cmp.Ordering.{Ordering}
-use Rattle.std.proofs.Common.{refl, sym, ◌∙◌, ap, append_assoc, append-nil, arith}
-use Rattle.trace_base.specs.declared.level.LevelFilter.{LevelFilter}
-use Rattle.env_directives.specs.orders.Table.{Table, with_added, with_all_added, AddsSome}
+use Rattle.std.proofs.Common.{refl, sym, ◌∙◌, ap, append_assoc, append-nil, arith, ◌≡◌, List, [], ◌∷◌, ◌++◌, length}
+use Rattle.env_directives.proofs.Common.{LevelFilter, Table, with_added, with_all_added, AddsSome}
 
 module _ {T : Type 0} (cmp : T → T → Ordering) (level : T → LevelFilter) where
   pub all_added_push : (ds : List T) (d : T) (t : Table T)

@@ -1,7 +1,6 @@
 -- The first that a filter keeps is the first that a search finds.
-use Rattle.std.specs.Prelude.{◌≡◌, ℕ, ◌<◌, length, drop, List, [], ◌∷◌, Bool, true, false, Option, Some, None}
 use Rattle.std.specs.List.{filter, find}
-use Rattle.std.proofs.Common.{refl, sym, ◌∙◌, ap, get_or}
+use Rattle.std.proofs.Common.{refl, sym, ◌∙◌, ap, get_or, ◌≡◌, ℕ, ◌<◌, length, drop, List, [], ◌∷◌, Bool, true, false, Option, Some, None}
 use Rattle.std.proofs.Math.Seq.{drop-cons}
 
 module _ {X : Type 0} (test : X → Bool) where

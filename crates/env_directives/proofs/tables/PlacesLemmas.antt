@@ -1,16 +1,11 @@
 -- A binary search and one move put a directive at its place in a table.
-use Rattle.std.specs.Prelude.{◌≡◌, ℕ, ◌+◌, ◌<◌, ◌≤◌, suc, zero, List, [], ◌∷◌, length, slice_set, insert, drop}
 use Rattle.std.specs.declared.cmp.Ordering.{Ordering}
 use Rattle.std.specs.declared.cmp.Ordering.TheVariants.{Less, Equal, Greater}
-use Rattle.std.specs.Ordering.{ordering_reverse, ordering_index, match_ordering, is_lt}
-use Rattle.std.specs.List.{AllByRecursion, AllWithin, refill}
-use Rattle.std.specs.List.Sorted.{IsStrictlySortedBy, IsNonDecreasingBy}
-use Rattle.std.specs.Cmp.{IsTotalOrder, tied_back, alike_right}
-use Rattle.std.proofs.Common.{refl, sym, ◌∙◌, ap, arith, get_or}
-use Rattle.std.proofs.lemmas.List.{take-append-le, take_all}
+use Rattle.env_directives.proofs.Common.{ordering_reverse, ordering_index, match_ordering, AllByRecursion, AllWithin, refill, IsStrictlySortedBy, IsNonDecreasingBy, IsTotalOrder, tied_back, alike_right, take-append-le, sorted_tail, Less-from_sorted, with_item_in_order}
+use Rattle.std.specs.Ordering.{is_lt}
+use Rattle.std.proofs.Common.{refl, sym, ◌∙◌, ap, arith, get_or, ◌≡◌, ℕ, ◌+◌, ◌<◌, ◌≤◌, suc, zero, List, [], ◌∷◌, length, slice_set, insert, drop}
+use Rattle.std.proofs.lemmas.List.{take_all}
 use Rattle.std.proofs.lemmas.List.Sorted.{searchable_from_sorted}
-use Rattle.std.proofs.lemmas.Map.Keys.{sorted_tail, Less-from_sorted}
-use Rattle.env_directives.specs.orders.Table.{with_item_in_order}
 
 module _ {T : Type 0} {cmp : T → T → Ordering} (order : IsTotalOrder cmp) where
   pub greater : (d e : T) → cmp e d ≡ Less → cmp d e ≡ Greater

@@ -1,28 +1,16 @@
 -- In a table the first directive without field names that covers a target is the one with the longest target.
-use Rattle.std.specs.Prelude.{◌≡◌, ℕ, List, [], ◌∷◌, Bool, true, false, cond, ◌==◌, eqb, length, take, Option, None, Some}
 use Rattle.std.specs.declared.cmp.Ordering.{Ordering}
 use Rattle.std.specs.declared.cmp.Ordering.TheVariants.{Less, Equal, Greater}
-use Rattle.std.specs.Ordering.{ordering_then, is_eq, is_gt, nat_cmp}
-use Rattle.std.specs.List.{AllByRecursion, find, filter, starts_with}
-use Rattle.std.specs.List.Sorted.{IsStrictlySortedBy}
-use Rattle.std.specs.Option.{option_cmp, option_map, option_map_or}
-use Rattle.std.specs.Cmp.{tied_itself, first_so, second_so}
-use Rattle.std.specs.Cmp.Lexicographic.{bytes_decides}
+use Rattle.env_directives.proofs.Common.{ordering_then, AllByRecursion, starts_with, IsStrictlySortedBy, option_cmp, option_map_or, tied_itself, first_so, second_so, bytes_decides, nil_from_length, sorted_head, sorted_tail, StaticDirective, covers, cares_about_target, is_longer, longer, longest_from, longest_prefix, lets_through, admits_target, target_length, most_specific_first, text_cmp, Table, with_item_in_order, empty_table, with_static, all_added}
+use Rattle.std.specs.Ordering.{is_eq, is_gt, nat_cmp}
+use Rattle.std.specs.List.{find, filter}
+use Rattle.std.specs.Option.{option_map}
 use borrow.Author.Tests.{eqb-true}
-use Rattle.std.proofs.Common.{refl, sym, ◌∙◌, ap}
+use Rattle.std.proofs.Common.{refl, sym, ◌∙◌, ap, ◌≡◌, ℕ, List, [], ◌∷◌, Bool, true, false, cond, ◌==◌, eqb, length, take, Option, None, Some}
 use Rattle.std.proofs.lemmas.Bool.{true≢false}
-use Rattle.std.proofs.lemmas.List.{nil_from_length}
 use Rattle.std.proofs.lemmas.Map.Text.{is_eq-slice_cmp}
-use Rattle.std.proofs.lemmas.Map.Keys.{sorted_head, sorted_tail}
-use Rattle.env_directives.specs.declared.directive.StaticDirective.{StaticDirective}
 use Rattle.env_directives.specs.contracts.directive.StaticDirectiveOrd.TheImpl.Laws.{total-law}
 use Rattle.trace_base.specs.declared.level.Level.{Level}
-use Rattle.env_directives.specs.Cares.{covers, cares_about_target}
-use Rattle.env_directives.specs.orders.Choice.{is_longer, longer, longest_from, longest_prefix, lets_through, admits_target}
-use Rattle.env_directives.specs.orders.StaticOrder.{target_length, most_specific_first}
-use Rattle.env_directives.specs.orders.FieldOrder.{text_cmp}
-use Rattle.env_directives.specs.orders.Table.{Table, with_item_in_order, empty_table}
-use Rattle.env_directives.specs.Targets.{with_static, all_added}
 use Rattle.env_directives.proofs.tables.PlacesLemmas.{sorted_placed, at_less, at_equal, at_greater, implied}
 
 -- the parts of an order that is put together answer for the whole

@@ -1,19 +1,12 @@
 -- Directives that are added in turn make the one table that keeps the last of each class.
-use Rattle.std.specs.Prelude.{◌≡◌, ℕ, max, nat_le, List, [], ◌∷◌, ◌++◌, map, Bool, true, false, cond, None, Some, is_some}
 use Rattle.std.specs.declared.cmp.Ordering.{Ordering}
 use Rattle.std.specs.declared.cmp.Ordering.TheVariants.{Less, Equal, Greater}
-use Rattle.std.specs.Ordering.{ordering_reverse, is_eq}
-use Rattle.std.specs.List.{AllByRecursion, find}
-use Rattle.std.specs.List.Sorted.{IsStrictlySortedBy}
-use Rattle.std.specs.Cmp.{IsTotalOrder, Equal-is, tied_back, tied_itself, alike_right}
+use Rattle.env_directives.proofs.Common.{ordering_reverse, AllByRecursion, IsStrictlySortedBy, IsTotalOrder, Equal-is, tied_back, tied_itself, alike_right, reverse-append, map-append, sorted_head, sorted_tail, LevelFilter, greatest_verbosity, Table, with_item_in_order, with_added, with_all_added, empty_table, more_verbose, greatest_of, IsTableOf}
+use Rattle.std.specs.Ordering.{is_eq}
+use Rattle.std.specs.List.{find}
 use borrow.Author.Tests.{leb-true, leb-false}
-use Rattle.std.proofs.Common.{refl, sym, ◌∙◌, ap, subst, arith, append_assoc, append-nil}
+use Rattle.std.proofs.Common.{refl, sym, ◌∙◌, ap, subst, arith, append_assoc, append-nil, ◌≡◌, ℕ, max, nat_le, List, [], ◌∷◌, ◌++◌, map, Bool, true, false, cond, None, Some, is_some}
 use Rattle.std.proofs.lemmas.Bool.{true≢false}
-use Rattle.std.proofs.lemmas.List.{reverse-append, map-append}
-use Rattle.std.proofs.lemmas.Map.Keys.{sorted_head, sorted_tail}
-use Rattle.trace_base.specs.declared.level.LevelFilter.{LevelFilter}
-use Rattle.trace_base.specs.words.Level.{greatest_verbosity}
-use Rattle.env_directives.specs.orders.Table.{Table, with_item_in_order, with_added, with_all_added, empty_table, more_verbose, greatest_of, IsTableOf}
 use Rattle.env_directives.proofs.tables.PlacesLemmas.{sorted_placed, at_less, at_equal, at_greater, greater, implied}
 
 more_verbose_max : (f g : LevelFilter) → greatest_verbosity (more_verbose f g) ≡ max (greatest_verbosity f) (greatest_verbosity g)

@@ -1,18 +1,13 @@
 -- What the orders don't tell apart is the same, but for the level of directives.
 use Rattle.std.proofs.Common.{◌≡◌, ℕ, Bool, true, false, true≢false, List, [], ◌∷◌, Option, Some, None, refl, sym, ap, ap₂, ◌∙◌}
 use Rattle.std.proofs.lemmas.Cmp.{ranked, int_ranked, tied_itself}
-use Rattle.std.specs.Cmp.Lexicographic.{slice_cmp}
-use Rattle.std.specs.Option.{option_cmp}
+use Rattle.env_directives.proofs.Common.{slice_cmp, option_cmp, ordering_then, bool_cmp, text_cmp, value_cmp, field_cmp, Directive, Match, ValueMatch, U64, I64, Pat, Debug}
 use Rattle.std.specs.declared.cmp.Ordering.{Ordering}
 use Rattle.std.specs.declared.cmp.Ordering.TheVariants.{Less, Equal, Greater}
-use Rattle.std.specs.Ordering.{ordering_then, is_eq, bool_cmp}
+use Rattle.std.specs.Ordering.{is_eq}
 use Rattle.env_directives.specs.orders.DirectiveOrder.{directive_cmp, SameButLevel}
 use Rattle.env_directives.specs.laws.DirectiveLemmas.{directive_total}
-use Rattle.env_directives.specs.orders.FieldOrder.{text_cmp, value_cmp, field_cmp}
-use Rattle.env_directives.specs.declared.env.directive.Directive.{Directive}
-use Rattle.env_directives.specs.declared.env.field.Match.{Match}
-use Rattle.env_directives.specs.declared.env.field.ValueMatch.{ValueMatch}
-use Rattle.env_directives.specs.declared.env.field.ValueMatch.TheVariants.{Bool as Truth, U64, I64, Pat, Debug}
+use Rattle.env_directives.specs.declared.env.field.ValueMatch.TheVariants.{Bool as Truth}
 
 untied : (o : Ordering) → is_eq o ≡ false → o ≡ Equal → ⊥
 untied o other h = true≢false (ap is_eq (sym h) ∙ other)

@@ -1,7 +1,6 @@
 -- One field more is fixed.
 use Rattle.std.proofs.Common.{◌≡◌, ℕ, zero, suc, ◌+◌, ◌<◌, List, [], ◌∷◌, ◌++◌, length, take, drop, map, get_or, set, refl, sym, ap, subst, ◌∙◌, arith}
-use Rattle.env_directives.specs.declared.env.field.Match.{Match}
-use Rattle.env_filter.specs.Tables.{fixed_field}
+use Rattle.env_filter.proofs.Common.{Match, fixed_field}
 
 fixed_at : (old : List Match) (at : ℕ) (w : Match) → at < length old → w ≡ get_or (map fixed_field (take at old) ++ drop at old) at w
     → set (map fixed_field (take at old) ++ drop at old) at (fixed_field w) ≡ map fixed_field (take (at + 1) old) ++ drop (at + 1) old

@@ -1,11 +1,8 @@
 -- Spans and levels side by side.
-use Rattle.std.proofs.Common.{◌≡◌, ℕ, zero, suc, ◌<◌, List, [], ◌∷◌, ◌++◌, length, map, get_or, true, false, refl, sym, ap, ◌∙◌, arith, inl, inr}
-use Rattle.std.specs.Prelude.{◌==◌, ◌||◌}
-use Rattle.std.specs.List.{list_any, remove}
-use Rattle.std.proofs.lemmas.Bool.{cases_Bool, cond-true, cond-false, eq-eqb, ne_eqb}
-use Rattle.trace_base.specs.declared.level.LevelFilter.{LevelFilter}
-use Rattle.trace_base.specs.Spans.{without_last}
-use Rattle.env_filter.specs.spans.Levels.{OpenLevel, open_levels, is_of_span}
+use Rattle.std.proofs.Common.{◌≡◌, ℕ, zero, suc, ◌<◌, List, [], ◌∷◌, ◌++◌, length, map, get_or, true, false, refl, sym, ap, ◌∙◌, arith, inl, inr, ◌==◌, ◌||◌}
+use Rattle.env_filter.proofs.Common.{list_any, cases_Bool, cond-true, cond-false, LevelFilter, without_last, OpenLevel, open_levels, is_of_span}
+use Rattle.std.specs.List.{remove}
+use Rattle.std.proofs.lemmas.Bool.{eq-eqb, ne_eqb}
 
 pub pair_append : (spans : List ℕ) (levels : List LevelFilter) (s : ℕ) (l : LevelFilter) → length levels ≡ length spans
     → open_levels (spans ++ s ∷ []) (levels ++ l ∷ []) ≡ open_levels spans levels ++ record { span = s; level = l } ∷ []

@@ -1,24 +1,9 @@
 -- A span's level never falls, and stays until the span closes.
-use Rattle.std.proofs.Common.{◌≡◌, ℕ, List, [], ◌∷◌, ◌++◌, Bool, true, false, Option, Some, None, refl, sym, ap, subst, ◌∙◌, arith, inl, inr}
-use Rattle.std.specs.Prelude.{◌||◌, if◌then◌else◌, is_some}
-use Rattle.std.specs.List.{list_all, filter}
-use Rattle.std.proofs.lemmas.Bool.{cases_Bool, and_parts, and_from}
+use Rattle.std.proofs.Common.{◌≡◌, ℕ, List, [], ◌∷◌, ◌++◌, Bool, true, false, Option, Some, None, refl, sym, ap, subst, ◌∙◌, arith, inl, inr, ◌||◌, if◌then◌else◌, is_some}
+use Rattle.env_filter.proofs.Common.{list_all, cases_Bool, and_parts, and_from, list_any-append, Callsite, Value, LevelFilter, OFF, Hook, Directive, more_verbose, Ask, Care, is_given, cares_of, IsAtMostLevel, first_below, second_below, values_given_by, makes_of, made_by, all_values_given, is_ended, is_close_of, most_from, is_met, level_by, level_if, level_by_calls, NeverFalls}
+use Rattle.std.specs.List.{filter}
 use Rattle.std.proofs.lemmas.Grind.{flat_map-append}
-use Rattle.std.proofs.lemmas.List.Folds.{list_any-append}
-use Rattle.trace_base.specs.declared.callsite.Callsite.{Callsite}
-use Rattle.trace_base.specs.declared.field.Value.{Value}
-use Rattle.trace_base.specs.declared.level.LevelFilter.{LevelFilter}
-use Rattle.trace_base.specs.declared.level.LevelFilter.TheVariants.{OFF}
-use Rattle.trace_base.specs.layers.Hooks.{Hook}
-use Rattle.env_directives.specs.declared.env.directive.Directive.{Directive}
-use Rattle.env_directives.specs.orders.Table.{more_verbose}
-use Rattle.env_filter.specs.declared.watch.Ask.{Ask}
-use Rattle.env_filter.specs.declared.watch.Care.{Care}
-use Rattle.env_filter.specs.spans.Watching.{is_given, cares_of}
-use Rattle.env_filter.specs.Filtering.{IsAtMostLevel}
 use Rattle.env_filter.specs.laws.HookLemmas.{more_below}
-use Rattle.env_filter.specs.Gating.{first_below, second_below}
-use Rattle.env_filter.specs.spans.Histories.{values_given_by, makes_of, made_by, all_values_given, is_ended, is_close_of, most_from, is_met, level_by, level_if, level_by_calls, NeverFalls}
 use Rattle.env_filter.proofs.kept.ToldLevelsLemmas.{filter_step, given_append}
 
 stays_given : (xs ys : List (ℕ × Value)) (ask : Ask) → is_given xs ask ≡ true → is_given (xs ++ ys) ask ≡ true

@@ -1,26 +1,16 @@
 -- A layer over a subscriber is told hooks in which each span is made once and first.
-use Rattle.std.proofs.Common.{◌≡◌, ℕ, ◌+◌, ◌<◌, ◌≤◌, List, [], ◌∷◌, ◌++◌, length, append_assoc, Bool, true, false, Option, Some, None, refl, sym, ap, subst, ◌∙◌, arith, inl, inr}
-use Rattle.std.specs.Prelude.{◌==◌, ◌||◌, if◌then◌else◌, is_some, fold}
+use Rattle.std.proofs.Common.{◌≡◌, ℕ, ◌+◌, ◌<◌, ◌≤◌, List, [], ◌∷◌, ◌++◌, length, append_assoc, Bool, true, false, Option, Some, None, refl, sym, ap, subst, ◌∙◌, arith, inl, inr, ◌==◌, ◌||◌, if◌then◌else◌, is_some, fold}
 use Rattle.std.specs.Option.{unwrap_or, option_map}
-use Rattle.std.proofs.lemmas.Bool.{cases_eq, cond-false, ne_eqb}
-use Rattle.std.proofs.lemmas.List.{length-set, length_push, append-nil}
+use Rattle.env_filter.proofs.Common.{cases_eq, cond-false, length_push, Callsite, Value, Spans, Span, span_at, entries_on, is_in, times_in, current_of, place_on, with_hold, without_hold, less_hold, held_by_child, Lanes, Hook, OnNewSpan, OnRecord, OnFollows, OnEvent, OnEnter, OnExit, OnClose, DoesBoth, Directive, FilterState, FilterWithRoom, plain, Each, fresh, after_hook, span_level, DoesFilter, Both, makes_of, values_given_by, is_close_of, made_by, all_values_given, is_ended, HasNoCalls, IsNext, AreInOrder, level_by_calls, levels_by_calls}
+use Rattle.std.proofs.lemmas.Bool.{ne_eqb}
+use Rattle.std.proofs.lemmas.List.{length-set, append-nil}
 use Rattle.std.proofs.lemmas.List.Sums.{fold-append}
-use Rattle.trace_base.specs.declared.callsite.Callsite.{Callsite}
-use Rattle.trace_base.specs.declared.field.Value.{Value}
-use Rattle.trace_base.specs.Spans.{Spans, Span, span_at, entries_on, is_in, times_in, current_of, place_on, with_hold, without_hold, less_hold, held_by_child}
 use Rattle.trace_base.specs.Calls.{SubscriberCall, NewSpan, Records, Follows, Event, Enter, Exit, CloneSpan, TryClose, spans_after_call}
 use Rattle.trace_base.specs.Conditions.{Allowed}
-use Rattle.trace_base.specs.lanes.Contexts.{Lanes}
-use Rattle.trace_base.specs.layers.Hooks.{Hook, OnNewSpan, OnRecord, OnFollows, OnEvent, OnEnter, OnExit, OnClose}
 use Rattle.trace_base.proofs.Entering.{made_if_held, length_held}
-use Rattle.span_registry.specs.Both.{DoesBoth}
 use Rattle.span_registry.specs.Layering.{both_allowed, both_shows}
 use Rattle.span_registry.specs.Hearing.{HearsCall, StaysTold, both_told}
 use Rattle.span_registry.specs.History.{Runs}
-use Rattle.env_directives.specs.declared.env.directive.Directive.{Directive}
-use Rattle.env_filter.specs.Filtering.{FilterState, FilterWithRoom, plain, Each, fresh, after_hook, span_level, DoesFilter}
-use Rattle.env_filter.specs.Reloading.{Both}
-use Rattle.env_filter.specs.spans.Histories.{makes_of, values_given_by, is_close_of, made_by, all_values_given, is_ended, HasNoCalls, IsNext, AreInOrder, level_by_calls, levels_by_calls}
 use Rattle.env_filter.specs.Stacked.{Appends, AreHooksOf, HearsCalls}
 use Rattle.env_filter.proofs.kept.ToldLevelsLemmas.{level_is_told, levels_are_told}
 

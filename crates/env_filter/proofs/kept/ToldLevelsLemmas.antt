@@ -1,27 +1,13 @@
 -- The levels kept are those that the calls tell.
-use Rattle.std.proofs.Common.{◌≡◌, ℕ, List, [], ◌∷◌, ◌++◌, length, take, drop, map, append_assoc, Bool, true, false, Option, Some, None, refl, sym, ap, subst, ◌∙◌, arith, inl, inr}
-use Rattle.std.specs.Prelude.{◌==◌, ◌||◌, ◌&&◌, if◌then◌else◌, is_some, fold}
-use Rattle.std.specs.List.{list_all, filter}
+use Rattle.std.proofs.Common.{◌≡◌, ℕ, List, [], ◌∷◌, ◌++◌, length, take, drop, map, append_assoc, Bool, true, false, Option, Some, None, refl, sym, ap, subst, ◌∙◌, arith, inl, inr, ◌==◌, ◌||◌, ◌&&◌, if◌then◌else◌, is_some, fold}
+use Rattle.env_filter.proofs.Common.{list_all, cases_Bool, cases_eq, cond-true, cond-false, list_any-append, Callsite, Value, LevelFilter, OFF, Hook, OnNewSpan, OnRecord, OnFollows, OnEvent, OnEnter, OnExit, OnClose, Directive, more_verbose, Ask, Care, OpenLevel, MatchState, is_given, all_asks, found_in, match_state_by, new_match_state, cares_of, more_met, with_values, level_from, level_of_match, FilterState, fresh, after_hook, span_level, makes_of, values_given_by, is_close_of, made_by, all_values_given, is_ended, most_from, is_met, level_by, level_if, level_by_calls, levels_after_call, levels_from, levels_by_calls, HasNoCalls, IsNext, AreInOrder}
+use Rattle.std.specs.List.{filter}
 use Rattle.std.specs.Option.{option_map}
-use Rattle.std.proofs.lemmas.Bool.{true≢false, cases_Bool, cases_eq, cond-true, cond-false, eq-eqb, ne_eqb}
+use Rattle.std.proofs.lemmas.Bool.{true≢false, eq-eqb, ne_eqb}
 use Rattle.std.proofs.lemmas.List.{append-nil}
-use Rattle.std.proofs.lemmas.List.Folds.{list_any-append}
-use Rattle.trace_base.specs.declared.callsite.Callsite.{Callsite}
-use Rattle.trace_base.specs.declared.field.Value.{Value}
-use Rattle.trace_base.specs.declared.level.LevelFilter.{LevelFilter}
-use Rattle.trace_base.specs.declared.level.LevelFilter.TheVariants.{OFF}
-use Rattle.trace_base.specs.layers.Hooks.{Hook, OnNewSpan, OnRecord, OnFollows, OnEvent, OnEnter, OnExit, OnClose}
-use Rattle.env_directives.specs.declared.env.directive.Directive.{Directive}
-use Rattle.env_directives.specs.orders.Table.{more_verbose}
-use Rattle.env_filter.specs.declared.watch.Ask.{Ask}
-use Rattle.env_filter.specs.declared.watch.Care.{Care}
 use Rattle.env_filter.specs.spans.Keyed.{put}
 use Rattle.env_filter.specs.spans.Puts.{put_at, put_off}
-use Rattle.env_filter.specs.spans.Levels.{OpenLevel}
 use Rattle.env_filter.specs.spans.Kept.{with_open_level, without_open_level}
-use Rattle.env_filter.specs.spans.Watching.{MatchState, is_given, all_asks, found_in, match_state_by, new_match_state, cares_of, more_met, with_values, level_from, level_of_match}
-use Rattle.env_filter.specs.Filtering.{FilterState, fresh, after_hook, span_level}
-use Rattle.env_filter.specs.spans.Histories.{makes_of, values_given_by, is_close_of, made_by, all_values_given, is_ended, most_from, is_met, level_by, level_if, level_by_calls, levels_after_call, levels_from, levels_by_calls, HasNoCalls, IsNext, AreInOrder}
 
 -- values that are given later are noted beside those given before
 pub given_append : (xs ys : List (ℕ × Value)) (ask : Ask) → is_given (xs ++ ys) ask ≡ (is_given xs ask || is_given ys ask)

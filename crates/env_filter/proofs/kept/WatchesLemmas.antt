@@ -1,12 +1,7 @@
 -- What is noted, one after another.
-use Rattle.std.proofs.Common.{◌≡◌, ℕ, zero, suc, ◌+◌, ◌<◌, List, [], ◌∷◌, length, take, get_or, set, Bool, true, false, refl, sym, ap, ◌∙◌, arith, inl, inr, ◌++◌, append_assoc, map}
-use Rattle.std.specs.Prelude.{◌||◌, nat_lt}
-use Rattle.std.proofs.lemmas.Bool.{cases_lt, cond-true, cond-false}
-use Rattle.std.proofs.lemmas.List.{take_more, map-append, append-nil}
-use Rattle.trace_base.specs.declared.field.Value.{Value}
-use Rattle.env_filter.specs.declared.watch.Ask.{Ask}
-use Rattle.env_filter.specs.declared.watch.Care.{Care}
-use Rattle.env_filter.specs.spans.Watching.{more_met, with_note, all_asks, found_in, is_given}
+use Rattle.std.proofs.Common.{◌≡◌, ℕ, zero, suc, ◌+◌, ◌<◌, List, [], ◌∷◌, length, take, get_or, set, Bool, true, false, refl, sym, ap, ◌∙◌, arith, inl, inr, ◌++◌, append_assoc, map, ◌||◌, nat_lt}
+use Rattle.env_filter.proofs.Common.{cases_lt, cond-true, cond-false, take_more, map-append, Value, Ask, Care, more_met, with_note, all_asks, found_in, is_given}
+use Rattle.std.proofs.lemmas.List.{append-nil}
 
 pub more_none : (met : List Bool) → more_met met [] ≡ met
 more_none [] = refl

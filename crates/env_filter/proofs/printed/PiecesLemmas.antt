@@ -1,10 +1,7 @@
 -- One piece more is read.
 use Rattle.std.proofs.Common.{◌≡◌, ℕ, zero, suc, ◌+◌, ◌<◌, ◌≤◌, List, [], ◌∷◌, ◌++◌, length, drop, get_or, Bool, refl, sym, ap, subst, ◌∙◌, arith, append_assoc, append-nil}
 use Rattle.std.specs.Borrow.{Bor}
-use Rattle.env_directives.specs.declared.env.directive.Directive.{Directive}
-use Rattle.env_directives.specs.reading.Separators.{comma_pieces}
-use Rattle.env_filter.specs.declared.pieces.Ignored.{Ignored}
-use Rattle.env_filter.specs.texts.Pieces.{texts_of, ReadsFirst, ReadsAll, ReadsText, AddsPiece}
+use Rattle.env_filter.proofs.Common.{Directive, comma_pieces, Ignored, texts_of, ReadsFirst, ReadsAll, ReadsText, AddsPiece}
 
 drop_at : (ps : List (Bor (List ℕ))) (at : ℕ) (d : Bor (List ℕ)) → at < length ps → drop at (texts_of ps) ≡ (get_or ps at d).now ∷ drop (at + 1) (texts_of ps)
 drop_at [] at d within = absurd (omega (arith, within))

@@ -1,23 +1,10 @@
 -- What a filter prints is read, piece by piece, as the directives that it prints.
-use Rattle.std.proofs.Common.{◌≡◌, ℕ, ◌+◌, List, [], ◌∷◌, ◌++◌, length, map, flat_map, append_assoc, append-nil, Bool, true, false, true≢false, not, Option, Some, None, unwrap_or, codes, refl, sym, ap, subst, ◌∙◌, arith}
-use Rattle.std.specs.Prelude.{◌==◌, ◌||◌, if◌then◌else◌, eqb, is_some}
-use Rattle.std.specs.List.{join_by, onto_first}
-use Rattle.std.specs.Str.{chars, trim, trim_start, trim_end}
-use Rattle.std.proofs.lemmas.Bool.{and_parts}
-use Rattle.std.proofs.lemmas.Bool.Decides.{nat_tests}
+use Rattle.std.proofs.Common.{◌≡◌, ℕ, ◌+◌, List, [], ◌∷◌, ◌++◌, length, map, flat_map, append_assoc, append-nil, Bool, true, false, true≢false, not, Option, Some, None, unwrap_or, codes, refl, sym, ap, subst, ◌∙◌, arith, ◌==◌, ◌||◌, if◌then◌else◌, eqb, is_some}
+use Rattle.env_filter.proofs.Common.{join_by, onto_first, trim, trim_start, trim_end, and_parts, nat_tests, LevelFilter, is_among, lacks, begins, IsDirective, directive_text, match_text, text_if_any, comma_pieces, comma_joined, static_text, StaticDirective, Directive, Each, ReadsPiece, ReadsAll, ReadsText, behind_commas, dynamics_text, bare_field, as_directive, printed_directives, IsReadBack}
+use Rattle.std.specs.Str.{chars}
 use Rattle.std.proofs.lemmas.List.Splits.{slice_split-cons_no}
-use Rattle.trace_base.specs.declared.level.LevelFilter.{LevelFilter}
 use Rattle.trace_base.specs.words.Level.{filter_text as level_text}
-use Rattle.env_directives.specs.reading.Cuts.{is_among, lacks}
-use Rattle.env_directives.specs.reading.Forms.{begins, IsDirective}
-use Rattle.env_directives.specs.printed.Printed.{directive_text, match_text, text_if_any}
-use Rattle.env_directives.specs.reading.Separators.{comma_pieces}
-use Rattle.env_directives.specs.printed.StaticPrinted.{comma_joined, static_text}
-use Rattle.env_directives.specs.declared.directive.StaticDirective.{StaticDirective}
-use Rattle.env_directives.specs.declared.env.directive.Directive.{Directive}
-use Rattle.env_filter.specs.Filtering.{Each}
-use Rattle.env_filter.specs.texts.Pieces.{ReadsPiece, ReadsAll, ReadsText}
-use Rattle.env_filter.specs.texts.Printing.{behind_commas, dynamics_text, filter_text, bare_field, as_directive, printed_directives, IsReadBack}
+use Rattle.env_filter.specs.texts.Printing.{filter_text}
 
 -- ---- texts that commas are between
 

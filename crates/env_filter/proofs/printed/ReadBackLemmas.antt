@@ -1,34 +1,18 @@
 -- Each directive that was read from a piece of a text is read back from what it prints.
-use Rattle.std.proofs.Common.{◌≡◌, ℕ, ◌+◌, ◌<◌, ◌^◌, List, [], ◌∷◌, ◌++◌, Bool, true, false, true≢false, not, codes, Option, Some, None, option_map, ℤ, pos, negsuc, suc, refl, sym, subst, ◌∙◌, arith, append-nil, append_assoc, map, lit<}
-use Rattle.std.specs.Prelude.{◌==◌, ◌||◌, if◌then◌else◌, nat_lt, is_some, IfSome}
+use Rattle.std.proofs.Common.{◌≡◌, ℕ, ◌+◌, ◌<◌, ◌^◌, List, [], ◌∷◌, ◌++◌, Bool, true, false, true≢false, not, codes, Option, Some, None, option_map, ℤ, pos, negsuc, suc, refl, sym, subst, ◌∙◌, arith, append-nil, append_assoc, map, lit<, ◌==◌, ◌||◌, if◌then◌else◌, nat_lt, is_some, IfSome}
 use Rattle.std.specs.Fmt.{decimal}
-use Rattle.std.specs.List.{list_all}
-use Rattle.std.specs.Str.{IsUtf8, trim}
+use Rattle.env_filter.proofs.Common.{list_all, trim, encode, and_parts, IsUtf8-append, IsUtf8-from_ascii, LevelFilter, filter_text, pieces_at, is_among, lacks, unless_empty, target_at, Front, bare, spanned, fielded, DirectiveForm, alone, head_comma, leveled, leveled_comma, front_text, form_text, IsField, IsDirectiveFront, IsForm, each_with_comma, directive_at, head_alone, level_or_target, level_behind, directive_of_form, IsDirective, comma_pieces, value_text, match_text, text_if_any, fields_text, has_bracket, bracket_text, equals_text, directive_text, HasNoMinusZero, Directive, Match, printed_trimmed, Each, ReadsPiece, ReadsAll, ReadsText, IsReadBack, HaveNoMinusZero, Ignored}
+use Rattle.std.specs.Str.{IsUtf8}
 use Rattle.std.specs.Str.Parse.{signed_digits_value, without_leading_sign}
-use Rattle.std.proofs.Math.Utf8.{encode}
-use Rattle.std.proofs.lemmas.Bool.{and_parts, ltb-true}
+use Rattle.std.proofs.lemmas.Bool.{ltb-true}
 use Rattle.std.proofs.lemmas.Fmt.{IsAscii-decimal}
-use Rattle.std.proofs.lemmas.Str.{IsUtf8-append, IsUtf8-from_ascii}
-use Rattle.trace_base.specs.declared.level.LevelFilter.{LevelFilter}
 use Rattle.trace_base.specs.declared.level.LevelFilter.TheVariants as filter
-use Rattle.trace_base.specs.words.Level.{filter_text}
 use Rattle.trace_base.specs.words.LevelWords.{level_filter_of, decimal_value, digits_number}
-use Rattle.env_directives.specs.reading.Cuts.{pieces_at, is_among, lacks}
-use Rattle.env_directives.specs.reading.Forms.{unless_empty, target_at, Front, bare, spanned, fielded, DirectiveForm, alone, head_comma, leveled, leveled_comma, front_text, form_text, IsField, IsDirectiveFront, IsForm, each_with_comma, directive_at, head_alone, level_or_target, level_behind, directive_of_form, IsDirective}
-use Rattle.env_directives.specs.reading.Separators.{comma_pieces}
-use Rattle.env_directives.specs.printed.Printed.{value_text, match_text, text_if_any, fields_text, has_bracket, bracket_text, equals_text, directive_text, HasNoMinusZero}
 use Rattle.env_directives.specs.reading.Values.{u64_of, i64_of, fits_i64, truth_of, plain_value, value_of, field_of}
-use Rattle.env_directives.specs.declared.env.directive.Directive.{Directive}
-use Rattle.env_directives.specs.declared.env.field.Match.{Match}
 use Rattle.env_directives.specs.declared.env.field.ValueMatch.TheVariants.{Bool as Truth, I64}
 use Rattle.env_directives.proofs.cuts.CutsLemmas.{among_ascii, cut_joined, cut_stop, cut_off}
 use Rattle.env_directives.proofs.printed.FieldsLemmas.{again, field_again}
 use Rattle.env_directives.proofs.printed.DirectivesLemmas.{printed_again}
-use Rattle.env_directives.proofs.printed.TrimLemmas.{printed_trimmed}
-use Rattle.env_filter.specs.Filtering.{Each}
-use Rattle.env_filter.specs.texts.Pieces.{ReadsPiece, ReadsAll, ReadsText}
-use Rattle.env_filter.specs.texts.Printing.{IsReadBack, HaveNoMinusZero}
-use Rattle.env_filter.specs.declared.pieces.Ignored.{Ignored}
 use Rattle.env_filter.proofs.printed.RefusalsLemmas.{both_each}
 use Rattle.env_filter.proofs.printed.TextPartsLemmas.{IsPiece, pieces_of, lacks_parts, cut_utf8, cut_piece, empty_piece, join_pieces, trim_piece}
 

@@ -1,17 +1,9 @@
 -- Why a text gives no filter.
-use Rattle.std.proofs.Common.{◌≡◌, ℕ, ◌+◌, List, [], ◌∷◌, ◌++◌, length, drop, Bool, true, false, Option, Some, None, refl, sym, ap, subst, ◌∙◌, arith}
-use Rattle.std.specs.Prelude.{◌==◌, slice_get}
-use Rattle.std.specs.Str.{trim}
+use Rattle.std.proofs.Common.{◌≡◌, ℕ, ◌+◌, List, [], ◌∷◌, ◌++◌, length, drop, Bool, true, false, Option, Some, None, refl, sym, ap, subst, ◌∙◌, arith, ◌==◌, slice_get}
+use Rattle.env_filter.proofs.Common.{trim, comma_pieces, IsDirective, Directive, Ignored, HasFilterFault, HasFilterFaultAt, Each, is_memory, IsIgnored, ReadsPiece, ReadsAll, ReadsText, IsFirstFault}
 use Rattle.std.proofs.lemmas.Bool.{true≢false, eqb-true}
-use Rattle.env_directives.specs.reading.Separators.{comma_pieces}
-use Rattle.env_directives.specs.reading.Forms.{IsDirective}
 use Rattle.env_directives.specs.declared.directive.ParseError.{ParseError}
 use Rattle.env_directives.specs.declared.directive.ParseError.TheVariants as fault
-use Rattle.env_directives.specs.declared.env.directive.Directive.{Directive}
-use Rattle.env_filter.specs.declared.pieces.Ignored.{Ignored}
-use Rattle.env_filter.specs.texts.Building.{HasFilterFault, HasFilterFaultAt}
-use Rattle.env_filter.specs.Filtering.{Each}
-use Rattle.env_filter.specs.texts.Pieces.{is_memory, IsIgnored, ReadsPiece, ReadsAll, ReadsText, IsFirstFault}
 
 -- what one piece is read as
 pub reads_empty : (patterns : Bool) (n : ℕ) (piece : List ℕ) → (length piece == 0) ≡ true → ReadsPiece patterns n piece [] []

@@ -1,37 +1,22 @@
 -- The directives that a filter prints make its tables again.
-use Rattle.std.proofs.Common.{◌≡◌, ℕ, ◌≤◌, List, [], ◌∷◌, ◌++◌, length, map, Bool, true, false, true≢false, cond, not, Option, Some, None, option_map, filter, refl, sym, ap, subst, ◌∙◌, arith}
-use Rattle.std.specs.Prelude.{◌==◌, ◌&&◌, ◌||◌, if◌then◌else◌, is_some, max, reverse}
-use Rattle.std.specs.List.{AllByRecursion, find, list_any}
+use Rattle.std.proofs.Common.{◌≡◌, ℕ, ◌≤◌, List, [], ◌∷◌, ◌++◌, length, map, Bool, true, false, true≢false, cond, not, Option, Some, None, option_map, filter, refl, sym, ap, subst, ◌∙◌, arith, ◌==◌, ◌&&◌, ◌||◌, if◌then◌else◌, is_some, max, reverse}
+use Rattle.env_filter.proofs.Common.{AllByRecursion, list_any, option_or, option_cmp, ordering_then, and_parts, and_from, reverse-append, map-append, find-append, list_any-append, LevelFilter, greatest_verbosity, directive_cmp, target_length, most_specific_first, empty_table, with_all_added, greatest_of, IsTableOf, StaticDirective, Directive, Match, Each, asks_value, bare_field, as_directive, printed_directives, printed_of, HasOwnGreatest, is_static, is_dynamic, static_of, statics_of, dynamics_of, with_tables, filter_of}
+use Rattle.std.specs.List.{find}
 use Rattle.std.specs.List.Sorted.{IsStrictlySortedBy}
-use Rattle.std.specs.Option.{option_or, option_cmp}
 use Rattle.std.specs.Cmp.{IsTotalOrder, Equal-is, tied_back, tied_itself, alike_right, then_total, on_total, back_total, nat_cmp_total}
 use Rattle.std.specs.Cmp.Lexicographic.{slice_cmp, options_total, lists_total}
 use Rattle.std.specs.declared.cmp.Ordering.{Ordering}
 use Rattle.std.specs.declared.cmp.Ordering.TheVariants.{Less, Equal, Greater}
-use Rattle.std.specs.Ordering.{ordering_then, is_eq}
-use Rattle.std.proofs.lemmas.Bool.{and_parts, and_from}
+use Rattle.std.specs.Ordering.{is_eq}
 use Rattle.std.proofs.lemmas.Cmp.{ranked}
-use Rattle.std.proofs.lemmas.List.{reverse-append, map-append}
 use Rattle.std.proofs.lemmas.List.Elements.{filter-append}
-use Rattle.std.proofs.lemmas.List.Folds.{find-append, list_any-append}
 use Rattle.std.proofs.lemmas.Map.Keys.{sorted_head, sorted_tail}
-use Rattle.trace_base.specs.declared.level.LevelFilter.{LevelFilter}
 use Rattle.trace_base.specs.declared.level.LevelFilter.TheVariants as filters
-use Rattle.trace_base.specs.words.Level.{greatest_verbosity}
 use Rattle.env_directives.specs.laws.DirectiveLemmas.{directive_total}
-use Rattle.env_directives.specs.orders.DirectiveOrder.{directive_cmp}
 use Rattle.env_directives.specs.orders.FieldOrder.{text_cmp}
-use Rattle.env_directives.specs.orders.StaticOrder.{target_length, most_specific_first}
-use Rattle.env_directives.specs.orders.Table.{empty_table, with_all_added, greatest_of, IsTableOf}
-use Rattle.env_directives.specs.declared.directive.StaticDirective.{StaticDirective}
-use Rattle.env_directives.specs.declared.env.directive.Directive.{Directive}
-use Rattle.env_directives.specs.declared.env.field.Match.{Match}
 use Rattle.env_directives.specs.declared.env.field.ValueMatch.{ValueMatch}
 use Rattle.env_directives.proofs.tables.TablesLemmas.{kept, same_found}
 use Rattle.env_directives.proofs.tables.TiesLemmas.{directive_tie}
-use Rattle.env_filter.specs.Filtering.{Each, asks_value}
-use Rattle.env_filter.specs.texts.Printing.{bare_field, as_directive, printed_directives, printed_of, HasOwnGreatest}
-use Rattle.env_filter.specs.Tables.{is_static, is_dynamic, static_of, statics_of, dynamics_of, with_tables, filter_of}
 use Rattle.env_filter.proofs.printed.RefusalsLemmas.{both_each}
 
 -- ---- what is found from the end

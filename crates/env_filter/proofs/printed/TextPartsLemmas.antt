@@ -1,19 +1,11 @@
 -- Texts of whole characters without commas: parts of them, what they make together, and the pieces of any text.
-use Rattle.std.proofs.Common.{◌≡◌, ℕ, ◌+◌, ◌<◌, List, [], ◌∷◌, ◌++◌, length, take, drop, get_or, Bool, true, false, not, cond, codes, refl, sym, ap, subst, arith, append-nil, append_assoc, lit<}
-use Rattle.std.specs.Prelude.{◌==◌, ◌&&◌, eqb}
+use Rattle.std.proofs.Common.{◌≡◌, ℕ, ◌+◌, ◌<◌, List, [], ◌∷◌, ◌++◌, length, take, drop, get_or, Bool, true, false, not, cond, codes, refl, sym, ap, subst, arith, append-nil, append_assoc, lit<, ◌==◌, ◌&&◌, eqb}
 use Rattle.std.specs.Char.{is_whitespace}
-use Rattle.std.specs.List.{onto_first}
-use Rattle.std.specs.Str.{IsUtf8, chars, encode_utf8_all, trim, trim_start, trim_end, skip_leading_whitespace, drop_trailing_whitespace}
+use Rattle.env_filter.proofs.Common.{onto_first, trim, trim_start, trim_end, skip_leading_whitespace, drop_trailing_whitespace, encode, scalar, scalars, and_parts, nat_tests, IsUtf8-append, IsUtf8-nil, IsUtf8-take, IsUtf8-drop, IsCharBoundary-before_ascii, IsCharBoundary-after_ascii, encodes-chars, scalars-chars, is_among, lacks, comma_pieces, Each, trim_utf8}
+use Rattle.std.specs.Str.{IsUtf8, chars, encode_utf8_all}
 use Rattle.std.proofs.Math.Seq.{take-append_seam, drop-append-add, get_or-append_seam}
-use Rattle.std.proofs.Math.Utf8.{encode, scalar, scalars}
-use Rattle.std.proofs.lemmas.Bool.{and_parts, eqb-true}
-use Rattle.std.proofs.lemmas.Bool.Decides.{nat_tests}
+use Rattle.std.proofs.lemmas.Bool.{eqb-true}
 use Rattle.std.proofs.lemmas.List.{length-append}
-use Rattle.std.proofs.lemmas.Str.{IsUtf8-append, IsUtf8-nil, IsUtf8-take, IsUtf8-drop, IsCharBoundary-before_ascii, IsCharBoundary-after_ascii, encodes-chars, scalars-chars}
-use Rattle.env_directives.specs.reading.Cuts.{is_among, lacks}
-use Rattle.env_directives.specs.reading.Separators.{comma_pieces}
-use Rattle.env_filter.specs.Filtering.{Each}
-use Rattle.env_directives.proofs.printed.TrimLemmas.{trim_utf8}
 
 -- a text that a directive can be read from alone
 pub record IsPiece (text : List ℕ) : Type 0 where

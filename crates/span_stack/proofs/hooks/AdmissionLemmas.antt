@@ -1,19 +1,10 @@
 -- A stack admits by the rule of the filter in place: what lies below takes everything.
-use Rattle.std.proofs.Common.{◌≡◌, ℕ, Bool, true, Option, Some, None, refl, ap, ◌∙◌, slice_get}
-use Rattle.std.specs.Prelude.{◌&&◌}
-use Rattle.std.specs.Option.{option_map, option_map_or}
-use Rattle.trace_base.specs.declared.callsite.Callsite.{Callsite}
-use Rattle.trace_base.specs.declared.level.LevelFilter.{LevelFilter}
+use Rattle.std.proofs.Common.{◌≡◌, ℕ, Bool, true, Option, Some, None, refl, ap, ◌∙◌, slice_get, ◌&&◌}
+use Rattle.span_stack.proofs.Common.{option_map_or, Callsite, LevelFilter, Admits, IsFresh, fresh_admits, hint_both, Has, member_of, FilterState, FilterWithRoom, plain, AreWhole, hint_in, enables_in, is_admitted, layer_or, HoldsIfThere, never_enabled, Stacks, StackWorlds, in_place, stack_interest}
+use Rattle.std.specs.Option.{option_map}
 use Rattle.trace_base.specs.declared.subscriber.Interest.TheVariants as interests
-use Rattle.trace_base.specs.Gate.{Admits, IsFresh}
-use Rattle.trace_base.proofs.Caching.{fresh_admits}
-use Rattle.span_registry.specs.Both.{hint_both}
-use Rattle.span_handles.specs.Worlds.{Has, member_of}
-use Rattle.env_filter.specs.Filtering.{FilterState, FilterWithRoom, plain, AreWhole, hint_in, enables_in, is_admitted}
-use Rattle.env_filter.specs.Reloading.{layer_or, HoldsIfThere, never_enabled}
 use Rattle.env_filter.specs.Worlds.{in_place_rule, IsWholeInPlace}
 use Rattle.env_filter.proofs.Worlds.{over_all_in_place}
-use Rattle.span_stack.specs.Reading.{Stacks, StackWorlds, in_place, stack_interest}
 
 abbrev pub hint_over : Stacks → Option LevelFilter
 hint_over s = hint_both (layer_or None (λ f. Some (hint_in (plain f))) s.layer.inner) None

@@ -1,39 +1,18 @@
 -- What the calls of a layer that may count events make of what it keeps.
-use Rattle.std.proofs.Common.{◌≡◌, ℕ, List, [], ◌∷◌, length, Bool, true, false, Option, Some, None, refl, sym, ap, ◌∙◌, inl, inr}
-use Rattle.std.specs.Prelude.{◌==◌}
+use Rattle.std.proofs.Common.{◌≡◌, ℕ, List, [], ◌∷◌, length, Bool, true, false, Option, Some, None, refl, sym, ap, ◌∙◌, inl, inr, ◌==◌}
 use Rattle.std.specs.Option.{option_map}
-use Rattle.std.proofs.lemmas.Bool.{cases_Bool, cases_eq, cond-true, cond-false}
-use Rattle.otel_base.specs.Recorder.{RecorderValue}
+use Rattle.span_stack.proofs.Common.{cases_Bool, cases_eq, cond-true, cond-false, RecorderValue, Callsite, Lane, Worlds, Hook, OnEvent, Spans, next_of, span_at, entries_on, place_on, SubscriberCall, NewSpan, Records, Follows, Event, Enter, Exit, CloneSpan, TryClose, spans_after_call, Allowed, Layered, DoesBoth, InStep, both_allowed, both_shows, Replaced, member_of, Chain, ended, closes, no_spans, Core, CoreWithRoom, seen_in, PartCall, Applies, Shows, Touches, data_at, update, Recording, recording_of, no_recording, RecordsCall, RecordsChain, RecordsPart, FilterState, FilterWithRoom, plain, enables_in, Telemetry, core_with_room_of, core_of, counter_of, events_by, with_counted, with_event_by, RecordsCallBy}
 use Rattle.otel_base.specs.Recorder.{Records as RecordsBy}
-use Rattle.trace_base.specs.declared.callsite.Callsite.{Callsite}
 use Rattle.trace_base.specs.declared.field.ValueSet.{ValueSet}
-use Rattle.trace_base.specs.declared.lane.Lane.{Lane}
-use Rattle.trace_base.specs.Gate.{Worlds}
-use Rattle.trace_base.specs.layers.Hooks.{Hook, OnEvent}
-use Rattle.trace_base.specs.Spans.{Spans, next_of, span_at, entries_on, place_on}
-use Rattle.trace_base.specs.Calls.{SubscriberCall, NewSpan, Records, Follows, Event, Enter, Exit, CloneSpan, TryClose, spans_after_call}
-use Rattle.trace_base.specs.Conditions.{Allowed}
-use Rattle.span_registry.specs.declared.layered.Layered.{Layered}
-use Rattle.span_registry.specs.Both.{DoesBoth, InStep}
-use Rattle.span_registry.specs.Layering.{both_allowed, both_shows}
 use Rattle.span_registry.specs.Registering.{RegistryValue, DoesRegistry}
-use Rattle.span_handles.specs.Worlds.{Replaced, member_of, Chain, ended, closes, no_spans}
 use Rattle.otel_state.specs.declared.op.Op.TheVariants as ops
 use Rattle.otel_state.specs.fields.EventFields.{event_of}
 use Rattle.otel_state.specs.States.{SpanData, after_op}
-use Rattle.otel_layer.specs.Core.{Core, CoreWithRoom, seen_in}
 use Rattle.otel_layer.specs.Counting.{after_counted, IsNoEvent, hook_any}
-use Rattle.otel_layer.specs.Parts.{PartCall, Applies, Shows, Touches}
 use Rattle.otel_layer.specs.Steps.{SameCore, DoesHook, Step, all_events}
-use Rattle.otel_layer.specs.Table.{data_at, update}
-use Rattle.otel_layer.specs.Recording.{Recording, recording_of, no_recording, RecordsCall, RecordsChain, RecordsPart}
 use Rattle.otel_layer.proofs.Finding.{told_at_next}
 use Rattle.otel_layer.proofs.Recalling.{room_recording, start_recording}
 use Rattle.otel_layer.proofs.Replaying.{layered_recording, chain_recording}
-use Rattle.env_filter.specs.Filtering.{FilterState, FilterWithRoom, plain, enables_in}
-use Rattle.span_stack.specs.declared.telemetry.Telemetry.{Telemetry}
-use Rattle.span_stack.specs.Counters.{core_with_room_of, core_of, counter_of, events_by}
-use Rattle.span_stack.specs.Counting.{with_counted, with_event_by, RecordsCallBy}
 
 -- ---- events
 

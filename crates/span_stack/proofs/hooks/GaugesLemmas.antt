@@ -1,23 +1,8 @@
 -- What a layer of metrics over a subscriber hears of calls.
 use Rattle.std.proofs.Common.{◌≡◌, ℕ, List, [], ◌++◌, Bool, false, Option, Some, refl, sym, ap, ◌∙◌, inl, inr}
-use Rattle.std.proofs.lemmas.Bool.{cases_eq}
+use Rattle.span_stack.proofs.Common.{cases_eq, Worlds, Spans, next_of, span_at, SubscriberCall, NewSpan, Records, Follows, Event, Enter, Exit, CloneSpan, TryClose, Lanes, Hook, LeavesLanes, Layered, DoesBoth, HearsCall, Replaced, Chain, ended, closes, member_of, seen_before, seen_later, Measure, Steps, over_hears, Measuring, waiting_measures, measured_by}
 use Rattle.std.proofs.lemmas.List.{append-nil}
-use Rattle.trace_base.specs.Gate.{Worlds}
-use Rattle.trace_base.specs.Spans.{Spans, next_of, span_at}
-use Rattle.trace_base.specs.Calls.{SubscriberCall, NewSpan, Records, Follows, Event, Enter, Exit, CloneSpan, TryClose}
-use Rattle.trace_base.specs.lanes.Contexts.{Lanes}
-use Rattle.trace_base.specs.layers.Hooks.{Hook}
-use Rattle.trace_base.specs.layers.Unseeing.{LeavesLanes}
-use Rattle.span_registry.specs.declared.layered.Layered.{Layered}
-use Rattle.span_registry.specs.Both.{DoesBoth}
-use Rattle.span_registry.specs.Hearing.{HearsCall}
-use Rattle.span_handles.specs.Worlds.{Replaced, Chain, ended, closes, member_of}
-use Rattle.span_handles.proofs.Showing.{seen_before, seen_later}
-use Rattle.otel_metrics.specs.declared.measure.Measure.{Measure}
 use Rattle.otel_metrics.specs.Waiting.{AddsMeasuresOf, measures_of_hook}
-use Rattle.env_filter.proofs.kept.StackedLemmas.{Steps, over_hears}
-use Rattle.span_stack.specs.declared.measuring.Measuring.{Measuring}
-use Rattle.span_stack.specs.Measured.{waiting_measures, measured_by}
 use Rattle.span_stack.proofs.worlds.ViewsLemmas.{kept_place}
 
 abbrev pub measures_at : Measuring → Hook → Measuring → Type 0

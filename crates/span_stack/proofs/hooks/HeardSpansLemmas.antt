@@ -1,30 +1,12 @@
 -- What a filter over a subscriber hears of calls and of chains of closes.
-use Rattle.std.proofs.Common.{◌≡◌, ℕ, List, [], ◌∷◌, Bool, false, Option, Some, None, refl, sym, ap, ◌∙◌, inl, inr}
-use Rattle.std.specs.Prelude.{if◌then◌else◌, fold, is_some}
+use Rattle.std.proofs.Common.{◌≡◌, ℕ, List, [], ◌∷◌, Bool, false, Option, Some, None, refl, sym, ap, ◌∙◌, inl, inr, if◌then◌else◌, fold, is_some}
 use Rattle.std.specs.Option.{option_map}
-use Rattle.std.proofs.lemmas.Bool.{cases_eq, eq-eqb, ne_eqb}
-use Rattle.trace_base.specs.Gate.{Worlds}
-use Rattle.trace_base.specs.Spans.{Spans, span_at}
-use Rattle.trace_base.specs.Calls.{SubscriberCall, NewSpan, Records, Follows, Event, Enter, Exit, CloneSpan, TryClose, spans_after_call}
-use Rattle.trace_base.specs.Conditions.{Allowed}
-use Rattle.trace_base.specs.lanes.Contexts.{Lanes}
-use Rattle.trace_base.specs.layers.Hooks.{Hook}
-use Rattle.trace_base.specs.layers.Unseeing.{LeavesLanes}
-use Rattle.span_registry.specs.declared.layered.Layered.{Layered}
-use Rattle.span_registry.specs.Both.{DoesBoth}
-use Rattle.span_registry.specs.Layering.{both_allowed, both_shows}
-use Rattle.span_registry.specs.Hearing.{HearsCall}
-use Rattle.span_handles.specs.Worlds.{Replaced, Chain, member_of, no_spans, closed_in}
-use Rattle.span_handles.proofs.Showing.{seen_before, seen_later}
+use Rattle.span_stack.proofs.Common.{cases_eq, Worlds, Spans, span_at, SubscriberCall, NewSpan, Records, Follows, Event, Enter, Exit, CloneSpan, TryClose, spans_after_call, Allowed, Lanes, Hook, LeavesLanes, Layered, DoesBoth, both_allowed, both_shows, HearsCall, Replaced, Chain, member_of, no_spans, closed_in, seen_before, seen_later, Layer, FilterState, FilterWithRoom, plain, span_level, DoesFilter, Both, layer_or, Steps, over_hears, step_in_place, does_in_place, same_in_place, in_place}
+use Rattle.std.proofs.lemmas.Bool.{eq-eqb, ne_eqb}
 use Rattle.span_handles.proofs.Telling.{told_world}
-use Rattle.env_filter.specs.declared.reload.Layer.{Layer}
-use Rattle.env_filter.specs.Filtering.{FilterState, FilterWithRoom, plain, span_level, DoesFilter}
 use Rattle.env_filter.specs.spans.Keyed.{put}
 use Rattle.env_filter.specs.spans.Kept.{with_open_level, without_open_level}
-use Rattle.env_filter.specs.Reloading.{Both, layer_or}
-use Rattle.env_filter.proofs.kept.StackedLemmas.{Steps, over_hears, step_in_place, does_in_place, same_in_place}
 use Rattle.span_stack.specs.Filtered.{without_span, filter_after, FiltersChain}
-use Rattle.span_stack.specs.Reading.{in_place}
 
 -- a filter that can be exchanged, as a layer
 abbrev pub hooks_on : Layer FilterWithRoom → Hook → Layer FilterWithRoom → Type 0

@@ -1,17 +1,14 @@
 -- A filter without spans takes those events that its static directives let through.
-use Rattle.std.proofs.Common.{◌≡◌, ℕ, List, [], ◌∷◌, Bool, true, false, Option, refl, sym, ap, ◌∙◌, arith, inl, inr}
-use Rattle.std.specs.Prelude.{◌&&◌, ◌||◌}
+use Rattle.std.proofs.Common.{◌≡◌, ℕ, List, [], ◌∷◌, Bool, true, false, Option, refl, sym, ap, ◌∙◌, arith, inl, inr, ◌&&◌, ◌||◌}
 use Rattle.std.specs.List.{list_any}
-use Rattle.std.proofs.lemmas.Bool.{true≢false, cases_Bool, cond-true, cond-false, leb-true, le-leb}
-use Rattle.trace_base.specs.declared.callsite.Callsite.{Callsite}
+use Rattle.span_stack.proofs.Common.{cases_Bool, cond-true, cond-false, Callsite, LevelFilter, FilterState, IsNewFilter, Each, IsAtMostLevel, has_dynamics, levels_admit, enables_in}
+use Rattle.std.proofs.lemmas.Bool.{true≢false, leb-true, le-leb}
 use Rattle.trace_base.specs.declared.callsite.Kind.{Kind}
 use Rattle.trace_base.specs.declared.callsite.Kind.TheVariants as kind
-use Rattle.trace_base.specs.declared.level.LevelFilter.{LevelFilter}
 use Rattle.trace_base.specs.words.Level.{is_within, greatest_verbosity, verbosity}
 use Rattle.env_directives.specs.declared.directive.StaticDirective.{StaticDirective}
 use Rattle.env_directives.specs.Cares.{cares, cares_for_span, is_span}
 use Rattle.env_directives.specs.orders.Choice.{admits, lets_through}
-use Rattle.env_filter.specs.Filtering.{FilterState, IsNewFilter, Each, IsAtMostLevel, has_dynamics, levels_admit, enables_in}
 
 -- what they let through is within the greatest level
 admitted_within : (c : Callsite) (most : LevelFilter) (ds : List StaticDirective) → Each (λ (d : StaticDirective). IsAtMostLevel most d.level) ds → admits ds c ≡ true → is_within c.level most ≡ true

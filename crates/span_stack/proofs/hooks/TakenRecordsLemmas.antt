@@ -1,15 +1,8 @@
 -- What the taking of a record leaves of a layer.
-use Rattle.std.proofs.Common.{◌≡◌, Option, refl, ap, ◌∙◌}
-use Rattle.std.specs.Prelude.{drop}
+use Rattle.std.proofs.Common.{◌≡◌, Option, refl, ap, ◌∙◌, drop}
 use Rattle.std.specs.Option.{option_map}
-use Rattle.otel_base.specs.Recorder.{RecorderValue}
-use Rattle.otel_layer.specs.Core.{IsWholeCore, seen_in, kept_in}
-use Rattle.otel_layer.specs.Recording.{Recording, recording_of}
-use Rattle.env_filter.specs.Filtering.{FilterWithRoom, plain}
-use Rattle.span_stack.specs.declared.telemetry.Telemetry.{Telemetry}
+use Rattle.span_stack.proofs.Common.{RecorderValue, IsWholeCore, seen_in, kept_in, Recording, recording_of, FilterWithRoom, plain, Telemetry, core_of, counter_of, taken_from, Stacks, stack_recording, counts_by, without_first}
 use Rattle.span_stack.specs.declared.telemetry.Telemetry.TheVariants.{Plain, Counting}
-use Rattle.span_stack.specs.Counters.{core_of, counter_of, taken_from}
-use Rattle.span_stack.specs.Reading.{Stacks, stack_recording, counts_by, without_first}
 
 abbrev pub one_less : Recording → Recording → Type 0
 one_less before later = later ≡ record before { finished = drop 1 before.finished }

@@ -1,19 +1,7 @@
 -- The cached interests of a stack whose parts took room.
 use Rattle.std.proofs.Common.{◌≡◌, List, Option, None, refl, sym, ap, ◌∙◌}
-use Rattle.trace_base.specs.declared.callsite.Callsite.{Callsite}
-use Rattle.trace_base.specs.declared.level.LevelFilter.{LevelFilter}
-use Rattle.trace_base.specs.declared.subscriber.Interest.{Interest}
+use Rattle.span_stack.proofs.Common.{Callsite, LevelFilter, Interest, AreSame, interests_of_sites, registered_same, joint_interest, FilterState, FilterWithRoom, plain, interest_in, sometimes, both_alike, Stacks, StackWorlds, stack_interest, HasCurrentInterests, Layered, Recording, Measuring, waiting_measures}
 use Rattle.trace_base.specs.declared.subscriber.Interest.TheVariants as interests
-use Rattle.trace_base.specs.Gate.{AreSame, interests_of_sites}
-use Rattle.trace_base.proofs.Caching.{registered_same}
-use Rattle.span_registry.specs.Both.{joint_interest}
-use Rattle.env_filter.specs.Filtering.{FilterState, FilterWithRoom, plain, interest_in}
-use Rattle.env_filter.specs.Reloading.{sometimes, both_alike}
-use Rattle.span_stack.specs.Reading.{Stacks, StackWorlds, stack_interest, HasCurrentInterests}
-use Rattle.span_registry.specs.declared.layered.Layered.{Layered}
-use Rattle.otel_layer.specs.Recording.{Recording}
-use Rattle.span_stack.specs.declared.measuring.Measuring.{Measuring}
-use Rattle.span_stack.specs.Measured.{waiting_measures}
 use Rattle.span_stack.proofs.hooks.CountersLemmas.{Base, base_room, base_recorded, base_counter, base_same, counter_same}
 use Rattle.span_stack.proofs.hooks.GaugesLemmas.{unchanged}
 use Rattle.span_stack.proofs.worlds.ExchangesLemmas.{room_over}

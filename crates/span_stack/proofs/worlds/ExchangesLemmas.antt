@@ -1,23 +1,9 @@
 -- Another filter over the same subscriber, in a world whose other subscribers take room at most.
-use Rattle.std.proofs.Common.{◌≡◌, ℕ, zero, suc, ◌+◌, ◌<◌, List, [], ◌∷◌, length, Bool, true, false, Option, Some, None, refl, sym, ap, subst, ◌∙◌, inl, inr, arith, slice_get, slice_set, get_or}
-use Rattle.std.specs.Prelude.{◌||◌, if◌then◌else◌, is_some}
+use Rattle.std.proofs.Common.{◌≡◌, ℕ, zero, suc, ◌+◌, ◌<◌, List, [], ◌∷◌, length, Bool, true, false, Option, Some, None, refl, sym, ap, subst, ◌∙◌, inl, inr, arith, slice_get, slice_set, get_or, ◌||◌, if◌then◌else◌, is_some}
 use Rattle.std.specs.Option.{option_map}
-use Rattle.std.proofs.lemmas.Bool.{cases_eq, true≢false}
-use Rattle.std.proofs.lemmas.Option.{slice_get_within, slice_get-get_or}
-use Rattle.trace_base.specs.Gate.{Worlds, AreSame}
-use Rattle.trace_base.specs.Spans.{Spans, entries_on, times_in}
-use Rattle.trace_base.specs.layers.Hooks.{KnownSpans}
-use Rattle.trace_base.specs.layers.Unseeing.{no_known_spans}
-use Rattle.span_registry.specs.declared.layered.Layered.{Layered}
-use Rattle.span_registry.specs.Both.{InStep, IsWholeBoth, KnowsNone}
-use Rattle.span_handles.specs.Worlds.{Replaced, Alike, member_of, no_spans}
-use Rattle.span_handles.proofs.Showing.{now_there, as_many, seen_before}
-use Rattle.otel_layer.specs.Parts.{StaysStack}
-use Rattle.env_filter.specs.declared.reload.Layer.{Layer}
-use Rattle.env_filter.specs.Filtering.{FilterState, FilterWithRoom, plain, seen_in, AreWhole, IsNewFilter}
-use Rattle.env_filter.specs.Reloading.{layer_or, HoldsIfThere, Both, both_refl, Swaps, none_kept}
-use Rattle.env_filter.proofs.kept.StackedLemmas.{same_in_place}
-use Rattle.span_stack.specs.Reading.{in_place}
+use Rattle.span_stack.proofs.Common.{cases_eq, slice_get_within, slice_get-get_or, Worlds, AreSame, Spans, entries_on, times_in, KnownSpans, no_known_spans, Layered, InStep, IsWholeBoth, KnowsNone, Replaced, Alike, member_of, no_spans, now_there, as_many, seen_before, StaysStack, Layer, FilterState, FilterWithRoom, plain, AreWhole, IsNewFilter, layer_or, HoldsIfThere, Both, both_refl, Swaps, none_kept, same_in_place, in_place}
+use Rattle.std.proofs.lemmas.Bool.{true≢false}
+use Rattle.env_filter.specs.Filtering.{seen_in}
 use Rattle.span_stack.proofs.worlds.ViewsLemmas.{the_one, see}
 
 -- ---- what stands at a place

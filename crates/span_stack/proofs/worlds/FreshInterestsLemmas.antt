@@ -1,11 +1,6 @@
 -- The interests that are cached, where a subscriber is replaced that has the same ones.
 use Rattle.std.proofs.Common.{◌≡◌, ℕ, zero, suc, List, [], ◌∷◌, map, Option, Some, refl, sym, ap, subst, ◌∙◌, slice_get, slice_set}
-use Rattle.trace_base.specs.declared.callsite.Callsite.{Callsite}
-use Rattle.trace_base.specs.declared.subscriber.Interest.{Interest}
-use Rattle.trace_base.specs.Gate.{Worlds, IsFresh, interests_in, interests_of_sites}
-use Rattle.trace_base.specs.Spans.{Spans, next_of}
-use Rattle.trace_base.specs.Calls.{SubscriberCall, TryClose}
-use Rattle.span_handles.specs.Worlds.{Replaced, Chain, ended, closes}
+use Rattle.span_stack.proofs.Common.{Callsite, Interest, Worlds, IsFresh, interests_in, interests_of_sites, Spans, next_of, SubscriberCall, TryClose, Replaced, Chain, ended, closes}
 use Rattle.span_stack.proofs.worlds.ViewsLemmas.{the_one}
 
 map_same : {X Y : Type 0} (f : X → Y) (xs : List X) (n : ℕ) (x y : X) → slice_get xs n ≡ Some x → f y ≡ f x → map f (slice_set xs n y) ≡ map f xs

@@ -1,16 +1,7 @@
 -- Through a layer that leaves lanes as they are.
 use Rattle.std.proofs.Common.{◌≡◌, ℕ, Bool, true, false, Option, Some, None, sym, subst, refl}
 use Rattle.std.proofs.lemmas.Bool.{true≢false}
-use Rattle.trace_base.specs.declared.lane.Lane.{Lane}
-use Rattle.trace_base.specs.Spans.{Spans, next_of}
-use Rattle.trace_base.specs.Calls.{SubscriberCall, NewSpan, Records, Follows, Event, Enter, Exit, CloneSpan, TryClose}
-use Rattle.trace_base.specs.layers.Hooks.{Hook, OnEnter, OnExit, HookLanes}
-use Rattle.span_registry.specs.declared.layered.Layered.{Layered}
-use Rattle.span_registry.specs.Both.{DoesBoth}
-use Rattle.span_handles.specs.Worlds.{Chain, ended, closes}
-use Rattle.otel_layer.specs.Parts.{PartCall, TouchesFirst}
-use Rattle.env_filter.specs.Filtering.{FilterWithRoom}
-use Rattle.env_filter.specs.Reloading.{layer_or}
+use Rattle.span_stack.proofs.Common.{Lane, Spans, next_of, SubscriberCall, NewSpan, Records, Follows, Event, Enter, Exit, CloneSpan, TryClose, Hook, OnEnter, OnExit, HookLanes, Layered, DoesBoth, Chain, ended, closes, PartCall, TouchesFirst, FilterWithRoom, layer_or}
 
 pub both_below : {S L : Type 0} (spans : S → Spans) (inner : S → SubscriberCall → S → Type 0) (outer : L → Hook → L → Type 0) (same : L → L → Type 0) (attaches : L → Bool) (kept : L → ℕ → ℕ → ℕ)
     → ((l : L) (hook : Hook) (m : L) → outer l hook m → HookLanes (attaches l) (kept l) hook (kept m)) → ((l : L) → attaches l ≡ false)

@@ -1,13 +1,7 @@
 -- What is read of worlds below the outer layers, and of subscribers at a place.
 use Rattle.std.proofs.Common.{◌≡◌, ℕ, zero, suc, Bool, List, [], ◌∷◌, map, Option, Some, None, refl, sym, ap, subst, ◌∙◌, slice_get, slice_set}
-use Rattle.std.specs.Option.{option_map_or, option_map}
-use Rattle.std.proofs.lemmas.Option.{slice_get-map}
-use Rattle.trace_base.specs.Gate.{Worlds}
-use Rattle.trace_base.specs.Spans.{Spans}
-use Rattle.span_registry.specs.declared.layered.Layered.{Layered}
-use Rattle.span_handles.specs.Worlds.{Has, Replaced, Alike, member_of}
-use Rattle.span_handles.proofs.Showing.{seen_before, seen_later, alike}
-use Rattle.span_stack.specs.Through.{inner_of, below}
+use Rattle.span_stack.proofs.Common.{option_map_or, slice_get-map, Worlds, Spans, Layered, Has, Replaced, Alike, member_of, seen_before, seen_later, alike, inner_of, below}
+use Rattle.std.specs.Option.{option_map}
 
 -- a change at a place, seen through a function
 map_set : {X Y : Type 0} (f : X → Y) (xs : List X) (n : ℕ) (y : X) → map f (slice_set xs n y) ≡ slice_set (map f xs) n (f y)

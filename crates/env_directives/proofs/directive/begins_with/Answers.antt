@@ -1,7 +1,5 @@
-use Rattle.std.specs.Prelude.{eqb}
-use Rattle.std.specs.List.{starts_with}
-use Rattle.std.proofs.Common.{◌∙◌, ap}
-use Rattle.std.proofs.lemmas.Str.Pattern.{starts_text}
+use Rattle.env_directives.proofs.Common.{starts_with, starts_text}
+use Rattle.std.proofs.Common.{◌∙◌, ap, eqb}
 use Rattle.env_directives.proofs.directive.begins_with.Goals as goal
 
 pub returns-in-Some : goal.returns-in-Some

@@ -1,5 +1,5 @@
 use Rattle.std.specs.Prelude.{◌≡◌, drop}
-use Rattle.env_directives.specs.Cares.{declares_all}
+use Rattle.env_directives.proofs.Common.{declares_all}
 use Rattle.env_directives.proofs.directive.declares.Given as goal
 
 abbrev pub invariant-loop-name : goal.invariant-loop-name

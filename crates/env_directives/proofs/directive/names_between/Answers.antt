@@ -1,8 +1,5 @@
-use Rattle.std.specs.Prelude.{◌≡◌, ◌∷◌, [], codes, is_some, true, false, eqb}
-use Rattle.std.specs.List.{ends_with}
-use Rattle.std.proofs.Common.{refl, sym, ◌∙◌}
-use Rattle.std.proofs.lemmas.Str.Pattern.{ends_text}
-use Rattle.env_directives.specs.reading.Separators.{cut_once}
+use Rattle.env_directives.proofs.Common.{ends_with, ends_text, cut_once}
+use Rattle.std.proofs.Common.{refl, sym, ◌∙◌, ◌≡◌, ◌∷◌, [], codes, is_some, true, false, eqb}
 use Rattle.env_directives.proofs.cuts.SeparatorsLemmas.{contained, trimmed}
 use Rattle.env_directives.proofs.directive.names_between.Goals as goal
 

@@ -1,8 +1,5 @@
-use Rattle.std.specs.Prelude.{◌≡◌, ◌∷◌, [], ◌++◌}
-use Rattle.std.proofs.Common.{lit<, sym, ◌∙◌, ap, append_assoc, append-nil}
-use Rattle.std.specs.Prelude.{Ok}
-use Rattle.std.proofs.lemmas.Iterator.Splits.{YieldsList-from_str_split}
-use Rattle.env_directives.specs.reading.Separators.{nonempty, comma_pieces}
+use Rattle.std.proofs.Common.{lit<, sym, ◌∙◌, ap, append_assoc, append-nil, ◌≡◌, ◌∷◌, [], ◌++◌, Ok}
+use Rattle.env_directives.proofs.Common.{YieldsList-from_str_split, nonempty, comma_pieces}
 use Rattle.env_directives.proofs.cuts.PiecesLemmas.{first_piece, no_piece, kept_piece, left_out_piece}
 use Rattle.env_directives.proofs.directive.nonempty.Goals as goal
 

@@ -1,5 +1,5 @@
 use Rattle.std.specs.Prelude.{◌≡◌, ℕ, List, ◌++◌}
-use Rattle.env_directives.specs.reading.Separators.{nonempty, comma_pieces}
+use Rattle.env_directives.proofs.Common.{nonempty, comma_pieces}
 use Rattle.env_directives.proofs.cuts.PiecesLemmas.{Gives}
 use Rattle.env_directives.proofs.directive.nonempty.Given as goal
 

@@ -1,5 +1,5 @@
 use Rattle.std.specs.Prelude.{◌≡◌, ◌∷◌, [], codes, None, Some}
-use Rattle.env_directives.specs.reading.Separators.{cut_once}
+use Rattle.env_directives.proofs.Common.{cut_once}
 use Rattle.env_directives.proofs.cuts.SeparatorsLemmas.{missed, cut_some}
 use Rattle.env_directives.proofs.directive.target_and_names.Goals as goal
 

@@ -1,5 +1,5 @@
 use Rattle.std.specs.Prelude.{◌∷◌, take, flat_map}
-use Rattle.std.specs.Fmt.{HasWritten, IsPlainFormatter}
+use Rattle.env_directives.proofs.Common.{HasWritten, IsPlainFormatter}
 use Rattle.env_directives.proofs.directive.write_others.Given as goal
 
 abbrev pub invariant-loop-name : goal.invariant-loop-name

@@ -1,8 +1,6 @@
 use Rattle.std.proofs.Common.{false, List, ℕ, sym, subst}
-use Rattle.std.specs.Str.{IsUtf8, trim}
-use Rattle.env_directives.specs.reading.Forms.{IsDirective}
-use Rattle.env_directives.specs.printed.Printed.{directive_text, HasNoMinusZero}
-use Rattle.env_directives.specs.declared.env.directive.Directive.{Directive}
+use Rattle.env_directives.proofs.Common.{trim, IsDirective, directive_text, HasNoMinusZero, Directive}
+use Rattle.std.specs.Str.{IsUtf8}
 use Rattle.env_directives.proofs.printed.DirectivesLemmas.{printed_again}
 use Rattle.env_directives.proofs.printed.TrimLemmas.{trim_utf8, printed_trimmed}
 use Rattle.env_directives.proofs.laws.printing.Goals as goal

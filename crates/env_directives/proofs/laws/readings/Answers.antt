@@ -1,5 +1,5 @@
 use Rattle.std.proofs.Common.{◌≡◌, Ok, Err, false, sym, ◌∙◌}
-use Rattle.env_directives.specs.declared.directive.ParseError.TheVariants.{Level, Field}
+use Rattle.env_directives.proofs.Common.{Level, Field}
 use Rattle.env_directives.proofs.forms.GrammarLemmas.{directive_reads, level_told, field_told}
 use Rattle.env_directives.proofs.forms.KeptPatternsLemmas.{form_of}
 use Rattle.env_directives.proofs.laws.readings.Goals as goal

@@ -1,6 +1,5 @@
 use Rattle.std.specs.Prelude.{◌≡◌, drop}
-use Rattle.std.specs.Cmp.Lexicographic.{pointwise}
-use Rattle.env_directives.specs.Targets.{same_directive}
+use Rattle.env_directives.proofs.Common.{pointwise, same_directive}
 use Rattle.env_directives.proofs.targets.same_directives.Given as goal
 
 abbrev pub invariant-loop-place : goal.invariant-loop-place

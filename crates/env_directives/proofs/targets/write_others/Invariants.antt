@@ -1,5 +1,5 @@
 use Rattle.std.specs.Prelude.{◌∷◌, take, map, flat_map}
-use Rattle.std.specs.Fmt.{HasWritten, IsPlainFormatter}
+use Rattle.env_directives.proofs.Common.{HasWritten, IsPlainFormatter}
 use Rattle.env_directives.specs.printed.StaticPrinted.{static_text}
 use Rattle.env_directives.proofs.targets.write_others.Given as goal
 

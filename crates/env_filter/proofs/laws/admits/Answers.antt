@@ -1,11 +1,6 @@
 -- What lies below adds nothing to the gate.
-use Rattle.std.proofs.Common.{Some}
-use Rattle.std.specs.Prelude.{◌&&◌}
-use Rattle.trace_base.proofs.Caching.{fresh_admits}
-use Rattle.trace_base.specs.Gate.{dispatch_on}
-use Rattle.span_registry.specs.Both.{joint_interest, hint_both}
-use Rattle.env_filter.specs.Filtering.{plain, AreWhole, interest_in, hint_in, enables_in}
-use Rattle.env_filter.specs.Worlds.{filter_rule}
+use Rattle.std.proofs.Common.{Some, ◌&&◌}
+use Rattle.env_filter.proofs.Common.{fresh_admits, dispatch_on, joint_interest, hint_both, plain, AreWhole, interest_in, hint_in, enables_in, filter_rule}
 use Rattle.env_filter.proofs.Worlds.{admits_by, over_all}
 use Rattle.env_filter.proofs.laws.admits.Goals as goal
 

@@ -1,12 +1,6 @@
 -- What lies below adds nothing to the gate.
-use Rattle.std.proofs.Common.{None, Some}
-use Rattle.std.specs.Prelude.{◌&&◌}
-use Rattle.trace_base.proofs.Caching.{fresh_admits}
-use Rattle.trace_base.specs.Gate.{dispatch_on}
-use Rattle.span_registry.specs.Both.{joint_interest, hint_both}
-use Rattle.env_filter.specs.Filtering.{plain, interest_in, hint_in, enables_in}
-use Rattle.env_filter.specs.Reloading.{layer_or, sometimes, never_enabled}
-use Rattle.env_filter.specs.Worlds.{in_place_rule, IsWholeInPlace}
+use Rattle.std.proofs.Common.{None, Some, ◌&&◌}
+use Rattle.env_filter.proofs.Common.{fresh_admits, dispatch_on, joint_interest, hint_both, plain, interest_in, hint_in, enables_in, layer_or, sometimes, never_enabled, in_place_rule, IsWholeInPlace}
 use Rattle.env_filter.proofs.Worlds.{admits_by, over_all_in_place}
 use Rattle.env_filter.proofs.laws.admits_in_place.Goals as goal
 

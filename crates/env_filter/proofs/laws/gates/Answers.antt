@@ -1,6 +1,5 @@
 -- By the rule for what a filter stands for.
-use Rattle.env_filter.specs.Filtering.{plain}
-use Rattle.env_filter.specs.Gating.{gate_is_admitted}
+use Rattle.env_filter.proofs.Common.{plain, gate_is_admitted}
 use Rattle.env_filter.proofs.laws.gates.Goals as goal
 
 pub returns : goal.returns

@@ -1,6 +1,6 @@
 -- By the laws of the subscriber below.
 use Rattle.std.proofs.Common.{◌≡◌, false}
-use Rattle.env_filter.specs.Filtering.{FilterWithRoom, plain, after_hook, DoesFilter}
+use Rattle.env_filter.proofs.Common.{FilterWithRoom, plain, after_hook, DoesFilter}
 use Rattle.env_filter.proofs.kept.StackedLemmas.{over_all_calls, heard}
 use Rattle.env_filter.proofs.laws.hears.Goals as goal
 

@@ -1,7 +1,6 @@
 -- Each piece by itself; and a directive that stands in both tables is the last of its equals in each.
 use Rattle.std.proofs.Common.{false, sym}
-use Rattle.env_filter.specs.texts.Printing.{IsReadBack, printed_of}
-use Rattle.env_filter.specs.Tables.{statics_of, dynamics_of}
+use Rattle.env_filter.proofs.Common.{IsReadBack, printed_of, statics_of, dynamics_of}
 use Rattle.env_filter.proofs.printed.TablesLemmas.{same_statics, same_dynamics, filter_again, each_printed}
 use Rattle.env_filter.proofs.printed.PrintsLemmas.{reads_printed}
 use Rattle.env_filter.proofs.laws.printing.Goals as goal

@@ -1,9 +1,6 @@
 -- By the law of what a filter prints.
 use Rattle.std.proofs.Common.{[], None, false, sym, subst}
-use Rattle.env_filter.specs.texts.Building.{IsFilterOf}
-use Rattle.env_filter.specs.Filtering.{FilterState}
-use Rattle.env_filter.specs.texts.Printing.{IsReadBack, fixed_builder, printed_of, text_of}
-use Rattle.env_filter.specs.Tables.{statics_of, dynamics_of, filter_of}
+use Rattle.env_filter.proofs.Common.{IsFilterOf, FilterState, IsReadBack, fixed_builder, printed_of, text_of, statics_of, dynamics_of, filter_of}
 use Rattle.env_filter.proofs.printed.TablesLemmas.{filter_again, each_printed}
 use Rattle.env_filter.proofs.printed.PrintsLemmas.{reads_printed}
 use Rattle.env_filter.proofs.printed.ReadBackLemmas.{read_back_each}

@@ -1,12 +1,8 @@
 -- One piece more.
-use Rattle.std.specs.Prelude.{◌≡◌, ◌∷◌, [], ◌++◌, List, ℕ}
 use Rattle.std.specs.Borrow.{Bor}
-use Rattle.std.proofs.Common.{lit<, sym, ◌∙◌, ap, append_assoc, append-nil}
+use Rattle.std.proofs.Common.{lit<, sym, ◌∙◌, ap, append_assoc, append-nil, ◌≡◌, ◌∷◌, [], ◌++◌, List, ℕ}
 use Rattle.std.proofs.lemmas.Iterator.Splits.{YieldsList-from_str_split}
-use Rattle.std.proofs.lemmas.List.{map-append}
-use Rattle.env_directives.specs.reading.Separators.{comma_pieces}
-use Rattle.env_directives.proofs.cuts.PiecesLemmas.{first_piece, no_piece}
-use Rattle.env_filter.specs.texts.Pieces.{texts_of}
+use Rattle.env_filter.proofs.Common.{map-append, comma_pieces, first_piece, no_piece, texts_of}
 use Rattle.env_filter.proofs.pieces.pieces.Goals as goal
 
 pub loop-piece-init : goal.loop-piece-init

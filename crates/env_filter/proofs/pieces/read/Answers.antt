@@ -1,7 +1,7 @@
 -- One piece more is read.
 use Rattle.std.proofs.Common.{List, ap, ◌∙◌, ℕ}
 use Rattle.std.specs.Borrow.{Bor}
-use Rattle.env_filter.specs.texts.Pieces.{texts_of}
+use Rattle.env_filter.proofs.Common.{texts_of}
 use Rattle.env_filter.proofs.printed.PiecesLemmas.{reads_first, reads_more, reads_last}
 use Rattle.env_filter.proofs.pieces.read.Goals as goal
 

@@ -1,8 +1,6 @@
 -- What is read of the pieces that are left completes what was read.
 use Rattle.std.proofs.Common.{ℕ, List, ◌+◌, ◌++◌, drop}
-use Rattle.env_directives.specs.declared.env.directive.Directive.{Directive}
-use Rattle.env_filter.specs.declared.pieces.Ignored.{Ignored}
-use Rattle.env_filter.specs.texts.Pieces.{texts_of, ReadsAll, ReadsText}
+use Rattle.env_filter.proofs.Common.{Directive, Ignored, texts_of, ReadsAll, ReadsText}
 use Rattle.env_filter.proofs.pieces.read.Given as goal
 
 abbrev pub invariant-loop-at : goal.invariant-loop-at

@@ -1,10 +1,7 @@
 -- What is kept are the dynamic ones.
 use Rattle.std.proofs.Common.{◌≡◌, ◌∙◌, ap, List, rules}
 use Rattle.std.proofs.lemmas.Fn.{filter_same}
-use Rattle.env_directives.specs.declared.env.directive.Directive.{Directive}
-use Rattle.env_directives.specs.orders.DirectiveOrder.{directive_cmp}
-use Rattle.env_directives.specs.orders.Table.{Table, empty_table, with_all_added}
-use Rattle.env_filter.specs.Tables.{is_dynamic}
+use Rattle.env_filter.proofs.Common.{Directive, directive_cmp, Table, empty_table, with_all_added, is_dynamic}
 use Rattle.env_filter.proofs.tables.dynamics.Goals as goal
 
 pub returns : goal.returns

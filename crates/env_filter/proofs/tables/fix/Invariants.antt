@@ -1,6 +1,6 @@
 -- Those that were passed are fixed, and the others are as they were.
 use Rattle.std.proofs.Common.{◌≡◌, ◌++◌, take, drop, map}
-use Rattle.env_filter.specs.Tables.{fixed_field}
+use Rattle.env_filter.proofs.Common.{fixed_field}
 use Rattle.env_filter.proofs.tables.fix.Given as goal
 
 abbrev pub invariant-loop-at : goal.invariant-loop-at

@@ -1,6 +1,6 @@
 -- With the directives that are left it is the table of all.
 use Rattle.std.proofs.Common.{◌≡◌, drop}
-use Rattle.env_filter.specs.Tables.{all_static, statics_of}
+use Rattle.env_filter.proofs.Common.{all_static, statics_of}
 use Rattle.env_filter.proofs.tables.statics.Given as goal
 
 abbrev pub invariant-loop-directive : goal.invariant-loop-directive

@@ -1,6 +1,6 @@
 -- With what the fields that are left ask it is what all ask.
 use Rattle.std.proofs.Common.{◌≡◌, ◌++◌, drop}
-use Rattle.env_filter.specs.spans.Watching.{asks_of}
+use Rattle.env_filter.proofs.Common.{asks_of}
 use Rattle.env_filter.proofs.watch.asks_of.Given as goal
 
 abbrev pub invariant-loop-at : goal.invariant-loop-at

@@ -1,8 +1,6 @@
 -- One directive more.
 use Rattle.std.proofs.Common.{sym, ◌∙◌, ap, List, Bool, ◌++◌, map, take}
-use Rattle.env_filter.specs.declared.watch.Ask.{Ask}
-use Rattle.env_filter.specs.declared.watch.Care.{Care}
-use Rattle.env_filter.specs.spans.Watching.{is_given, found_in}
+use Rattle.env_filter.proofs.Common.{Ask, Care, is_given, found_in}
 use Rattle.env_filter.proofs.kept.WatchesLemmas.{found_more}
 use Rattle.env_filter.proofs.watch.found.Goals as goal
 

@@ -1,6 +1,6 @@
 -- What was found of those that were passed.
 use Rattle.std.proofs.Common.{◌≡◌, take}
-use Rattle.env_filter.specs.spans.Watching.{found_in}
+use Rattle.env_filter.proofs.Common.{found_in}
 use Rattle.env_filter.proofs.watch.found.Given as goal
 
 abbrev pub invariant-loop-care : goal.invariant-loop-care

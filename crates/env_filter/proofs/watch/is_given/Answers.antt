@@ -1,9 +1,6 @@
 -- The value at the place meets it.
-use Rattle.std.proofs.Common.{sym, ◌∙◌, ap, ℕ, Bool}
-use Rattle.trace_base.specs.declared.field.Value.{Value}
-use Rattle.std.specs.Prelude.{◌==◌, ◌&&◌}
-use Rattle.std.proofs.lemmas.List.Folds.{list_any_at}
-use Rattle.env_directives.specs.Meeting.{meets}
+use Rattle.std.proofs.Common.{sym, ◌∙◌, ap, ℕ, Bool, ◌==◌, ◌&&◌}
+use Rattle.env_filter.proofs.Common.{Value, list_any_at, meets}
 use Rattle.env_filter.proofs.watch.is_given.Goals as goal
 
 pub returns-then-branch : goal.returns-then-branch

@@ -1,8 +1,6 @@
 -- None of the values that were passed meets what is asked.
-use Rattle.std.proofs.Common.{◌≡◌, take, false}
-use Rattle.std.specs.Prelude.{◌==◌, ◌&&◌}
-use Rattle.std.specs.List.{list_any}
-use Rattle.env_directives.specs.Meeting.{meets}
+use Rattle.std.proofs.Common.{◌≡◌, take, false, ◌==◌, ◌&&◌}
+use Rattle.env_filter.proofs.Common.{list_any, meets}
 use Rattle.env_filter.proofs.watch.is_given.Given as goal
 
 abbrev pub invariant-loop-pair : goal.invariant-loop-pair

@@ -1,6 +1,6 @@
 -- What is left makes of the level so far what all make of the first.
 use Rattle.std.proofs.Common.{◌≡◌, drop, length}
-use Rattle.env_filter.specs.spans.Watching.{all_asks, level_from}
+use Rattle.env_filter.proofs.Common.{all_asks, level_from}
 use Rattle.env_filter.proofs.watch.level_from.Given as goal
 
 abbrev pub invariant-loop-care : goal.invariant-loop-care

@@ -1,6 +1,6 @@
 -- One more is noted.
 use Rattle.std.proofs.Common.{sym, ◌∙◌, ap, List, Bool, false, get_or}
-use Rattle.env_filter.specs.spans.Watching.{with_note}
+use Rattle.env_filter.proofs.Common.{with_note}
 use Rattle.env_filter.proofs.kept.WatchesLemmas.{more_none, noted_more}
 use Rattle.env_filter.proofs.watch.note.Goals as goal
 

@@ -1,6 +1,6 @@
 -- What was passed is noted.
 use Rattle.std.proofs.Common.{◌≡◌, take}
-use Rattle.env_filter.specs.spans.Watching.{more_met}
+use Rattle.env_filter.proofs.Common.{more_met}
 use Rattle.env_filter.proofs.watch.note.Given as goal
 
 abbrev pub invariant-loop-at : goal.invariant-loop-at

@@ -1,5 +1,5 @@
 -- By the trait's law.
-use Rattle.span_handles.proofs.Showing.{alike}
+use Rattle.otel_layer.proofs.Common.{alike}
 use Rattle.otel_layer.proofs.recording.leaves.Goals as goal
 
 pub returns : goal.returns

@@ -1,9 +1,7 @@
 -- What is left is what isn't a gap.
-use Rattle.std.proofs.Common.{rules, List, sym, ap, subst, ◌∙◌}
-use Rattle.std.specs.Prelude.{true}
+use Rattle.std.proofs.Common.{rules, List, sym, ap, subst, ◌∙◌, true}
 use Rattle.std.proofs.lemmas.Fn.{filter_same}
-use Rattle.otel_layer.specs.declared.table.Entry.{Entry}
-use Rattle.otel_layer.specs.Table.{all_data, MayRise}
+use Rattle.otel_layer.proofs.Common.{Entry, all_data, MayRise}
 use Rattle.otel_layer.proofs.Gaps.{is_kept, closed_read}
 use Rattle.otel_layer.proofs.Rising.{filtered_rise}
 use Rattle.otel_layer.proofs.table.close_gaps.Goals as goal

@@ -1,7 +1,7 @@
 -- The last entry is the youngest where the ids rise.
 use Rattle.std.proofs.Common.{◌-◌, ◌≡◌, suc, length, ap, arith}
 use Rattle.std.proofs.lemmas.Bool.{ltb-true}
-use Rattle.otel_layer.specs.declared.table.Entry.{Entry}
+use Rattle.otel_layer.proofs.Common.{Entry}
 use Rattle.otel_layer.proofs.Rising.{rise_last}
 use Rattle.otel_layer.proofs.table.is_youngest.Goals as goal
 

@@ -1,6 +1,6 @@
 -- The span is found, or isn't known.
 use Rattle.std.proofs.Common.{◌≡◌, ◌≤◌, Some, None, get_or, sym, subst, refl, arith, ◌∙◌}
-use Rattle.otel_state.specs.States.{Room}
+use Rattle.otel_layer.proofs.Common.{Room}
 use Rattle.otel_layer.proofs.Placing.{no_gap, found_same, found_ids, read_set, nothing_read, on_ok}
 use Rattle.otel_layer.proofs.table.reserve_link.Goals as goal
 

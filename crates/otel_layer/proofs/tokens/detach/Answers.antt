@@ -1,5 +1,5 @@
 -- The context is among the live ones.
-use Rattle.otel_layer.specs.laws.CountsLemmas.{has_if_counted}
+use Rattle.otel_layer.proofs.Common.{has_if_counted}
 use Rattle.otel_layer.proofs.tokens.detach.Goals as goal
 
 pub detach-requires : goal.detach-requires

@@ -1,7 +1,6 @@
 -- None of the entries that were passed is of the span on the lane.
 use Rattle.std.proofs.Common.{◌≡◌, ◌≤◌, length, drop, false}
-use Rattle.std.specs.List.{list_any}
-use Rattle.otel_layer.specs.Core.{is_token}
+use Rattle.otel_layer.proofs.Common.{list_any, is_token}
 use Rattle.otel_layer.proofs.tokens.last_place.Given as goal
 
 abbrev pub invariant-loop-at : goal.invariant-loop-at

@@ -1,10 +1,6 @@
 -- The filter is put in, and put back where the interests find no memory.
 use Rattle.std.proofs.Common.{rules, None, []}
-use Rattle.trace_base.specs.Gate.{AreSame}
-use Rattle.otel_layer.specs.Recording.{no_recording}
-use Rattle.env_filter.proofs.kept.StackedLemmas.{same_in_place}
-use Rattle.span_stack.specs.Measured.{waiting_measures}
-use Rattle.span_stack.specs.Reading.{stack_recording, counts_by, stack_measures, in_place}
+use Rattle.span_stack.proofs.Common.{AreSame, no_recording, same_in_place, waiting_measures, stack_recording, counts_by, stack_measures, in_place}
 use Rattle.span_stack.proofs.worlds.ExchangesLemmas.{room_over, put_back, filter_put, read_put, rest_put, alike_put, read_left, alike_left}
 use Rattle.span_stack.proofs.worlds.CacheLemmas.{middle_room, middle_recorded, middle_counter, middle_same, middle_counts, middle_measures, current_left}
 use Rattle.span_stack.proofs.gate.put_in_force.Goals as goal

@@ -1,14 +1,7 @@
 -- The outer layers have no OpenTelemetry layer, and stay as they are.
 use Rattle.std.proofs.Common.{ap, sym, ◌∙◌, None, [], Option}
 use Rattle.std.specs.Option.{option_map}
-use Rattle.otel_layer.specs.Recording.{RecordsPart, no_recording}
-use Rattle.env_filter.specs.declared.reload.Layer.{Layer}
-use Rattle.env_filter.specs.Filtering.{FilterWithRoom, plain}
-use Rattle.span_stack.specs.declared.measuring.Measuring.{Measuring}
-use Rattle.span_stack.specs.Counters.{core_of}
-use Rattle.span_stack.specs.Measured.{waiting_measures}
-use Rattle.span_stack.specs.Reading.{in_place, stack_interest, interest_over}
-use Rattle.span_stack.specs.Through.{below}
+use Rattle.span_stack.proofs.Common.{RecordsPart, no_recording, Layer, FilterWithRoom, plain, Measuring, core_of, waiting_measures, in_place, stack_interest, interest_over, below}
 use Rattle.span_stack.proofs.hooks.CountersLemmas.{plain_counter, base_recorded, base_counter, base_part}
 use Rattle.span_stack.proofs.worlds.FreshInterestsLemmas.{fresh_later}
 use Rattle.span_stack.proofs.worlds.ViewsLemmas.{seen_below, seen_two, along_two, kept_place, read_two}

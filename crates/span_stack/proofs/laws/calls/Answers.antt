@@ -1,11 +1,6 @@
 -- By what the call is to the registry with its layer, to the filter, to the measures, and to the interests.
 use Rattle.std.proofs.Common.{None, List, [], ◌++◌, sym, ap, ◌∙◌}
-use Rattle.otel_layer.specs.Recording.{no_recording}
-use Rattle.otel_metrics.specs.declared.measure.Measure.{Measure}
-use Rattle.span_handles.specs.Worlds.{no_spans}
-use Rattle.span_stack.specs.Counting.{RecordsCallBy}
-use Rattle.span_stack.specs.Measured.{waiting_measures, measured_by}
-use Rattle.span_stack.specs.Through.{below}
+use Rattle.span_stack.proofs.Common.{no_recording, Measure, no_spans, RecordsCallBy, waiting_measures, measured_by, below}
 use Rattle.span_stack.proofs.hooks.CountersLemmas.{base_spans, base_recorded, base_counter, base_records, counter_kept}
 use Rattle.span_stack.proofs.worlds.ViewsLemmas.{seen_below, seen_two, along_four, read_step, kept_place}
 use Rattle.span_stack.proofs.laws.calls.Goals as goal

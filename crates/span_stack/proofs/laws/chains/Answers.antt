@@ -1,9 +1,6 @@
 -- By what the chain is to the registry with its layer, to the filter, to the measures, and to the interests.
 use Rattle.std.proofs.Common.{None, Some, [], sym, ◌∙◌}
-use Rattle.otel_layer.specs.Recording.{no_recording, RecordsChain}
-use Rattle.span_handles.specs.Worlds.{no_spans}
-use Rattle.span_stack.specs.Measured.{waiting_measures}
-use Rattle.span_stack.specs.Through.{below}
+use Rattle.span_stack.proofs.Common.{no_recording, RecordsChain, no_spans, waiting_measures, below}
 use Rattle.span_stack.proofs.hooks.CountersLemmas.{BaseDoes, base_spans, base_recorded, base_counter, base_chain, counter_kept}
 use Rattle.span_stack.proofs.worlds.FreshInterestsLemmas.{chain_keeps}
 use Rattle.span_stack.proofs.worlds.ViewsLemmas.{seen_below, seen_two, along_four, kept_place}

@@ -1,10 +1,6 @@
 -- The layer knows spans that were made.
 use Rattle.std.proofs.Common.{◌≡◌, None, length, sym}
-use Rattle.trace_base.specs.Spans.{Spans}
-use Rattle.span_handles.specs.Worlds.{no_spans}
-use Rattle.otel_layer.specs.Recording.{Recording, no_recording}
-use Rattle.otel_layer.specs.Table.{data_at}
-use Rattle.span_stack.specs.Reading.{Stacks, stack_recording}
+use Rattle.span_stack.proofs.Common.{Spans, no_spans, Recording, no_recording, data_at, Stacks, stack_recording}
 use Rattle.span_stack.proofs.hooks.CountersLemmas.{base_next}
 use Rattle.span_stack.proofs.worlds.ViewsLemmas.{see, along_two}
 use Rattle.span_stack.proofs.laws.next.Goals as goal

@@ -1,8 +1,6 @@
 -- By what spare room is to the registry with its layer, to the filter, to the measures, and to the interests.
 use Rattle.std.proofs.Common.{None, [], sym, ◌∙◌}
-use Rattle.otel_layer.specs.Recording.{no_recording}
-use Rattle.span_stack.specs.Measured.{waiting_measures}
-use Rattle.span_stack.specs.Through.{below}
+use Rattle.span_stack.proofs.Common.{no_recording, waiting_measures, below}
 use Rattle.span_stack.proofs.hooks.CountersLemmas.{base_recorded, base_counter, base_same, counter_same}
 use Rattle.span_stack.proofs.worlds.ViewsLemmas.{seen_below, seen_two, kept_place}
 use Rattle.span_stack.proofs.laws.same.Goals as goal

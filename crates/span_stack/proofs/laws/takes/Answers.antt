@@ -1,11 +1,6 @@
 -- A record is all that is gone.
-use Rattle.std.proofs.Common.{◌≡◌, ℕ, ◌+◌, Bool, false, refl, ap, sym, subst, None}
-use Rattle.std.specs.Prelude.{◌||◌, ◌&&◌}
-use Rattle.trace_base.specs.layers.Hooks.{KnownSpans}
-use Rattle.span_registry.specs.Both.{InStep}
-use Rattle.otel_layer.specs.Recording.{no_recording}
-use Rattle.env_filter.specs.Reloading.{layer_or, none_kept}
-use Rattle.span_stack.specs.Reading.{stack_recording, counts_by, stack_interest, without_first}
+use Rattle.std.proofs.Common.{◌≡◌, ℕ, ◌+◌, Bool, false, refl, ap, sym, subst, None, ◌||◌, ◌&&◌}
+use Rattle.span_stack.proofs.Common.{KnownSpans, InStep, no_recording, layer_or, none_kept, stack_recording, counts_by, stack_interest, without_first}
 use Rattle.span_stack.proofs.worlds.FreshInterestsLemmas.{fresh_later}
 use Rattle.span_stack.proofs.hooks.TakenRecordsLemmas.{one_less, taken_recorded, taken_counts_by, active_left, kept_left, seen_left, whole_left}
 use Rattle.span_stack.proofs.worlds.ViewsLemmas.{leave_alike, kept_place, read_two}

@@ -1,10 +1,7 @@
 -- The parts but for the layer of metrics stay.
 use Rattle.std.proofs.Common.{ap, None}
 use Rattle.std.specs.Option.{option_map}
-use Rattle.otel_layer.specs.Recording.{no_recording}
-use Rattle.env_filter.specs.declared.reload.Layer.{Layer}
-use Rattle.env_filter.specs.Filtering.{FilterWithRoom, plain}
-use Rattle.span_stack.specs.Reading.{stack_recording, counts_by, in_place, stack_interest, interest_over}
+use Rattle.span_stack.proofs.Common.{no_recording, Layer, FilterWithRoom, plain, stack_recording, counts_by, in_place, stack_interest, interest_over}
 use Rattle.span_stack.proofs.hooks.CountersLemmas.{Base, base_recorded, base_counter}
 use Rattle.span_stack.proofs.worlds.FreshInterestsLemmas.{fresh_later}
 use Rattle.span_stack.proofs.worlds.ViewsLemmas.{kept_place}

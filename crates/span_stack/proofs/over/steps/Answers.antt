@@ -1,6 +1,6 @@
 -- By the laws of what lies below each outer layer, of these layers, and of the interests.
 use Rattle.std.proofs.Common.{refl}
-use Rattle.span_stack.specs.Through.{below}
+use Rattle.span_stack.proofs.Common.{below}
 use Rattle.span_stack.proofs.worlds.NestsLemmas.{attaches_none}
 use Rattle.span_stack.proofs.over.steps.Goals as goal
 

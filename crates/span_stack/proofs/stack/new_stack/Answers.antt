@@ -1,6 +1,6 @@
 -- No entry is open.
 use Rattle.std.proofs.Common.{rules}
-use Rattle.span_stack.specs.Counters.{core_of}
+use Rattle.span_stack.proofs.Common.{core_of}
 use Rattle.span_stack.proofs.worlds.NewStackLemmas.{nothing_kept}
 use Rattle.span_stack.proofs.stack.new_stack.Goals as goal
 

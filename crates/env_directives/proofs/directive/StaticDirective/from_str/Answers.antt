@@ -1,6 +1,5 @@
-use Rattle.std.specs.Prelude.{◌≡◌, [], codes, None, Some, is_some, true, false}
-use Rattle.std.proofs.Common.{refl, sym, ◌∙◌}
-use Rattle.env_directives.specs.reading.Separators.{cut_once}
+use Rattle.std.proofs.Common.{refl, sym, ◌∙◌, ◌≡◌, [], codes, None, Some, is_some, true, false}
+use Rattle.env_directives.proofs.Common.{cut_once}
 use Rattle.env_directives.proofs.cuts.SeparatorsLemmas.{missed, cut_some, contained}
 use Rattle.env_directives.proofs.directive.StaticDirective.from_str.Goals as goal
 

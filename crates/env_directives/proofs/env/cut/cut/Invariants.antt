@@ -1,5 +1,5 @@
 use Rattle.std.proofs.Common.{◌≡◌, drop, take}
-use Rattle.env_directives.specs.reading.Cuts.{pieces_at}
+use Rattle.env_directives.proofs.Common.{pieces_at}
 use Rattle.env_directives.proofs.cuts.CutsLemmas.{behind_front}
 use Rattle.env_directives.proofs.env.cut.cut.Given as goal
 

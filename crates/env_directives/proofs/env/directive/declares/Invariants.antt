@@ -1,5 +1,5 @@
 use Rattle.std.specs.Prelude.{◌≡◌, drop, map}
-use Rattle.env_directives.specs.Cares.{declares_all}
+use Rattle.env_directives.proofs.Common.{declares_all}
 use Rattle.env_directives.proofs.env.directive.declares.Given as goal
 
 abbrev pub invariant-loop-field : goal.invariant-loop-field

@@ -1,6 +1,5 @@
 use Rattle.std.proofs.Common.{◌++◌, codes, flat_map, take}
-use Rattle.std.specs.Fmt.{HasWritten, IsPlainFormatter}
-use Rattle.env_directives.specs.printed.Printed.{match_text}
+use Rattle.env_directives.proofs.Common.{HasWritten, IsPlainFormatter, match_text}
 use Rattle.env_directives.proofs.env.directive.write_more_fields.Given as goal
 
 abbrev pub invariant-loop-field : goal.invariant-loop-field

@@ -1,5 +1,5 @@
 use Rattle.std.specs.Prelude.{◌≡◌, length}
-use Rattle.env_directives.specs.Targets.{pairs}
+use Rattle.env_directives.proofs.Common.{pairs}
 use Rattle.env_directives.proofs.targets.IterIterator.next.Given as goal
 
 abbrev pub invariant-loop-first : goal.invariant-loop-first

@@ -1,6 +1,5 @@
 use Rattle.std.specs.Prelude.{◌≡◌, ◌∷◌}
-use Rattle.std.specs.Vec.Iter.{into_iter_items}
-use Rattle.env_directives.specs.Targets.{pair_directive}
+use Rattle.env_directives.proofs.Common.{into_iter_items, pair_directive}
 use Rattle.env_directives.proofs.tables.AddsLemmas.{more}
 use Rattle.env_directives.proofs.targets.Targets.extend.Goals as goal
 

@@ -1,7 +1,5 @@
 use Rattle.std.specs.Prelude.{map}
-use Rattle.std.specs.Vec.Iter.{into_iter_items}
-use Rattle.env_directives.specs.orders.StaticOrder.{most_specific_first}
-use Rattle.env_directives.specs.Targets.{pair_directive}
+use Rattle.env_directives.proofs.Common.{into_iter_items, most_specific_first, pair_directive}
 use Rattle.env_directives.proofs.tables.AddsLemmas.{Adding}
 use Rattle.env_directives.proofs.targets.Targets.extend.Given as goal
 

@@ -1,8 +1,5 @@
-use Rattle.std.specs.Prelude.{◌≡◌, ◌∷◌}
-use Rattle.std.proofs.Common.{lit<, sym, ◌∙◌, ap}
-use Rattle.std.proofs.lemmas.Iterator.Splits.{YieldsList-from_str_split}
-use Rattle.env_directives.specs.reading.Separators.{comma_pieces}
-use Rattle.env_directives.specs.Targets.{targets_of}
+use Rattle.std.proofs.Common.{lit<, sym, ◌∙◌, ap, ◌≡◌, ◌∷◌}
+use Rattle.env_directives.proofs.Common.{YieldsList-from_str_split, comma_pieces, targets_of}
 use Rattle.env_directives.proofs.cuts.PiecesLemmas.{first_piece, no_piece}
 use Rattle.env_directives.proofs.forms.StaticTextsLemmas.{read_on, read_added, read_fault, handed_on}
 use Rattle.env_directives.proofs.targets.Targets.from_str.Goals as goal

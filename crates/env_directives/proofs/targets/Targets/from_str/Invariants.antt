@@ -1,5 +1,5 @@
 use Rattle.std.specs.Prelude.{◌≡◌, ℕ, List}
-use Rattle.env_directives.specs.Targets.{targets_of}
+use Rattle.env_directives.proofs.Common.{targets_of}
 use Rattle.env_directives.proofs.cuts.PiecesLemmas.{Gives}
 use Rattle.env_directives.proofs.forms.StaticTextsLemmas.{read_on}
 use Rattle.env_directives.proofs.targets.Targets.from_str.Given as goal

@@ -1,6 +1,6 @@
 -- Its tables are whole, and it has nothing else.
 use Rattle.std.proofs.Common.{subst, sym}
-use Rattle.env_filter.specs.Filtering.{plain, IsNewFilter}
+use Rattle.env_filter.proofs.Common.{plain, IsNewFilter}
 use Rattle.env_filter.proofs.Wholes.{new_of, new_or_default}
 use Rattle.env_filter.proofs.builder.Builder.from_directives.Goals as goal
 

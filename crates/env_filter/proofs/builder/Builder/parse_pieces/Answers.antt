@@ -1,8 +1,6 @@
 -- What is left out has the first fault.
 use Rattle.std.proofs.Common.{subst, sym, List}
-use Rattle.env_filter.specs.declared.pieces.Ignored.{Ignored}
-use Rattle.env_filter.specs.texts.Building.{IsFilterOf}
-use Rattle.env_filter.specs.Filtering.{plain}
+use Rattle.env_filter.proofs.Common.{Ignored, IsFilterOf, plain}
 use Rattle.env_filter.proofs.builder.Builder.parse_pieces.Goals as goal
 
 pub returns-in-Ok-clause-ok : goal.returns-in-Ok-clause-ok

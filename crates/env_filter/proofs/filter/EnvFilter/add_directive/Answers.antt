@@ -1,8 +1,6 @@
 -- Greatest levels only grow.
-use Rattle.std.proofs.Common.{sym, subst}
-use Rattle.std.specs.Prelude.{if◌then◌else◌}
-use Rattle.env_filter.specs.Filtering.{plain, AreWhole, IsNewFilter}
-use Rattle.env_filter.specs.Tables.{fixed_directive}
+use Rattle.std.proofs.Common.{sym, subst, if◌then◌else◌}
+use Rattle.env_filter.proofs.Common.{plain, AreWhole, IsNewFilter, fixed_directive}
 use Rattle.env_filter.proofs.Wholes.{whole_placed, new_placed}
 use Rattle.env_filter.proofs.filter.EnvFilter.add_directive.Goals as goal
 

@@ -1,6 +1,6 @@
 -- Its tables are whole, and it has nothing else.
 use Rattle.std.proofs.Common.{sym, subst}
-use Rattle.env_filter.specs.Filtering.{plain, IsNewFilter}
+use Rattle.env_filter.proofs.Common.{plain, IsNewFilter}
 use Rattle.env_filter.proofs.Wholes.{new_fresh}
 use Rattle.env_filter.proofs.filter.EnvFilter.clone_filter.Goals as goal
 

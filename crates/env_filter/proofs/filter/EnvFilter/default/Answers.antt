@@ -1,10 +1,6 @@
 -- It has nothing.
 use Rattle.std.proofs.Common.{sym, subst, true, ap, ◌∙◌}
-use Rattle.env_directives.specs.declared.directive.StaticDirective.{StaticDirective}
-use Rattle.env_directives.specs.declared.env.directive.Directive.{Directive}
-use Rattle.env_directives.specs.orders.Table.{Table, empty_table}
-use Rattle.env_filter.specs.Filtering.{IsNewFilter}
-use Rattle.env_filter.specs.Tables.{with_tables}
+use Rattle.env_filter.proofs.Common.{StaticDirective, Directive, Table, empty_table, IsNewFilter, with_tables}
 use Rattle.env_filter.proofs.Wholes.{new_default}
 use Rattle.env_filter.proofs.filter.EnvFilter.default.Goals as goal
 

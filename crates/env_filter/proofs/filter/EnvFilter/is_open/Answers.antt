@@ -1,12 +1,6 @@
 -- The levels are those of the entries.
-use Rattle.std.proofs.Common.{◌≡◌, ◌∙◌, ap, refl, List, [], ◌∷◌, map, Bool}
-use Rattle.std.specs.Prelude.{◌||◌}
-use Rattle.std.specs.List.{list_any}
-use Rattle.trace_base.specs.declared.level.Level.{Level}
-use Rattle.trace_base.specs.declared.level.LevelFilter.{LevelFilter}
-use Rattle.trace_base.specs.words.Level.{is_within}
-use Rattle.env_filter.specs.spans.Levels.{OpenLevel}
-use Rattle.env_filter.specs.Filtering.{levels_admit}
+use Rattle.std.proofs.Common.{◌≡◌, ◌∙◌, ap, refl, List, [], ◌∷◌, map, Bool, ◌||◌}
+use Rattle.env_filter.proofs.Common.{list_any, Level, LevelFilter, is_within, OpenLevel, levels_admit}
 use Rattle.env_filter.proofs.filter.EnvFilter.is_open.Goals as goal
 
 open_mapped : (level : Level) (es : List OpenLevel) → list_any (λ (f : LevelFilter). is_within level f) (map (λ (e : OpenLevel). e.level) es) ≡ levels_admit level es

@@ -1,6 +1,6 @@
 -- The calls tell what the filter keeps.
 use Rattle.std.proofs.Common.{◌∙◌, ap}
-use Rattle.env_filter.specs.Filtering.{FilterWithRoom, plain, span_level}
+use Rattle.env_filter.proofs.Common.{FilterWithRoom, plain, span_level}
 use Rattle.env_filter.proofs.kept.ToldLevelsLemmas.{level_is_told}
 use Rattle.env_filter.proofs.filter.EnvFilter.level.Goals as goal
 

@@ -1,7 +1,6 @@
 -- The calls tell what the filter keeps.
 use Rattle.std.proofs.Common.{◌∙◌, ap, List, map}
-use Rattle.env_filter.specs.spans.Levels.{OpenLevel}
-use Rattle.env_filter.specs.Filtering.{FilterWithRoom, plain}
+use Rattle.env_filter.proofs.Common.{OpenLevel, FilterWithRoom, plain}
 use Rattle.env_filter.proofs.kept.ToldLevelsLemmas.{levels_are_told}
 use Rattle.env_filter.proofs.filter.EnvFilter.levels.Goals as goal
 

@@ -1,7 +1,6 @@
 -- Those that were passed are written.
 use Rattle.std.proofs.Common.{◌++◌, codes, flat_map, take}
-use Rattle.std.specs.Fmt.{HasWritten, IsPlainFormatter}
-use Rattle.env_directives.specs.printed.StaticPrinted.{static_text}
+use Rattle.env_filter.proofs.Common.{HasWritten, IsPlainFormatter, static_text}
 use Rattle.env_filter.proofs.filter.text.write_statics.Given as goal
 
 abbrev pub invariant-loop-directive : goal.invariant-loop-directive

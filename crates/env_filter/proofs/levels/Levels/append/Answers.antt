@@ -1,7 +1,6 @@
 -- Both lists grow by one.
 use Rattle.std.proofs.Common.{◌∙◌, ap, List, ℕ, ◌++◌, ◌∷◌, []}
-use Rattle.trace_base.specs.declared.level.LevelFilter.{LevelFilter}
-use Rattle.env_filter.specs.spans.Levels.{OpenLevel, LaneLevels, open_levels}
+use Rattle.env_filter.proofs.Common.{LevelFilter, OpenLevel, LaneLevels, open_levels}
 use Rattle.env_filter.proofs.kept.LevelsLemmas.{pair_append}
 use Rattle.env_filter.proofs.levels.Levels.append.Goals as goal
 

@@ -1,6 +1,6 @@
 -- The levels are those of the pairs.
 use Rattle.std.proofs.Common.{◌∙◌, ap, map}
-use Rattle.env_filter.specs.spans.Levels.{OpenLevel, LaneLevels}
+use Rattle.env_filter.proofs.Common.{OpenLevel, LaneLevels}
 use Rattle.env_filter.proofs.kept.LevelsLemmas.{pair_levels}
 use Rattle.env_filter.proofs.levels.Levels.levels.Goals as goal
 

@@ -1,9 +1,7 @@
 -- The last pair of the span goes, or there is none.
 use Rattle.std.proofs.Common.{◌∙◌, ap, refl, sym, List, ℕ}
 use Rattle.std.specs.List.{remove}
-use Rattle.trace_base.specs.declared.level.LevelFilter.{LevelFilter}
-use Rattle.trace_base.specs.Spans.{without_last}
-use Rattle.env_filter.specs.spans.Levels.{LaneLevels, open_levels, is_of_span}
+use Rattle.env_filter.proofs.Common.{LevelFilter, without_last, LaneLevels, open_levels, is_of_span}
 use Rattle.env_filter.proofs.kept.LevelsLemmas.{pair_none, pair_removed}
 use Rattle.env_filter.proofs.levels.Levels.take_off.Goals as goal
 

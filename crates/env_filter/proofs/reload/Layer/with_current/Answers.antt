@@ -1,7 +1,7 @@
 -- The layer that is there was lent.
 use Rattle.std.proofs.Common.{refl, subst, sym, Option}
 use Rattle.std.specs.Fn.{FnOnceReturnsAt}
-use Rattle.env_filter.specs.Reloading.{IsLent}
+use Rattle.env_filter.proofs.Common.{IsLent}
 use Rattle.env_filter.proofs.reload.Layer.with_current.Goals as goal
 
 pub returns-in-Some-clause-ok : goal.returns-in-Some-clause-ok

@@ -1,6 +1,6 @@
 -- No event: it does what the layer inside does.
 use Rattle.std.proofs.Common.{refl}
-use Rattle.otel_layer.specs.Counting.{hook_any}
+use Rattle.otel_layer.proofs.Common.{hook_any}
 use Rattle.otel_layer.proofs.counting_hooks.FilteredOpenTelemetryLayerLayer.on_follows_from.Goals as goal
 
 pub returns : goal.returns

@@ -1,11 +1,6 @@
 -- The op is the one that was prepared, at the hook's moment.
-use Rattle.std.proofs.Common.{ap, subst, sym, ◌∙◌, refl}
-use Rattle.std.specs.Prelude.{Some}
-use Rattle.trace_base.specs.layers.Hooks.{OnEvent, ForEvent}
-use Rattle.otel_state.specs.fields.EventFields.{event_of}
-use Rattle.otel_layer.specs.Steps.{Step, all_events}
-use Rattle.otel_layer.specs.Ready.{IsReadyOtel, with_moment}
-use Rattle.otel_layer.specs.Rooming.{stepped}
+use Rattle.std.proofs.Common.{ap, subst, sym, ◌∙◌, refl, Some}
+use Rattle.otel_layer.proofs.Common.{OnEvent, ForEvent, event_of, Step, all_events, IsReadyOtel, with_moment, stepped}
 use Rattle.otel_layer.proofs.Hooking.{op_is, room_retimed}
 use Rattle.otel_layer.proofs.hooks.OpenTelemetryLayerLayer.on_event.Goals as goal
 

@@ -1,7 +1,5 @@
 -- The hook's step, with no room taken before.
-use Rattle.trace_base.specs.layers.Hooks.{OnNewSpan}
-use Rattle.otel_layer.specs.Steps.{all_events}
-use Rattle.otel_layer.specs.Rooming.{stepped}
+use Rattle.otel_layer.proofs.Common.{OnNewSpan, all_events, stepped}
 use Rattle.otel_layer.proofs.hooks.OpenTelemetryLayerLayer.on_new_span.Goals as goal
 
 pub returns : goal.returns

@@ -1,9 +1,6 @@
 -- The op is the one that was prepared.
 use Rattle.std.proofs.Common.{subst}
-use Rattle.trace_base.specs.layers.Hooks.{OnRecord, ForRecord}
-use Rattle.otel_layer.specs.Steps.{all_events}
-use Rattle.otel_layer.specs.Ready.{IsReadyOtel}
-use Rattle.otel_layer.specs.Rooming.{stepped}
+use Rattle.otel_layer.proofs.Common.{OnRecord, ForRecord, all_events, IsReadyOtel, stepped}
 use Rattle.otel_layer.proofs.Hooking.{op_is}
 use Rattle.otel_layer.proofs.hooks.OpenTelemetryLayerLayer.on_record.Goals as goal
 

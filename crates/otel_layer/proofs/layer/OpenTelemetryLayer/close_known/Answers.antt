@@ -1,7 +1,6 @@
 -- A close, step by step.
 use Rattle.std.proofs.Common.{sym, ap, ◌∙◌, subst, ◌<◌}
-use Rattle.std.specs.List.{list_any}
-use Rattle.otel_layer.specs.Table.{is_id}
+use Rattle.otel_layer.proofs.Common.{list_any, is_id}
 use Rattle.otel_layer.specs.laws.KnownSpansLemmas.{starts_quiet}
 use Rattle.otel_layer.proofs.Hooking.{close_spare, closes}
 use Rattle.otel_layer.proofs.layer.OpenTelemetryLayer.close_known.Goals as goal

@@ -1,6 +1,6 @@
 -- The span is known.
 use Rattle.std.proofs.Common.{sym, ap, ◌∙◌}
-use Rattle.otel_layer.specs.Table.{knows_span}
+use Rattle.otel_layer.proofs.Common.{knows_span}
 use Rattle.otel_layer.proofs.layer.OpenTelemetryLayer.exit_if_known.Goals as goal
 
 pub exit_known-requires-clause-still : goal.exit_known-requires-clause-still

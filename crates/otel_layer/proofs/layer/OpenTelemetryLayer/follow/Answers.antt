@@ -1,6 +1,6 @@
 -- The start leaves the room for a link.
 use Rattle.std.proofs.Common.{sym, subst}
-use Rattle.otel_layer.specs.Table.{RoomForLink}
+use Rattle.otel_layer.proofs.Common.{RoomForLink}
 use Rattle.otel_layer.proofs.layer.OpenTelemetryLayer.follow.Goals as goal
 
 pub link-requires : goal.link-requires

@@ -1,8 +1,6 @@
 -- A making, step by step.
 use Rattle.std.proofs.Common.{ap, ◌∙◌}
-use Rattle.otel_base.specs.Stack.{empty_context}
-use Rattle.otel_state.specs.fields.FirstAttributes.{first_attributes}
-use Rattle.otel_layer.specs.Steps.{context_from}
+use Rattle.otel_layer.proofs.Common.{empty_context, first_attributes, context_from}
 use Rattle.otel_layer.proofs.Hooking.{makes, told_by}
 use Rattle.otel_layer.proofs.layer.OpenTelemetryLayer.make.Goals as goal
 

@@ -1,11 +1,6 @@
 -- The op is the event's, by settings that a reservation leaves.
-use Rattle.std.proofs.Common.{◌≡◌, ℕ, Option, ap, subst, sym, ◌∙◌}
-use Rattle.std.specs.Prelude.{IfOk}
-use Rattle.trace_base.specs.layers.Hooks.{ForEvent}
-use Rattle.otel_state.specs.declared.op.Op.{Op}
-use Rattle.otel_state.specs.declared.settings.LayerSettings.{LayerSettings}
-use Rattle.otel_state.specs.fields.EventFields.{event_of}
-use Rattle.otel_layer.specs.Ready.{IsReadyOtel, IsReadyOp}
+use Rattle.std.proofs.Common.{◌≡◌, ℕ, Option, ap, subst, sym, ◌∙◌, IfOk}
+use Rattle.otel_layer.proofs.Common.{ForEvent, Op, LayerSettings, event_of, IsReadyOtel, IsReadyOp}
 use Rattle.otel_layer.proofs.layer.OpenTelemetryLayer.prepare_op.Goals as goal
 
 pub returns-in_ok-op-in-Some-clause-ready : goal.returns-in_ok-op-in-Some-clause-ready

@@ -1,11 +1,8 @@
 -- The op is what the fields write, by settings that a reservation leaves.
-use Rattle.std.proofs.Common.{◌≡◌, ap, subst, sym, ◌∙◌}
-use Rattle.std.specs.Prelude.{IfOk}
-use Rattle.otel_state.specs.declared.op.Op.{Op}
+use Rattle.std.proofs.Common.{◌≡◌, ap, subst, sym, ◌∙◌, IfOk}
+use Rattle.otel_layer.proofs.Common.{Op, LayerSettings, IsReadyOp}
 use Rattle.otel_state.specs.declared.op.Op.TheVariants as ops
-use Rattle.otel_state.specs.declared.settings.LayerSettings.{LayerSettings}
 use Rattle.otel_state.specs.fields.SpanFields.{span_update}
-use Rattle.otel_layer.specs.Ready.{IsReadyOp}
 use Rattle.otel_layer.proofs.layer.OpenTelemetryLayer.prepare_update.Goals as goal
 
 pub returns-clause-ready : goal.returns-clause-ready

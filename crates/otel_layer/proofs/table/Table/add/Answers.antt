@@ -1,8 +1,7 @@
 -- One entry more, which isn't a gap.
 use Rattle.std.proofs.Common.{◌<◌, ◌^◌, List, true, arith, refl, sym, ap, subst, ◌∙◌}
 use Rattle.std.proofs.lemmas.Bool.{true≢false}
-use Rattle.otel_layer.specs.declared.table.Entry.{Entry}
-use Rattle.otel_layer.specs.Table.{all_data, with_span_data, MayRise, RisesTo}
+use Rattle.otel_layer.proofs.Common.{Entry, all_data, with_span_data, MayRise, RisesTo}
 use Rattle.otel_layer.proofs.Gaps.{within, read_added}
 use Rattle.otel_layer.proofs.Rising.{added_kept}
 use Rattle.otel_layer.proofs.table.Table.add.Goals as goal

@@ -1,8 +1,6 @@
 -- An op leaves the ids, and as many states.
 use Rattle.std.proofs.Common.{rules, ◌≡◌, List, length, ap, subst, ◌∙◌}
-use Rattle.otel_layer.specs.declared.table.Entry.{Entry}
-use Rattle.otel_layer.specs.Parts.{AppliesIn}
-use Rattle.otel_layer.specs.Table.{entry_ids, all_data, data_at}
+use Rattle.otel_layer.proofs.Common.{Entry, AppliesIn, entry_ids, all_data, data_at}
 use Rattle.otel_layer.proofs.Gaps.{applied_count}
 use Rattle.otel_layer.proofs.Rising.{kept_whole}
 use Rattle.otel_layer.proofs.table.Table.apply.Goals as goal

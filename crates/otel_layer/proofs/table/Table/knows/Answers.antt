@@ -1,6 +1,6 @@
 -- A span is known where it has an entry.
 use Rattle.std.proofs.Common.{ap, ◌∙◌}
-use Rattle.otel_layer.specs.Table.{knows_span, all_data}
+use Rattle.otel_layer.proofs.Common.{knows_span, all_data}
 use Rattle.otel_layer.proofs.table.Table.knows.Goals as goal
 
 pub returns : goal.returns

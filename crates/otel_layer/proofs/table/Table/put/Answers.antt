@@ -1,9 +1,6 @@
 -- An op leaves the ids, and as many states.
-use Rattle.std.proofs.Common.{rules, ◌≡◌, List, length, ap, ◌∙◌}
-use Rattle.std.specs.Prelude.{ℕ}
-use Rattle.otel_state.specs.States.{SpanData, after_op}
-use Rattle.otel_layer.specs.declared.table.Entry.{Entry}
-use Rattle.otel_layer.specs.Table.{entry_ids, all_data, with_op}
+use Rattle.std.proofs.Common.{rules, ◌≡◌, List, length, ap, ◌∙◌, ℕ}
+use Rattle.otel_layer.proofs.Common.{SpanData, after_op, Entry, entry_ids, all_data, with_op}
 use Rattle.otel_layer.proofs.Gaps.{updated_count}
 use Rattle.otel_layer.proofs.Rising.{kept_whole}
 use Rattle.otel_layer.proofs.table.Table.put.Goals as goal

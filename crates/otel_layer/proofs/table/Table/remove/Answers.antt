@@ -1,8 +1,6 @@
 -- One state fewer, and the ids rise where they rose.
 use Rattle.std.proofs.Common.{rules, ◌≡◌, List, length, ap, ◌∙◌}
-use Rattle.std.specs.Map.{remove_entry}
-use Rattle.otel_layer.specs.declared.table.Entry.{Entry}
-use Rattle.otel_layer.specs.Table.{entry_ids, all_data, is_id, knows_span}
+use Rattle.otel_layer.proofs.Common.{remove_entry, Entry, entry_ids, all_data, is_id, knows_span}
 use Rattle.otel_layer.proofs.Rising.{removed_kept}
 use Rattle.otel_layer.proofs.table.Table.remove.Goals as goal
 

@@ -1,8 +1,6 @@
 -- It is the one or the other.
 use Rattle.std.proofs.Common.{subst, ◌≡◌, true, ℕ}
-use Rattle.otel_layer.specs.Core.{seen_in}
-use Rattle.span_stack.specs.declared.telemetry.Telemetry.{Telemetry}
-use Rattle.span_stack.specs.Counters.{core_of}
+use Rattle.span_stack.proofs.Common.{seen_in, Telemetry, core_of}
 use Rattle.span_stack.proofs.telemetry_hooks.TelemetryLayer.on_close.Goals as goal
 
 pub on_close-requires-clause-left : goal.on_close-requires-clause-left

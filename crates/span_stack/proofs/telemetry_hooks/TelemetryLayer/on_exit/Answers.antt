@@ -1,9 +1,6 @@
 -- It is the one or the other.
 use Rattle.std.proofs.Common.{subst, ◌≡◌, true}
-use Rattle.trace_base.specs.lanes.Contexts.{AreAttached}
-use Rattle.otel_layer.specs.Core.{seen_in, kept_in}
-use Rattle.span_stack.specs.declared.telemetry.Telemetry.{Telemetry}
-use Rattle.span_stack.specs.Counters.{core_of}
+use Rattle.span_stack.proofs.Common.{AreAttached, seen_in, kept_in, Telemetry, core_of}
 use Rattle.span_stack.proofs.telemetry_hooks.TelemetryLayer.on_exit.Goals as goal
 
 pub on_exit-requires-clause-still : goal.on_exit-requires-clause-still

@@ -1,6 +1,5 @@
 use Rattle.std.proofs.Common.{sym, ◌∙◌, ap}
-use Rattle.env_directives.specs.Cares.{cares}
-use Rattle.env_directives.specs.orders.Choice.{lets_through}
+use Rattle.env_directives.proofs.Common.{cares, lets_through}
 use Rattle.env_directives.proofs.tables.FindLemmas.{found, not_found}
 use Rattle.env_directives.proofs.directive.set.DirectiveSet+StaticDirective.enabled.Goals as goal
 

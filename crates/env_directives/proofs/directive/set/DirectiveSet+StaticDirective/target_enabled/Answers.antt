@@ -1,6 +1,5 @@
 use Rattle.std.proofs.Common.{sym, ◌∙◌, ap}
-use Rattle.env_directives.specs.Cares.{cares_about_target}
-use Rattle.env_directives.specs.orders.Choice.{lets_through, admits_target}
+use Rattle.env_directives.proofs.Common.{cares_about_target, lets_through, admits_target}
 use Rattle.env_directives.proofs.tables.FindLemmas.{found_at}
 use Rattle.env_directives.proofs.directive.set.DirectiveSet+StaticDirective.target_enabled.Goals as goal
 

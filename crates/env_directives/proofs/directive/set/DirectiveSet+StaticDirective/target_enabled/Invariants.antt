@@ -1,6 +1,6 @@
 use Rattle.std.specs.Prelude.{◌≡◌, drop}
 use Rattle.std.specs.List.{find}
-use Rattle.env_directives.specs.Cares.{cares_about_target}
+use Rattle.env_directives.proofs.Common.{cares_about_target}
 use Rattle.env_directives.proofs.directive.set.DirectiveSet+StaticDirective.target_enabled.Given as goal
 
 abbrev pub invariant-loop-directive : goal.invariant-loop-directive

@@ -1,6 +1,5 @@
-use Rattle.std.specs.Prelude.{◌≡◌, ◌∷◌, Result, Ok, Err, OnErr}
-use Rattle.std.proofs.Common.{sym, ◌∙◌}
-use Rattle.std.specs.Vec.Iter.{into_iter_items}
+use Rattle.std.proofs.Common.{sym, ◌∙◌, ◌≡◌, ◌∷◌, Result, Ok, Err, OnErr}
+use Rattle.env_directives.proofs.Common.{into_iter_items}
 use Rattle.env_directives.proofs.tables.AddsLemmas.{more, done, refused}
 use Rattle.env_directives.proofs.directive.set.DirectiveSet.extend.Goals as goal
 

@@ -1,4 +1,4 @@
-use Rattle.std.specs.Vec.Iter.{into_iter_items}
+use Rattle.env_directives.proofs.Common.{into_iter_items}
 use Rattle.env_directives.proofs.tables.AddsLemmas.{Adding}
 use Rattle.env_directives.proofs.directive.set.DirectiveSet.extend.Given as goal
 

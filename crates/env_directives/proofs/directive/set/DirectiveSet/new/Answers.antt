@@ -1,4 +1,4 @@
-use Rattle.std.specs.List.Sorted.{IsStrictlySortedBy}
+use Rattle.env_directives.proofs.Common.{IsStrictlySortedBy}
 use Rattle.env_directives.proofs.directive.set.DirectiveSet.new.Goals as goal
 
 pub invariant_of-result : goal.invariant_of-result

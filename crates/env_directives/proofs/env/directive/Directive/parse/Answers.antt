@@ -1,4 +1,4 @@
-use Rattle.std.specs.Str.{trim}
+use Rattle.env_directives.proofs.Common.{trim}
 use Rattle.env_directives.proofs.forms.ReadingsLemmas.{answer_is, fault_is}
 use Rattle.env_directives.proofs.env.directive.Directive.parse.Goals as goal
 

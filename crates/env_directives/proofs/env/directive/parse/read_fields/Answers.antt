@@ -1,10 +1,8 @@
 use Rattle.std.proofs.Common.{◌≡◌, List, ℕ, Bor, Some, codes, sym, ◌∙◌, rules}
 use Rattle.std.proofs.lemmas.Result.{err_from_is_err_and}
-use Rattle.env_directives.specs.reading.Cuts.{pieces_at}
-use Rattle.env_directives.specs.reading.Values.{IsNoPatternField}
+use Rattle.env_directives.proofs.Common.{pieces_at, IsNoPatternField, Match}
 use Rattle.env_directives.proofs.cuts.FieldsLemmas.{shape_left, empty_left, text_left, last_left, more_left, earlier_more, text_shorter, answers_fault}
 use Rattle.env_directives.proofs.forms.KeptPatternsLemmas.{with_patterned}
-use Rattle.env_directives.specs.declared.env.field.Match.{Match}
 use Rattle.env_directives.proofs.env.directive.parse.read_fields.Goals as goal
 
 pub returns-in_default-clause-is : goal.returns-in_default-clause-is

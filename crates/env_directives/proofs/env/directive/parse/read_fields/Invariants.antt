@@ -1,10 +1,7 @@
 use Rattle.std.proofs.Common.{◌≡◌, List, ℕ, [], ◌++◌, length}
-use Rattle.std.specs.List.{AllByRecursion}
+use Rattle.env_directives.proofs.Common.{AllByRecursion, each_with_comma, IsField, read_fields, HavePatterns}
 use denote.Text.{Utf8}
 use denote.Shadow.{shadow}
-use Rattle.env_directives.specs.reading.Forms.{each_with_comma, IsField}
-use Rattle.env_directives.specs.reading.Reading.{read_fields}
-use Rattle.env_directives.specs.reading.Values.{HavePatterns}
 use Rattle.env_directives.proofs.cuts.FieldsLemmas.{after_fields}
 use Rattle.env_directives.proofs.env.directive.parse.read_fields.Given as goal
 

@@ -1,8 +1,5 @@
 use Rattle.std.proofs.Common.{ℕ, List, is_some, ap, ◌∙◌, subst, arith}
-use Rattle.regex.specs.Patterns.{find_str}
-use Rattle.regex.specs.Strings.{regex_pattern}
-use Rattle.regex.specs.declared.string.regex.Regex.{Regex}
-use Rattle.env_directives.specs.Patterns.{IsCompiled}
+use Rattle.env_directives.proofs.Common.{find_str, regex_pattern, Regex, IsCompiled}
 use Rattle.env_directives.proofs.forms.PatternsLemmas.{found_as_matched}
 use Rattle.env_directives.proofs.env.pattern.MatchPattern.matches.Goals as goal
 

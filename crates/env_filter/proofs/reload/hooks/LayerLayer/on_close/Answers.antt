@@ -1,7 +1,6 @@
 -- The layer is there.
 use Rattle.std.proofs.Common.{subst, Option, ◌≡◌, true, ℕ}
-use Rattle.trace_base.specs.layers.Unseeing.{no_known_spans}
-use Rattle.env_filter.specs.Reloading.{layer_or}
+use Rattle.env_filter.proofs.Common.{no_known_spans, layer_or}
 use Rattle.env_filter.proofs.reload.hooks.LayerLayer.on_close.Goals as goal
 
 pub on_close-requires-clause-left : goal.on_close-requires-clause-left

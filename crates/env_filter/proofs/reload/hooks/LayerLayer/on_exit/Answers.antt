@@ -1,8 +1,6 @@
 -- The layer is there.
 use Rattle.std.proofs.Common.{subst, Option, ◌≡◌, true}
-use Rattle.trace_base.specs.layers.Unseeing.{no_known_spans}
-use Rattle.trace_base.specs.lanes.Contexts.{AreAttached}
-use Rattle.env_filter.specs.Reloading.{layer_or, none_kept}
+use Rattle.env_filter.proofs.Common.{no_known_spans, AreAttached, layer_or, none_kept}
 use Rattle.env_filter.proofs.reload.hooks.LayerLayer.on_exit.Goals as goal
 
 pub on_exit-requires-clause-still : goal.on_exit-requires-clause-still
