@@ -1,24 +1,19 @@
 -- Spans and events that are refused for their callsite or their place.
-use Rattle.std.proofs.Common.{◌≡◌, ℕ, true, false, Option, Some, None, option_map, refl, sym, ap, ◌∙◌, Ok, Err}
-use Rattle.std.specs.Prelude.{is_some}
+use Rattle.std.proofs.Common.{◌≡◌, ℕ, true, false, Option, Some, None, option_map, refl, sym, ap, ◌∙◌, Ok, Err, is_some}
 use Rattle.std.proofs.lemmas.Bool.{true≢false}
 use Rattle.std.proofs.Math.ListN.{get_or-map}
 use Rattle.trace_base.specs.declared.callsite.Callsite.{Callsite}
-use Rattle.span_handles.specs.Handles.{place_under}
+use Rattle.span_pipeline.proofs.Common.{place_under, id_at, span_site, event_site, Scope, Tables, slot_at, Fields, all_values, place_for, State, held_of}
 use Rattle.span_script.specs.declared.reply.Refusal.TheVariants as refusal
 use Rattle.span_script.specs.declared.reply.What.TheVariants as what
 use Rattle.span_script.specs.declared.request.Call.TheVariants as call
 use Rattle.span_script.specs.declared.request.Place.{Place}
 use Rattle.span_script.specs.declared.request.Place.TheVariants as place
-use Rattle.span_script.specs.Setups.{id_at, span_site, event_site}
-use Rattle.span_script.specs.Tables.{Scope, Tables, slot_at}
-use Rattle.span_script.specs.Fields.{Fields, all_values}
 use Rattle.span_script.specs.calls.Here.{here_at, Resolved, ◌>>=◌, need}
 use Rattle.span_script.specs.Effects.{effect_of_call}
 use Rattle.span_script.specs.calls.Events.{event_effect}
 use Rattle.span_script.specs.calls.Spans.{scope_at, new_effect}
-use Rattle.span_script.specs.Slots.{place_for}
-use Rattle.span_script.specs.Fits.{State, Fits, held_of}
+use Rattle.span_script.specs.Fits.{Fits}
 
 -- a place that isn't there gives no scope
 no_scope : (k : State) (t : Tables) → Fits k t → (lane : ℕ) (under : Place) → place_for k.handles under ≡ None → scope_at t lane under ≡ None

@@ -45,9 +45,9 @@ pub record CallsLaw {S : Type 0} (spans : S → Spans) (views : Views S) (attach
       → Shown spans attaches kept is_whole old new dispatch call
   pub recalled : (old new : Worlds S) (dispatch : ℕ) (call : SubscriberCall) → Replaced (λ s t. does s call t) old new dispatch
       → RecordsCallBy (member_of views.counter None old dispatch) (spans_in spans old dispatch)
-          (member_of views.recorded no_recording old dispatch) call (member_of views.recorded no_recording new dispatch)
+      (member_of views.recorded no_recording old dispatch) call (member_of views.recorded no_recording new dispatch)
       × (member_of views.filtered None new dispatch
-          ≡ option_map (filter_after (spans_in spans old dispatch) call) (member_of views.filtered None old dispatch))
+      ≡ option_map (filter_after (spans_in spans old dispatch) call) (member_of views.filtered None old dispatch))
       × AddsMeasures (aside_in views old dispatch) (aside_in views new dispatch) (measured_by call)
 
 -- spare room is nothing that is kept
@@ -66,9 +66,9 @@ pub record ChainsLaw {S : Type 0} (spans : S → Spans) (views : Views S) (attac
       → ChainShown spans attaches kept is_whole old new dispatch id
   pub recalled : (old new : Worlds S) (dispatch at id : ℕ) → Replaced (λ s t. Chain spans does at (Some id) s t) old new dispatch
       → RecordsChain at (Some id) (spans_in spans old dispatch) (spans_in spans new dispatch)
-          (member_of views.recorded no_recording old dispatch) (member_of views.recorded no_recording new dispatch)
+      (member_of views.recorded no_recording old dispatch) (member_of views.recorded no_recording new dispatch)
       × FiltersChain (Some id) (spans_in spans old dispatch) (spans_in spans new dispatch)
-          (member_of views.filtered None old dispatch) (member_of views.filtered None new dispatch)
+      (member_of views.filtered None old dispatch) (member_of views.filtered None new dispatch)
       × AddsMeasures (aside_in views old dispatch) (aside_in views new dispatch) []
 
 -- a call from outside leaves the plain data, and is one step of what is recorded
@@ -78,6 +78,6 @@ pub record AsksLaw {S : Type 0} (spans : S → Spans) (views : Views S) (attache
       → Alike spans attaches kept is_whole old new dispatch
   pub recalled : (old new : Worlds S) (dispatch : ℕ) (call : PartCall) → Replaced (λ s t. touches s call t) old new dispatch
       → RecordsPart
-          (member_of views.recorded no_recording old dispatch) call (member_of views.recorded no_recording new dispatch)
+      (member_of views.recorded no_recording old dispatch) call (member_of views.recorded no_recording new dispatch)
       × (member_of views.filtered None new dispatch ≡ member_of views.filtered None old dispatch)
       × AddsMeasures (aside_in views old dispatch) (aside_in views new dispatch) []

@@ -35,8 +35,8 @@ made_site name target what fields = record {
 }
 
 -- the callsites of a request's span, of the one below it, and of a row's event
-abbrev pub request_site : Callsite
-request_site = made_site (codes "request") (codes "web") kind.Span (codes "otel.kind" ∷ codes "id" ∷ [])
+abbrev pub web_request_site : Callsite
+web_request_site = made_site (codes "request") (codes "web") kind.Span (codes "otel.kind" ∷ codes "id" ∷ [])
 
 abbrev pub query_site : Callsite
 query_site = made_site (codes "query") (codes "web::db") kind.Span []
@@ -49,7 +49,7 @@ made_settings = record {
   filter = codes "info";
   counting = None;
   lanes = (1, Some (codes "a")) ∷ (2, Some (codes "b")) ∷ [];
-  callsites = request_site ∷ query_site ∷ row_site ∷ [];
+  callsites = web_request_site ∷ query_site ∷ row_site ∷ [];
   layer = default_settings;
 }
 

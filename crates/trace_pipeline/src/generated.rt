@@ -1,6 +1,6 @@
 //! The script that is made for a number of rounds, as settings and requests.
 ghost use Rattle.std.specs.Prelude.{◌≡◌, ◌+◌, ◌<◌, IfOk};
-ghost use Rattle.trace_pipeline.specs.Generated.{made_site, request_site, row_site, made_settings, in_round, root_fields, row_fields, round_with, round};
+ghost use Rattle.trace_pipeline.specs.Generated.{made_site, web_request_site, row_site, made_settings, in_round, root_fields, row_fields, round_with, round};
 
 pub mod laws;
 
@@ -46,8 +46,8 @@ fn callsite(
 }
 
 // The callsite of a request's span.
-fn request_site(alloc: Global) -> Result<Callsite, Memory>
-    ensures { IfOk result (λ site. site ≡ request_site) }
+fn web_request_site(alloc: Global) -> Result<Callsite, Memory>
+    ensures { IfOk result (λ site. site ≡ web_request_site) }
 {
     let mut fields = Items::new(alloc);
     fields.push(text(alloc, "otel.kind")?)?;
@@ -68,7 +68,7 @@ fn callsites(alloc: Global) -> Result<Items<Callsite>, Memory>
     ensures { IfOk result (λ callsites. callsites ≡ made_settings.callsites) }
 {
     let mut callsites = Items::new(alloc);
-    callsites.push(request_site(alloc)?)?;
+    callsites.push(web_request_site(alloc)?)?;
     callsites.push(callsite(alloc, "query", "web::db", Kind::Span, Items::new(alloc))?)?;
     callsites.push(row_site(alloc)?)?;
     Ok(callsites)

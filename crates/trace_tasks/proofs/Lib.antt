@@ -1,3 +1,4 @@
+pub mod Common
 pub mod tapes
 pub mod polls
 pub mod queues

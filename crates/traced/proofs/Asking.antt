@@ -1,18 +1,7 @@
 -- What a program's next call asks for, from what its last calls say: rules for `using` of its tactics. Each takes what is at
 -- hand as it stands, since a tactic looks no further.
 use Rattle.std.proofs.Common.{ℕ, ◌+◌, ◌≤◌, ◌<◌, List, ◌∷◌, Ok}
-use Rattle.trace_base.specs.declared.field.ValueSet.{ValueSet}
-use Rattle.trace_base.specs.declared.lane.Lane.{Lane}
-use Rattle.trace_base.specs.declared.span.Parent.{Parent}
-use Rattle.trace_base.specs.declared.subscriber.Subscriber.{Ghosts}
-use Rattle.trace_base.specs.Gate.{Worlds}
-use Rattle.span_handles.specs.Handles.{Handle}
-use Rattle.span_handles.specs.Entries.{EntryGuard}
-use Rattle.traced.specs.Standing.{IsHeld, CanTell, CanAsk, CanClose, CanExit}
-use Rattle.traced.specs.Keeping.{StandsAlone, Keeps}
-use Rattle.traced.specs.Making.{MakesIfAnswered}
-use Rattle.traced.specs.Moving.{Closes, Enters}
-use Rattle.traced.specs.Staying.{Stays}
+use Rattle.traced.proofs.Common.{ValueSet, Lane, Parent, Ghosts, Worlds, Handle, EntryGuard, IsHeld, CanTell, CanAsk, CanClose, CanExit, StandsAlone, Keeps, MakesIfAnswered, Closes, Enters, Stays}
 use Rattle.traced.proofs.Rules.{can_tell, can_close}
 use Rattle.traced.proofs.Keeping.{turned_ready, turned_ends, may_make, may_make_under, may_tell, may_enter, is_of_lane, may_close, may_ask, held_kept, ready_stays, keeps_late, keeps_both, keeps_quiet, held_stays, next_made, next_entered, ready_late, ready_made, held_made, ready_entered, held_entered, may_exit_kept, ends_unmade, ends_refused, ends_first, ends_closed, ends_exited}
 

@@ -1,16 +1,7 @@
 -- What one call on a subscriber makes of what is read of any.
-use Rattle.std.proofs.Common.{◌≡◌, ℕ, zero, suc, List, [], ◌∷◌, length, false, Option, Some, None, refl, sym, ap, ◌∙◌, subst, arith, slice_get, slice_set}
-use Rattle.std.specs.Prelude.{◌==◌}
-use Rattle.std.specs.Option.{option_map_or}
-use Rattle.std.proofs.lemmas.Bool.{cond-true, cond-false, eq-eqb, ne_eqb}
-use Rattle.trace_base.specs.declared.lane.Lane.{Lane}
-use Rattle.trace_base.specs.declared.subscriber.Subscriber.{Ghosts}
-use Rattle.trace_base.specs.lanes.Contexts.{AreAttached, KeepsAttached, attached_as}
-use Rattle.trace_base.specs.Gate.{Worlds}
-use Rattle.span_handles.specs.Worlds.{Has, Replaced, Alike, no_spans, spans_in, kept_in}
-use Rattle.span_handles.specs.Handles.{Held, ReplacedOn}
-use Rattle.span_handles.proofs.Showing.{as_many}
-use Rattle.traced.specs.Standing.{AreAtMost, HasOwnId, AreServed, StandsReady}
+use Rattle.std.proofs.Common.{◌≡◌, ℕ, zero, suc, List, [], ◌∷◌, length, false, Option, Some, None, refl, sym, ap, ◌∙◌, subst, arith, slice_get, slice_set, ◌==◌}
+use Rattle.traced.proofs.Common.{option_map_or, cond-true, cond-false, Lane, Ghosts, AreAttached, KeepsAttached, attached_as, Worlds, Has, Replaced, Alike, no_spans, spans_in, kept_in, Held, ReplacedOn, as_many, AreAtMost, HasOwnId, AreServed, StandsReady}
+use Rattle.std.proofs.lemmas.Bool.{eq-eqb, ne_eqb}
 
 get_other : {X : Type 0} (xs : List X) (n m : ℕ) (y : X) → (m ≡ n → ⊥) → slice_get (slice_set xs n y) m ≡ slice_get xs m
 get_other [] n m y apart = refl

@@ -1,21 +1,8 @@
 -- What the gate's answer makes of a call that stands for a macro.
-use Rattle.std.proofs.Common.{◌≡◌, ℕ, ◌+◌, ◌<◌, length, Bool, true, false, Option, Some, None, Result, Ok, Err, refl, sym, ◌∙◌, arith}
-use Rattle.std.specs.Prelude.{OnOk, OnErr, IfOk}
+use Rattle.std.proofs.Common.{◌≡◌, ℕ, ◌+◌, ◌<◌, length, Bool, true, false, Option, Some, None, Result, Ok, Err, refl, sym, ◌∙◌, arith, OnOk, OnErr, IfOk}
 use Rattle.std.proofs.lemmas.Bool.{true≢false}
-use Rattle.otel_base.specs.declared.memory.Memory.{Memory}
-use Rattle.trace_base.specs.declared.callsite.Callsite.{Callsite}
-use Rattle.trace_base.specs.declared.field.ValueSet.{ValueSet}
-use Rattle.trace_base.specs.declared.lane.Lane.{Lane}
+use Rattle.traced.proofs.Common.{Memory, Callsite, ValueSet, Lane, Parent, Ghosts, Worlds, Admits, IsOwn, dispatch_on, Handle, no_handle, IsKnown, MakesIf, MayMakeIf, ReplacedIf, KeepsHandles, IsLawful, CanMake, CanTell, AnswersGate, MakesOne, TellsEventIf, TellsOne, MakesIfAnswered}
 use Rattle.trace_base.specs.declared.level.LevelFilter.{LevelFilter}
-use Rattle.trace_base.specs.declared.span.Parent.{Parent}
-use Rattle.trace_base.specs.declared.subscriber.Subscriber.{Ghosts}
-use Rattle.trace_base.specs.Gate.{Worlds, Admits, IsOwn, dispatch_on}
-use Rattle.span_handles.specs.Handles.{Handle, no_handle, IsKnown, MakesIf, MayMakeIf, ReplacedIf}
-use Rattle.span_handles.specs.Knowing.{KeepsHandles}
-use Rattle.traced.specs.Laws.{IsLawful}
-use Rattle.traced.specs.Standing.{CanMake, CanTell}
-use Rattle.traced.specs.Gating.{AnswersGate, MakesOne, TellsEventIf, TellsOne}
-use Rattle.traced.specs.Making.{MakesIfAnswered}
 use Rattle.traced.proofs.changes.Restored.{unchanged}
 use Rattle.traced.proofs.Moves.{get_there, later, made, made_one, made_global, made_count, made_can_close, none_made}
 

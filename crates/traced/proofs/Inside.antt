@@ -1,15 +1,7 @@
 -- A closure that changes nothing that is read may run inside a span.
 use Rattle.std.proofs.Common.{◌≡◌, ℕ, zero, suc, ◌<◌, List, [], ◌∷◌, length, Option, Some, None, sym, ap, ◌∙◌, subst, arith, slice_get}
-use Rattle.std.specs.Option.{option_map_or}
-use Rattle.trace_base.specs.declared.lane.Lane.{Lane}
-use Rattle.trace_base.specs.declared.subscriber.Subscriber.{Ghosts}
-use Rattle.trace_base.specs.lanes.Contexts.{AreAttached}
-use Rattle.trace_base.specs.Gate.{Worlds}
-use Rattle.trace_base.specs.Spans.{entries_on, times_in}
-use Rattle.span_handles.specs.Worlds.{Has, member_of, no_spans}
-use Rattle.span_handles.specs.Handles.{Held}
+use Rattle.traced.proofs.Common.{option_map_or, Lane, Ghosts, AreAttached, Worlds, entries_on, times_in, Has, member_of, no_spans, Held, Stays}
 use Rattle.span_handles.specs.Entries.{Keeps}
-use Rattle.traced.specs.Staying.{Stays}
 use Rattle.traced.proofs.Moves.{get_there}
 
 within_if_there : {X : Type 0} (xs : List X) (n : ℕ) (x : X) → slice_get xs n ≡ Some x → n < length xs

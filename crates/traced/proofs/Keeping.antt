@@ -1,25 +1,7 @@
 -- What functions of a program leave behind, call by call.
-use Rattle.std.specs.Prelude.{IfSome}
-use Rattle.std.proofs.Common.{◌≡◌, ℕ, ◌+◌, ◌≤◌, ◌<◌, ◌^◌, List, [], ◌∷◌, length, Result, Ok, Err, refl, sym, ap, ◌∙◌, subst, arith}
-use Rattle.otel_base.specs.declared.memory.Memory.{Memory}
-use Rattle.trace_base.specs.declared.field.ValueSet.{ValueSet}
-use Rattle.trace_base.specs.declared.lane.Lane.{Lane}
-use Rattle.trace_base.specs.declared.span.Parent.{Parent}
+use Rattle.std.proofs.Common.{◌≡◌, ℕ, ◌+◌, ◌≤◌, ◌<◌, ◌^◌, List, [], ◌∷◌, length, Result, Ok, Err, refl, sym, ap, ◌∙◌, subst, arith, IfSome}
+use Rattle.traced.proofs.Common.{Memory, ValueSet, Lane, Parent, Ghosts, Worlds, dispatch_on, Handle, IsOf, place_under, Alike, EntryGuard, StandsReady, IsHeld, CanMake, CanTell, CanAsk, CanClose, CanEnter, CanExit, IsAsBefore, MakesAndCloses, EntersAndExits, TellsIfAnswered, StandsAlone, HaveSameIds, Keeps, Ends, MakesIfAnswered, Closes, Enters, Refuses, Exits, Stays, Tells}
 use Rattle.trace_base.specs.declared.span.Parent.TheVariants as parent
-use Rattle.trace_base.specs.declared.subscriber.Subscriber.{Ghosts}
-use Rattle.trace_base.specs.Gate.{Worlds, dispatch_on}
-use Rattle.span_handles.specs.Handles.{Handle, IsOf, place_under}
-use Rattle.span_handles.specs.Worlds.{Alike}
-use Rattle.span_handles.specs.Entries.{EntryGuard}
-use Rattle.traced.specs.Standing.{StandsReady, IsHeld, CanMake, CanTell, CanAsk, CanClose, CanEnter, CanExit}
-use Rattle.traced.specs.AsBefore.{IsAsBefore}
-use Rattle.traced.specs.Between.{MakesAndCloses, EntersAndExits}
-use Rattle.traced.specs.Gating.{TellsIfAnswered}
-use Rattle.traced.specs.Keeping.{StandsAlone, HaveSameIds, Keeps, Ends}
-use Rattle.traced.specs.Making.{MakesIfAnswered}
-use Rattle.traced.specs.Moving.{Closes, Enters, Refuses, Exits}
-use Rattle.traced.specs.Staying.{Stays}
-use Rattle.traced.specs.Telling.{Tells}
 use Rattle.traced.proofs.changes.Between.{makes_and_closes, enters_and_exits, tells_if_answered}
 use Rattle.traced.proofs.Moves.{later, stays_stands, stays_as_before}
 use Rattle.traced.proofs.Rules.{can_make, can_make_under, can_tell, can_close, can_enter, can_exit, can_ask_held, of_lane, alike_stands}

@@ -1,35 +1,10 @@
 -- What each call keeps and makes.
-use Rattle.std.proofs.Common.{◌≡◌, ℕ, zero, suc, ◌+◌, ◌≤◌, ◌<◌, List, [], ◌∷◌, length, Option, Some, None, Result, Ok, Err, refl, sym, ap, ◌∙◌, subst, arith, inl, inr, count_by, slice_get}
-use Rattle.std.specs.Prelude.{◌==◌, OnOk, OnErr, IfOk, IfSome}
-use Rattle.std.specs.Option.{option_map_or}
-use Rattle.std.proofs.lemmas.Bool.{cases_eq}
-use Rattle.std.proofs.lemmas.List.{get_or_past}
-use Rattle.otel_base.specs.declared.memory.Memory.{Memory}
+use Rattle.std.proofs.Common.{◌≡◌, ℕ, zero, suc, ◌+◌, ◌≤◌, ◌<◌, List, [], ◌∷◌, length, Option, Some, None, Result, Ok, Err, refl, sym, ap, ◌∙◌, subst, arith, inl, inr, count_by, slice_get, ◌==◌, OnOk, OnErr, IfOk, IfSome}
+use Rattle.traced.proofs.Common.{option_map_or, cases_eq, get_or_past, Memory, ValueSet, Callsite, Lane, Parent, Ghosts, Worlds, dispatch_on, Span, Spans, no_span, span_at, entries_on, place_on, SubscriberCall, NewSpan, Event, Enter, Exit, spans_after_call, IsLive, IsLivePlace, KeepsAttached, Replaced, Shown, Alike, Chain, ChainShown, spans_in, kept_in, no_spans, Held, Handle, IsKnown, IsOf, HasOn, Makes, MakesIf, MayMakeIf, ReplacedIf, ReplacedOn, EntryGuard, LeavesLane, KeepsKnown, KeepsHandles, KeepsOthers, as_many, shown, alike, chain_shown, IsLawful, AreAtMost, AreServed, StandsReady, IsHeld, CanClose, IsAsBefore, IsOfNewest, HadNoHandle, HasMade, IsLiveOn, IsEntered, HasEntered, TellsEventIf, Enters, Refuses, Stays}
 use Rattle.otel_base.specs.declared.enter_error.EnterError.{EnterError}
-use Rattle.trace_base.specs.declared.field.ValueSet.{ValueSet}
-use Rattle.trace_base.specs.declared.callsite.Callsite.{Callsite}
-use Rattle.trace_base.specs.declared.lane.Lane.{Lane}
-use Rattle.trace_base.specs.declared.span.Parent.{Parent}
-use Rattle.trace_base.specs.declared.subscriber.Subscriber.{Ghosts}
-use Rattle.trace_base.specs.Gate.{Worlds, dispatch_on}
-use Rattle.trace_base.specs.Spans.{Span, Spans, no_span, span_at, entries_on, place_on}
-use Rattle.trace_base.specs.Calls.{SubscriberCall, NewSpan, Event, Enter, Exit, spans_after_call}
-use Rattle.trace_base.specs.Conditions.{IsLive, IsLivePlace}
-use Rattle.trace_base.specs.lanes.Contexts.{KeepsAttached}
 use Rattle.trace_base.specs.Sound.{IsSound}
 use Rattle.trace_base.proofs.Sound.{place_live}
-use Rattle.span_handles.specs.Worlds.{Replaced, Shown, Alike, Chain, ChainShown, spans_in, kept_in, no_spans}
-use Rattle.span_handles.specs.Handles.{Held, Handle, IsKnown, IsOf, HasOn, Makes, MakesIf, MayMakeIf, ReplacedIf, ReplacedOn}
-use Rattle.span_handles.specs.Entries.{EntryGuard, LeavesLane}
-use Rattle.span_handles.specs.Knowing.{KeepsKnown, KeepsHandles, KeepsOthers}
 use Rattle.span_handles.proofs.Knowing.{handles_same}
-use Rattle.span_handles.proofs.Showing.{as_many, shown, alike, chain_shown}
-use Rattle.traced.specs.Laws.{IsLawful}
-use Rattle.traced.specs.Standing.{AreAtMost, AreServed, StandsReady, IsHeld, CanClose}
-use Rattle.traced.specs.AsBefore.{IsAsBefore, IsOfNewest, HadNoHandle, HasMade, IsLiveOn, IsEntered, HasEntered}
-use Rattle.traced.specs.Gating.{TellsEventIf}
-use Rattle.traced.specs.Moving.{Enters, Refuses}
-use Rattle.traced.specs.Staying.{Stays}
 use Rattle.traced.proofs.changes.Counts.{more, with_new, with_entry, with_exit, with_closes}
 use Rattle.traced.proofs.changes.Restored.{unchanged, closes, exits, IsReleasedOn, IsExitedOn}
 use Rattle.traced.proofs.Elsewhere.{beside, same_sites, same_global, alike_there, count_on, others_served, still_apart, attached_on_lane, stands_after}

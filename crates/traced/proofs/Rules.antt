@@ -1,22 +1,7 @@
 -- What calls ask for, of a world that stands.
-use Rattle.std.proofs.Common.{◌≡◌, ℕ, ◌+◌, ◌<◌, ◌^◌, List, ◌∷◌, length, Option, Some, None, sym, ap, ◌∙◌, subst, arith, slice_get}
-use Rattle.std.specs.Prelude.{◌==◌, IfSome}
-use Rattle.std.specs.Option.{option_map_or}
-use Rattle.trace_base.specs.declared.lane.Lane.{Lane}
-use Rattle.trace_base.specs.declared.span.Parent.{Parent}
+use Rattle.std.proofs.Common.{◌≡◌, ℕ, ◌+◌, ◌<◌, ◌^◌, List, ◌∷◌, length, Option, Some, None, sym, ap, ◌∙◌, subst, arith, slice_get, ◌==◌, IfSome}
+use Rattle.traced.proofs.Common.{option_map_or, Lane, Parent, Ghosts, HasFewHolds, HasFewHoldsAbove, AreFew, IsLivePlace, MayExit, AreAttached, Worlds, IsOwn, dispatch_on, Spans, entries_on, times_in, place_on, any_if_counted, first_if_in, Has, Alike, no_spans, spans_in, Held, Handle, IsKnown, HasOn, IsOf, MayMakeIf, HasIf, place_under, EntryGuard, IsThere, IsStillOn, AreAtMost, StandsReady, ServesLane, IsHeld, CanMake, CanTell, CanAsk, CanClose, CanEnter, CanExit, IsLiveOn, IsOpen, IsInside}
 use Rattle.trace_base.specs.declared.span.Parent.TheVariants as parent
-use Rattle.trace_base.specs.declared.subscriber.Subscriber.{Ghosts}
-use Rattle.trace_base.specs.Conditions.{HasFewHolds, HasFewHoldsAbove, AreFew, IsLivePlace, MayExit}
-use Rattle.trace_base.specs.lanes.Contexts.{AreAttached}
-use Rattle.trace_base.specs.Gate.{Worlds, IsOwn, dispatch_on}
-use Rattle.trace_base.specs.Spans.{Spans, entries_on, times_in, place_on}
-use Rattle.trace_base.proofs.Entering.{any_if_counted}
-use Rattle.trace_base.proofs.Holding.{first_if_in}
-use Rattle.span_handles.specs.Worlds.{Has, Alike, no_spans, spans_in}
-use Rattle.span_handles.specs.Handles.{Held, Handle, IsKnown, HasOn, IsOf, MayMakeIf, HasIf, place_under}
-use Rattle.span_handles.specs.Entries.{EntryGuard, IsThere, IsStillOn}
-use Rattle.traced.specs.Standing.{AreAtMost, StandsReady, ServesLane, IsHeld, CanMake, CanTell, CanAsk, CanClose, CanEnter, CanExit}
-use Rattle.traced.specs.AsBefore.{IsLiveOn, IsOpen, IsInside}
 use Rattle.traced.proofs.Elsewhere.{stands_after}
 use Rattle.traced.proofs.Moves.{read_there, live_on}
 

@@ -119,8 +119,8 @@ made_kept false t before at lane place site callsite values under up xs hs ys gs
   },
 )
 
-abbrev request_site : Callsite
-request_site = made_site (codes "request") (codes "web") kind.Span (codes "otel.kind" ∷ codes "id" ∷ [])
+abbrev web_request_site : Callsite
+web_request_site = made_site (codes "request") (codes "web") kind.Span (codes "otel.kind" ∷ codes "id" ∷ [])
 
 abbrev query_site : Callsite
 query_site = made_site (codes "query") (codes "web::db") kind.Span []
@@ -132,9 +132,9 @@ root_step : (t : Tables) (before at lane place i : ℕ) (xs hs : List (Option Sc
     → Within xs ys lane hs gs items before t → OnTime t.moment at place
     → Steps t (asked at place (root_call i)) (λ u. (scope : Scope) × Within xs ys lane (hs ++ Some scope ∷ []) gs items at u)
 root_step t before at lane place i xs hs ys gs items w on = record {
-  effect = new_effect (here_at made_setup t at place) 0 request_site (values_of request_site (root_fields i)) put.Root [];
+  effect = new_effect (here_at made_setup t at place) 0 web_request_site (values_of web_request_site (root_fields i)) put.Root [];
   is = resolved t at place (root_call i) on;
-  now = made_kept (admits_at made_setup t (id_at made_setup.ids place) request_site) t before at lane place 0 request_site (values_of request_site (root_fields i)) put.Root [] xs hs ys gs items w;
+  now = made_kept (admits_at made_setup t (id_at made_setup.ids place) web_request_site) t before at lane place 0 web_request_site (values_of web_request_site (root_fields i)) put.Root [] xs hs ys gs items w;
 }
 
 below_step : (t : Tables) (before at lane place : ℕ) (xs hs : List (Option Scope)) (ys gs : List (Option ScopeGuard)) (items : List Attached)

@@ -1,25 +1,8 @@
 -- What the changes of a step keep, and what they are to a subscriber.
-use Rattle.std.proofs.Common.{◌≡◌, ℕ, Option, Some, Result, Ok, Err, refl, sym, subst, ◌∙◌, arith, Bool, slice_get, slice_set}
-use Rattle.std.specs.Prelude.{OnOk, OnErr}
-use Rattle.otel_base.specs.declared.memory.Memory.{Memory}
+use Rattle.std.proofs.Common.{◌≡◌, ℕ, Option, Some, Result, Ok, Err, refl, sym, subst, ◌∙◌, arith, Bool, slice_get, slice_set, OnOk, OnErr}
+use Rattle.trace_tasks.proofs.Common.{Memory, OpReply, ValueSet, Callsite, Lane, LevelFilter, Worlds, Spans, SubscriberCall, Records, Event, spans_after_call, Lanes, LeavesLane, Beside, CallsBy, KeepsLent, calls_none, calls_one, called_same, called_once, changed_once, keeps_nothing, refused, PartCall, Applies, StaysStack, Changes, nothing, room, told, recorded, asked, Asks, Wants, spare, denied}
 use Rattle.otel_state.specs.declared.op.Op.{Op}
-use Rattle.otel_state.specs.declared.op.OpReply.{OpReply}
-use Rattle.trace_base.specs.declared.field.ValueSet.{ValueSet}
 use Rattle.trace_base.specs.declared.span.Parent.{Parent}
-use Rattle.trace_base.specs.declared.callsite.Callsite.{Callsite}
-use Rattle.trace_base.specs.declared.lane.Lane.{Lane}
-use Rattle.trace_base.specs.declared.level.LevelFilter.{LevelFilter}
-use Rattle.trace_base.specs.Gate.{Worlds}
-use Rattle.trace_base.specs.Spans.{Spans}
-use Rattle.trace_base.specs.Calls.{SubscriberCall, Records, Event, spans_after_call}
-use Rattle.trace_base.specs.lanes.Contexts.{Lanes}
-use Rattle.span_handles.specs.Entries.{LeavesLane}
-use Rattle.span_futures.specs.Calling.{Beside, CallsBy}
-use Rattle.span_futures.specs.Lent.{KeepsLent}
-use Rattle.span_futures.proofs.Calling.{calls_none, calls_one, called_same, called_once, changed_once}
-use Rattle.span_futures.proofs.Inside.{keeps_nothing, refused}
-use Rattle.otel_layer.specs.Parts.{PartCall, Applies, StaysStack}
-use Rattle.trace_tasks.specs.Acts.{Changes, nothing, room, told, recorded, asked, Asks, Wants, spare, denied}
 
 lane_stays : (lane : Lane) → LeavesLane lane lane
 lane_stays lane = record { id = refl; name = refl; default = refl; live = refl }

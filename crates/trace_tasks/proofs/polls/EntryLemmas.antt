@@ -1,25 +1,7 @@
 -- An entry of a task's span, its steps and the exit are the requests of its poll.
 use Rattle.std.proofs.Common.{◌≡◌, ℕ, List, [], ◌∷◌, ◌++◌, length, map, Bool, Option, Some, None, refl, sym, ap, subst, ◌∙◌, slice_get, zero, suc}
-use Rattle.trace_base.specs.declared.callsite.Callsite.{Callsite}
-use Rattle.trace_base.specs.declared.lane.Lane.{Lane}
-use Rattle.trace_base.specs.declared.level.LevelFilter.{LevelFilter}
-use Rattle.trace_base.specs.Calls.{SubscriberCall, Enter, Exit, spans_after_call, with_span_entry, with_span_exit}
-use Rattle.trace_base.specs.lanes.Contexts.{Lanes}
-use Rattle.trace_base.specs.Gate.{Worlds}
-use Rattle.trace_base.specs.Spans.{Span, Spans, span_at, entries_on, current_on, without_hold}
-use Rattle.span_handles.specs.Worlds.{Replaced, spans_in, no_spans}
-use Rattle.span_handles.specs.Handles.{Handle, Held, ReplacedOn}
-use Rattle.span_handles.specs.Entries.{BeginsInside}
-use Rattle.span_handles.proofs.Showing.{as_many, seen_before, seen_later}
-use Rattle.otel_layer.specs.Parts.{PartCall}
+use Rattle.trace_tasks.proofs.Common.{Callsite, Lane, LevelFilter, SubscriberCall, Enter, Exit, spans_after_call, with_span_entry, with_span_exit, Lanes, Worlds, Span, Spans, span_at, entries_on, current_on, without_hold, Replaced, spans_in, no_spans, Handle, Held, ReplacedOn, BeginsInside, as_many, seen_before, seen_later, PartCall, Request, on_first_lane, Step, now_of, StepsOn, Stage, Entered, Exited, Carries, Left, step_call, moment_of, root_of_one_handle, IsAloneAs}
 use Rattle.span_script.specs.declared.request.Call.TheVariants as call
-use Rattle.span_script.specs.declared.request.Request.{Request}
-use Rattle.trace_tape.specs.Taping.{on_first_lane}
-use Rattle.trace_tasks.specs.declared.script.Step.{Step}
-use Rattle.trace_tasks.specs.Acts.{now_of, StepsOn}
-use Rattle.trace_tasks.specs.Carrying.{Stage, Entered, Exited, Carries}
-use Rattle.trace_tasks.specs.Flat.{Left, step_call, moment_of}
-use Rattle.trace_tasks.specs.Turning.{root_of_one_handle, IsAloneAs}
 use Rattle.trace_tasks.proofs.queues.RootLemmas.{back, entered_made, entered_entries, entered_current, exited_made, exited_entries, none_current}
 use Rattle.trace_tasks.proofs.polls.StepLemmas.{IsAt, disabled, enabled, steps_carry}
 

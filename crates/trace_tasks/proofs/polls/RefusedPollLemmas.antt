@@ -1,30 +1,7 @@
 -- A poll of a task that was refused.
 use Rattle.std.proofs.Common.{◌≡◌, ℕ, List, [], ◌∷◌, ◌++◌, length, map, Bool, Option, Some, None, Err, refl, sym, ap, subst, ◌∙◌, slice_get, inl, inr, ◌⊎◌, append_assoc}
-use Rattle.otel_base.specs.declared.enter_error.EnterError.{EnterError}
-use Rattle.trace_base.specs.declared.callsite.Callsite.{Callsite}
-use Rattle.trace_base.specs.declared.lane.Lane.{Lane}
-use Rattle.trace_base.specs.declared.level.LevelFilter.{LevelFilter}
-use Rattle.trace_base.specs.Calls.{SubscriberCall, Enter, spans_after_call, with_span_entry}
-use Rattle.trace_base.specs.lanes.Contexts.{Lanes}
-use Rattle.trace_base.specs.Gate.{Worlds}
-use Rattle.trace_base.specs.Spans.{Spans, entries_on, current_on}
-use Rattle.span_handles.specs.Worlds.{Replaced, Chain, spans_in, no_spans}
-use Rattle.span_handles.specs.Handles.{Handle, Held, ReplacedOn}
-use Rattle.span_handles.specs.Entries.{BeginsInside, LeavesLane, MeetsFullLane}
-use Rattle.span_handles.proofs.Showing.{seen_before, seen_later}
-use Rattle.span_futures.specs.declared.instrument.Instrumented.{Instrumented}
-use Rattle.span_futures.specs.Polls.{Polled, CannotEnter, IsInside}
-use Rattle.otel_layer.specs.Parts.{PartCall}
+use Rattle.trace_tasks.proofs.Common.{EnterError, Callsite, Lane, LevelFilter, SubscriberCall, Enter, spans_after_call, with_span_entry, Lanes, Worlds, Spans, entries_on, current_on, Replaced, Chain, spans_in, no_spans, Handle, Held, ReplacedOn, BeginsInside, LeavesLane, MeetsFullLane, seen_before, seen_later, Instrumented, Polled, CannotEnter, IsInside, PartCall, Request, on_first_lane, Running, Step, left_of, PollsSteps, Wants, untouched, spare, Stage, Entered, Exited, Handled, Left, step_call, moment_of, drop_at_end, poll, StopsPoll, TurnStops, MeetsFull, dispatch_serving, Ready, IsAlone, IsAloneAs, left_as}
 use Rattle.span_script.specs.declared.request.Call.TheVariants as call
-use Rattle.span_script.specs.declared.request.Request.{Request}
-use Rattle.trace_tape.specs.Taping.{on_first_lane}
-use Rattle.trace_tasks.specs.declared.running.Running.{Running}
-use Rattle.trace_tasks.specs.declared.script.Step.{Step}
-use Rattle.trace_tasks.specs.Acts.{left_of, PollsSteps, Wants, untouched, spare}
-use Rattle.trace_tasks.specs.Carrying.{Stage, Entered, Exited, Handled}
-use Rattle.trace_tasks.specs.Flat.{Left, step_call, moment_of, drop_at_end, poll}
-use Rattle.trace_tasks.specs.Stops.{StopsPoll, TurnStops, MeetsFull}
-use Rattle.trace_tasks.specs.Turning.{dispatch_serving, Ready, IsAlone, IsAloneAs, left_as}
 use Rattle.trace_tasks.proofs.queues.RootLemmas.{entered_current, none_current}
 use Rattle.trace_tasks.proofs.polls.StepLemmas.{IsAt, disabled, enabled, first_acts, acts_carry}
 use Rattle.trace_tasks.proofs.polls.EntryLemmas.{get_push, current_by}

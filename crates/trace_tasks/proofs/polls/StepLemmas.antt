@@ -1,29 +1,10 @@
 -- Steps on the lane's current span are requests on the handle that was entered.
-use Rattle.std.proofs.Common.{◌≡◌, ℕ, List, [], ◌∷◌, ◌++◌, length, map, Bool, true, false, Option, Some, None, refl, sym, ap, subst, ◌∙◌, slice_get}
-use Rattle.std.specs.Prelude.{if◌then◌else◌, filter_map, is_some}
-use Rattle.std.specs.List.{cons_option}
+use Rattle.std.proofs.Common.{◌≡◌, ℕ, List, [], ◌∷◌, ◌++◌, length, map, Bool, true, false, Option, Some, None, refl, sym, ap, subst, ◌∙◌, slice_get, if◌then◌else◌, filter_map, is_some}
+use Rattle.trace_tasks.proofs.Common.{cons_option, Callsite, ValueSet, Lane, LevelFilter, SubscriberCall, Records, Event, spans_after_call, place_of, Worlds, dispatch_on, Spans, current_on, Replaced, spans_in, no_spans, Handle, Held, RecordsAt, handle_of, as_many, seen_before, seen_later, PartCall, Applies, on_first_lane, Step, now_of, CallsIf, TellsAt, RecordsTo, StepAt, StepIf, StepOn, StepsOn, Fields, declared_value, values_of, values_by, Left, declared_ones, step_call, Stage, CarriesCall, Carries}
 use Rattle.std.specs.Option.{option_map}
-use Rattle.trace_base.specs.declared.callsite.Callsite.{Callsite}
 use Rattle.trace_base.specs.declared.field.Value.{Value}
-use Rattle.trace_base.specs.declared.field.ValueSet.{ValueSet}
-use Rattle.trace_base.specs.declared.lane.Lane.{Lane}
-use Rattle.trace_base.specs.declared.level.LevelFilter.{LevelFilter}
 use Rattle.trace_base.specs.declared.span.Parent.TheVariants as parent
-use Rattle.trace_base.specs.Calls.{SubscriberCall, Records, Event, spans_after_call}
-use Rattle.trace_base.specs.Field.{place_of}
-use Rattle.trace_base.specs.Gate.{Worlds, dispatch_on}
-use Rattle.trace_base.specs.Spans.{Spans, current_on}
-use Rattle.span_handles.specs.Worlds.{Replaced, spans_in, no_spans}
-use Rattle.span_handles.specs.Handles.{Handle, Held, RecordsAt, handle_of}
-use Rattle.span_handles.proofs.Showing.{as_many, seen_before, seen_later}
-use Rattle.otel_layer.specs.Parts.{PartCall, Applies}
-use Rattle.trace_tape.specs.Taping.{on_first_lane}
-use Rattle.trace_tasks.specs.declared.script.Step.{Step}
 use Rattle.trace_tasks.specs.declared.script.Step.TheVariants as step
-use Rattle.trace_tasks.specs.Acts.{now_of, CallsIf, TellsAt, RecordsTo, StepAt, StepIf, StepOn, StepsOn}
-use Rattle.span_script.specs.Fields.{Fields, declared_value, values_of, values_by}
-use Rattle.trace_tasks.specs.Flat.{Left, declared_ones, step_call}
-use Rattle.trace_tasks.specs.Carrying.{Stage, CarriesCall, Carries}
 
 -- what isn't declared has no place
 placed_one : (c : Callsite) (f : List ℕ × Value) (fs : Fields) → filter_map (declared_value c) (declared_ones (Some c) fs) ≡ filter_map (declared_value c) fs → (p : Option ℕ) → place_of f.0 c ≡ p

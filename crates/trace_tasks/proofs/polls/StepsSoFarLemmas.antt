@@ -1,23 +1,10 @@
 -- A poll of a task's steps, so far.
 use Rattle.std.proofs.Common.{◌≡◌, ◌<◌, ◌-◌, ℕ, length, take, drop, get_or, List, [], ◌∷◌, ◌++◌, Bool, Option, Ok, Err, refl, sym, ap, subst, ◌∙◌, ◌⊎◌, inl, inr, append_assoc}
-use Rattle.std.proofs.lemmas.List.{append-nil, drop_more, take_rest}
+use Rattle.trace_tasks.proofs.Common.{drop_more, take_rest, Callsite, Lane, LevelFilter, Worlds, Spans, SubscriberCall, spans_after_call, Lanes, CallsBy, KeepsLent, calls_none, calls_then, keeps_nothing, PartCall, StaysStack, Step, now_of, left_of, StepOn, StepsOn, PollsSteps, Changes, Asks, Wants}
+use Rattle.std.proofs.lemmas.List.{append-nil}
 use Rattle.otel_base.specs.declared.enter_error.EnterError.TheVariants as faults
 use Rattle.futures.specs.declared.task.Poll.TheVariants as polls
-use Rattle.trace_base.specs.declared.callsite.Callsite.{Callsite}
-use Rattle.trace_base.specs.declared.lane.Lane.{Lane}
-use Rattle.trace_base.specs.declared.level.LevelFilter.{LevelFilter}
-use Rattle.trace_base.specs.Gate.{Worlds}
-use Rattle.trace_base.specs.Spans.{Spans}
-use Rattle.trace_base.specs.Calls.{SubscriberCall, spans_after_call}
-use Rattle.trace_base.specs.lanes.Contexts.{Lanes}
-use Rattle.span_futures.specs.Calling.{CallsBy}
-use Rattle.span_futures.specs.Lent.{KeepsLent}
-use Rattle.span_futures.proofs.Calling.{calls_none, calls_then}
-use Rattle.span_futures.proofs.Inside.{keeps_nothing}
-use Rattle.otel_layer.specs.Parts.{PartCall, StaysStack}
-use Rattle.trace_tasks.specs.declared.script.Step.{Step}
 use Rattle.trace_tasks.specs.declared.script.Step.TheVariants as step
-use Rattle.trace_tasks.specs.Acts.{now_of, left_of, StepOn, StepsOn, PollsSteps, Changes, Asks, Wants}
 use Rattle.trace_tasks.proofs.polls.ChangesLemmas.{lent_then, changes_keep, changes_call}
 
 -- a step that doesn't end the poll

@@ -1,32 +1,11 @@
 -- A poll of a task, and its end if it is finished.
 use Rattle.std.proofs.Common.{◌≡◌, ℕ, List, [], ◌∷◌, ◌++◌, length, map, Bool, Option, Some, None, Ok, refl, sym, ap, subst, ◌∙◌, arith, inl, inr, ◌⊎◌}
-use Rattle.std.specs.Option.{option_map, option_map_or}
+use Rattle.trace_tasks.proofs.Common.{option_map_or, Callsite, Lane, LevelFilter, SubscriberCall, TryClose, Exit, spans_after_call, Lanes, Worlds, Span, Spans, span_at, entries_on, next_of, without_hold, Replaced, Chain, ended, closes, ReleasesChain, all_released, releases, spans_in, no_spans, Handle, Held, HasOn, ReplacedOn, as_many, seen_before, seen_later, chain_shown, Instrumented, HasAll, AreAllAttached, KeepsLent, Polled, CannotEnter, IsInside, same_kept, keeps_all, PartCall, on_first_lane, Running, Step, now_of, StepsOn, PollsSteps, Stage, Handled, Carries, Left, step_call, moment_of, drop_at_end, served_by, dispatch_serving, Ready, root_of_one_handle, IsAlone, IsAloneAs, left_as, Turned}
+use Rattle.std.specs.Option.{option_map}
 use Rattle.futures.specs.declared.task.Poll.{Poll}
 use Rattle.futures.specs.declared.task.Poll.TheVariants as polls
-use Rattle.trace_base.specs.declared.callsite.Callsite.{Callsite}
-use Rattle.trace_base.specs.declared.lane.Lane.{Lane}
-use Rattle.trace_base.specs.declared.level.LevelFilter.{LevelFilter}
-use Rattle.trace_base.specs.Calls.{SubscriberCall, TryClose, Exit, spans_after_call}
 use Rattle.trace_base.specs.Conditions.{Allowed, HasFewHolds}
-use Rattle.trace_base.specs.lanes.Contexts.{Lanes}
-use Rattle.trace_base.specs.Gate.{Worlds}
-use Rattle.trace_base.specs.Spans.{Span, Spans, span_at, entries_on, next_of, without_hold}
-use Rattle.span_handles.specs.Worlds.{Replaced, Chain, ended, closes, ReleasesChain, all_released, releases, spans_in, no_spans}
-use Rattle.span_handles.specs.Handles.{Handle, Held, HasOn, ReplacedOn}
-use Rattle.span_handles.proofs.Showing.{as_many, seen_before, seen_later, chain_shown}
-use Rattle.span_futures.specs.declared.instrument.Instrumented.{Instrumented}
-use Rattle.span_futures.specs.Lent.{HasAll, AreAllAttached, KeepsLent}
-use Rattle.span_futures.specs.Polls.{Polled, CannotEnter, IsInside}
-use Rattle.span_futures.proofs.Keeping.{same_kept, keeps_all}
-use Rattle.otel_layer.specs.Parts.{PartCall}
 use Rattle.span_script.specs.declared.request.Call.TheVariants as call
-use Rattle.trace_tape.specs.Taping.{on_first_lane}
-use Rattle.trace_tasks.specs.declared.running.Running.{Running}
-use Rattle.trace_tasks.specs.declared.script.Step.{Step}
-use Rattle.trace_tasks.specs.Acts.{now_of, StepsOn, PollsSteps}
-use Rattle.trace_tasks.specs.Carrying.{Stage, Handled, Carries}
-use Rattle.trace_tasks.specs.Flat.{Left, step_call, moment_of, drop_at_end}
-use Rattle.trace_tasks.specs.Turning.{served_by, dispatch_serving, Ready, root_of_one_handle, IsAlone, IsAloneAs, left_as, Turned}
 use Rattle.trace_tasks.proofs.queues.RootLemmas.{others_stay, no_next}
 use Rattle.trace_tasks.proofs.polls.EntryLemmas.{Through, through}
 

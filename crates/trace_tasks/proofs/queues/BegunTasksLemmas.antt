@@ -1,34 +1,11 @@
 -- Tasks that were begun, one more.
-use Rattle.std.proofs.Common.{◌≡◌, ℕ, zero, suc, ◌+◌, ◌<◌, ◌≤◌, ◌^◌, List, [], ◌∷◌, ◌++◌, length, Bool, Option, Some, None, Result, Ok, Err, refl, sym, ap, subst, ◌∙◌, arith, slice_get, sum_by, append_assoc, inl, inr}
+use Rattle.std.proofs.Common.{◌≡◌, ℕ, zero, suc, ◌+◌, ◌<◌, ◌≤◌, ◌^◌, List, [], ◌∷◌, ◌++◌, length, Bool, Option, Some, None, Result, Ok, Err, refl, sym, ap, subst, ◌∙◌, arith, slice_get, sum_by, append_assoc, inl, inr, IfOk, IfErr, OnErr}
 use Rattle.std.proofs.lemmas.List.{append-nil}
 use Rattle.otel_base.specs.declared.enter_error.EnterError.TheVariants as faults
-use Rattle.std.specs.Prelude.{IfOk, IfErr, OnErr}
-use Rattle.std.proofs.lemmas.List.Sums.{sum_by-cons}
-use Rattle.otel_base.specs.declared.enter_error.EnterError.{EnterError}
-use Rattle.trace_base.specs.declared.callsite.Callsite.{Callsite}
-use Rattle.trace_base.specs.declared.lane.Lane.{Lane}
-use Rattle.trace_base.specs.declared.level.LevelFilter.{LevelFilter}
-use Rattle.trace_base.specs.Calls.{SubscriberCall}
-use Rattle.trace_base.specs.Gate.{Worlds}
-use Rattle.trace_base.specs.Spans.{Span, Spans, span_at}
-use Rattle.trace_base.proofs.Entering.{made_if_held}
-use Rattle.span_handles.specs.Worlds.{spans_in}
-use Rattle.span_handles.specs.Handles.{Handle, Held, id_of}
+use Rattle.trace_tasks.proofs.Common.{sum_by-cons, EnterError, Callsite, Lane, LevelFilter, SubscriberCall, Worlds, Span, Spans, span_at, made_if_held, spans_in, Handle, Held, id_of, Instrumented, PartCall, Request, on_first_lane, Running, Task, Begins, AreBegun, Ran, Stage, Carries, Left, yields, polls_left, all_polls, tasks_at_first, makings, moment_of, rounds, turns, drops_of_tasks, leavings, StopsTurns, StopsBeginning, GaveUp, IsAloneAs, Ready, dispatch_serving, Waits, IsApart, AreApart, AllWait, AllKnown, TaskStands, AllStand, TakesTurns, polls_in}
 use Rattle.span_handles.specs.Knowing.{KeepsHandles}
-use Rattle.span_futures.specs.declared.instrument.Instrumented.{Instrumented}
-use Rattle.otel_layer.specs.Parts.{PartCall}
 use Rattle.span_script.specs.declared.request.Call.TheVariants as call
 use Rattle.span_script.specs.declared.request.Place.TheVariants as place
-use Rattle.span_script.specs.declared.request.Request.{Request}
-use Rattle.trace_tape.specs.Taping.{on_first_lane}
-use Rattle.trace_tasks.specs.declared.running.Running.{Running}
-use Rattle.trace_tasks.specs.declared.script.Task.{Task}
-use Rattle.trace_tasks.specs.Begun.{Begins, AreBegun, Ran}
-use Rattle.trace_tasks.specs.Carrying.{Stage, Carries}
-use Rattle.trace_tasks.specs.Flat.{Left, yields, polls_left, all_polls, tasks_at_first, makings, moment_of, rounds, turns}
-use Rattle.trace_tasks.specs.Stops.{drops_of_tasks, leavings, StopsTurns, StopsBeginning, GaveUp}
-use Rattle.trace_tasks.specs.Turning.{IsAloneAs, Ready, dispatch_serving}
-use Rattle.trace_tasks.specs.Waiting.{Waits, IsApart, AreApart, AllWait, AllKnown, TaskStands, AllStand, TakesTurns, polls_in}
 use Rattle.trace_tasks.proofs.polls.EntryLemmas.{get_push}
 use Rattle.trace_tasks.proofs.tapes.RoundsLemmas.{rounds_are_turns}
 

@@ -1,20 +1,6 @@
 -- The handles that are left are closed, one after another.
 use Rattle.std.proofs.Common.{◌≡◌, ℕ, List, [], ◌∷◌, Bool, Option, Some, refl, subst}
-use Rattle.trace_base.specs.declared.callsite.Callsite.{Callsite}
-use Rattle.trace_base.specs.declared.lane.Lane.{Lane}
-use Rattle.trace_base.specs.declared.level.LevelFilter.{LevelFilter}
-use Rattle.trace_base.specs.Calls.{SubscriberCall}
-use Rattle.trace_base.specs.Gate.{Worlds}
-use Rattle.trace_base.specs.Spans.{Spans}
-use Rattle.span_handles.specs.Worlds.{Chain}
-use Rattle.span_handles.specs.Handles.{Handle, Held, ReplacedOn}
-use Rattle.span_futures.specs.declared.instrument.Instrumented.{Instrumented}
-use Rattle.otel_layer.specs.Parts.{PartCall}
-use Rattle.trace_tasks.specs.declared.running.Running.{Running}
-use Rattle.trace_tasks.specs.Carrying.{Carries}
-use Rattle.trace_tasks.specs.Flat.{Left}
-use Rattle.trace_tasks.specs.Stops.{drops_of_tasks}
-use Rattle.trace_tasks.specs.Waiting.{AllStand}
+use Rattle.trace_tasks.proofs.Common.{Callsite, Lane, LevelFilter, SubscriberCall, Worlds, Spans, Chain, Handle, Held, ReplacedOn, Instrumented, PartCall, Running, Carries, Left, drops_of_tasks, AllStand}
 
 module _ {S : Type 0} (spans : S → Spans) (hint : S → Option LevelFilter) (enables : S → ℕ → Callsite → Bool) (does : S → SubscriberCall → S → Type 0) (touches : S → PartCall → S → Type 0) (at : ℕ) where
   -- drops of some handles lead from one world to another

@@ -1,30 +1,7 @@
 -- A span that was made for a task.
-use Rattle.std.proofs.Common.{◌≡◌, ℕ, zero, suc, ◌+◌, ◌<◌, ◌≤◌, List, [], ◌∷◌, ◌++◌, length, Bool, true, false, Option, Some, None, Result, Ok, Err, refl, sym, ap, subst, ◌∙◌, arith, slice_get}
-use Rattle.std.specs.Prelude.{IfOk, OnErr}
-use Rattle.otel_base.specs.declared.memory.Memory.{Memory}
-use Rattle.trace_base.specs.declared.callsite.Callsite.{Callsite}
-use Rattle.trace_base.specs.declared.field.ValueSet.{ValueSet}
-use Rattle.trace_base.specs.declared.lane.Lane.{Lane}
-use Rattle.trace_base.specs.declared.level.LevelFilter.{LevelFilter}
+use Rattle.std.proofs.Common.{◌≡◌, ℕ, zero, suc, ◌+◌, ◌<◌, ◌≤◌, List, [], ◌∷◌, ◌++◌, length, Bool, true, false, Option, Some, None, Result, Ok, Err, refl, sym, ap, subst, ◌∙◌, arith, slice_get, IfOk, OnErr}
+use Rattle.trace_tasks.proofs.Common.{Memory, Callsite, ValueSet, Lane, LevelFilter, SubscriberCall, NewSpan, spans_after_call, with_new_span, Lanes, Worlds, Span, Spans, span_at, entries_on, place_on, spans_in, no_spans, Handle, IsKnown, MakesIf, ReplacedIf, id_of, as_many, seen_before, seen_later, Instrumented, HasAll, same_kept, keeps_all, PartCall, Running, Task, Wants, untouched, spare, MakesOne, Begins, MakesGated, values_of, root_of_one_handle, IsAlone, IsAloneAs, Ready, dispatch_serving}
 use Rattle.trace_base.specs.declared.span.Parent.TheVariants as parent
-use Rattle.trace_base.specs.Calls.{SubscriberCall, NewSpan, spans_after_call, with_new_span}
-use Rattle.trace_base.specs.lanes.Contexts.{Lanes}
-use Rattle.trace_base.specs.Gate.{Worlds}
-use Rattle.trace_base.specs.Spans.{Span, Spans, span_at, entries_on, place_on}
-use Rattle.span_handles.specs.Worlds.{spans_in, no_spans}
-use Rattle.span_handles.specs.Handles.{Handle, IsKnown, MakesIf, ReplacedIf, id_of}
-use Rattle.span_handles.proofs.Showing.{as_many, seen_before, seen_later}
-use Rattle.span_futures.specs.declared.instrument.Instrumented.{Instrumented}
-use Rattle.span_futures.specs.Lent.{HasAll}
-use Rattle.span_futures.proofs.Keeping.{same_kept, keeps_all}
-use Rattle.otel_layer.specs.Parts.{PartCall}
-use Rattle.trace_tasks.specs.declared.running.Running.{Running}
-use Rattle.trace_tasks.specs.declared.script.Task.{Task}
-use Rattle.trace_tasks.specs.Acts.{Wants, untouched, spare}
-use Rattle.trace_tasks.specs.Begun.{MakesOne, Begins}
-use Rattle.trace_tasks.specs.Carrying.{MakesGated}
-use Rattle.span_script.specs.Fields.{values_of}
-use Rattle.trace_tasks.specs.Turning.{root_of_one_handle, IsAlone, IsAloneAs, Ready, dispatch_serving}
 
 -- something is at each place
 pub there : {X : Type 0} (xs : List X) (n : ℕ) → n < length xs → (x : X) × (slice_get xs n ≡ Some x)

@@ -1,19 +1,8 @@
 -- A queue after a poll of its first task.
 use Rattle.std.proofs.Common.{◌≡◌, ℕ, suc, ◌+◌, List, [], ◌∷◌, ◌++◌, Option, Some, None, refl, sym, ap, subst, ◌∙◌, arith}
 use Rattle.std.specs.Option.{option_map}
-use Rattle.std.proofs.lemmas.List.Sums.{sum_by-cons, sum_by_push}
-use Rattle.trace_base.specs.Gate.{Worlds}
-use Rattle.trace_base.specs.Spans.{Span, Spans, span_at}
-use Rattle.span_handles.specs.Worlds.{spans_in}
-use Rattle.span_handles.specs.Handles.{Handle, Held, IsKnown, id_of}
-use Rattle.span_futures.specs.declared.instrument.Instrumented.{Instrumented}
-use Rattle.trace_tasks.specs.declared.running.Running.{Running}
-use Rattle.trace_tasks.specs.declared.script.Step.{Step}
+use Rattle.trace_tasks.proofs.Common.{sum_by-cons, sum_by_push, Worlds, Span, Spans, span_at, spans_in, Handle, Held, IsKnown, id_of, Instrumented, Running, Step, left_of, Left, yields, polls_left, all_polls, after_poll, requeue, IsAlone, IsAloneAs, IsLeft, SpansStay, Waits, IsApart, AreApart, AllWait, AllKnown, TaskStands, AllStand, KeepsBut, queue_with, polls_in}
 use Rattle.trace_tasks.specs.declared.script.Step.TheVariants as step
-use Rattle.trace_tasks.specs.Acts.{left_of}
-use Rattle.trace_tasks.specs.Flat.{Left, yields, polls_left, all_polls, after_poll, requeue}
-use Rattle.trace_tasks.specs.Turning.{IsAlone, IsAloneAs, IsLeft, SpansStay}
-use Rattle.trace_tasks.specs.Waiting.{Waits, IsApart, AreApart, AllWait, AllKnown, TaskStands, AllStand, KeepsBut, queue_with, polls_in}
 
 -- ---- polls
 

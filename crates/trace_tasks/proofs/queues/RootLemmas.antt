@@ -1,12 +1,8 @@
 -- A root that one handle holds, while it is entered and after.
-use Rattle.std.proofs.Common.{◌≡◌, ℕ, zero, suc, ◌+◌, List, [], ◌∷◌, ◌++◌, Some, None, refl, sym, ap, ◌∙◌, arith}
-use Rattle.std.specs.Prelude.{if◌then◌else◌, ◌==◌}
+use Rattle.std.proofs.Common.{◌≡◌, ℕ, zero, suc, ◌+◌, List, [], ◌∷◌, ◌++◌, Some, None, refl, sym, ap, ◌∙◌, arith, if◌then◌else◌, ◌==◌}
 use Rattle.std.specs.Option.{option_map}
-use Rattle.std.proofs.lemmas.Bool.{eq-eqb, cond-true}
-use Rattle.trace_base.specs.Spans.{Span, Spans, span_at, entries_on, times_in, is_in, without_last, current_of, current_on, with_hold, without_hold, less_hold, next_of}
-use Rattle.trace_base.specs.Calls.{with_span_entry, with_span_exit}
-use Rattle.trace_base.proofs.Entering.{count_cons, with_same}
-use Rattle.trace_tasks.specs.Turning.{root_of_one_handle}
+use Rattle.trace_tasks.proofs.Common.{cond-true, Span, Spans, span_at, entries_on, times_in, is_in, without_last, current_of, current_on, with_hold, without_hold, less_hold, next_of, with_span_entry, with_span_exit, count_cons, with_same, root_of_one_handle}
+use Rattle.std.proofs.lemmas.Bool.{eq-eqb}
 
 -- entered and exited, it is as it was
 pub back : (made : List Span) (id site : ℕ) → span_at made id ≡ root_of_one_handle site → without_hold (with_hold made id) id ≡ made

@@ -1,23 +1,6 @@
 -- Tasks that take turns, so far.
 use Rattle.std.proofs.Common.{◌≡◌, ℕ, suc, ◌+◌, List, [], ◌∷◌, ◌++◌, length, Bool, Option, Some, refl, sym, ap, subst, ◌∙◌, arith, append_assoc}
-use Rattle.otel_base.specs.declared.enter_error.EnterError.{EnterError}
-use Rattle.trace_base.specs.declared.callsite.Callsite.{Callsite}
-use Rattle.trace_base.specs.declared.lane.Lane.{Lane}
-use Rattle.trace_base.specs.declared.level.LevelFilter.{LevelFilter}
-use Rattle.trace_base.specs.Calls.{SubscriberCall}
-use Rattle.trace_base.specs.Gate.{Worlds}
-use Rattle.trace_base.specs.Spans.{Spans}
-use Rattle.span_handles.specs.Handles.{Handle, Held, IsKnown}
-use Rattle.span_futures.specs.declared.instrument.Instrumented.{Instrumented}
-use Rattle.otel_layer.specs.Parts.{PartCall}
-use Rattle.span_script.specs.declared.request.Request.{Request}
-use Rattle.trace_tasks.specs.declared.running.Running.{Running}
-use Rattle.trace_tasks.specs.declared.script.Step.{Step}
-use Rattle.trace_tasks.specs.Carrying.{Stage, Carries}
-use Rattle.trace_tasks.specs.Flat.{Left, all_polls, moment_of, poll, after_poll, requeue, turns}
-use Rattle.trace_tasks.specs.Turning.{served_by, dispatch_serving, Ready, left_as, Turned}
-use Rattle.trace_tasks.specs.Waiting.{AllWait, AllStand, KeepsBut, TakesTurns, queue_with, polls_in}
-use Rattle.trace_tasks.specs.Stops.{left_after, exit_if, drops_of_tasks, leavings, StopsPoll, StopsTurns, TurnStops}
+use Rattle.trace_tasks.proofs.Common.{EnterError, Callsite, Lane, LevelFilter, SubscriberCall, Worlds, Spans, Handle, Held, IsKnown, Instrumented, PartCall, Request, Running, Step, Stage, Carries, Left, all_polls, moment_of, poll, after_poll, requeue, turns, served_by, dispatch_serving, Ready, left_as, Turned, AllWait, AllStand, KeepsBut, TakesTurns, queue_with, polls_in, left_after, exit_if, drops_of_tasks, leavings, StopsPoll, StopsTurns, TurnStops}
 use Rattle.trace_tasks.proofs.queues.QueueLemmas.{polls_after, left_less, stand_after, wait_after}
 use Rattle.trace_tasks.proofs.tapes.RoundsLemmas.{turns_split, turns_more, left_more}
 

@@ -1,32 +1,14 @@
 -- A poll of a task over a tape.
 use Rattle.std.proofs.Common.{◌≡◌, ℕ, zero, suc, ◌<◌, List, [], ◌∷◌, ◌++◌, length, map, Bool, true, Option, Some, None, Result, Ok, Err, refl, sym, ap, subst, ◌∙◌, arith, slice_get, append_assoc}
 use Rattle.std.proofs.lemmas.List.{append-nil}
-use Rattle.otel_base.specs.declared.memory.Memory.{Memory}
+use Rattle.trace_tasks.proofs.Common.{Memory, OpReply, Callsite, SubscriberCall, Records, Event, spans_after_call, Worlds, cached_at, gate, Spans, Replaced, Handle, RecordsAt, RecordsOn, callsite_in, handle_of, now_there, Applies, Request, TapeValue, DoesTape, taped_after, on_first_lane, TouchesTape, AppliesTape, is_live, Step, now_of, CallsIf, TellsAt, IsGranted, Stage, Told, Handled, Fields, values_of, values_by, Left, declared_ones, step_call, tape_spans, CarriesTape, IsDeclared, IsTested}
 use Rattle.otel_state.specs.declared.op.Op.TheVariants as ops
-use Rattle.otel_state.specs.declared.op.OpReply.{OpReply}
-use Rattle.trace_base.specs.declared.callsite.Callsite.{Callsite}
 use Rattle.trace_base.specs.declared.subscriber.Interest.TheVariants as interests
 use Rattle.trace_base.specs.declared.span.Parent.TheVariants as parent
-use Rattle.trace_base.specs.Calls.{SubscriberCall, Records, Event, spans_after_call}
-use Rattle.trace_base.specs.Gate.{Worlds, cached_at, gate}
-use Rattle.trace_base.specs.Spans.{Spans}
-use Rattle.span_handles.specs.Worlds.{Replaced}
-use Rattle.span_handles.specs.Handles.{Handle, RecordsAt, RecordsOn, callsite_in, handle_of}
-use Rattle.span_handles.proofs.Showing.{now_there}
 use Rattle.otel_layer.specs.Asking.{AppliesOn}
-use Rattle.otel_layer.specs.Parts.{Applies}
 use Rattle.span_script.specs.declared.request.Call.TheVariants as call
 use Rattle.span_script.specs.declared.request.Place.TheVariants as place
-use Rattle.span_script.specs.declared.request.Request.{Request}
-use Rattle.trace_tape.specs.Taping.{TapeValue, DoesTape, taped_after, on_first_lane}
-use Rattle.trace_tape.specs.Touching.{TouchesTape, AppliesTape, is_live}
-use Rattle.trace_tasks.specs.declared.script.Step.{Step}
 use Rattle.trace_tasks.specs.declared.script.Step.TheVariants as step
-use Rattle.trace_tasks.specs.Acts.{now_of, CallsIf, TellsAt, IsGranted}
-use Rattle.trace_tasks.specs.Carrying.{Stage, Told, Handled}
-use Rattle.span_script.specs.Fields.{Fields, values_of, values_by}
-use Rattle.trace_tasks.specs.Flat.{Left, declared_ones, step_call}
-use Rattle.trace_tasks.specs.Spelled.{tape_spans, CarriesTape, IsDeclared, IsTested}
 use Rattle.trace_tasks.proofs.tapes.SpelledLemmas.{named_back, all_declared, one_call}
 
 -- ---- between two moments inside a poll: requests were added, and nothing else of the tape changed

@@ -1,29 +1,12 @@
 -- Polls over a tape spell their requests.
-use Rattle.std.proofs.Common.{◌≡◌, ℕ, zero, suc, ◌+◌, ◌-◌, ◌<◌, ◌^◌, List, [], ◌∷◌, ◌++◌, length, map, Bool, true, Option, Some, None, refl, sym, ap, subst, ◌∙◌, arith, slice_get, slice_set, append_assoc}
+use Rattle.std.proofs.Common.{◌≡◌, ℕ, zero, suc, ◌+◌, ◌-◌, ◌<◌, ◌^◌, List, [], ◌∷◌, ◌++◌, length, map, Bool, true, Option, Some, None, refl, sym, ap, subst, ◌∙◌, arith, slice_get, slice_set, append_assoc, ◌==◌, ◌&&◌, if◌then◌else◌, nat_lt}
 use Rattle.std.proofs.lemmas.List.{append-nil}
-use Rattle.std.specs.Prelude.{◌==◌, ◌&&◌, if◌then◌else◌, nat_lt}
-use Rattle.std.proofs.lemmas.Bool.{eq-eqb, cond-true, lt-ltb}
-use Rattle.trace_base.specs.declared.callsite.Callsite.{Callsite}
-use Rattle.trace_base.specs.declared.lane.Lane.{Lane}
+use Rattle.trace_tasks.proofs.Common.{cond-true, Callsite, Lane, Enter, Exit, TryClose, with_span_entry, with_span_exit, cached_at, Span, Spans, span_at, entries_on, with_hold, without_hold, without_last, next_of, Replaced, Chain, ended, closes, Handle, Held, ReplacedOn, handle_of, BeginsInside, Request, TapeValue, DoesTape, on_first_lane, is_opened, is_due, let_go, exit_requests, drop_requests, handles_of, one_more, TouchesTape, is_live, Step, now_of, left_of, Stage, Entered, Exited, Left, step_call, moment_of, drop_at_end, poll, tape_spans, CarriesTape, IsTested, root_of_one_handle}
+use Rattle.std.proofs.lemmas.Bool.{eq-eqb, lt-ltb}
 use Rattle.trace_base.specs.declared.subscriber.Interest.TheVariants as interests
-use Rattle.trace_base.specs.Calls.{Enter, Exit, TryClose, with_span_entry, with_span_exit}
-use Rattle.trace_base.specs.Gate.{cached_at}
-use Rattle.trace_base.specs.Spans.{Span, Spans, span_at, entries_on, with_hold, without_hold, without_last, next_of}
-use Rattle.span_handles.specs.Worlds.{Replaced, Chain, ended, closes}
-use Rattle.span_handles.specs.Handles.{Handle, Held, ReplacedOn, handle_of}
-use Rattle.span_handles.specs.Entries.{BeginsInside}
 use Rattle.otel_state.specs.Stack.{last_passing}
 use Rattle.trace_tape.specs.declared.opened.Opened.{Opened}
 use Rattle.span_script.specs.declared.request.Call.TheVariants as call
-use Rattle.span_script.specs.declared.request.Request.{Request}
-use Rattle.trace_tape.specs.Taping.{TapeValue, DoesTape, on_first_lane, is_opened, is_due, let_go, exit_requests, drop_requests, handles_of, one_more}
-use Rattle.trace_tape.specs.Touching.{TouchesTape, is_live}
-use Rattle.trace_tasks.specs.declared.script.Step.{Step}
-use Rattle.trace_tasks.specs.Acts.{now_of, left_of}
-use Rattle.trace_tasks.specs.Carrying.{Stage, Entered, Exited}
-use Rattle.trace_tasks.specs.Flat.{Left, step_call, moment_of, drop_at_end, poll}
-use Rattle.trace_tasks.specs.Spelled.{tape_spans, CarriesTape, IsTested}
-use Rattle.trace_tasks.specs.Turning.{root_of_one_handle}
 use Rattle.trace_tasks.proofs.polls.EntryLemmas.{get_push}
 use Rattle.trace_tasks.proofs.queues.RootLemmas.{back, entered_made, entered_entries, exited_made, exited_entries, no_next}
 use Rattle.trace_tasks.proofs.tapes.SpelledLemmas.{one_call}

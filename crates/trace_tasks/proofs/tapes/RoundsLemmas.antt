@@ -1,16 +1,8 @@
 -- Rounds are turns.
-use Rattle.std.proofs.Common.{◌≡◌, ℕ, zero, suc, ◌+◌, ◌≤◌, List, [], ◌∷◌, ◌++◌, length, Option, Some, None, refl, sym, ap, ◌∙◌, arith, append_assoc}
+use Rattle.std.proofs.Common.{◌≡◌, ℕ, zero, suc, ◌+◌, ◌≤◌, List, [], ◌∷◌, ◌++◌, length, Option, Some, None, refl, sym, ap, ◌∙◌, arith, append_assoc, filter_map}
 use Rattle.std.proofs.lemmas.List.{append-nil}
-use Rattle.std.specs.Prelude.{filter_map}
 use Rattle.std.specs.Option.{option_map}
-use Rattle.std.specs.List.{cons_option}
-use Rattle.std.proofs.lemmas.List.Sums.{sum_by-cons}
-use Rattle.trace_base.specs.declared.callsite.Callsite.{Callsite}
-use Rattle.span_script.specs.declared.request.Request.{Request}
-use Rattle.trace_tasks.specs.declared.script.Step.{Step}
-use Rattle.trace_tasks.specs.Acts.{left_of}
-use Rattle.trace_tasks.specs.Flat.{Left, polls_left, all_polls, poll, after_poll, requeue, round, rounds, turns}
-use Rattle.trace_tasks.specs.Stops.{left_after}
+use Rattle.trace_tasks.proofs.Common.{cons_option, sum_by-cons, Callsite, Request, Step, left_of, Left, polls_left, all_polls, poll, after_poll, requeue, round, rounds, turns, left_after}
 use Rattle.trace_tasks.proofs.queues.QueueLemmas.{yields_none, yields_some}
 
 module _ (sites : List Callsite) where

@@ -1,36 +1,14 @@
 -- A run over a new tape spells the flat list.
-use Rattle.std.proofs.Common.{◌≡◌, ℕ, zero, suc, ◌+◌, ◌<◌, ◌^◌, List, [], ◌∷◌, ◌++◌, length, Bool, true, false, Option, Some, None, Result, Ok, Err, refl, sym, ap, subst, ◌∙◌, arith, slice_get, append_assoc}
+use Rattle.std.proofs.Common.{◌≡◌, ℕ, zero, suc, ◌+◌, ◌<◌, ◌^◌, List, [], ◌∷◌, ◌++◌, length, Bool, true, false, Option, Some, None, Result, Ok, Err, refl, sym, ap, subst, ◌∙◌, arith, slice_get, append_assoc, IfOk, IfErr, slice_index_or}
 use Rattle.std.proofs.lemmas.List.{append-nil}
-use Rattle.std.specs.Prelude.{IfOk, IfErr, slice_index_or}
 use Rattle.std.proofs.lemmas.Bool.{true≢false}
-use Rattle.otel_base.specs.declared.enter_error.EnterError.{EnterError}
+use Rattle.trace_tasks.proofs.Common.{EnterError, list_all, option_map_or, Callsite, Lane, SubscriberCall, NewSpan, with_new_span, Worlds, cached_at, gate, Span, Spans, no_span, span_at, entries_on, place_on, Replaced, spans_in, no_spans, Handle, handle_of, Request, TapeValue, DoesTape, on_first_lane, named_values, handles_of, TouchesTape, Step, left_of, Stage, MakesGated, Made, Fields, declares, values_of, Left, poll, after_poll, requeue, turns, rounds, tasks_at_first, makings, all_polls, flat, tape_spans, CarriesTape, IsDeclared, IsTested, AreTested, IsNewTape, Ran, GaveUp, Ready, root_of_one_handle, dispatch_serving, Task}
 use Rattle.otel_base.specs.declared.enter_error.EnterError.TheVariants as faults
-use Rattle.std.specs.List.{list_all}
-use Rattle.std.specs.Option.{option_map, option_map_or}
-use Rattle.trace_base.specs.declared.callsite.Callsite.{Callsite}
-use Rattle.trace_base.specs.declared.lane.Lane.{Lane}
+use Rattle.std.specs.Option.{option_map}
 use Rattle.trace_base.specs.declared.span.Parent.TheVariants as parent
-use Rattle.trace_base.specs.Calls.{SubscriberCall, NewSpan, with_new_span}
-use Rattle.trace_base.specs.Gate.{Worlds, cached_at, gate}
-use Rattle.trace_base.specs.Spans.{Span, Spans, no_span, span_at, entries_on, place_on}
-use Rattle.span_handles.specs.Worlds.{Replaced, spans_in, no_spans}
-use Rattle.span_handles.specs.Handles.{Handle, handle_of}
 use Rattle.span_script.specs.declared.request.Call.TheVariants as call
 use Rattle.span_script.specs.declared.request.Place.TheVariants as place
-use Rattle.span_script.specs.declared.request.Request.{Request}
-use Rattle.trace_tape.specs.Taping.{TapeValue, DoesTape, on_first_lane, named_values, handles_of}
-use Rattle.trace_tape.specs.Touching.{TouchesTape}
-use Rattle.trace_tasks.specs.declared.script.Step.{Step}
 use Rattle.trace_tasks.specs.declared.script.Step.TheVariants as step
-use Rattle.trace_tasks.specs.Acts.{left_of}
-use Rattle.trace_tasks.specs.Carrying.{Stage, MakesGated, Made}
-use Rattle.span_script.specs.Fields.{Fields, declares, values_of}
-use Rattle.trace_tasks.specs.Flat.{Left, poll, after_poll, requeue, turns, rounds, tasks_at_first, makings, all_polls, flat}
-use Rattle.trace_tasks.specs.Spelled.{tape_spans, CarriesTape, IsDeclared, IsTested, AreTested, IsNewTape}
-use Rattle.trace_tasks.specs.Begun.{Ran}
-use Rattle.trace_tasks.specs.Stops.{GaveUp}
-use Rattle.trace_tasks.specs.Turning.{Ready, root_of_one_handle, dispatch_serving}
-use Rattle.trace_tasks.specs.declared.script.Task.{Task}
 use Rattle.trace_tasks.proofs.tapes.PollsLemmas.{Calm, Held_once, Polled, poll_spells, split}
 use Rattle.trace_tasks.proofs.polls.EntryLemmas.{get_push}
 use Rattle.trace_tasks.proofs.tapes.RoundsLemmas.{rounds_are_turns}
@@ -121,7 +99,7 @@ the_handle : (a b : Handle) → ◌≡◌ {A = Option Handle} (Some a) (Some b) 
 the_handle a b e = cc e
 
 -- a tape on which some spans were made and nothing else
-pub record Making (d : ℕ) (sites : List Callsite) (i : ℕ) (s : Stage TapeValue) (tape : TapeValue) : Type 0 where
+pub record OnlySpansMade (d : ℕ) (sites : List Callsite) (i : ℕ) (s : Stage TapeValue) (tape : TapeValue) : Type 0 where
   pub calm : Calm d sites 0 s tape
   pub made : length tape.below.spans.made ≡ i
   pub handles : length tape.handles ≡ i
@@ -150,7 +128,7 @@ longer (y ∷ xs) x = (let r = longer xs x in omega (arith, r))
 -- one making
 pub record MadeOne (d : ℕ) (sites : List Callsite) (i site : ℕ) (fields : Fields) (s m : Stage TapeValue) (tape : TapeValue) : Type 0 where
   pub now : TapeValue
-  pub making : Making d sites (i + 1) m now
+  pub making : OnlySpansMade d sites (i + 1) m now
   pub requests : now.requests ≡ tape.requests ++ on_first_lane 0 (call.New site place.Contextual fields) ∷ []
   pub handle : slice_get m.handles i ≡ Some (handle_of d i site)
   pub lone : span_at now.below.spans.made i ≡ root_of_one_handle site
@@ -158,7 +136,7 @@ pub record MadeOne (d : ℕ) (sites : List Callsite) (i site : ℕ) (fields : Fi
   pub earlier : (n : ℕ) → n < i → (span_at now.below.spans.made n ≡ span_at tape.below.spans.made n) × (handles_of now.handles n ≡ handles_of tape.handles n)
   pub before : (n : ℕ) (h : Handle) → slice_get s.handles n ≡ Some h → slice_get m.handles n ≡ Some h
 
-make_spells : (d : ℕ) (sites : List Callsite) (i site : ℕ) (fields : Fields) (s m : Stage TapeValue) (tape : TapeValue) → Making d sites i s tape → IsDeclared (slice_get sites site) fields
+make_spells : (d : ℕ) (sites : List Callsite) (i site : ℕ) (fields : Fields) (s m : Stage TapeValue) (tape : TapeValue) → OnlySpansMade d sites i s tape → IsDeclared (slice_get sites site) fields
     → Made tape_spans (λ x. None) (λ x lane c. true) DoesTape TouchesTape d 0 site fields s m → MadeOne d sites i site fields s m tape
 make_spells d sites i site fields s m tape making declared new =
     let calm = making.calm in
@@ -231,7 +209,7 @@ later_numbers : (j i : ℕ) (tasks : List Task) (t : Left) → t.number ≡ j �
 later_numbers j i [] t is less = tt
 later_numbers j i (x ∷ tasks) t is less = ((λ e. absurd (omega (arith, e, is, less))), later_numbers j (i + 1) tasks t is (omega (arith, less)))
 
-pub makings_spell : (d : ℕ) (sites : List Callsite) (i : ℕ) (tasks : List Task) (s m : Stage TapeValue) (tape : TapeValue) → Making d sites i s tape → AreTested sites tasks → CarriesTape d (makings tasks) s m → MadeAll d sites i tasks s m tape
+pub makings_spell : (d : ℕ) (sites : List Callsite) (i : ℕ) (tasks : List Task) (s m : Stage TapeValue) (tape : TapeValue) → OnlySpansMade d sites i s tape → AreTested sites tasks → CarriesTape d (makings tasks) s m → MadeAll d sites i tasks s m tape
 makings_spell d sites i [] s m tape making tested did = record {
   now = tape;
   calm = subst (λ (x : Stage TapeValue). Calm d sites 0 x tape) (sym did) making.calm;

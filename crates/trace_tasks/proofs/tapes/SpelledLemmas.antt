@@ -1,20 +1,10 @@
 -- What requests that are carried out over a tape spell.
-use Rattle.std.proofs.Common.{◌≡◌, ℕ, List, [], ◌∷◌, map, Bool, true, false, Option, Some, None, refl, sym, ap, ◌∙◌, slice_get}
-use Rattle.std.specs.Prelude.{◌&&◌, if◌then◌else◌, filter_map, is_some, position, bytes_eq, slice_index_or}
-use Rattle.std.specs.List.{list_all, cons_option}
+use Rattle.std.proofs.Common.{◌≡◌, ℕ, List, [], ◌∷◌, map, Bool, true, false, Option, Some, None, refl, sym, ap, ◌∙◌, slice_get, ◌&&◌, if◌then◌else◌, filter_map, is_some, position, bytes_eq, slice_index_or}
+use Rattle.trace_tasks.proofs.Common.{list_all, cons_option, Callsite, SubscriberCall, spans_after_call, place_of, Worlds, Replaced, now_there, TapeValue, DoesTape, taped_after, name_at, named_values, Fields, declared_value, declares, values_of, declared_ones}
 use Rattle.std.specs.Option.{option_map}
 use Rattle.std.proofs.lemmas.Bool.{true≢false}
 use Rattle.std.specs.Cmp.Lexicographic.{same_text}
 use Rattle.std.proofs.lemmas.List.Quantifiers.{position-Some}
-use Rattle.trace_base.specs.declared.callsite.Callsite.{Callsite}
-use Rattle.trace_base.specs.Calls.{SubscriberCall, spans_after_call}
-use Rattle.trace_base.specs.Field.{place_of}
-use Rattle.trace_base.specs.Gate.{Worlds}
-use Rattle.span_handles.specs.Worlds.{Replaced}
-use Rattle.span_handles.proofs.Showing.{now_there}
-use Rattle.trace_tape.specs.Taping.{TapeValue, DoesTape, taped_after, name_at, named_values}
-use Rattle.span_script.specs.Fields.{Fields, declared_value, declares, values_of}
-use Rattle.trace_tasks.specs.Flat.{declared_ones}
 
 -- ---- names
 

@@ -1,21 +1,9 @@
 -- What one turn of a handle comes to.
-use Rattle.std.proofs.Common.{◌≡◌, ◌≢◌, ℕ, zero, suc, ◌+◌, ◌<◌, ◌^◌, Bool, true, false, List, [], ◌∷◌, ◌++◌, length, refl, ap, sym, ◌∙◌, subst, arith, Some, None}
-use Rattle.std.specs.Prelude.{Option}
-use mathlib.Core.List.{IsPrefix}
-use Rattle.trace_threads.specs.declared.making.Making.{Making}
-use Rattle.trace_threads.specs.declared.history.Entry.{Entry}
-use Rattle.trace_threads.specs.declared.history.What.{What}
-use Rattle.trace_threads.specs.declared.history.What.TheVariants.{Clone, Call, Join, Release}
-use Rattle.otel_state.specs.declared.op.Op.{Op}
+use Rattle.std.proofs.Common.{◌≡◌, ◌≢◌, ℕ, zero, suc, ◌+◌, ◌<◌, ◌^◌, Bool, true, false, List, [], ◌∷◌, ◌++◌, length, refl, ap, sym, ◌∙◌, subst, arith, Some, None, Option}
+use Rattle.trace_threads.proofs.Common.{IsPrefix, Making, Entry, What, Clone, Call, Join, Release, Op, View, Idle, move_of, count, opens_after, start, is_legal, IsLegal, may, may_do, may_move, has, entries_by, IsHeld, IsOut, written_entry, is_closed, opens_entry, move_in, Shared, shared_of, some_making, reply_at, Turn, Slot, Mine, entries, home_of, AllBegin, view_after, passed_by, MayTurn, MayEnd, left_of, right_of, both_of, IsIdle, IsBare, IsAtRest, Begun, MakesEntry, Called, LeftAsIs, FinishesState, Closes, IsCloneOf, ClosesWith}
 use Rattle.otel_state.specs.declared.op.Op.TheVariants as ops
 use Rattle.otel_state.specs.declared.op.OpReply.{OpReply}
-use Rattle.trace_threads.specs.declared.turns.View.{View}
-use Rattle.trace_threads.specs.declared.turns.Stage.TheVariants.{Idle}
-use Rattle.trace_threads.specs.Moves.{move_of, count, opens_after}
-use Rattle.trace_threads.specs.History.{start, sum, is_legal, IsLegal, may, may_do, may_move, has, entries_by, IsHeld, IsOut, written_entry, is_closed, opens_entry, move_in}
-use Rattle.trace_threads.specs.Shared.{Shared, shared_of, some_making, reply_at}
-use Rattle.trace_threads.specs.Turns.{Turn, Slot, Mine, entries, home_of, AllBegin, view_after, passed_by, MayTurn, MayEnd, left_of, right_of, both_of}
-use Rattle.trace_threads.specs.Calls.{IsIdle, IsBare, IsAtRest, Begun, MakesEntry, Called, LeftAsIs, FinishesState, Closes, IsCloneOf, ClosesWith}
+use Rattle.trace_threads.specs.History.{sum}
 use Rattle.trace_threads.proofs.histories.HoldersLemmas.{few, counted, counted_none}
 use Rattle.trace_threads.proofs.histories.OpenEntriesLemmas.{own_count, opens_push}
 use Rattle.trace_threads.proofs.histories.HistoriesLemmas.{legal_push, held_push, by_own, by_other, may_any, may_clone, may_join, may_release, Spares, fresh, fresh_entries}

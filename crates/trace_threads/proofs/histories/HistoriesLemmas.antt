@@ -1,12 +1,8 @@
 -- A history with one entry more.
-use Rattle.std.proofs.Common.{◌≡◌, ◌≢◌, ⊎_elim, ℕ, ◌+◌, ◌<◌, ◌≤◌, ◌==◌, Bool, true, false, ◌||◌, max, List, [], ◌∷◌, ◌++◌, length, refl, ap, sym, ◌∙◌, subst, arith, true≢false}
-use Rattle.std.specs.Prelude.{nat_le}
-use Rattle.std.proofs.lemmas.Bool.Decides.{nat_tests}
+use Rattle.std.proofs.Common.{◌≡◌, ◌≢◌, ⊎_elim, ℕ, ◌+◌, ◌<◌, ◌≤◌, ◌==◌, Bool, true, false, ◌||◌, max, List, [], ◌∷◌, ◌++◌, length, refl, ap, sym, ◌∙◌, subst, arith, true≢false, nat_le}
+use Rattle.trace_threads.proofs.Common.{nat_tests, Entry, What, Clone, Call, Join, Release, Sum, start, entry, has, others_in, clones_after, held_after, sum_after, may, may_do, sum_of, is_legal, IsLegal, IsHeld, entries_by, EndedForGood, EndedIsDone, NothingFollows, ends_handle, has_end, WholeIsSeen}
 use Rattle.std.proofs.lemmas.List.{append-nil}
-use Rattle.trace_threads.specs.declared.history.Entry.{Entry}
-use Rattle.trace_threads.specs.declared.history.What.{What}
-use Rattle.trace_threads.specs.declared.history.What.TheVariants.{Clone, Call, Join, Release}
-use Rattle.trace_threads.specs.History.{Sum, start, entry, has, others_in, is_none, clones_after, held_after, sum_after, may, may_do, sum_of, is_legal, IsLegal, sum, IsHeld, entries_by, EndedForGood, EndedIsDone, NothingFollows, ends_handle, has_end, WholeIsSeen}
+use Rattle.trace_threads.specs.History.{is_none, sum}
 use Rattle.trace_threads.proofs.histories.HoldersLemmas.{both, has_more, has_new, has_back, has_without, in_without, Distinct, distinct_more, distinct_without}
 
 pub sum_push : (s : Sum) (log : List Entry) (e : Entry) → sum_of s (log ++ e ∷ []) ≡ sum_after (sum_of s log) e

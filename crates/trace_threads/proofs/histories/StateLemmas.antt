@@ -1,25 +1,16 @@
 -- The state of a shared span with one entry more.
-use Rattle.std.proofs.Common.{◌≡◌, ℕ, ◌+◌, ◌-◌, ◌<◌, ◌≤◌, ◌==◌, ◌^◌, Bool, true, false, max, List, [], ◌∷◌, ◌++◌, length, refl, ap, sym, ◌∙◌, subst, arith, length-append, append_assoc, true≢false}
-use Rattle.std.specs.Prelude.{fold, flat_map, is_some, Result, Ok, Err, OnErr, IsTrue}
+use Rattle.std.proofs.Common.{◌≡◌, ℕ, ◌+◌, ◌-◌, ◌<◌, ◌≤◌, ◌==◌, ◌^◌, Bool, true, false, max, List, [], ◌∷◌, ◌++◌, length, refl, ap, sym, ◌∙◌, subst, arith, length-append, append_assoc, true≢false, fold, flat_map, is_some, Result, Ok, Err, OnErr, IsTrue}
 use Rattle.std.proofs.lemmas.List.{append-nil}
 use Rattle.std.proofs.lemmas.List.Sums.{fold-append}
-use Rattle.std.proofs.lemmas.Grind.{flat_map-append}
+use Rattle.trace_threads.proofs.Common.{flat_map-append, Op, Making, Entry, What, Clone, Call, Join, Release, SpanData, data_at_making, after_stamped, Stands, is_growing, Move, enters, exits, stays, move_of, opens_after, Sum, start, entry, has, sum_after, clones_after, held_after, inside_after, move_in, may, may_do, may_move, sum_of, is_legal, IsLegal, IsHeld, is_closed, base_of, own_op, ops_by, ops_in, ops_of, data_by, started_by, ops_at_close, content_of, IsKept}
 use Rattle.otel_base.specs.declared.context.SpanContext.{SpanContext}
-use Rattle.otel_state.specs.declared.op.Op.{Op}
 use Rattle.otel_state.specs.declared.op.Op.TheVariants as ops
 use Rattle.otel_base.specs.declared.record.Record.{Record}
 use Rattle.otel_state.specs.declared.times.TheConstants.{GREATEST}
-use Rattle.trace_threads.specs.declared.making.Making.{Making}
-use Rattle.trace_threads.specs.declared.history.Entry.{Entry}
-use Rattle.trace_threads.specs.declared.history.What.{What}
-use Rattle.trace_threads.specs.declared.history.What.TheVariants.{Clone, Call, Join, Release}
 use Rattle.otel_state.specs.Content.{Making as Base, content}
 use Rattle.otel_state.specs.Deeds.{TimedOp}
-use Rattle.otel_state.specs.States.{SpanData, data_at_making, after_stamped, Stands, is_growing}
 use Rattle.otel_state.specs.Times.{MomentsRise}
-use Rattle.trace_threads.specs.Moves.{Move, enters, exits, stays, move_of, opens_after}
-use Rattle.trace_threads.specs.History.{Sum, start, entry, has, sum_after, clones_after, held_after, inside_after, move_in, may, may_do, may_move, sum_of, is_legal, IsLegal, sum, IsHeld, is_closed}
-use Rattle.trace_threads.specs.Shared.{base_of, own_op, ops_by, ops_in, ops_of, data_by, started_by, ops_at_close, content_of, IsKept}
+use Rattle.trace_threads.specs.History.{sum}
 use Rattle.trace_threads.proofs.histories.HoldersLemmas.{both, Distinct, length_without, length_less}
 use Rattle.trace_threads.proofs.histories.HistoriesLemmas.{sum_push, legal_push, may_any, tested, distinct, counts_none}
 

@@ -1,8 +1,6 @@
 -- Beginnings of one list of turns, and of their entries.
 use Rattle.std.proofs.Common.{◌≡◌, ◌⊎◌, inl, inr, ⊎_elim, List, [], ◌∷◌, ◌++◌, refl, ap, sym, ◌∙◌, append_assoc, None, Some}
-use mathlib.Core.List.{IsPrefix}
-use Rattle.trace_threads.specs.Turns.{Turn, entries}
-use Rattle.trace_threads.specs.Handles.{OneBeginsTheOther}
+use Rattle.trace_threads.proofs.Common.{IsPrefix, Turn, entries, OneBeginsTheOther}
 
 pub prefix_trans : {A : Type 0} (xs ys zs : List A) → IsPrefix xs ys → IsPrefix ys zs → IsPrefix xs zs
 prefix_trans xs ys zs p q = (p.0 ++ q.0, sym (append_assoc xs p.0 q.0) ∙ ap (λ l. l ++ q.0) p.1 ∙ q.1)

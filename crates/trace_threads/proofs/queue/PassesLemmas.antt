@@ -1,23 +1,9 @@
 -- Passing a turn on, with what its holder did in it.
-use Rattle.std.proofs.Common.{◌≡◌, ◌≢◌, inl, ℕ, ◌+◌, ◌%◌, ◌^◌, ◌<◌, ◌==◌, Bool, true, false, List, [], ◌∷◌, ◌++◌, length, set, refl, ap, sym, ◌∙◌, subst, arith, length-append, Some, None}
-use Rattle.std.specs.Prelude.{Option, if◌then◌else◌}
-use Rattle.std.proofs.lemmas.Bool.Decides.{nat_tests}
+use Rattle.std.proofs.Common.{◌≡◌, ◌≢◌, inl, ℕ, ◌+◌, ◌%◌, ◌^◌, ◌<◌, ◌==◌, Bool, true, false, List, [], ◌∷◌, ◌++◌, length, set, refl, ap, sym, ◌∙◌, subst, arith, length-append, Some, None, Option, if◌then◌else◌}
+use Rattle.trace_threads.proofs.Common.{nat_tests, get_elem?, either, step, gives, Allows, Making, Entry, What, Clone, Call, Join, Release, View, Stage, Idle, Waits, Holds, LAST, start, IsLegal, is_legal, may, entries_by, IsHeld, entry, shared_of, Turn, Slot, Mine, entries, home_of, AllBegin, Staged, Known, Placed, ViewFitsRule, KeepsRule, KeepsWords, passed_by, view_after, PassedOn, MayEnd, MayTurn, Closed}
 use mathlib.Core.Option as core
-use lib.ListN.{get_elem?}
-use prog.Atomic.{either}
 use Rattle.std.proofs.Math.Nat.{mod-eq_of_lt}
-use Rattle.atomic_table.specs.Table.{step, gives, Allows}
-use Rattle.trace_threads.specs.declared.making.Making.{Making}
-use Rattle.trace_threads.specs.declared.history.Entry.{Entry}
-use Rattle.trace_threads.specs.declared.history.What.{What}
-use Rattle.trace_threads.specs.declared.history.What.TheVariants.{Clone, Call, Join, Release}
-use Rattle.trace_threads.specs.declared.turns.View.{View}
-use Rattle.trace_threads.specs.declared.turns.Stage.{Stage}
-use Rattle.trace_threads.specs.declared.turns.Stage.TheVariants.{Idle, Waits, Holds}
-use Rattle.trace_threads.specs.declared.turns.TheConstants.{LAST}
-use Rattle.trace_threads.specs.History.{start, IsLegal, sum, is_legal, may, entries_by, IsHeld, entry}
-use Rattle.trace_threads.specs.Shared.{shared_of}
-use Rattle.trace_threads.specs.Turns.{Turn, Slot, Mine, entries, home_of, AllBegin, Staged, Known, Placed, ViewFitsRule, KeepsRule, KeepsWords, passed_by, view_after, PassedOn, MayEnd, MayTurn, Closed}
+use Rattle.trace_threads.specs.History.{sum}
 use Rattle.trace_threads.proofs.histories.HistoriesLemmas.{legal_push, Spares, held_push, by_other, by_own, fresh, fresh_entries, held_new}
 use Rattle.trace_threads.proofs.queue.SeatsLemmas.{prefix_self, prefix_more, all_more, Goes, allows, fits_set, at_own, sides}
 

@@ -1,18 +1,7 @@
 -- Drawing a ticket, and looking whether it is served.
-use Rattle.std.proofs.Common.{◌≡◌, ◌≢◌, inl, inr, ℕ, ◌+◌, ◌<◌, ◌==◌, Bool, true, false, List, [], ◌∷◌, length, set, refl, ap, sym, ◌∙◌, subst, arith}
-use Rattle.std.specs.Prelude.{if◌then◌else◌, MatchBool}
-use Rattle.std.proofs.lemmas.Bool.Decides.{nat_tests}
+use Rattle.std.proofs.Common.{◌≡◌, ◌≢◌, inl, inr, ℕ, ◌+◌, ◌<◌, ◌==◌, Bool, true, false, List, [], ◌∷◌, length, set, refl, ap, sym, ◌∙◌, subst, arith, if◌then◌else◌, MatchBool}
+use Rattle.trace_threads.proofs.Common.{nat_tests, get_elem?, either, step, keeps, takes, Allows, set_here, set_again, Making, View, Stage, Idle, Waits, Holds, LAST, Turn, Slot, Mine, entries, home_of, view, Staged, ViewFitsRule, IsHolder, IsHome, KeepsRule, KeepsWords, at_stage, Drawn, HasTurn, LookedAs, Looked, Noticed}
 use mathlib.Core.Option as core
-use lib.ListN.{get_elem?}
-use prog.Atomic.{either}
-use Rattle.atomic_table.specs.Table.{step, keeps, takes, Allows}
-use Rattle.atomic_table.proofs.Lists.{set_here, set_again}
-use Rattle.trace_threads.specs.declared.making.Making.{Making}
-use Rattle.trace_threads.specs.declared.turns.View.{View}
-use Rattle.trace_threads.specs.declared.turns.Stage.{Stage}
-use Rattle.trace_threads.specs.declared.turns.Stage.TheVariants.{Idle, Waits, Holds}
-use Rattle.trace_threads.specs.declared.turns.TheConstants.{LAST}
-use Rattle.trace_threads.specs.Turns.{Turn, Slot, Mine, entries, home_of, view, Staged, ViewFitsRule, IsHolder, IsHome, KeepsRule, KeepsWords, at_stage, Drawn, HasTurn, LookedAs, Looked, Noticed}
 use Rattle.trace_threads.proofs.queue.SeatsLemmas.{prefix_self, Goes, allows, fits_set, there, same_view, home_else, no_holder, at_own, sides}
 
 -- ---- draw

@@ -1,15 +1,8 @@
 -- The begin and the end of a turn.
-use Rattle.std.proofs.Common.{◌≡◌, ℕ, ◌+◌, ◌%◌, ◌^◌, true, false, List, [], ◌∷◌, ◌++◌, refl, ap, sym, ◌∙◌, subst, true≢false, Some, None}
-use Rattle.std.specs.Prelude.{Option, IsSome}
+use Rattle.std.proofs.Common.{◌≡◌, ℕ, ◌+◌, ◌%◌, ◌^◌, true, false, List, [], ◌∷◌, ◌++◌, refl, ap, sym, ◌∙◌, subst, true≢false, Some, None, Option, IsSome}
 use mathlib.Core.Option as core
-use Rattle.atomic_table.specs.Table.{Step, step, Allows, rest}
-use Rattle.trace_threads.specs.declared.making.Making.{Making}
-use Rattle.trace_threads.specs.declared.history.Entry.{Entry}
-use Rattle.trace_threads.specs.declared.turns.Stage.TheVariants.{Waits}
-use Rattle.trace_threads.specs.History.{sum, IsHeld, has, is_none}
-use Rattle.trace_threads.specs.Shared.{Shared, shared_of, some_making}
-use Rattle.trace_threads.specs.Turns.{Turn, Slot, Mine, entries, home_of, Known, KeepsWords, at_stage, HasTurn, view_after, PassedOn, Closed}
-use Rattle.trace_threads.specs.Calls.{Begun, FinishesState}
+use Rattle.trace_threads.proofs.Common.{Step, step, Allows, rest, Making, Entry, Waits, IsHeld, has, Shared, shared_of, some_making, Turn, Slot, Mine, entries, home_of, Known, KeepsWords, at_stage, HasTurn, view_after, PassedOn, Closed, Begun, FinishesState}
+use Rattle.trace_threads.specs.History.{sum, is_none}
 use Rattle.trace_threads.proofs.queue.PassesLemmas.{passes_on}
 
 -- a held handle finds the slot full

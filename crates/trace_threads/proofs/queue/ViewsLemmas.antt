@@ -1,19 +1,7 @@
 -- A view is cut in two, two views are made one, and the first view opens the table.
-use Rattle.std.proofs.Common.{◌≡◌, ◌≢◌, ◌⊎◌, inl, inr, ⊎_elim, ℕ, zero, suc, ◌<◌, ◌==◌, Bool, true, false, List, [], ◌∷◌, ◌++◌, length, set, refl, ap, sym, ◌∙◌, subst, arith, Some, None, length-set}
-use Rattle.std.specs.Prelude.{Option, if◌then◌else◌, nat_lt}
-use Rattle.std.proofs.lemmas.Bool.Decides.{nat_tests}
-use mathlib.Core.List.{IsPrefix}
-use mathlib.Core.Logic.{dite}
+use Rattle.std.proofs.Common.{◌≡◌, ◌≢◌, ◌⊎◌, inl, inr, ⊎_elim, ℕ, zero, suc, ◌<◌, ◌==◌, Bool, true, false, List, [], ◌∷◌, ◌++◌, length, set, refl, ap, sym, ◌∙◌, subst, arith, Some, None, length-set, Option, if◌then◌else◌, nat_lt}
+use Rattle.trace_threads.proofs.Common.{nat_tests, IsPrefix, dite, ℕ_discrete, get_elem?, Splits, Joins, opening, at_set, set_here, set_else, at_longer, Making, View, Idle, shared_of, Turn, Earlier, Slot, AllBegin, Staged, Placed, ViewFitsRule, IsHolder, IsHome, KeepsRule, KeepsWords, first_view, left_of, right_of, longer, both_of, spent_view}
 use mathlib.Core.Option as core
-use native.Mathlib.Decide.{ℕ_discrete}
-use lib.ListN.{get_elem?}
-use Rattle.atomic_table.specs.Table.{Splits, Joins, opening}
-use Rattle.atomic_table.proofs.Lists.{at_set, set_here, set_else, at_longer}
-use Rattle.trace_threads.specs.declared.making.Making.{Making}
-use Rattle.trace_threads.specs.declared.turns.View.{View}
-use Rattle.trace_threads.specs.declared.turns.Stage.TheVariants.{Idle}
-use Rattle.trace_threads.specs.Shared.{shared_of}
-use Rattle.trace_threads.specs.Turns.{Turn, Earlier, Slot, AllBegin, Staged, Placed, ViewFitsRule, IsHolder, IsHome, KeepsRule, KeepsWords, first_view, left_of, right_of, longer, both_of, spent_view}
 use Rattle.trace_threads.proofs.queue.SeatsLemmas.{prefix_self, fits_set, there, same_view, home_else, no_holder, sides}
 
 abbrev is_at : Option ℕ → ℕ → Bool

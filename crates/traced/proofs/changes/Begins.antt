@@ -1,17 +1,8 @@
 -- What a world begins with, of which a stack that knows no span was added.
-use Rattle.std.proofs.Common.{◌≡◌, ℕ, ◌+◌, ◌<◌, ◌≤◌, List, [], ◌∷◌, ◌++◌, length, Option, Some, Result, Ok, Err, refl, sym, ap, subst, ◌∙◌, arith, slice_get}
-use Rattle.std.specs.Prelude.{IfOk, OnOk}
-use Rattle.std.specs.Option.{option_map_or}
+use Rattle.std.proofs.Common.{◌≡◌, ℕ, ◌+◌, ◌<◌, ◌≤◌, List, [], ◌∷◌, ◌++◌, length, Option, Some, Result, Ok, Err, refl, sym, ap, subst, ◌∙◌, arith, slice_get, IfOk, OnOk}
+use Rattle.traced.proofs.Common.{option_map_or, Callsite, Lane, Ghosts, Worlds, AreSame, dispatch_on, spans_in, kept_in, StandsAlone, IsLawful, AreAtMost, AreServed, AreAssigned, StandsReady}
 use Rattle.std.proofs.lemmas.List.{length-append}
-use Rattle.trace_base.specs.declared.callsite.Callsite.{Callsite}
-use Rattle.trace_base.specs.declared.lane.Lane.{Lane}
-use Rattle.trace_base.specs.declared.subscriber.Subscriber.{Ghosts}
-use Rattle.trace_base.specs.Gate.{Worlds, AreSame, dispatch_on}
 use Rattle.span_registry.specs.Registering.{no_spans}
-use Rattle.span_handles.specs.Worlds.{spans_in, kept_in}
-use Rattle.traced.specs.Keeping.{StandsAlone}
-use Rattle.traced.specs.Laws.{IsLawful}
-use Rattle.traced.specs.Standing.{AreAtMost, AreServed, AreAssigned, StandsReady}
 use Rattle.traced.proofs.Moves.{get_there}
 
 -- the last one of a list

@@ -1,19 +1,6 @@
 -- What is done between a making and a close, or an entry and an exit, put together from what the calls say.
 use Rattle.std.proofs.Common.{◌≡◌, ℕ, true, Result, Ok, OnOk, ap, ◌∙◌, subst}
-use Rattle.otel_base.specs.declared.memory.Memory.{Memory}
-use Rattle.trace_base.specs.declared.field.ValueSet.{ValueSet}
-use Rattle.trace_base.specs.declared.lane.Lane.{Lane}
-use Rattle.trace_base.specs.declared.span.Parent.{Parent}
-use Rattle.trace_base.specs.declared.subscriber.Subscriber.{Ghosts}
-use Rattle.trace_base.specs.Gate.{Worlds}
-use Rattle.trace_base.specs.Calls.{Exit}
-use Rattle.span_handles.specs.Handles.{Handle, ReplacedOn}
-use Rattle.span_handles.specs.Entries.{EntryGuard}
-use Rattle.traced.specs.Gating.{TellsOne, TellsIfAnswered}
-use Rattle.traced.specs.Making.{MakesIfAnswered}
-use Rattle.traced.specs.Moving.{Closes, Enters, Exits}
-use Rattle.traced.specs.Between.{MakesAndCloses, EntersAndExits}
-use Rattle.traced.specs.Telling.{Tells}
+use Rattle.traced.proofs.Common.{Memory, ValueSet, Lane, Parent, Ghosts, Worlds, Exit, Handle, ReplacedOn, EntryGuard, TellsOne, TellsIfAnswered, MakesIfAnswered, Closes, Enters, Exits, MakesAndCloses, EntersAndExits, Tells}
 
 module _ {S : Type 0} {sub : Ghosts S} {old new : Worlds S} where
   pub makes_and_closes : {begun ended : Worlds S} {lane : Lane} {place : Parent} {site begins ends : ℕ} {values : ValueSet} {handle : Handle} {between : Handle → Worlds S → Worlds S → Type 0}

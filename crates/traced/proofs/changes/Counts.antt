@@ -1,14 +1,7 @@
 -- How many spans and holds there are after a call.
-use Rattle.std.proofs.Common.{◌≡◌, ℕ, ◌+◌, ◌≤◌, List, [], ◌∷◌, ◌++◌, length, set, Option, Some, None, refl, sym, ap, subst, arith, inl, inr}
-use Rattle.std.specs.Prelude.{◌==◌}
-use Rattle.std.proofs.lemmas.Bool.{cases_eq, cases_lt, cases_order, cases_Bool, cond-true, cond-false}
-use Rattle.std.proofs.lemmas.List.{length-set, length_push, get_or_past, get_or_push, get_or_append_left}
-use Rattle.trace_base.specs.Spans.{Span, Spans, no_span, span_at, entries_on, is_in, times_in, next_of, with_hold, without_hold, less_hold, held_by_child}
-use Rattle.trace_base.specs.Calls.{TryClose, spans_after_call, with_new_span, with_span_entry, with_span_exit}
-use Rattle.trace_base.proofs.Entering.{length_held}
-use Rattle.trace_base.proofs.Holding.{holds_set, holds_other, less_holds}
-use Rattle.span_handles.specs.Worlds.{ReleasesChain, all_released, releases}
-use Rattle.traced.specs.Standing.{AreAtMost}
+use Rattle.std.proofs.Common.{◌≡◌, ℕ, ◌+◌, ◌≤◌, List, [], ◌∷◌, ◌++◌, length, set, Option, Some, None, refl, sym, ap, subst, arith, inl, inr, ◌==◌}
+use Rattle.traced.proofs.Common.{cases_eq, cases_lt, cases_order, cases_Bool, cond-true, cond-false, length_push, get_or_past, get_or_push, get_or_append_left, Span, Spans, no_span, span_at, entries_on, is_in, times_in, next_of, with_hold, without_hold, less_hold, held_by_child, TryClose, spans_after_call, with_new_span, with_span_entry, with_span_exit, length_held, holds_set, holds_other, less_holds, ReleasesChain, all_released, releases, AreAtMost}
+use Rattle.std.proofs.lemmas.List.{length-set}
 
 pub more : (n m : ℕ) (x : Spans) → n ≤ m → AreAtMost n x → AreAtMost m x
 more n m x within few = record { spans = omega (arith, within, few.spans); holds = λ id. (let h = few.holds id in omega (arith, h, within)) }

@@ -1,16 +1,9 @@
 -- What is made is closed, and what is entered is exited.
-use Rattle.std.proofs.Common.{◌≡◌, ℕ, ◌+◌, ◌-◌, ◌<◌, List, [], ◌∷◌, ◌++◌, length, Option, Some, None, Bool, true, refl, sym, ap, ◌∙◌, subst, arith, inl, inr}
-use Rattle.std.specs.Prelude.{◌==◌, if◌then◌else◌}
+use Rattle.std.proofs.Common.{◌≡◌, ℕ, ◌+◌, ◌-◌, ◌<◌, List, [], ◌∷◌, ◌++◌, length, Option, Some, None, Bool, true, refl, sym, ap, ◌∙◌, subst, arith, inl, inr, ◌==◌, if◌then◌else◌}
 use Rattle.std.specs.List.{list_any}
-use Rattle.std.proofs.lemmas.Bool.{cases_eq, cases_order, cases_Bool, cond-true, cond-false, eq-eqb, ne_eqb}
-use Rattle.std.proofs.lemmas.List.{length_push, get_or_past, get_or_push, get_or_append_left, get_or-set_same, get_or-set_other}
-use Rattle.trace_base.specs.Spans.{Span, Spans, no_span, span_at, entries_on, is_in, times_in, without_last, next_of, with_hold, without_hold, less_hold, held_by_child}
-use Rattle.trace_base.specs.Calls.{with_new_span, with_span_entry, with_span_exit}
-use Rattle.trace_base.proofs.Entering.{count_push, counted_if_any, any_if_counted, none_counted, length_held, made_if_held, with_same, with_other}
-use Rattle.trace_base.proofs.Holding.{less_last, less_more}
-use Rattle.span_handles.specs.Worlds.{ReleasesChain, all_released, releases}
-use Rattle.span_handles.specs.Handles.{Held}
-use Rattle.traced.specs.AsBefore.{AreAsBefore, IsNewest, IsOfNewest, IsLiveOn, IsEntered, IsOpen}
+use Rattle.traced.proofs.Common.{cases_eq, cases_order, cases_Bool, cond-true, cond-false, length_push, get_or_past, get_or_push, get_or_append_left, Span, Spans, no_span, span_at, entries_on, is_in, times_in, without_last, next_of, with_hold, without_hold, less_hold, held_by_child, with_new_span, with_span_entry, with_span_exit, count_push, counted_if_any, any_if_counted, none_counted, length_held, made_if_held, with_same, with_other, less_last, less_more, ReleasesChain, all_released, releases, Held, AreAsBefore, IsNewest, IsOfNewest, IsLiveOn, IsEntered, IsOpen}
+use Rattle.std.proofs.lemmas.Bool.{eq-eqb, ne_eqb}
+use Rattle.std.proofs.lemmas.List.{get_or-set_same, get_or-set_other}
 
 -- nothing has changed, and what was kept stays kept
 pub unchanged : (x y : Spans) → y ≡ x → AreAsBefore x y

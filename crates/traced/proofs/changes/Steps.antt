@@ -1,13 +1,6 @@
 -- What is held, made and entered after calls that leave all as before.
 use Rattle.std.proofs.Common.{ℕ, List, ◌∷◌, sym}
-use Rattle.trace_base.specs.declared.lane.Lane.{Lane}
-use Rattle.trace_base.specs.declared.subscriber.Subscriber.{Ghosts}
-use Rattle.trace_base.specs.Gate.{Worlds}
-use Rattle.span_handles.specs.Handles.{Handle}
-use Rattle.span_handles.specs.Entries.{EntryGuard}
-use Rattle.traced.specs.Standing.{StandsReady, IsHeld}
-use Rattle.traced.specs.AsBefore.{IsAsBefore, HasMade, HasEntered, IsInside}
-use Rattle.traced.specs.Moving.{Enters}
+use Rattle.traced.proofs.Common.{Lane, Ghosts, Worlds, Handle, EntryGuard, StandsReady, IsHeld, IsAsBefore, HasMade, HasEntered, IsInside, Enters}
 use Rattle.traced.proofs.changes.Restored.{on, opened, stays_newest, stays_entered, stays_open}
 
 -- calls on the next lane

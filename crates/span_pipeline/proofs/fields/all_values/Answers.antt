@@ -1,6 +1,6 @@
 -- The values of all fields.
 use Rattle.std.proofs.Common.{rules}
-use Rattle.span_script.proofs.fields.FieldsLemmas.{all_given, not_given}
+use Rattle.span_pipeline.proofs.Common.{all_given, not_given}
 use Rattle.span_pipeline.proofs.fields.all_values.Goals as goal
 
 pub returns-then-as_slice-given : goal.returns-then-as_slice-given

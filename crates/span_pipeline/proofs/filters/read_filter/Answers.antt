@@ -1,5 +1,5 @@
 -- The filter of a text.
-use Rattle.env_filter.specs.Filtering.{plain}
+use Rattle.span_pipeline.proofs.Common.{plain}
 use Rattle.span_script.proofs.filter.TextsLemmas.{read_filter_is, unread_is}
 use Rattle.span_pipeline.proofs.filters.read_filter.Goals as goal
 

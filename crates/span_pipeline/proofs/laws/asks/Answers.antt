@@ -1,5 +1,5 @@
 -- The law, by what the stack's own say.
-use Rattle.span_script.proofs.filter.CounterLemmas.{stack_same}
+use Rattle.span_pipeline.proofs.Common.{stack_same}
 use Rattle.span_pipeline.proofs.laws.asks.Goals as goal
 
 pub returns : goal.returns

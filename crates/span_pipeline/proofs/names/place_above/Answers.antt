@@ -1,7 +1,6 @@
 -- The handle that was found.
 use Rattle.std.proofs.Common.{rules, map}
-use Rattle.span_script.specs.Fits.{held_by}
-use Rattle.span_script.proofs.steps.SlotsLemmas.{held_slot, of_all}
+use Rattle.span_pipeline.proofs.Common.{held_by, held_slot, of_all}
 use Rattle.span_pipeline.proofs.names.place_above.Goals as goal
 
 pub returns-in-Some-clause-of : goal.returns-in-Some-clause-of

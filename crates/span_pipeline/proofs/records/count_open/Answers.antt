@@ -1,6 +1,6 @@
 -- One id more is counted.
 use Rattle.std.proofs.Common.{rules}
-use Rattle.span_script.proofs.spans.OpenCountLemmas.{counts_held, counts_none}
+use Rattle.span_pipeline.proofs.Common.{counts_held, counts_none}
 use Rattle.span_pipeline.proofs.records.count_open.Goals as goal
 use Rattle.span_pipeline.proofs.records.count_open.Goals.{then-holds-gt0, else-holds-gt0}
 

@@ -1,8 +1,6 @@
 -- The task is put under the span that was made.
 use Rattle.std.proofs.Common.{◌∙◌, ap, sym, subst, ℕ}
-use Rattle.span_handles.specs.Handles.{Handle, IsKnown}
-use Rattle.span_script.specs.Fields.{Fields}
-use Rattle.trace_tasks.specs.Begun.{MakesOne}
+use Rattle.trace_tasks.proofs.Common.{Handle, IsKnown, Fields, MakesOne}
 use Rattle.trace_tasks.proofs.queues.NewTaskLemmas.{begins}
 use Rattle.trace_tasks.proofs.begin.begin.Goals as goal
 

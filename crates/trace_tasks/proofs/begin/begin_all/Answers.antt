@@ -1,14 +1,7 @@
 -- One task more.
 use Rattle.std.proofs.Common.{◌≡◌, ◌<◌, ◌+◌, ℕ, ◌∙◌, ◌++◌, ◌∷◌, [], List, length, take, drop, ap, sym, subst, refl, arith}
-use Rattle.std.proofs.lemmas.List.{take-append-drop, take_all, take_more, drop_more}
-use Rattle.span_futures.specs.declared.instrument.Instrumented.{Instrumented}
-use Rattle.trace_tasks.specs.declared.running.Running.{Running}
-use Rattle.trace_tasks.specs.declared.script.Task.{Task}
-use Rattle.trace_tasks.specs.Acts.{untouched}
-use Rattle.trace_tasks.specs.Begun.{AllSited, AreBegun}
-use Rattle.trace_tasks.specs.Stops.{StopsBeginning}
-use Rattle.trace_tasks.specs.Turning.{dispatch_serving}
-use Rattle.trace_tasks.specs.Waiting.{AllKnown}
+use Rattle.trace_tasks.proofs.Common.{take_more, drop_more, Instrumented, Running, Task, untouched, AllSited, AreBegun, StopsBeginning, dispatch_serving, AllKnown}
+use Rattle.std.proofs.lemmas.List.{take-append-drop, take_all}
 use Rattle.trace_tasks.proofs.queues.BegunTasksLemmas.{on_err, none_begun, one_more_begun, known_stays}
 use Rattle.trace_tasks.proofs.queues.QueueLemmas.{all_known}
 use Rattle.trace_tasks.proofs.begin.begin_all.Goals as goal

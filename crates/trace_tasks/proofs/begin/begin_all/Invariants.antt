@@ -1,6 +1,6 @@
 -- The tasks that were passed are begun.
 use Rattle.std.proofs.Common.{length, take, drop}
-use Rattle.trace_tasks.specs.Begun.{AllSited, AreBegun}
+use Rattle.trace_tasks.proofs.Common.{AllSited, AreBegun}
 use Rattle.trace_tasks.proofs.begin.begin_all.Given as goal
 
 abbrev pub invariant-loop-task : goal.invariant-loop-task

@@ -1,7 +1,6 @@
 -- A disabled handle where the making isn't let through.
 use Rattle.std.proofs.Common.{◌≡◌, ℕ, Bool, false, Option, Some, refl, subst, rules}
-use Rattle.trace_base.specs.Gate.{Admits, dispatch_on}
-use Rattle.trace_tasks.specs.Turning.{dispatch_serving}
+use Rattle.trace_tasks.proofs.Common.{Admits, dispatch_on, dispatch_serving}
 use Rattle.trace_tasks.proofs.queues.NewTaskLemmas.{there, whole_made, wants_made}
 use Rattle.trace_tasks.proofs.begin.make.Goals as goal
 

@@ -1,7 +1,6 @@
 -- The values so far are those of the fields that were passed.
-use Rattle.std.proofs.Common.{◌≡◌, ◌++◌, drop}
-use Rattle.std.specs.Prelude.{filter_map}
-use Rattle.span_script.specs.Fields.{declared_value}
+use Rattle.std.proofs.Common.{◌≡◌, ◌++◌, drop, filter_map}
+use Rattle.trace_tasks.proofs.Common.{declared_value}
 use Rattle.trace_tasks.proofs.fields.values_of.Given as goal
 
 abbrev pub invariant-loop-name : goal.invariant-loop-name

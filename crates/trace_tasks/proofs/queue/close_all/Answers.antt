@@ -1,9 +1,6 @@
 -- The others stay known.
 use Rattle.std.proofs.Common.{◌≡◌, [], List, subst, arith}
-use Rattle.std.proofs.lemmas.Grind.{common_steps}
-use Rattle.span_futures.specs.declared.instrument.Instrumented.{Instrumented}
-use Rattle.trace_tasks.specs.declared.running.Running.{Running}
-use Rattle.trace_tasks.specs.Waiting.{AllKnown}
+use Rattle.trace_tasks.proofs.Common.{common_steps, Instrumented, Running, AllKnown}
 use Rattle.trace_tasks.proofs.queues.LeftHandlesLemmas.{closing_first, closing_more, closed_all}
 use Rattle.trace_tasks.proofs.queues.QueueLemmas.{known_after}
 use Rattle.trace_tasks.proofs.polls.TurnLemmas.{closed_whole}

@@ -1,7 +1,6 @@
 -- The handles that are left are known, and their closes lead on.
 use Rattle.std.proofs.Common.{length}
-use Rattle.span_futures.specs.Lent.{HasAll}
-use Rattle.trace_tasks.specs.Waiting.{AllKnown, AllStand}
+use Rattle.trace_tasks.proofs.Common.{HasAll, AllKnown, AllStand}
 use Rattle.trace_tasks.proofs.queues.LeftHandlesLemmas.{Closing}
 use Rattle.trace_tasks.proofs.queue.close_all.Given as goal
 

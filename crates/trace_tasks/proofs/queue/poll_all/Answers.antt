@@ -1,12 +1,6 @@
 -- One poll more.
-use Rattle.std.proofs.Common.{◌≡◌, [], ◌+◌, List, Option, subst, sym, ap, refl, arith}
-use Rattle.std.specs.Prelude.{IfSome}
-use Rattle.std.proofs.lemmas.Grind.{common_steps}
-use Rattle.span_handles.specs.Handles.{IsKnown}
-use Rattle.span_futures.specs.declared.instrument.Instrumented.{Instrumented}
-use Rattle.trace_tasks.specs.declared.running.Running.{Running}
-use Rattle.trace_tasks.specs.Turning.{dispatch_serving}
-use Rattle.trace_tasks.specs.Waiting.{AllWait, polls_in}
+use Rattle.std.proofs.Common.{◌≡◌, [], ◌+◌, List, Option, subst, sym, ap, refl, arith, IfSome}
+use Rattle.trace_tasks.proofs.Common.{common_steps, IsKnown, Instrumented, Running, dispatch_serving, AllWait, polls_in}
 use Rattle.trace_tasks.proofs.queues.QueueLemmas.{all_known, known_after, polls_after}
 use Rattle.trace_tasks.proofs.queues.TurnsLemmas.{Taking, taking_first, taking_more, taken, stops_turns}
 use Rattle.trace_tasks.proofs.queue.poll_all.Goals as goal

@@ -1,6 +1,5 @@
 -- The tasks that are left take further turns.
-use Rattle.futures.specs.Task.{Keeps}
-use Rattle.trace_tasks.specs.Waiting.{polls_in}
+use Rattle.trace_tasks.proofs.Common.{Keeps, polls_in}
 use Rattle.trace_tasks.proofs.queues.TurnsLemmas.{Taking}
 use Rattle.trace_tasks.proofs.queue.poll_all.Given as goal
 

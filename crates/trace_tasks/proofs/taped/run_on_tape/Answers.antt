@@ -1,6 +1,6 @@
 -- What a run over a new tape spells.
 use Rattle.std.proofs.Common.{length}
-use Rattle.trace_tasks.specs.Turning.{dispatch_serving}
+use Rattle.trace_tasks.proofs.Common.{dispatch_serving}
 use Rattle.trace_tasks.proofs.tapes.RunsLemmas.{few_new, never_full, spelled}
 use Rattle.trace_tasks.proofs.taped.run_on_tape.Goals as goal
 

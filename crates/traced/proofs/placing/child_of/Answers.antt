@@ -1,8 +1,6 @@
 -- By the gate's answer.
 use Rattle.std.proofs.Common.{Ok, sym, subst}
-use Rattle.span_handles.specs.Handles.{Handle, place_under}
-use Rattle.traced.specs.Gating.{AnswersGate}
-use Rattle.traced.specs.Making.{MakesIfAnswered}
+use Rattle.traced.proofs.Common.{Handle, place_under, AnswersGate, MakesIfAnswered}
 use Rattle.traced.proofs.Gated.{makes, makes_none}
 use Rattle.traced.proofs.placing.child_of.Goals as goal
 

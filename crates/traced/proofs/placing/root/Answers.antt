@@ -1,9 +1,7 @@
 -- By the gate's answer.
 use Rattle.std.proofs.Common.{Ok, sym, subst}
 use Rattle.trace_base.specs.declared.span.Parent.TheVariants as parent
-use Rattle.span_handles.specs.Handles.{Handle}
-use Rattle.traced.specs.Gating.{AnswersGate}
-use Rattle.traced.specs.Making.{MakesIfAnswered}
+use Rattle.traced.proofs.Common.{Handle, AnswersGate, MakesIfAnswered}
 use Rattle.traced.proofs.Gated.{makes, makes_none}
 use Rattle.traced.proofs.placing.root.Goals as goal
 

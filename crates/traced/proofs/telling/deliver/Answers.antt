@@ -1,9 +1,7 @@
 -- By the subscriber that serves the lane, if one does.
-use Rattle.std.proofs.Common.{ℕ, Option, sym, ◌∙◌, subst, refl}
-use Rattle.std.specs.Prelude.{OnOk, OnErr}
+use Rattle.std.proofs.Common.{ℕ, Option, sym, ◌∙◌, subst, refl, OnOk, OnErr}
 use Rattle.trace_base.specs.declared.span.Parent.TheVariants as parent
-use Rattle.span_handles.specs.Handles.{HasIf, ReplacedIf}
-use Rattle.traced.specs.Gating.{TellsEventIf}
+use Rattle.traced.proofs.Common.{HasIf, ReplacedIf, TellsEventIf}
 use Rattle.traced.proofs.telling.deliver.Goals as goal
 
 pub tell-requires-clause-whole : goal.tell-requires-clause-whole

@@ -1,8 +1,7 @@
 -- By the gate's answer, and what the subscriber was told.
 use Rattle.std.proofs.Common.{refl, subst}
 use Rattle.trace_base.specs.declared.span.Parent.TheVariants as parent
-use Rattle.trace_base.specs.Gate.{dispatch_on}
-use Rattle.traced.specs.Gating.{AnswersGate}
+use Rattle.traced.proofs.Common.{dispatch_on, AnswersGate}
 use Rattle.traced.proofs.Gated.{tells_one, apart}
 use Rattle.traced.proofs.Moves.{told_if, stays_same}
 use Rattle.traced.proofs.telling.event.Goals as goal

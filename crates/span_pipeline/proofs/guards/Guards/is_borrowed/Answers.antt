@@ -1,6 +1,6 @@
 -- The count is above 0.
 use Rattle.std.proofs.Common.{rules, sym, ap, ◌∙◌, nat_lt}
-use Rattle.span_script.specs.Slots.{names_handle}
+use Rattle.span_pipeline.proofs.Common.{names_handle}
 use Rattle.span_script.proofs.spans.OpenSpansLemmas.{any_counted}
 use Rattle.span_pipeline.proofs.guards.Guards.is_borrowed.Goals as goal
 

@@ -2,10 +2,8 @@
 use Rattle.std.proofs.Common.{rules, ◌∙◌, refl, ap, Err}
 use Rattle.span_script.specs.declared.request.Call.TheVariants as call
 use Rattle.span_script.proofs.lane_contexts.AttachesLemmas.{not_full, left_state, left_kept, refuses_attach, serves_attached, keeps_attached}
-use Rattle.span_script.proofs.steps.LanesLemmas.{within_view}
-use Rattle.span_script.proofs.steps.ServesLemmas.{by_view, by_view_refused}
+use Rattle.span_pipeline.proofs.Common.{within_view, by_view, by_view_refused, parts_of}
 use Rattle.span_pipeline.proofs.pipeline.Pipeline.attach.Goals as goal
-use Rattle.span_pipeline.specs.Parts.{parts_of}
 
 pub invariant_of-self-in-Err : goal.invariant_of-self-in-Err
 invariant_of-self-in-Err c = left_kept _ _ _ _ (parts_of c.self.inside) c.args.at c.args.lane c.index_mut.result.now (within_view _ _ c.self.inside.lanes.items c.args.lane c.self.view_is refl c.requires) c.index_mut.ensures.value c.self.invariant c.args.context c.in-Some.given (search rules) c.attach_to.new.lane c.in-Err.ensures.id c.in-Err.ensures.name c.in-Err.ensures.leaves c.reserve.new.self.items (search rules) c.reserve-2.new.self.items (search rules)

@@ -1,12 +1,9 @@
 -- The pipeline as it begins.
 use Rattle.std.proofs.Common.{rules, [], map, ap, subst, sym, refl}
 use Rattle.span_script.specs.Admission.{IsCounter}
-use Rattle.span_script.specs.Setups.{setup_by}
+use Rattle.span_pipeline.proofs.Common.{setup_by, plain, stack_interest, stack_shows}
 use Rattle.otel_layer.specs.Recording.{Recording}
 use Rattle.span_script.proofs.runs.BeginLemmas.{begins, recorded_nothing, measured_nothing, keeps_begun, begun_setup, records_none}
-use Rattle.env_filter.specs.Filtering.{plain}
-use Rattle.span_stack.specs.Reading.{stack_interest}
-use Rattle.span_script.proofs.filter.FilterLemmas.{stack_shows}
 use Rattle.span_pipeline.specs.Contexts.{named_in}
 use Rattle.span_pipeline.proofs.pipeline.Pipeline.begin.Goals as goal
 

@@ -1,12 +1,9 @@
 -- The clone.
 use Rattle.std.proofs.Common.{rules, refl}
 use Rattle.span_script.specs.declared.request.Call.TheVariants as call
-use Rattle.span_script.proofs.steps.RequiresLemmas.{needs_known, needs_whole, needs_few}
-use Rattle.span_script.proofs.runs.RefusalsLemmas.{refuses_unknown}
-use Rattle.span_script.proofs.steps.ServesLemmas.{by_view, serves_refusal}
+use Rattle.span_pipeline.proofs.Common.{needs_known, needs_whole, needs_few, refuses_unknown, by_view, serves_refusal, parts_of}
 use Rattle.span_script.proofs.spans.ClonesLemmas.{serves_cloned, keeps_cloned}
 use Rattle.span_pipeline.proofs.pipeline.Pipeline.clone_handle.Goals as goal
-use Rattle.span_pipeline.specs.Parts.{parts_of}
 
 pub returns-in_default : goal.returns-in_default
 returns-in_default c = serves_refusal _ _ _ _ _ (λ t stands. refuses_unknown _ _ c.self.view_is c.self.inside.handles.items refl c.args.handle (search rules) t stands.fits _) (search rules) refl

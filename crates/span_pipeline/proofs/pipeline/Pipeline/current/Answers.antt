@@ -3,12 +3,8 @@ use Rattle.std.proofs.Common.{rules, refl}
 use Rattle.trace_base.specs.declared.span.Parent.TheVariants as parent
 use Rattle.span_script.specs.declared.request.Place.TheVariants as place
 use Rattle.span_script.specs.declared.request.Call.TheVariants as call
-use Rattle.span_script.proofs.steps.LanesLemmas.{within_view}
-use Rattle.span_script.proofs.spans.MakingsLemmas.{make_may}
-use Rattle.span_script.proofs.steps.ServesLemmas.{by_view}
-use Rattle.span_script.proofs.spans.CurrentsLemmas.{serves_current, keeps_current}
+use Rattle.span_pipeline.proofs.Common.{within_view, make_may, by_view, serves_current, keeps_current, parts_of}
 use Rattle.span_pipeline.proofs.pipeline.Pipeline.current.Goals as goal
-use Rattle.span_pipeline.specs.Parts.{parts_of}
 
 pub invariant_of-self-2 : goal.invariant_of-self-2
 invariant_of-self-2 c = keeps_current _ _ _ _ _ (parts_of c.self.inside) c.current-span.new.world _ c.calls.ensures c.keep.new.self.items c.args.at c.args.lane c.len-number.result (search rules)

@@ -1,12 +1,9 @@
 -- The detach.
 use Rattle.std.proofs.Common.{rules, refl}
 use Rattle.span_script.specs.declared.request.Call.TheVariants as call
-use Rattle.span_script.specs.Fits.{stack_views}
+use Rattle.span_pipeline.proofs.Common.{stack_views, within_view, by_view, parts_of}
 use Rattle.span_script.proofs.lane_contexts.DetachesLemmas.{still_live, serves_detached, keeps_detached, keeps_tokens, none_more, filtered_keeps}
-use Rattle.span_script.proofs.steps.LanesLemmas.{within_view}
-use Rattle.span_script.proofs.steps.ServesLemmas.{by_view}
 use Rattle.span_pipeline.proofs.pipeline.Pipeline.detach.Goals as goal
-use Rattle.span_pipeline.specs.Parts.{parts_of}
 
 pub detach_from-requires : goal.detach_from-requires
 detach_from-requires c = still_live _ _ _ _ (parts_of c.self.inside) c.args.at c.args.lane c.index_mut.result.now (within_view _ _ c.self.inside.lanes.items c.args.lane c.self.view_is refl c.requires) c.index_mut.ensures.value c.self.invariant c.args.guard c.in-Some-take.open (search rules) (search rules)

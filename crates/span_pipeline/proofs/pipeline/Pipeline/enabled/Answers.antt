@@ -1,14 +1,8 @@
 -- Asking the gate.
 use Rattle.std.proofs.Common.{rules, false, refl}
-use Rattle.span_stack.specs.Reading.{stack_interest}
+use Rattle.span_pipeline.proofs.Common.{stack_interest, stack_shows, is_current, within_view, serves_enabled, keeps_enabled, by_view, parts_of}
 use Rattle.span_script.specs.declared.request.Call.TheVariants as call
-use Rattle.span_script.proofs.filter.FilterLemmas.{stack_shows}
-use Rattle.span_script.proofs.filter.GateLemmas.{is_current}
-use Rattle.span_script.proofs.steps.LanesLemmas.{within_view}
-use Rattle.span_script.proofs.filter.ReloadsLemmas.{serves_enabled, keeps_enabled}
-use Rattle.span_script.proofs.steps.ServesLemmas.{by_view}
 use Rattle.span_pipeline.proofs.pipeline.Pipeline.enabled.Goals as goal
-use Rattle.span_pipeline.specs.Parts.{parts_of}
 
 pub admits-enabled-requires-clause-current : goal.admits-enabled-requires-clause-current
 admits-enabled-requires-clause-current c = is_current _ _ (parts_of c.self.inside) _ _ stack_interest stack_shows c.self.invariant

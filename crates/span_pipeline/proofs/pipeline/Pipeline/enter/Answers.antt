@@ -2,14 +2,9 @@
 use Rattle.std.proofs.Common.{rules, ◌∙◌, refl, sym, ap, Err}
 use Rattle.std.proofs.lemmas.Bool.{true≢false}
 use Rattle.span_stack.specs.Counters.{core_of}
-use Rattle.span_script.proofs.steps.RequiresLemmas.{needs_known, needs_whole, needs_few}
-use Rattle.span_script.proofs.steps.LanesLemmas.{refused_kept, refused_state, within_view}
-use Rattle.span_script.proofs.runs.RefusalsLemmas.{refuses_unknown}
+use Rattle.span_pipeline.proofs.Common.{needs_known, needs_whole, needs_few, refused_kept, refused_state, within_view, refuses_unknown, by_view_opens, by_view_opens_refused, serves_entered, keeps_entered, serves_refusal, parts_of}
 use Rattle.span_script.proofs.entries.FullLanesLemmas.{layer_activates, filtered_activates, meets_not, refuses_entry}
-use Rattle.span_script.proofs.entries.EntriesLemmas.{by_view_opens, by_view_opens_refused, serves_entered, keeps_entered}
 use Rattle.span_pipeline.proofs.pipeline.Pipeline.enter.Goals as goal
-use Rattle.span_script.proofs.steps.ServesLemmas.{serves_refusal}
-use Rattle.span_pipeline.specs.Parts.{parts_of}
 
 pub returns-in_default : goal.returns-in_default
 returns-in_default c = serves_refusal _ _ _ _ _ (λ t stands. refuses_unknown _ _ c.self.view_is c.self.inside.handles.items refl c.args.handle (search rules) t stands.fits _) (search rules) refl

@@ -1,9 +1,7 @@
 -- The entry by a guard that owns its handle.
 use Rattle.std.proofs.Common.{rules, refl}
 use Rattle.span_script.specs.declared.request.Call.TheVariants as call
-use Rattle.span_script.proofs.runs.RefusalsLemmas.{refuses_unknown}
-use Rattle.span_script.proofs.steps.ServesLemmas.{by_view_refused, serves_refusal}
-use Rattle.span_script.proofs.entries.EntriesLemmas.{entered_is, entered_ok, entered_refused}
+use Rattle.span_pipeline.proofs.Common.{refuses_unknown, by_view_refused, serves_refusal, entered_is, entered_ok, entered_refused}
 use Rattle.span_pipeline.proofs.pipeline.Pipeline.entered.Goals as goal
 
 pub returns-in_default : goal.returns-in_default

@@ -1,18 +1,10 @@
 -- The event.
 use Rattle.std.proofs.Common.{rules, refl, ◌∙◌}
 use Rattle.span_script.specs.declared.request.Call.TheVariants as call
-use Rattle.span_stack.specs.Reading.{stack_interest}
-use Rattle.span_script.proofs.filter.FilterLemmas.{stack_shows}
-use Rattle.span_script.proofs.filter.GateLemmas.{is_current}
-use Rattle.span_script.proofs.steps.LanesLemmas.{within_view, on_err}
-use Rattle.span_script.proofs.steps.SlotsLemmas.{found_parent, found_nowhere}
-use Rattle.span_script.proofs.steps.ServesLemmas.{by_view, by_view_refused, serves_refusal}
-use Rattle.span_script.proofs.fields.FieldsLemmas.{refuses_event}
-use Rattle.span_script.proofs.spans.MakingsLemmas.{made_alike, tell_live}
+use Rattle.span_pipeline.proofs.Common.{stack_interest, stack_shows, is_current, within_view, on_err, found_parent, found_nowhere, by_view, by_view_refused, serves_refusal, refuses_event, made_alike, tell_live, parts_of}
 use Rattle.span_script.proofs.events.EventsLemmas.{serves_told, keeps_told}
 use Rattle.span_pipeline.proofs.Placing.{refuses_event_site, refuses_event_place}
 use Rattle.span_pipeline.proofs.pipeline.Pipeline.event.Goals as goal
-use Rattle.span_pipeline.specs.Parts.{parts_of}
 
 pub tell_if-requires-clause-there : goal.tell_if-requires-clause-there
 tell_if-requires-clause-there c = c.self.invariant.there

@@ -1,12 +1,8 @@
 -- The exit.
 use Rattle.std.proofs.Common.{rules, refl}
-use Rattle.span_script.proofs.steps.RequiresLemmas.{needs_there, needs_whole, exit_may, exit_still, guard_named, guard_entry}
-use Rattle.span_script.proofs.steps.LanesLemmas.{within_view}
+use Rattle.span_pipeline.proofs.Common.{needs_there, needs_whole, exit_may, exit_still, guard_named, guard_entry, within_view, by_view, by_view_refused, serves_refusal, refuses_shared, refuses_wrong_lane, alone_at, serves_exited, keeps_exited, parts_of}
 use Rattle.span_script.specs.declared.request.Call.TheVariants as call
-use Rattle.span_script.proofs.steps.ServesLemmas.{by_view, by_view_refused, serves_refusal}
-use Rattle.span_script.proofs.entries.EntriesLemmas.{refuses_shared, refuses_wrong_lane, alone_at, serves_exited, keeps_exited}
 use Rattle.span_pipeline.proofs.pipeline.Pipeline.exit.Goals as goal
-use Rattle.span_pipeline.specs.Parts.{parts_of}
 
 pub returns-then-is_shared : goal.returns-then-is_shared
 returns-then-is_shared c = serves_refusal _ _ _ _ _ (λ t stands. by_view_refused c.args.at c.args.lane (call.Exit c.args.guard) _ _ _ c.self.view_is (λ t stands. refuses_shared _ c.args.guard c.in-Some.named.now (search rules) (search rules) c.args.at c.args.lane t stands) t stands) (search rules) refl

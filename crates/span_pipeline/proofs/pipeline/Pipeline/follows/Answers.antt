@@ -2,12 +2,8 @@
 use Rattle.std.proofs.Common.{rules, refl, ◌∙◌, false}
 use Rattle.span_script.specs.declared.request.Call.TheVariants as call
 use Rattle.span_script.proofs.links.FollowsLemmas.{needs_one, refuses_from, serves_follow, keeps_follow}
-use Rattle.span_script.proofs.steps.LanesLemmas.{on_err, same_state, same_kept}
-use Rattle.span_script.proofs.runs.RefusalsLemmas.{refuses_unknown}
-use Rattle.span_script.proofs.steps.RequiresLemmas.{needs_known, needs_whole}
-use Rattle.span_script.proofs.steps.ServesLemmas.{by_view, serves_refusal}
+use Rattle.span_pipeline.proofs.Common.{on_err, same_state, same_kept, refuses_unknown, needs_known, needs_whole, by_view, serves_refusal, parts_of}
 use Rattle.span_pipeline.proofs.pipeline.Pipeline.follows.Goals as goal
-use Rattle.span_pipeline.specs.Parts.{parts_of}
 
 pub returns-in_default : goal.returns-in_default
 returns-in_default c = serves_refusal _ _ _ _ _ (λ t stands. refuses_unknown _ _ c.self.view_is c.self.inside.handles.items refl c.args.handle (search rules) t stands.fits _) (search rules) refl

@@ -1,11 +1,8 @@
 -- Asking for a field.
 use Rattle.std.proofs.Common.{rules, refl, false}
 use Rattle.span_script.specs.declared.request.Call.TheVariants as call
-use Rattle.span_script.proofs.runs.RefusalsLemmas.{refuses_unknown}
-use Rattle.span_script.proofs.steps.ServesLemmas.{by_view, serves_refusal}
-use Rattle.span_script.proofs.fields.FieldsLemmas.{needs_site, serves_asked, keeps_asked}
+use Rattle.span_pipeline.proofs.Common.{refuses_unknown, by_view, serves_refusal, needs_site, serves_asked, keeps_asked, parts_of}
 use Rattle.span_pipeline.proofs.pipeline.Pipeline.has_field.Goals as goal
-use Rattle.span_pipeline.specs.Parts.{parts_of}
 
 pub returns-in_default : goal.returns-in_default
 returns-in_default c = serves_refusal _ _ _ _ _ (λ t stands. refuses_unknown _ _ c.self.view_is c.self.inside.handles.items refl c.args.handle (search rules) t stands.fits _) (search rules) refl

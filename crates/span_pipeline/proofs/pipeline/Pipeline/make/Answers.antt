@@ -1,17 +1,9 @@
 -- The making.
 use Rattle.std.proofs.Common.{rules, refl, ◌∙◌}
 use Rattle.span_script.specs.declared.request.Call.TheVariants as call
-use Rattle.span_stack.specs.Reading.{stack_interest}
-use Rattle.span_script.proofs.filter.FilterLemmas.{stack_shows}
-use Rattle.span_script.proofs.filter.GateLemmas.{is_current}
-use Rattle.span_script.proofs.steps.LanesLemmas.{within_view, on_err}
-use Rattle.span_script.proofs.steps.SlotsLemmas.{found_place, found_nowhere}
-use Rattle.span_script.proofs.steps.ServesLemmas.{by_view, by_view_refused, serves_refusal}
-use Rattle.span_script.proofs.fields.FieldsLemmas.{refuses_new, refuses_place}
-use Rattle.span_script.proofs.spans.MakingsLemmas.{make_may, all_of, made_alike, serves_new, keeps_new}
+use Rattle.span_pipeline.proofs.Common.{stack_interest, stack_shows, is_current, within_view, on_err, found_place, found_nowhere, by_view, by_view_refused, serves_refusal, refuses_new, refuses_place, make_may, all_of, made_alike, serves_new, keeps_new, parts_of}
 use Rattle.span_pipeline.proofs.Placing.{refuses_span_site}
 use Rattle.span_pipeline.proofs.pipeline.Pipeline.make.Goals as goal
-use Rattle.span_pipeline.specs.Parts.{parts_of}
 
 pub make_if-requires-clause-may : goal.make_if-requires-clause-may
 make_if-requires-clause-may c = make_may _ _ _ _ (parts_of c.self.inside) c.self.invariant c.args.parent _ (found_place c.reserve.new.self.items c.self.inside.handles.items c.args.parent _ c.in-Some-place_above.above (search rules) c.place_above.ensures.place c.in-Some-place_above.is) _ (search rules) (search rules)

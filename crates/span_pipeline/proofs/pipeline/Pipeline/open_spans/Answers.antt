@@ -1,6 +1,6 @@
 -- How many spans are open.
 use Rattle.std.proofs.Common.{rules, refl, ◌∙◌}
-use Rattle.span_script.proofs.spans.OpenCountLemmas.{open_counted}
+use Rattle.span_pipeline.proofs.Common.{open_counted}
 use Rattle.span_pipeline.proofs.pipeline.Pipeline.open_spans.Goals as goal
 
 pub returns : goal.returns

@@ -3,13 +3,8 @@ use Rattle.std.proofs.Common.{rules, refl}
 use Rattle.trace_base.specs.declared.span.Parent.TheVariants as parent
 use Rattle.span_script.specs.declared.request.Place.TheVariants as place
 use Rattle.span_script.specs.declared.request.Call.TheVariants as call
-use Rattle.span_script.proofs.steps.LanesLemmas.{within_view}
-use Rattle.span_script.proofs.spans.MakingsLemmas.{make_may}
-use Rattle.span_script.proofs.runs.RefusalsLemmas.{refuses_unknown}
-use Rattle.span_script.proofs.steps.ServesLemmas.{by_view, by_view_refused, serves_refusal}
-use Rattle.span_script.proofs.spans.CurrentsLemmas.{refuses_in_use, serves_exchanged, keeps_exchanged}
+use Rattle.span_pipeline.proofs.Common.{within_view, make_may, refuses_unknown, by_view, by_view_refused, serves_refusal, refuses_in_use, serves_exchanged, keeps_exchanged, parts_of}
 use Rattle.span_pipeline.proofs.pipeline.Pipeline.or_current.Goals as goal
-use Rattle.span_pipeline.specs.Parts.{parts_of}
 
 pub returns-in_default : goal.returns-in_default
 returns-in_default c = serves_refusal _ _ _ _ _ (λ t stands. refuses_unknown _ _ c.self.view_is c.self.inside.handles.items refl c.args.handle (search rules) t stands.fits _) (search rules) refl

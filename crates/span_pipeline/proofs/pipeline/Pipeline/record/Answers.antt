@@ -1,13 +1,8 @@
 -- Recording fields.
 use Rattle.std.proofs.Common.{rules, refl, ◌∙◌, false}
 use Rattle.span_script.specs.declared.request.Call.TheVariants as call
-use Rattle.span_script.proofs.steps.RequiresLemmas.{needs_known, needs_whole}
-use Rattle.span_script.proofs.runs.RefusalsLemmas.{refuses_unknown}
-use Rattle.span_script.proofs.steps.ServesLemmas.{by_view, serves_refusal}
-use Rattle.span_script.proofs.steps.LanesLemmas.{on_err, same_state, same_kept}
-use Rattle.span_script.proofs.fields.FieldsLemmas.{needs_site, serves_recorded, keeps_recorded}
+use Rattle.span_pipeline.proofs.Common.{needs_known, needs_whole, refuses_unknown, by_view, serves_refusal, on_err, same_state, same_kept, needs_site, serves_recorded, keeps_recorded, parts_of}
 use Rattle.span_pipeline.proofs.pipeline.Pipeline.record.Goals as goal
-use Rattle.span_pipeline.specs.Parts.{parts_of}
 
 pub returns-in_default : goal.returns-in_default
 returns-in_default c = serves_refusal _ _ _ _ _ (λ t stands. refuses_unknown _ _ c.self.view_is c.self.inside.handles.items refl c.args.handle (search rules) t stands.fits _) (search rules) refl

@@ -1,10 +1,8 @@
 -- A context of ids that are given.
 use Rattle.std.proofs.Common.{rules, false, refl}
 use Rattle.span_script.specs.declared.request.Call.TheVariants as call
-use Rattle.span_script.proofs.lane_contexts.ContextsLemmas.{serves_remote, keeps_remote}
-use Rattle.span_script.proofs.steps.ServesLemmas.{by_view}
+use Rattle.span_pipeline.proofs.Common.{serves_remote, keeps_remote, by_view, parts_of}
 use Rattle.span_pipeline.proofs.pipeline.Pipeline.remote.Goals as goal
-use Rattle.span_pipeline.specs.Parts.{parts_of}
 
 pub invariant_of-self-2 : goal.invariant_of-self-2
 invariant_of-self-2 c = keeps_remote _ _ (λ x. false) _ _ (parts_of c.self.inside) c.self.inside.world c.args.at c.args.lane c.len-context.result (search rules) c.self.invariant refl c.args.ids (record { contexts = c.push.new.self.items; attaches = c.self.inside.contexts.attaches.items }) (search rules) refl

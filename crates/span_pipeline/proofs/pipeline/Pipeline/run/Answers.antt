@@ -1,6 +1,5 @@
 -- What is run on a pipeline that was just opened: its outcome, and a reply to each request that was served.
-use Rattle.span_script.specs.Setups.{setup_by}
-use Rattle.span_script.proofs.runs.RunLemmas.{opened_outcome, opened_replies}
+use Rattle.span_pipeline.proofs.Common.{setup_by, opened_outcome, opened_replies}
 use Rattle.span_pipeline.proofs.pipeline.Pipeline.run.Goals as goal
 
 pub returns-clause-ok : goal.returns-clause-ok

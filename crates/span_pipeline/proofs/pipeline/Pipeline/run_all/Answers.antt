@@ -1,6 +1,6 @@
 -- What was run, as an outcome.
 use Rattle.std.proofs.Common.{rules}
-use Rattle.span_script.proofs.runs.RunLemmas.{outcome_is}
+use Rattle.span_pipeline.proofs.Common.{outcome_is}
 use Rattle.span_pipeline.proofs.pipeline.Pipeline.run_all.Goals as goal
 
 pub returns-clause-ok : goal.returns-clause-ok

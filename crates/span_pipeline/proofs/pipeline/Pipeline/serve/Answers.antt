@@ -1,6 +1,6 @@
 -- One request more is served.
 use Rattle.std.proofs.Common.{rules}
-use Rattle.span_script.proofs.runs.RunLemmas.{reached_next}
+use Rattle.span_pipeline.proofs.Common.{reached_next}
 use Rattle.span_pipeline.proofs.pipeline.Pipeline.serve.Goals as goal
 
 pub loop-request-preserved : goal.loop-request-preserved

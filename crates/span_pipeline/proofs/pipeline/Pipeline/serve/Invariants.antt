@@ -1,8 +1,6 @@
 -- The requests that were passed are served.
 use Rattle.std.proofs.Common.{◌≡◌, []}
-use Rattle.span_script.specs.Tables.{tables}
-use Rattle.span_script.specs.Fits.{StandsFor}
-use Rattle.span_script.proofs.runs.RunLemmas.{Reached}
+use Rattle.span_pipeline.proofs.Common.{tables, StandsFor, Reached}
 use Rattle.span_pipeline.proofs.pipeline.Pipeline.serve.Given as goal
 
 abbrev pub invariant-loop-request : goal.invariant-loop-request

@@ -1,7 +1,6 @@
 -- The step.
 use Rattle.std.proofs.Common.{rules, refl}
-use Rattle.span_script.specs.Tables.{tables}
-use Rattle.span_script.proofs.runs.RefusalsLemmas.{effect_is, steps_ok, steps_refused}
+use Rattle.span_pipeline.proofs.Common.{tables, effect_is, steps_ok, steps_refused}
 use Rattle.span_pipeline.proofs.pipeline.Pipeline.step.Goals as goal
 
 pub returns-clause-ok : goal.returns-clause-ok

@@ -1,10 +1,7 @@
 -- The oldest measure.
 use Rattle.std.proofs.Common.{ap, ◌∙◌}
-use Rattle.span_stack.specs.Reading.{StackWorlds}
-use Rattle.span_script.specs.Fits.{State, without_first_measure}
-use Rattle.span_script.proofs.runs.TakeLemmas.{state_taken, kept_taken, oldest_by}
+use Rattle.span_pipeline.proofs.Common.{StackWorlds, State, without_first_measure, state_taken, kept_taken, oldest_by, parts_of}
 use Rattle.span_pipeline.proofs.pipeline.Pipeline.take_measure.Goals as goal
-use Rattle.span_pipeline.specs.Parts.{parts_of}
 
 pub invariant_of-self : goal.invariant_of-self
 invariant_of-self c = kept_taken _ _ _ _ _ (parts_of c.self.inside) c.take_measure.new.world (c.takes_measure.ensures.others c.self.inside.world c.take_measure.new.world c.self.inside.dispatch c.take_measure.ensures.rest) (ap (λ (w : StackWorlds). w.sites) c.take_measure.ensures.rest.others) (ap (λ (w : StackWorlds). w.cached) c.take_measure.ensures.rest.others) (c.takes_measure.ensures.filter c.self.inside.world c.take_measure.new.world c.self.inside.dispatch c.take_measure.ensures.rest) (c.takes_measure.ensures.counter c.self.inside.world c.take_measure.new.world c.self.inside.dispatch c.take_measure.ensures.rest) _ (c.takes_measure.ensures.recording c.self.inside.world c.take_measure.new.world c.self.inside.dispatch c.take_measure.ensures.rest) _ (c.takes_measure.ensures.measures c.self.inside.world c.take_measure.new.world c.self.inside.dispatch c.take_measure.ensures.rest) c.self.invariant

@@ -1,7 +1,7 @@
 -- A step more.
 use Rattle.std.proofs.Common.{◌<◌, length, inl, inr, sym, subst, ◌∙◌, refl, arith}
 use Rattle.std.proofs.lemmas.Bool.{true≢false}
-use Rattle.futures.specs.Task.{Holds}
+use Rattle.trace_tasks.proofs.Common.{Holds}
 use Rattle.futures.specs.declared.task.context.Context.{Context}
 use Rattle.trace_tasks.proofs.polls.StepsSoFarLemmas.{IsAct, act_or, rest_of, first_and_rest, polling_more, lent_more, called_more, polling_first, polled_wants}
 use Rattle.trace_tasks.proofs.running.RunningTracedFuture.poll_in.Goals as goal
