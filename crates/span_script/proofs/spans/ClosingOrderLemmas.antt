@@ -54,10 +54,10 @@ module _ (hs : List (Option Scope)) (ms : List MadeSpan) (named : (n : ℕ) (lin
             ∙ over.0 ∙ sym (none_closed (s ∷ up) is (λ q e. subst (λ (k : ℕ). is_open hs k ≡ true) (cc e) still)))
       ]
 
-pub drop_order : (k next : State) (stands : Here) (handle s : ℕ) (up : Scope) → Fits k stands.script → slot_at stands.script.handles handle ≡ Some (s ∷ up) → Fits next (after_effect stands.script (drop_effect stands handle (s ∷ up))) → (r : ReleasesChain (Some s) k.spans next.spans)
-    → closed_in (Some s) k.spans next.spans r ≡ closed_of (slice_set stands.script.handles handle None) (s ∷ up)
-drop_order k next stands handle s up fits there later r =
-    let t = stands.script in
+pub drop_order : (k next : State) (here : Here) (handle s : ℕ) (up : Scope) → Fits k here.script → slot_at here.script.handles handle ≡ Some (s ∷ up) → Fits next (after_effect here.script (drop_effect here handle (s ∷ up))) → (r : ReleasesChain (Some s) k.spans next.spans)
+    → closed_in (Some s) k.spans next.spans r ≡ closed_of (slice_set here.script.handles handle None) (s ∷ up)
+drop_order k next here handle s up fits there later r =
+    let t = here.script in
     closed_are (slice_set t.handles handle None) t.spans later.scopes (Some s) k.spans next.spans r (s ∷ up) (fits.scopes handle (s ∷ up) there) refl
     (subst (λ (xs : List (Option ℕ)). Loose k.spans xs (Some s)) (sym (map-set named_by t.handles handle None)) (spent_loose k.spans (map named_by t.handles) (map (opened_by k.setup.ids) t.guards) t.entries fits.balanced handle s (named_slot t.handles handle (s ∷ up) there)))
-    fits.made (opens next (after_effect t (drop_effect stands handle (s ∷ up))) later)
+    fits.made (opens next (after_effect t (drop_effect here handle (s ∷ up))) later)

@@ -201,12 +201,12 @@ in_filter p (x ∷ line) s = elim (cases_Bool (p x)) [
     gone (inr e) f = rw e refl
 
 -- the spans of the effect are those that had a hold and have none
-pub closes_them : (k next : State) (stands : Here) (handle : ℕ) (line : Scope) → Fits k stands.script → slot_at stands.script.handles handle ≡ Some line → Fits next (after_effect stands.script (drop_effect stands handle line)) → (s : ℕ)
-    → is_in s (closed_of (slice_set stands.script.handles handle None) line) ≡ (nat_lt 0 (span_at k.spans.made s).holds && not (nat_lt 0 (span_at next.spans.made s).holds))
-closes_them k next stands handle line fits there later s =
-    let t = stands.script in
+pub closes_them : (k next : State) (here : Here) (handle : ℕ) (line : Scope) → Fits k here.script → slot_at here.script.handles handle ≡ Some line → Fits next (after_effect here.script (drop_effect here handle line)) → (s : ℕ)
+    → is_in s (closed_of (slice_set here.script.handles handle None) line) ≡ (nat_lt 0 (span_at k.spans.made s).holds && not (nat_lt 0 (span_at next.spans.made s).holds))
+closes_them k next here handle line fits there later s =
+    let t = here.script in
     let was = opens k t fits s in
-    let is = opens next (after_effect t (drop_effect stands handle line)) later s in
+    let is = opens next (after_effect t (drop_effect here handle line)) later s in
     in_filter (λ x. not (is_open (slice_set t.handles handle None) x)) line s ∙ only (is_in s line) (is_open (slice_set t.handles handle None) s)
     ∙ ap (λ b. b && not (is_open (slice_set t.handles handle None) s)) (sym (set_open t.handles handle s line there) ∙ sym was) ∙ ap (λ b. nat_lt 0 (span_at k.spans.made s).holds && not b) (sym is)
   where

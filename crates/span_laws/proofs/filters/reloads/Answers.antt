@@ -4,15 +4,15 @@ use Rattle.span_laws.proofs.Common.{fold_push, Here, reload_effect, Setup, Histo
 use Rattle.span_laws.proofs.filters.reloads.Goals as goal
 
 pub returns-clause-gate : goal.returns-clause-gate
-returns-clause-gate c = λ setup t stands lane text site. refl
+returns-clause-gate c = λ setup t here lane text site. refl
 
 -- nothing is recorded of closed spans between two effects
-others : (setup : Setup) (h : History) (stands : Here) (text : List ℕ) → IsHistory setup h → after_effect (tables setup h) (reload_effect stands text) ≡ record (tables setup h) { filter = Some text; hooks = []; moment = stands.at }
-others setup _ stands text none = refl
-others setup _ stands text (more h request e before is) =
+others : (setup : Setup) (h : History) (here : Here) (text : List ℕ) → IsHistory setup h → after_effect (tables setup h) (reload_effect here text) ≡ record (tables setup h) { filter = Some text; hooks = []; moment = here.at }
+others setup _ here text none = refl
+others setup _ here text (more h request e before is) =
     let t = after_effect (tables setup h) e in
-    subst (λ (x : Tables). after_effect x (reload_effect stands text) ≡ record x { filter = Some text; hooks = []; moment = stands.at }) (sym (fold_push after_effect (no_tables setup) h e))
-    (ap (λ (ids : List ℕ). record t { closed = ids; filter = Some text; hooks = []; moment = stands.at }) (append-nil t.closed))
+    subst (λ (x : Tables). after_effect x (reload_effect here text) ≡ record x { filter = Some text; hooks = []; moment = here.at }) (sym (fold_push after_effect (no_tables setup) h e))
+    (ap (λ (ids : List ℕ). record t { closed = ids; filter = Some text; hooks = []; moment = here.at }) (append-nil t.closed))
 
 pub returns-clause-others : goal.returns-clause-others
 returns-clause-others c = others
