@@ -1,5 +1,6 @@
 -- The names that most proofs of the crate cite, passed on from one place. Declares nothing.
-pub use Rattle.regex.specs.Patterns.{Config, Re, Reads, default_config, find_str}
+pub use Rattle.regex.specs.Patterns.{Config, Re, default_config}
+unfoldable pub use Rattle.regex.specs.Patterns.{Reads, find_str}
 pub use Rattle.regex.specs.Strings.{IsReadFromSource, regex_config, regex_pattern, regex_source}
 pub use Rattle.regex.specs.declared.string.regex.Regex.{Regex}
 pub use Rattle.std.proofs.Math.Seq.{drop-append_seam, get_or-append_seam, take-append_seam}
@@ -17,21 +18,25 @@ pub use Rattle.std.specs.Cmp.{Equal-is, IsTotalOrder, alike_right, first_so, sec
 pub use Rattle.std.specs.Cmp.Lexicographic.{bytes_decides, pointwise, slice_cmp}
 pub use Rattle.std.specs.Fmt.{HasWritten, IsPlainFormatter}
 pub use Rattle.std.specs.List.{AllByRecursion, AllWithin, ends_with, list_all, refill, starts_with}
-pub use Rattle.std.specs.List.Sorted.{IsNonDecreasingBy, IsStrictlySortedBy}
+pub use Rattle.std.specs.List.Sorted.{IsNonDecreasingBy}
+unfoldable pub use Rattle.std.specs.List.Sorted.{IsStrictlySortedBy}
 pub use Rattle.std.specs.Option.{option_cmp, option_map_or, option_or}
 pub use Rattle.std.specs.Ordering.{bool_cmp, match_ordering, ordering_index, ordering_reverse, ordering_then}
-pub use Rattle.std.specs.Str.{all_ascii_digits, drop_trailing_whitespace, skip_leading_whitespace, trim, trim_end, trim_start}
+pub use Rattle.std.specs.Str.{all_ascii_digits, drop_trailing_whitespace, skip_leading_whitespace, trim}
+unfoldable pub use Rattle.std.specs.Str.{trim_end, trim_start}
 pub use Rattle.std.specs.Str.Parse.{IsNumeral, digits_value, signed_digits_value, starts_with_minus, without_leading_plus, without_leading_sign}
 pub use Rattle.std.specs.Str.Pattern.{CutsSuffixes, FindsChar, FindsText, FindsTextSuffix, HasMatch, IsTrimEndMatches, LacksTextAt}
 pub use Rattle.std.specs.Vec.Iter.{into_iter_items}
-pub use Rattle.ucd_derived.proofs.Computing.{ucd_derived}
+unfoldable pub use Rattle.ucd_derived.proofs.Computing.{ucd_derived}
 pub use Rattle.trace_base.proofs.LevelNumbers.{digits_pass, number_of_numeral, numeral_number}
 pub use Rattle.trace_base.specs.declared.level.LevelFilter.{LevelFilter}
 pub use Rattle.trace_base.specs.declared.level.LevelFilter.TheVariants.{TRACE}
 pub use Rattle.trace_base.specs.words.Level.{filter_text, greatest_verbosity}
-pub use Rattle.trace_base.specs.words.LevelWords.{decimal_value, digits_number, filter_of_word, level_filter_of, named_filter}
+pub use Rattle.trace_base.specs.words.LevelWords.{decimal_value, level_filter_of}
+unfoldable pub use Rattle.trace_base.specs.words.LevelWords.{digits_number, filter_of_word, named_filter}
 pub use Rattle.env_directives.specs.Cares.{cares, cares_about_target, covers, declares_all}
-pub use Rattle.env_directives.specs.Patterns.{IsCompiled, is_matched, whole_pattern}
+pub use Rattle.env_directives.specs.Patterns.{IsCompiled, whole_pattern}
+unfoldable pub use Rattle.env_directives.specs.Patterns.{is_matched}
 pub use Rattle.env_directives.specs.Targets.{all_added, pair_directive, pairs, same_directive, statics_of, targets_of, with_static}
 pub use Rattle.env_directives.specs.declared.directive.ParseError.{ParseError}
 pub use Rattle.env_directives.specs.declared.directive.ParseError.TheVariants.{Equals, Field, Fields, Level, Memory, Pattern, Shape}
@@ -48,6 +53,8 @@ pub use Rattle.env_directives.specs.printed.Printed.{HasNoMinusZero, bracket_tex
 pub use Rattle.env_directives.specs.reading.Cuts.{Pieces, is_among, lacks, pieces_at}
 pub use Rattle.env_directives.specs.reading.Faults.{HasEmptyField, HasFault, HasNoLevel, HasNoPattern, IsEnd}
 pub use Rattle.env_directives.specs.reading.Forms.{DirectiveForm, Front, HasForm, IsDirective, IsDirectiveFront, IsField, IsForm, IsHead, IsLevelText, IsOpened, IsSpan, alone, bare, begins, directive_alone, directive_at, directive_of_form, each_with_comma, fielded, form_text, front_text, head_alone, head_comma, level_behind, level_or_target, leveled, leveled_comma, may_begin, spanned, target_at, text_up_to_fields, unless_empty}
-pub use Rattle.env_directives.specs.reading.Reading.{AnswersRead, FieldsRead, LeadsToNoPattern, Read, SpanLeadsToNoPattern, at_level, field_ends, more_fields, read_behind, read_bracket, read_close, read_end, read_fielded, read_fields, read_head, read_last, read_level, read_leveled, read_span, reading}
+pub use Rattle.env_directives.specs.reading.Reading.{AnswersRead, FieldsRead, LeadsToNoPattern, Read, SpanLeadsToNoPattern, at_level, field_ends, more_fields, read_behind, read_fielded, read_head, read_leveled, read_span}
+unfoldable pub use Rattle.env_directives.specs.reading.Reading.{read_bracket, read_close, read_end, read_fields, read_last, read_level, reading}
 pub use Rattle.env_directives.specs.reading.Separators.{comma_pieces, cut_once, is_closers, nonempty, without_closers}
-pub use Rattle.env_directives.specs.reading.Values.{HavePatterns, IsNoPatternField, IsPatternIfAny, MayFail, field_of, fits_i64, i64_of, plain_value, truth_of, u64_of, value_of}
+pub use Rattle.env_directives.specs.reading.Values.{HavePatterns, IsNoPatternField, IsPatternIfAny, MayFail, fits_i64, truth_of, value_of}
+unfoldable pub use Rattle.env_directives.specs.reading.Values.{field_of, i64_of, plain_value, u64_of}

@@ -1,5 +1,6 @@
 -- The names that most proofs of the crate cite, passed on from one place. Declares nothing.
-pub use Rattle.std.proofs.Math.Utf8.{encode, scalar, scalars}
+pub use Rattle.std.proofs.Math.Utf8.{scalar, scalars}
+unfoldable pub use Rattle.std.proofs.Math.Utf8.{encode}
 pub use Rattle.std.proofs.lemmas.Bool.{and_from, and_parts, cases_Bool, cases_eq, cases_lt, cond-false, cond-true}
 pub use Rattle.std.proofs.lemmas.Bool.Decides.{nat_tests}
 pub use Rattle.std.proofs.lemmas.List.{length_push, map-append, reverse-append, take_more}
@@ -9,7 +10,8 @@ pub use Rattle.std.specs.Fmt.{HasWritten, IsPlainFormatter}
 pub use Rattle.std.specs.List.{AllByRecursion, join_by, list_all, list_any, onto_first}
 pub use Rattle.std.specs.Option.{option_cmp, option_or}
 pub use Rattle.std.specs.Ordering.{match_ordering, ordering_then}
-pub use Rattle.std.specs.Str.{drop_trailing_whitespace, skip_leading_whitespace, trim, trim_end, trim_start}
+pub use Rattle.std.specs.Str.{drop_trailing_whitespace, skip_leading_whitespace, trim}
+unfoldable pub use Rattle.std.specs.Str.{trim_end, trim_start}
 pub use Rattle.trace_base.proofs.Caching.{fresh_admits}
 pub use Rattle.trace_base.specs.Gate.{AdmitsFresh, Worlds, dispatch_on, gate}
 pub use Rattle.trace_base.specs.Spans.{Span, Spans, current_of, entries_on, held_by_child, is_in, less_hold, place_on, span_at, times_in, with_hold, without_hold, without_last}

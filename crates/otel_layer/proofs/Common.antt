@@ -12,7 +12,7 @@ pub use Rattle.otel_base.specs.declared.memory.Memory.{Memory}
 pub use Rattle.otel_base.specs.declared.record.Record.{Record}
 pub use Rattle.trace_base.specs.Spans.{Spans, next_of, span_at}
 pub use Rattle.trace_base.specs.declared.lane.Lane.{Lane}
-pub use Rattle.trace_base.specs.lanes.Contexts.{AreAttached, KeepsAttached, KeepsLane, attached_as}
+pub use Rattle.trace_base.specs.lanes.Contexts.{AreAttached, attached_as}
 pub use Rattle.trace_base.specs.layers.Hooks.{ForEvent, ForRecord, Hook, KnownSpans, OnClose, OnEnter, OnEvent, OnExit, OnFollows, OnNewSpan, OnRecord}
 pub use Rattle.span_registry.specs.Both.{DoesBoth, InStep}
 pub use Rattle.span_handles.proofs.Showing.{alike, seen_before, seen_later}

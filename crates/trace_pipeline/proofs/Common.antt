@@ -1,10 +1,11 @@
 -- The names that most proofs of the crate cite, passed on from one place. Declares nothing.
 pub use Rattle.json.proofs.Printed.Decimals.{IsNumber-decimal, IsNumber-signed_decimal}
 pub use Rattle.json.proofs.Printed.Utf8.{IsUtf8-are_ascii, IsUtf8-quoted, are_ascii}
-pub use Rattle.json.specs.Print.{escape, escape_byte, quoted}
+pub use Rattle.json.specs.Print.{escape, quoted}
+unfoldable pub use Rattle.json.specs.Print.{escape_byte}
 pub use Rattle.json.specs.Tree.{HasNumbers, ItemsHaveNumbers, MembersHaveNumbers, depth, items_depth, json_tokens, members_depth}
 pub use Rattle.serde_json.proofs.Numbers.{number_of-decimal, number_of-negative}
-pub use Rattle.serde_json.proofs.OnLiterals.{serde_json_on_literals}
+unfoldable pub use Rattle.serde_json.proofs.OnLiterals.{serde_json_on_literals}
 pub use Rattle.serde_json.proofs.Views.{Entry, view-Array, view-lookup}
 pub use Rattle.serde_json.specs.Data.{Data, Items, Members, Num, array, boolean, float, item, member, negative, no_items, no_members, null, number, object, put, string, unsigned}
 pub use Rattle.serde_json.specs.Find.{as_array, as_bool, as_object, as_str, get_member, of_integer}
@@ -23,10 +24,11 @@ pub use Rattle.std.proofs.lemmas.Str.{IsUtf8-append, IsUtf8-from_ascii, IsUtf8-f
 pub use Rattle.std.specs.BTreeMap.{is_at}
 pub use Rattle.std.specs.BTreeSet.{contains}
 pub use Rattle.std.specs.Cmp.Lexicographic.{pointwise, slice_cmp}
-pub use Rattle.std.specs.Fmt.{digit_glyph, digits, digits_onto, signed_decimal}
+pub use Rattle.std.specs.Fmt.{digit_glyph, digits_onto, signed_decimal}
+unfoldable pub use Rattle.std.specs.Fmt.{digits}
 pub use Rattle.std.specs.List.{list_all, list_any}
 pub use Rattle.std.specs.Ordering.{match_ordering, ordering_reverse, ordering_then}
-pub use Rattle.std.specs.Str.{is_utf8}
+unfoldable pub use Rattle.std.specs.Str.{is_utf8}
 pub use Rattle.std.specs.Str.Parse.{AllDigits, IsNumeral, ParsesUnsigned, digits_value, starts_with_minus}
 pub use Rattle.std.specs.Vec.Iter.{into_iter_items}
 pub use Rattle.otel_base.specs.declared.record.Record.{Record}
@@ -41,24 +43,34 @@ pub use Rattle.span_script.specs.declared.request.Request.{Request}
 pub use Rattle.span_script.specs.declared.request.TheConstants.{LAST_MOMENT}
 pub use Rattle.trace_pipeline.specs.Generated.{made_lines, made_requests, made_script, made_settings, made_setup, made_site, request_line, request_members, root_fields, round, rounds, row_fields, settings_line}
 pub use Rattle.trace_pipeline.specs.Lines.{is_blank, lines_of}
-pub use Rattle.trace_pipeline.specs.Replay.{history_after, history_unless_refused, summary_text}
-pub use Rattle.trace_pipeline.specs.Report.{IsValid, Report, accepts, answer_count, answer_text, effect_of_line, effect_of_request, report_from, report_on, report_on_effect, report_on_opening, report_on_settings, told_step, with_text_before}
-pub use Rattle.trace_pipeline.specs.declared.read.scan.TheConstants.{DEEPEST}
+pub use Rattle.trace_pipeline.specs.Replay.{history_after, history_unless_refused}
+unfoldable pub use Rattle.trace_pipeline.specs.Replay.{summary_text}
+pub use Rattle.trace_pipeline.specs.Report.{IsValid, Report, accepts, answer_count, answer_text, effect_of_request, report_from, report_on, report_on_effect, report_on_opening, report_on_settings, told_step, with_text_before}
+unfoldable pub use Rattle.trace_pipeline.specs.Report.{effect_of_line}
+pub use Rattle.trace_pipeline.specs.declared.read.syntax.scan.TheConstants.{DEEPEST}
 pub use Rattle.trace_pipeline.specs.declared.told.Told.TheVariants.{BadLine}
-pub use Rattle.trace_pipeline.specs.forms.AttributeForm.{attribute_spelled, error_status_form, key_value, list_of, otel_value_of, status_spelled}
-pub use Rattle.trace_pipeline.specs.forms.FieldForm.{error_form, field_of, fields_of, typed_form, value_spelled}
-pub use Rattle.trace_pipeline.specs.forms.Forms.{all_of, as_whole, at_most, each, no_more, object_of, pair_with, provided, without_member}
-pub use Rattle.trace_pipeline.specs.forms.RequestForm.{attach_form, clone_form, context_form, detach_form, drop_form, enabled_form, enter_form, entered_form, event_form, exit_form, has_field_form, new_form, or_current_form, record_form, reload_form, remote_form, request_form}
-pub use Rattle.trace_pipeline.specs.forms.SettingsForm.{Lane, all_differ, callsite_form, error_flags, lane_form, lane_ids, layer_form, settings_form, span_flags}
+pub use Rattle.trace_pipeline.specs.forms.AttributeForm.{attribute_spelled, key_value, list_of, otel_value_of, status_spelled}
+unfoldable pub use Rattle.trace_pipeline.specs.forms.AttributeForm.{error_status_form}
+pub use Rattle.trace_pipeline.specs.forms.FieldForm.{field_of, fields_of, value_spelled}
+unfoldable pub use Rattle.trace_pipeline.specs.forms.FieldForm.{error_form, typed_form}
+pub use Rattle.trace_pipeline.specs.forms.Forms.{all_of, as_whole, at_most, each, no_more, object_of, pair_with, unit_if, without_member}
+unfoldable pub use Rattle.trace_pipeline.specs.forms.RequestForm.{attach_form, clone_form, context_form, detach_form, drop_form, enabled_form, enter_form, entered_form, event_form, exit_form, has_field_form, new_form, or_current_form, record_form, reload_form, remote_form, request_form}
+pub use Rattle.trace_pipeline.specs.forms.SettingsForm.{Lane, all_differ, lane_ids}
+unfoldable pub use Rattle.trace_pipeline.specs.forms.SettingsForm.{callsite_form, error_flags, lane_form, layer_form, settings_form, span_flags}
 pub use Rattle.trace_pipeline.specs.reading.Left.{members_left, value_data}
-pub use Rattle.trace_pipeline.specs.reading.Object.{array_of, by_name, items, line_of}
+pub use Rattle.trace_pipeline.specs.reading.Object.{array_of, by_name, items}
+unfoldable pub use Rattle.trace_pipeline.specs.reading.Object.{line_of}
 pub use Rattle.trace_pipeline.specs.reading.Placed.{Before, FindsMember, FitsIn, GoesLast, MembersInOrder}
-pub use Rattle.trace_pipeline.specs.reading.Spelled.{line_members, line_value, request_spelled, settings_spelled}
+pub use Rattle.trace_pipeline.specs.reading.Spelled.{line_members, line_value}
+unfoldable pub use Rattle.trace_pipeline.specs.reading.Spelled.{request_spelled, settings_spelled}
 pub use Rattle.trace_pipeline.specs.text.Compact.{BeginsItems, BeginsMembers, BeginsNested, BeginsWithValue, ReadsValue, members_of, nested_value, onto, plain_data}
-pub use Rattle.trace_pipeline.specs.text.Decimals.{below_zero, from_zero, i128_word, if_decimal, u128_word}
-pub use Rattle.trace_pipeline.specs.text.Hex.{digit_value, go_on, hex16, hex32, hex_word}
-pub use Rattle.trace_pipeline.specs.text.Texts.{end_text, measure_text, measures_end_text, record_text, refusal_text, reply_text}
+pub use Rattle.trace_pipeline.specs.text.Decimals.{below_zero, from_zero, i128_word, if_decimal}
+unfoldable pub use Rattle.trace_pipeline.specs.text.Decimals.{u128_word}
+pub use Rattle.trace_pipeline.specs.text.Hex.{digit_value, go_on, hex32}
+unfoldable pub use Rattle.trace_pipeline.specs.text.Hex.{hex16, hex_word}
+unfoldable pub use Rattle.trace_pipeline.specs.text.Texts.{end_text, measure_text, measures_end_text, record_text, refusal_text, reply_text}
 pub use Rattle.trace_pipeline.specs.text.Writes.{AddsText}
 pub use Rattle.trace_pipeline.specs.values.Building.{with_lane}
 pub use Rattle.trace_pipeline.specs.values.FieldData.{AreAttributes, AreValues, HasBits, IsOtelValue, IsValue, written_field, written_value}
-pub use Rattle.trace_pipeline.specs.values.RecordData.{attribute_data, attribute_value, attributes_data, event_data, kind_name, lane_members, lane_text, link_data, record_object, status_data}
+pub use Rattle.trace_pipeline.specs.values.RecordData.{attribute_data, attribute_value, attributes_data, event_data, kind_name, lane_members, lane_text, link_data, status_data}
+unfoldable pub use Rattle.trace_pipeline.specs.values.RecordData.{record_object}

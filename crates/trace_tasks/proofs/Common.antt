@@ -1,5 +1,6 @@
 -- The names that most proofs of the crate cite, passed on from one place. Declares nothing.
-pub use Rattle.futures.specs.Task.{Holds, Keeps}
+pub use Rattle.futures.specs.Task.{Keeps}
+unfoldable pub use Rattle.futures.specs.Task.{Holds}
 pub use Rattle.std.proofs.lemmas.Bool.{cond-true}
 pub use Rattle.std.proofs.lemmas.Grind.{common_steps}
 pub use Rattle.std.proofs.lemmas.List.{drop_more, take_more, take_rest}

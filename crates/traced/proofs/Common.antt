@@ -23,7 +23,7 @@ pub use Rattle.span_handles.specs.Worlds.{Alike, Chain, ChainShown, Has, Release
 pub use Rattle.traced.specs.AsBefore.{AreAsBefore, HadNoHandle, HasEntered, HasMade, IsAsBefore, IsEntered, IsInside, IsLiveOn, IsNewest, IsOfNewest, IsOpen}
 pub use Rattle.traced.specs.Between.{EntersAndExits, MakesAndCloses}
 pub use Rattle.traced.specs.Gating.{AnswersGate, MakesOne, TellsEventIf, TellsIfAnswered, TellsOne}
-pub use Rattle.traced.specs.Keeping.{Ends, HaveSameIds, Keeps, StandsAlone}
+pub use Rattle.traced.specs.Keeping.{Ends, HaveSameIds, Keeps, StandsAlone, StandsWith}
 pub use Rattle.traced.specs.Laws.{IsLawful}
 pub use Rattle.traced.specs.Making.{MakesIfAnswered}
 pub use Rattle.traced.specs.Moving.{Closes, Enters, Exits, Refuses}
