@@ -95,7 +95,7 @@ impl Span {
             values.now (dispatch_on lane.now.default world.old.global) result }
     {
         let dispatch = get_default(world, lane);
-        make_if(world, dispatch, lane, at, parent.place(), site, values)
+        make_if(world, dispatch, lane, at, parent.as_parent(), site, values)
     }
 
     /// As `new`, by this subscriber; `Span::new_with`.
@@ -149,7 +149,25 @@ impl Span {
         ensures makes { MakesHandle S.spans S.does S.same world.old world.new lane.now at (place_under parent.now.held) site
             values.now (Some dispatch) result }
     {
-        make(world, dispatch, lane, at, parent.place(), site, values)
+        make(world, dispatch, lane, at, parent.as_parent(), site, values)
+    }
+
+    /// As these three, under a parent that is told at run time.
+    pub fn make_with<S: Subscriber>(
+        world: &mut World<S>,
+        lane: &Lane,
+        at: u64,
+        parent: Parent,
+        site: SiteId,
+        values: &ValueSet,
+        dispatch: Dispatch,
+    ) -> Result<Span, Memory>
+        requires site { site < length world.old.sites }
+        requires may { MayMake S.spans S.is_whole world.old lane.now.id parent dispatch }
+        ensures makes { MakesHandle S.spans S.does S.same world.old world.new lane.now at parent site
+            values.now (Some dispatch) result }
+    {
+        make(world, dispatch, lane, at, parent, site, values)
     }
 
     /// A disabled handle with a callsite; `Span::new_disabled`.
@@ -224,7 +242,7 @@ impl Span {
         ensures keeps { KeepsHandles S.spans world.old world.new }
         ensures more { GainsOne S.spans world.old world.new self.now.held }
     {
-        let site = again(&self.site);
+        let site = self.site;
         match &self.held {
             None => Span { held: None, site },
             Some((dispatch, id)) => {
@@ -341,8 +359,8 @@ impl Span {
         }
     }
 
-    /// The place of a child.
-    fn place(&self) -> Parent
+    /// The parent that it is to a child: a disabled handle makes a root.
+    pub fn as_parent(&self) -> Parent
         ensures { result ≡ place_under self.now.held }
     {
         match &self.held {
@@ -365,15 +383,5 @@ impl From<&Span> for Option<Id> {
 
     fn from(span: &Span) -> Option<Id> {
         span.id()
-    }
-}
-
-// The same site once more.
-pub(crate) fn again(site: &Option<SiteId>) -> Option<SiteId>
-    ensures { result ≡ site.now }
-{
-    match site {
-        Some(site) => Some(*site),
-        None => None,
     }
 }
