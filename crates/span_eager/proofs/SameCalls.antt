@@ -21,7 +21,7 @@ use Rattle.span_script.specs.declared.reply.Refusal.TheVariants as refusal
 use Rattle.span_script.specs.declared.reply.What.{What}
 use Rattle.span_script.specs.declared.reply.What.TheVariants as what
 use Rattle.span_script.specs.declared.request.Place.{Place}
-use Rattle.span_script.specs.declared.request.Place.TheVariants as place
+use Rattle.span_script.specs.declared.request.Place.TheVariants as places
 use Rattle.span_script.specs.declared.request.Call.{Call}
 use Rattle.span_script.specs.declared.request.Call.TheVariants as call
 use Rattle.span_script.specs.Admission.{TextRead, text_read, text_filter}
@@ -79,7 +79,7 @@ around_by f items parent.Root = refl
 around_by f items (parent.Of s) = refl
 around_by f items parent.Current = last_by f items empty_context
 
-module _ (f : Ids) (setup : Setup) (eager : setup.layer.eager ≡ true) (t : Tables) (r : Recording) (at lane : ℕ) where
+module _ (f : Ids) (setup : Setup) (eager : setup.layer.eager ≡ true) (t : Tables) (r : Recording) (at place : ℕ) where
   abbrev te : Tables
   te = tables_by f.new r t
 
@@ -91,10 +91,10 @@ module _ (f : Ids) (setup : Setup) (eager : setup.layer.eager ≡ true) (t : Tab
 
   -- where the request stands, with spans that start early and without
   abbrev he : Here
-  he = here_at setup te at lane
+  he = here_at setup te at place
 
   abbrev hl : Here
-  hl = here_at (lazy setup) t at lane
+  hl = here_at (lazy setup) t at place
 
   abbrev id : ℕ
   id = hl.lane
@@ -185,11 +185,11 @@ module _ (f : Ids) (setup : Setup) (eager : setup.layer.eager ≡ true) (t : Tab
   opens_agree : (handle : ℕ) (owns : Bool) → P (entry_call hl handle owns) → A (entry_call he handle owns) (entry_call hl handle owns)
   opens_agree handle owns ready =
       named_agrees what.Handle (slot_at t.handles handle)
-      (λ scope. refuse_if (meets_full setup.layer.activation scope (te.contexts id)) (refusal.Full lane) (Ok (enter_effect he handle owns scope)))
-      (λ scope. refuse_if (meets_full setup.layer.activation scope (t.contexts id)) (refusal.Full lane) (Ok (enter_effect hl handle owns scope))) ready
-      (λ scope given. subst (λ (b : Bool). A (refuse_if (is_some (active setup.layer.activation scope) && b) (refusal.Full lane) (Ok (enter_effect he handle owns scope))) (refuse_if (meets_full setup.layer.activation scope (t.contexts id)) (refusal.Full lane) (Ok (enter_effect hl handle owns scope))))
+      (λ scope. refuse_if (meets_full setup.layer.activation scope (te.contexts id)) (refusal.Full place) (Ok (enter_effect he handle owns scope)))
+      (λ scope. refuse_if (meets_full setup.layer.activation scope (t.contexts id)) (refusal.Full place) (Ok (enter_effect hl handle owns scope))) ready
+      (λ scope given. subst (λ (b : Bool). A (refuse_if (is_some (active setup.layer.activation scope) && b) (refusal.Full place) (Ok (enter_effect he handle owns scope))) (refuse_if (meets_full setup.layer.activation scope (t.contexts id)) (refusal.Full place) (Ok (enter_effect hl handle owns scope))))
       (sym full_by)
-      (if_agrees (meets_full setup.layer.activation scope (t.contexts id)) (refusal.Full lane) (Ok (enter_effect he handle owns scope)) (Ok (enter_effect hl handle owns scope)) given
+      (if_agrees (meets_full setup.layer.activation scope (t.contexts id)) (refusal.Full place) (Ok (enter_effect he handle owns scope)) (Ok (enter_effect hl handle owns scope)) given
       (λ go. entered_agrees handle owns scope (active setup.layer.activation scope) go)))
 
   exits_agree : (guard : ℕ) (scope : Scope) → A (Ok (exit_effect he guard scope)) (Ok (exit_effect hl guard scope))
@@ -232,9 +232,9 @@ module _ (f : Ids) (setup : Setup) (eager : setup.layer.eager ≡ true) (t : Tab
       by_test false = (refl, record { at_is = refl; begins = refl; made = tt; starts_none = (refl, tt) })
 
   scope_at_by : (under : Place) → scope_at te id under ≡ scope_at t id under
-  scope_at_by place.Root = refl
-  scope_at_by place.Contextual = ap (λ (s : Scope). Some s) (scoped f.new t.spans (current_of (t.entries id)))
-  scope_at_by (place.Under handle) = refl
+  scope_at_by places.Root = refl
+  scope_at_by places.Contextual = ap (λ (s : Scope). Some s) (scoped f.new t.spans (current_of (t.entries id)))
+  scope_at_by (places.Under handle) = refl
 
   -- ---- contexts
 
@@ -341,7 +341,7 @@ module _ (f : Ids) (setup : Setup) (eager : setup.layer.eager ≡ true) (t : Tab
 
   -- ---- all calls
 
-  pub call_agrees : (c : Call) → gives_far f.many c ≡ true → P (effect_of_call (lazy setup) t at lane c) → A (effect_of_call setup te at lane c) (effect_of_call (lazy setup) t at lane c)
+  pub call_agrees : (c : Call) → gives_far f.many c ≡ true → P (effect_of_call (lazy setup) t at place c) → A (effect_of_call setup te at place c) (effect_of_call (lazy setup) t at place c)
   call_agrees (call.New site under fields) far ready =
       named_agrees what.Site (span_site setup.sites site)
       (λ c. need what.Handle (scope_at te id under) >>= (λ up. need what.Field (all_values c fields) >>= (λ values. Ok (new_effect he site c values under up))))
@@ -363,10 +363,10 @@ module _ (f : Ids) (setup : Setup) (eager : setup.layer.eager ≡ true) (t : Tab
   call_agrees (call.Enter handle) far ready = opens_agree handle false ready
   call_agrees (call.Exit guard) far ready =
       named_agrees what.Guard (slot_at t.guards guard)
-      (λ g. refuse_if (is_shared t.guards g) refusal.InUse (refuse_if (not (g.place == lane)) (refusal.WrongLane g.place) (Ok (exit_effect he guard g.scope))))
-      (λ g. refuse_if (is_shared t.guards g) refusal.InUse (refuse_if (not (g.place == lane)) (refusal.WrongLane g.place) (Ok (exit_effect hl guard g.scope)))) ready
-      (λ g given. if_agrees (is_shared t.guards g) refusal.InUse (refuse_if (not (g.place == lane)) (refusal.WrongLane g.place) (Ok (exit_effect he guard g.scope))) (refuse_if (not (g.place == lane)) (refusal.WrongLane g.place) (Ok (exit_effect hl guard g.scope))) given
-      (λ go. else_agrees (g.place == lane) (refusal.WrongLane g.place) (Ok (exit_effect he guard g.scope)) (Ok (exit_effect hl guard g.scope)) go (λ last. exits_agree guard g.scope)))
+      (λ g. refuse_if (is_shared t.guards g) refusal.InUse (refuse_if (not (g.place == place)) (refusal.WrongLane g.place) (Ok (exit_effect he guard g.scope))))
+      (λ g. refuse_if (is_shared t.guards g) refusal.InUse (refuse_if (not (g.place == place)) (refusal.WrongLane g.place) (Ok (exit_effect hl guard g.scope)))) ready
+      (λ g given. if_agrees (is_shared t.guards g) refusal.InUse (refuse_if (not (g.place == place)) (refusal.WrongLane g.place) (Ok (exit_effect he guard g.scope))) (refuse_if (not (g.place == place)) (refusal.WrongLane g.place) (Ok (exit_effect hl guard g.scope))) given
+      (λ go. else_agrees (g.place == place) (refusal.WrongLane g.place) (Ok (exit_effect he guard g.scope)) (Ok (exit_effect hl guard g.scope)) go (λ last. exits_agree guard g.scope)))
   call_agrees call.Current far ready =
       subst (λ (scope : Scope). A (Ok (clone_effect he scope)) (Ok (clone_effect hl (current_scope t id)))) (sym (scoped f.new t.spans (current_of (t.entries id)))) (clones_agree (current_scope t id))
   call_agrees (call.OrCurrent handle) far ready =
@@ -408,17 +408,17 @@ module _ (f : Ids) (setup : Setup) (eager : setup.layer.eager ≡ true) (t : Tab
       (λ scope. Ok (context_effect he (own_span scope) (own_context r at scope))) (λ scope. Ok (context_effect hl (own_span scope) (own_context t.recording at scope))) ready
       (λ scope given. context_agrees scope given)
   call_agrees (call.Attach context) far ready =
-      subst₂ (λ (o : Option Context) (b : Bool). A (need what.Context o >>= (λ given. refuse_if b (refusal.Full lane) (Ok (attach_effect he given)))) (effect_of_call (lazy setup) t at lane (call.Attach context)))
+      subst₂ (λ (o : Option Context) (b : Bool). A (need what.Context o >>= (λ given. refuse_if b (refusal.Full place) (Ok (attach_effect he given)))) (effect_of_call (lazy setup) t at place (call.Attach context)))
       (sym (slice_get-map (context_by f.new) t.named_contexts context)) (sym full_by) (by_slot (slice_get t.named_contexts context) ready)
     where
-      by_slot : (o : Option Context) → P (need what.Context o >>= (λ given. refuse_if (is_full (t.contexts id)) (refusal.Full lane) (Ok (attach_effect hl given))))
-          → A (need what.Context (option_map (context_by f.new) o) >>= (λ given. refuse_if (is_full (t.contexts id)) (refusal.Full lane) (Ok (attach_effect he given)))) (need what.Context o >>= (λ given. refuse_if (is_full (t.contexts id)) (refusal.Full lane) (Ok (attach_effect hl given))))
+      by_slot : (o : Option Context) → P (need what.Context o >>= (λ given. refuse_if (is_full (t.contexts id)) (refusal.Full place) (Ok (attach_effect hl given))))
+          → A (need what.Context (option_map (context_by f.new) o) >>= (λ given. refuse_if (is_full (t.contexts id)) (refusal.Full place) (Ok (attach_effect he given)))) (need what.Context o >>= (λ given. refuse_if (is_full (t.contexts id)) (refusal.Full place) (Ok (attach_effect hl given))))
       by_slot None ready = refl
-      by_slot (Some given) ready = if_agrees (is_full (t.contexts id)) (refusal.Full lane) (Ok (attach_effect he (context_by f.new given))) (Ok (attach_effect hl given)) ready (λ go. attaches_agree given)
+      by_slot (Some given) ready = if_agrees (is_full (t.contexts id)) (refusal.Full place) (Ok (attach_effect he (context_by f.new given))) (Ok (attach_effect hl given)) ready (λ go. attaches_agree given)
   call_agrees (call.Detach guard) far ready =
       named_agrees what.Guard (slot_at t.attaches guard)
-      (λ mine. refuse_if (not (mine == lane)) (refusal.WrongLane mine) (Ok (detach_effect hl guard))) (λ mine. refuse_if (not (mine == lane)) (refusal.WrongLane mine) (Ok (detach_effect hl guard))) ready
-      (λ mine given. else_agrees (mine == lane) (refusal.WrongLane mine) (Ok (detach_effect hl guard)) (Ok (detach_effect hl guard)) given (λ go. (refl, record { at_is = refl; begins = refl; made = tt; starts_none = tt })))
+      (λ mine. refuse_if (not (mine == place)) (refusal.WrongLane mine) (Ok (detach_effect hl guard))) (λ mine. refuse_if (not (mine == place)) (refusal.WrongLane mine) (Ok (detach_effect hl guard))) ready
+      (λ mine given. else_agrees (mine == place) (refusal.WrongLane mine) (Ok (detach_effect hl guard)) (Ok (detach_effect hl guard)) given (λ go. (refl, record { at_is = refl; begins = refl; made = tt; starts_none = tt })))
   call_agrees (call.Follows handle from) far ready =
       named_agrees what.Handle (slot_at t.handles handle)
       (λ scope. need what.Handle (slot_at t.handles from) >>= (λ followed. Ok (follow_effect he scope followed))) (λ scope. need what.Handle (slot_at t.handles from) >>= (λ followed. Ok (follow_effect hl scope followed))) ready

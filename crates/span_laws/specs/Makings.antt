@@ -50,7 +50,7 @@ parent_context setup t at id (place.Under handle) up = own_context t.recording a
 parent_context setup t at id place.Contextual up = context_of_lane t at id (if setup.layer.activation then None else current_of (t.entries id))
 
 -- A span was made as a request says: of its callsite, under its place, at its moment, with the values of its fields.
-pub record IsMadeBy (setup : Setup) (t : Tables) (at lane : ℕ) (what_for : Call) (m : MadeSpan) : Type 0 where
+pub record IsMadeBy (setup : Setup) (t : Tables) (at place : ℕ) (what_for : Call) (m : MadeSpan) : Type 0 where
   pub under : Place
   pub fields : Fields
   pub up : Scope
@@ -58,18 +58,18 @@ pub record IsMadeBy (setup : Setup) (t : Tables) (at lane : ℕ) (what_for : Cal
   pub values : ValueSet
   pub asked : what_for ≡ call.New m.site under fields
   pub site : span_site setup.sites m.site ≡ Some callsite
-  pub parent : scope_at t (here_at setup t at lane).lane under ≡ Some up
+  pub parent : scope_at t (here_at setup t at place).lane under ≡ Some up
   pub given : all_values callsite fields ≡ Some values
   pub scope : m.scope ≡ length t.spans ∷ up
   pub making : Making
   pub name : making.name ≡ callsite.name
-  pub context : making.parent ≡ parent_context setup t at (here_at setup t at lane).lane under up
-  pub first : making.first ≡ first_attributes callsite (lane_in (here_at setup t at lane)) setup.layer
+  pub context : making.parent ≡ parent_context setup t at (here_at setup t at place).lane under up
+  pub first : making.first ≡ first_attributes callsite (lane_in (here_at setup t at place)) setup.layer
   pub began : Began setup at m.made_with making
   pub written : began.update ≡ span_update callsite values setup.layer
 
 -- a request behind the front of a history made the span of a number, as it says
-pub record MakesSpan (setup : Setup) (h : History) (s : ℕ) (fore : History) (request : Request) : Type 0 where
+pub record RequestMakes (setup : Setup) (h : History) (s : ℕ) (fore : History) (request : Request) : Type 0 where
   pub e : Effect
   pub rest : History
   pub m : MadeSpan
@@ -83,7 +83,7 @@ pub record MakesSpan (setup : Setup) (h : History) (s : ℕ) (fore : History) (r
 pub record IsRecordOf (setup : Setup) (h : History) (s : ℕ) (r : Record) : Type 0 where
   pub fore : History
   pub request : Request
-  pub made : MakesSpan setup h s fore request
+  pub made : RequestMakes setup h s fore request
   pub told : IsRecord made.by.making made.by.began.update (λ own. ops_of own h s) (place_in (starting_order h) s) (closed_at h s) r
 
 -- the span whose own context a new span is put under: an explicit parent, or without activation the current span
@@ -94,7 +94,7 @@ context_span activation place.Contextual up current = if activation then None el
 
 -- what is put under a span is put under the context of the span's record
 abbrev pub HasContextOf : Setup → History → ℕ → Record → Type 0
-HasContextOf setup h p r = (s : ℕ) (fore : History) (request : Request) (made : MakesSpan setup h s fore request)
+HasContextOf setup h p r = (s : ℕ) (fore : History) (request : Request) (made : RequestMakes setup h s fore request)
     → context_span setup.layer.activation made.by.under made.by.up (current_of ((tables setup fore).entries (here_at setup (tables setup fore) request.at request.lane).lane)) ≡ Some p
     → made.by.making.parent ≡ record { span = Some r.context }
 

@@ -16,7 +16,6 @@ mod opening;
 pub mod pipeline;
 mod records;
 mod runs;
-mod sites;
 
 pub use filters::read_texts;
 pub use opening::world_of;

@@ -1,27 +1,42 @@
-//! Handles and contexts by their numbers.
-ghost use Rattle.std.specs.Prelude.{◌≡◌, ◌<◌, ℕ, map, IfSome, ◌++◌, ◌∷◌, [], Some, None, option_map, slice_get, slice_index_or, vec_len, vec_capacity};
+//! Callsites, handles and contexts by their numbers. What is generic in the subscriber is read at the stack once, for all
+//! that ask.
+ghost use Rattle.std.specs.Prelude.{◌≡◌, ◌<◌, ◌≤◌, length, None, Some, IfSome, map, ◌++◌, ◌∷◌, [], slice_get, vec_len, vec_capacity};
 ghost use Rattle.span_script.specs.Fits.{held_by};
-ghost use Rattle.span_script.specs.Slots.{parent_of, IsAbove, place_for};
+ghost use Rattle.span_script.specs.Slots.{parent_for};
 
 use otel_base::context::Context;
 use span_handles::span::Span;
 use span_script::request::Place;
-use span_script::slots::Above;
+use span_stack::Stack;
 use sparse_slots::Slots;
+use trace_base::callsite::{Callsite, SiteId};
+use trace_base::span::Parent;
+use trace_base::world::World;
 
-/// The place of a new span or an event, if the handle that it names is there.
-pub fn place_above(handles: &Slots<Span>, place: Place) -> Option<Above<'_>>
-    ensures place { option_map parent_of result ≡ place_for (map held_by handles.now.items) place }
-    ensures of { (dispatch : ℕ) → ((n : ℕ) (held : ℕ × ℕ) → slice_index_or (map held_by handles.now.items) n None ≡ Some (Some held) → held.0 ≡ dispatch)
-        → IfSome result (IsAbove dispatch) }
+/// The callsite of a number, if there is one.
+pub fn site_at(world: &World<Stack>, site: u64) -> Option<SiteId>
+    ensures some { IfSome result (λ found. (found ≡ site) × (site < length world.now.sites)) }
+    ensures none { result ≡ None → length world.now.sites ≤ site }
 {
-    match place {
-        Place::Contextual => Some(Above::Current),
-        Place::Root => Some(Above::Nothing),
-        Place::Under { handle } => match handles.get(handle) {
-            Some(span) => Some(Above::Span { span }),
-            None => None,
-        },
+    world.site_at(site)
+}
+
+/// A callsite.
+pub fn callsite_at(world: &World<Stack>, site: SiteId) -> &Callsite
+    requires { site < length world.now.sites }
+    ensures { slice_get world.now.sites site ≡ Some result.now }
+{
+    world.site(site)
+}
+
+/// Under what a new span or an event is put, if the handle that its place names is there.
+pub fn parent_for(handles: &Slots<Span>, parent: Place) -> Option<Parent>
+    ensures { result ≡ parent_for (map held_by handles.now.items) parent }
+{
+    match parent {
+        Place::Contextual => Some(Parent::Current),
+        Place::Root => Some(Parent::Root),
+        Place::Under { handle } => Some(handles.get(handle)?.as_parent()),
     }
 }
 

@@ -168,68 +168,72 @@ impl Pipeline {
         ensures err { OnErr result (self.new ≡ self.old) }
         ensures room { takes_no_memory request.call ≡ true → ¬ (result ≡ Err NoMemory) }
     {
-        let Request { at, lane, call } = request;
+        let Request {
+            at,
+            lane: place,
+            call,
+        } = request;
         if is_bad_moment(self.moment, at) {
             return Err(Refusal::BadMoment {
                 before: self.moment,
                 given: at,
             });
         }
-        if lane >= self.lanes.len() as u64 {
+        if place >= self.lanes.len() as u64 {
             return Err(Refusal::UnknownName { what: What::Lane });
         }
-        self.call(at, lane, call)
+        self.call(at, place, call)
     }
 
     // Taken into `step`, so that a request's parts aren't handed on once more.
     #[inline(always)]
-    fn call(&mut self, at: Moment, lane: u64, call: Call) -> Result<Reply, Refusal>
-        requires { lane < length self.old.lanes }
-        ensures { Serves self.old at lane call result self.new }
+    fn call(&mut self, at: Moment, place: u64, call: Call) -> Result<Reply, Refusal>
+        requires { place < length self.old.lanes }
+        ensures { Serves self.old at place call result self.new }
     {
         match call {
-            Call::Clone { handle } => self.clone_handle(at, lane, handle),
-            Call::Drop { handle } => self.drop_handle(at, lane, handle),
-            Call::Enter { handle } => self.enter(at, lane, handle, false),
-            Call::Exit { guard } => self.exit(at, lane, guard),
+            Call::Clone { handle } => self.clone_handle(at, place, handle),
+            Call::Drop { handle } => self.drop_handle(at, place, handle),
+            Call::Enter { handle } => self.enter(at, place, handle, false),
+            Call::Exit { guard } => self.exit(at, place, guard),
             Call::New {
                 site,
-                place,
+                parent,
                 fields,
-            } => self.make(at, lane, site, place, fields),
-            Call::Current => self.current(at, lane),
-            Call::OrCurrent { handle } => self.or_current(at, lane, handle),
-            Call::Entered { handle } => self.entered(at, lane, handle),
-            Call::Record { handle, fields } => self.record(at, lane, handle, fields),
-            Call::HasField { handle, name } => self.has_field(at, lane, handle, name),
+            } => self.make(at, place, site, parent, fields),
+            Call::Current => self.current(at, place),
+            Call::OrCurrent { handle } => self.or_current(at, place, handle),
+            Call::Entered { handle } => self.entered(at, place, handle),
+            Call::Record { handle, fields } => self.record(at, place, handle, fields),
+            Call::HasField { handle, name } => self.has_field(at, place, handle, name),
             Call::Event {
                 site,
-                place,
+                parent,
                 fields,
-            } => self.event(at, lane, site, place, fields),
-            Call::Remote { ids } => self.remote(at, lane, ids),
-            Call::Context { handle } => self.context(at, lane, handle),
-            Call::Attach { context } => self.attach(at, lane, context),
-            Call::Detach { guard } => self.detach(at, lane, guard),
-            Call::Follows { handle, from } => self.follows(at, lane, handle, from),
-            Call::SetParent { handle, context } => self.set_parent(at, lane, handle, context),
+            } => self.event(at, place, site, parent, fields),
+            Call::Remote { ids } => self.remote(at, place, ids),
+            Call::Context { handle } => self.context(at, place, handle),
+            Call::Attach { context } => self.attach(at, place, context),
+            Call::Detach { guard } => self.detach(at, place, guard),
+            Call::Follows { handle, from } => self.follows(at, place, handle, from),
+            Call::SetParent { handle, context } => self.set_parent(at, place, handle, context),
             Call::AddLink {
                 handle,
                 context,
                 attributes,
-            } => self.add_link(at, lane, handle, context, attributes),
+            } => self.add_link(at, place, handle, context, attributes),
             Call::SetAttribute { handle, key, value } => self.set_attribute(
-                at, lane, handle, key, value,
+                at, place, handle, key, value,
             ),
-            Call::SetStatus { handle, status } => self.set_status(at, lane, handle, status),
+            Call::SetStatus { handle, status } => self.set_status(at, place, handle, status),
             Call::AddEvent {
                 handle,
                 name,
                 attributes,
                 time,
-            } => self.add_event(at, lane, handle, name, attributes, time),
-            Call::Enabled { site } => self.enabled(at, lane, site),
-            Call::Reload { text } => self.reload(at, lane, text),
+            } => self.add_event(at, place, handle, name, attributes, time),
+            Call::Enabled { site } => self.enabled(at, place, site),
+            Call::Reload { text } => self.reload(at, place, text),
         }
     }
 }

@@ -292,11 +292,11 @@ pub record Served (resolved : Resolved) (t : Tables) (old new : State) (reply : 
 -- a refusal for want of memory
 abbrev pub is_for_memory : Refusal → Bool
 is_for_memory refusal.Memory = true
-is_for_memory (refusal.Full lane) = false
+is_for_memory (refusal.Full place) = false
 is_for_memory (refusal.BadMoment before given) = false
 is_for_memory (refusal.UnknownName unknown) = false
 is_for_memory refusal.InUse = false
-is_for_memory (refusal.WrongLane lane) = false
+is_for_memory (refusal.WrongLane place) = false
 is_for_memory (refusal.Directive piece) = false
 
 -- Any other is the one that was resolved.
@@ -313,8 +313,8 @@ pub record ServesResolved (resolved : Tables → Resolved) (takes_none : Bool) (
 
 -- and so of a call, at a moment on the lane at a place
 abbrev pub Serves : State → ℕ → ℕ → Call → Result Reply Refusal → State → Type 0
-Serves old at lane request result new =
-    ServesResolved (λ t. effect_of_call old.setup t at lane request) (takes_no_memory request) old result new
+Serves old at place request result new =
+    ServesResolved (λ t. effect_of_call old.setup t at place request) (takes_no_memory request) old result new
 
 -- The same of a history.
 pub record ServedByHistory (resolved : Resolved) (h : History) (old new : State) (reply : Reply) : Type 0 where

@@ -11,29 +11,16 @@ use Rattle.trace_base.specs.Gate.{Worlds}
 use Rattle.trace_base.specs.Spans.{Spans}
 use Rattle.trace_base.specs.declared.span.Parent.{Parent}
 use Rattle.trace_base.specs.declared.span.Parent.TheVariants as parent
-use Rattle.span_handles.specs.Handles.{Handle, Held, IsOf, Makes, no_handle, place_under}
+use Rattle.span_handles.specs.Handles.{Handle, Held, Makes, no_handle, place_under}
 use Rattle.span_script.specs.declared.request.Place.{Place}
 use Rattle.span_script.specs.declared.request.Place.TheVariants as place
 use Rattle.span_script.specs.declared.slots.Guard.{Guard}
-use Rattle.span_script.specs.declared.slots.Above.{Above}
-use Rattle.span_script.specs.declared.slots.Above.TheVariants as above
 
--- the place that a request's place gives a new span, if the handle is there
-abbrev pub place_for : List (Option Held) → Place → Option Parent
-place_for handles place.Root = Some parent.Root
-place_for handles place.Contextual = Some parent.Current
-place_for handles (place.Under handle) = option_map place_under (slice_index_or handles handle None)
-
--- the place that was found, and that its handle is of a dispatch
-abbrev pub parent_of : Above → Parent
-parent_of above.Current = parent.Current
-parent_of above.Nothing = parent.Root
-parent_of (above.Span span) = place_under span.now.held
-
-abbrev pub IsAbove : ℕ → Above → Type 0
-IsAbove dispatch above.Current = Unit {0}
-IsAbove dispatch above.Nothing = Unit {0}
-IsAbove dispatch (above.Span span) = IsOf span.now.held dispatch
+-- under what a new span is put, by a request's place, if the handle is there
+abbrev pub parent_for : List (Option Held) → Place → Option Parent
+parent_for handles place.Root = Some parent.Root
+parent_for handles place.Contextual = Some parent.Current
+parent_for handles (place.Under handle) = option_map place_under (slice_index_or handles handle None)
 
 abbrev pub names_handle : ℕ → Option Guard → Bool
 names_handle handle None = false
@@ -48,18 +35,18 @@ is_named guards handle = list_any (names_handle handle) guards
 
 -- a span was made by one call and a handle of it, or nothing and a disabled handle
 abbrev pub MakesOnly : {S : Type 0} → (S → Spans) → (S → SubscriberCall → S → Type 0) → Bool → Worlds S → Worlds S → Lane → ℕ → Parent → ℕ → ValueSet → ℕ → Handle → Type 0
-MakesOnly spans does true old new lane at place site values dispatch handle = Makes spans does old new lane at place site values dispatch handle
-MakesOnly spans does false old new lane at place site values dispatch handle = (handle ≡ no_handle) × (new ≡ old)
+MakesOnly spans does true old new lane at parent site values dispatch handle = Makes spans does old new lane at parent site values dispatch handle
+MakesOnly spans does false old new lane at parent site values dispatch handle = (handle ≡ no_handle) × (new ≡ old)
 
--- an event was told to a subscriber with its place, or nothing happened
-pub record Tells {S : Type 0} (does : S → SubscriberCall → S → Type 0) (old new : Worlds S) (lane : Lane) (at : ℕ) (place : Parent) (site : ℕ) (values : ValueSet) (dispatch : ℕ) : Type 0 where
+-- an event was told to a subscriber with its parent, or nothing happened
+pub record Tells {S : Type 0} (does : S → SubscriberCall → S → Type 0) (old new : Worlds S) (lane : Lane) (at : ℕ) (parent : Parent) (site : ℕ) (values : ValueSet) (dispatch : ℕ) : Type 0 where
   pub callsite : Callsite
   pub is : slice_get old.sites site ≡ Some callsite
-  pub told : Replaced (λ s t. does s (Event lane at place site callsite values) t) old new dispatch
+  pub told : Replaced (λ s t. does s (Event lane at parent site callsite values) t) old new dispatch
 
 abbrev pub TellsOnly : {S : Type 0} → (S → SubscriberCall → S → Type 0) → Bool → Worlds S → Worlds S → Lane → ℕ → Parent → ℕ → ValueSet → ℕ → Type 0
-TellsOnly does true old new lane at place site values dispatch = Tells does old new lane at place site values dispatch
-TellsOnly does false old new lane at place site values dispatch = new ≡ old
+TellsOnly does true old new lane at parent site values dispatch = Tells does old new lane at parent site values dispatch
+TellsOnly does false old new lane at parent site values dispatch = new ≡ old
 
 -- the gate's answer for a callsite on a lane, by the filter in place
 abbrev pub LetsThrough : Option FilterState → List Callsite → ℕ → ℕ → Bool → Type 0

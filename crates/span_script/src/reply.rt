@@ -67,11 +67,11 @@ pub enum Refusal {
 
 impl Refusal {
     /// What an entry on the lane at a place is refused by.
-    pub fn of_entry(lane: u64, error: EnterError) -> Refusal
-        ensures { result ≡ refused_entry lane error }
+    pub fn of_entry(place: u64, error: EnterError) -> Refusal
+        ensures { result ≡ refused_entry place error }
     {
         match error {
-            EnterError::Full => Refusal::Full { lane },
+            EnterError::Full => Refusal::Full { lane: place },
             EnterError::Memory => Refusal::Memory,
         }
     }

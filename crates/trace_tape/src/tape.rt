@@ -184,7 +184,7 @@ impl Subscriber for Tape {
                     at,
                     Call::New {
                         site: number,
-                        place,
+                        parent: place,
                         fields,
                     },
                 ));
@@ -249,7 +249,7 @@ impl Subscriber for Tape {
             at,
             Call::Event {
                 site: number,
-                place,
+                parent: place,
                 fields,
             },
         ));

@@ -112,10 +112,10 @@ starts_keys : (o : Option ℕ) (at : ℕ) (r : Recording) → keys (with_starts 
 starts_keys None at r = refl
 starts_keys (Some id) at r = start_keys id at r
 
-made_keys : (id : ℕ) (lane : Lane) (at : ℕ) (place : Parent) (current : Option ℕ) (callsite : Callsite) (values : ValueSet) (r : Recording) → keys (with_new_recorded id lane at place current callsite values r) ≡ keys r ++ id ∷ []
-made_keys id lane at place current callsite values r =
-    let source = parent_source r.settings.activation place current in
-    starts_keys (source_of r.settings.eager id) at (made_under source id lane at place callsite values r.settings r.counting (with_starts source at r))
+made_keys : (id : ℕ) (lane : Lane) (at : ℕ) (parent : Parent) (current : Option ℕ) (callsite : Callsite) (values : ValueSet) (r : Recording) → keys (with_new_recorded id lane at parent current callsite values r) ≡ keys r ++ id ∷ []
+made_keys id lane at parent current callsite values r =
+    let source = parent_source r.settings.activation parent current in
+    starts_keys (source_of r.settings.eager id) at (made_under source id lane at parent callsite values r.settings r.counting (with_starts source at r))
     ∙ map-append (λ (e : ℕ × SpanData). e.0) (with_starts source at r).spans _ ∙ ap (λ (ks : List ℕ). ks ++ id ∷ []) (starts_keys source at r)
 
 link_keys : (id at : ℕ) (o : Option SpanContext) (spans : List (ℕ × SpanData)) → keys_of (with_link id at o spans) ≡ keys_of spans
@@ -196,16 +196,16 @@ if_known : (known : Bool) (A B : Type 0) (r t : Recording) → IfKnown known A B
 if_known true A B r t h a b = a (h.is_known refl)
 if_known false A B r t h a b = b (h.isnt refl)
 
-new_kept : (x : Spans) (r : Recording) (lane : Lane) (at : ℕ) (place : Parent) (site : ℕ) (callsite : Callsite) (values : ValueSet) → IsSound x → Allowed x (NewSpan lane at place site callsite values) → KeepsLive x r
-    → KeepsLive (spans_after_call x (NewSpan lane at place site callsite values)) (with_new_recorded (length x.made) lane at place (current_of (entries_on lane.id x.lanes)) callsite values r)
-new_kept x r lane at place site callsite values sound allowed keeps q =
-    let o = place_on (entries_on lane.id x.lanes) place in
+new_kept : (x : Spans) (r : Recording) (lane : Lane) (at : ℕ) (parent : Parent) (site : ℕ) (callsite : Callsite) (values : ValueSet) → IsSound x → Allowed x (NewSpan lane at parent site callsite values) → KeepsLive x r
+    → KeepsLive (spans_after_call x (NewSpan lane at parent site callsite values)) (with_new_recorded (length x.made) lane at parent (current_of (entries_on lane.id x.lanes)) callsite values r)
+new_kept x r lane at parent site callsite values sound allowed keeps q =
+    let o = place_on (entries_on lane.id x.lanes) parent in
     let new : Span = record { holds = 1; parent = o; site = site } in
     let id = length x.made in
-    let child = alive_child x.made o (place_live x lane.id place sound allowed) q in
+    let child = alive_child x.made o (place_live x lane.id parent sound allowed) q in
     let push = alive_push (held_by_child x.made o) new refl q in
     let long = ap (λ (n : ℕ). one_if (n == q)) (length_held x.made o) in
-    let ids = ap (λ (ks : List ℕ). count_by (is_id q) ks) (made_keys id lane at place (current_of (entries_on lane.id x.lanes)) callsite values r) in
+    let ids = ap (λ (ks : List ℕ). count_by (is_id q) ks) (made_keys id lane at parent (current_of (entries_on lane.id x.lanes)) callsite values r) in
     let more = count_push (is_id q) (keys r) id in
     let was = keeps q in
     omega (arith, child, push, long, ids, more, was)
@@ -235,11 +235,11 @@ release_kept : (x : Spans) (r : Recording) (id : ℕ) → HasOwnHold x id → (s
 release_kept x r id own several keeps = kept x (record x { made = without_hold x.made id }) r r (alive_released x.made id (omega (arith, own, several))) refl keeps
 
 pub call_kept : (x : Spans) (r : Recording) (call : SubscriberCall) (t : Recording) → IsSound x → Allowed x call → RecordsCall x r call t → KeepsLive x r → KeepsLive (spans_after_call x call) t
-call_kept x r (NewSpan lane at place site callsite values) t sound allowed h keeps =
-    subst (λ (y : Recording). KeepsLive (spans_after_call x (NewSpan lane at place site callsite values)) y) (sym h) (new_kept x r lane at place site callsite values sound allowed keeps)
+call_kept x r (NewSpan lane at parent site callsite values) t sound allowed h keeps =
+    subst (λ (y : Recording). KeepsLive (spans_after_call x (NewSpan lane at parent site callsite values)) y) (sym h) (new_kept x r lane at parent site callsite values sound allowed keeps)
 call_kept x r (Records id at callsite values) t sound allowed h keeps = kept x x r t (λ q. refl) (ap keys h ∙ op_keys id at (ops.Update (span_update callsite values r.settings)) r) keeps
 call_kept x r (Follows id from at) t sound allowed h keeps = kept x x r t (λ q. refl) (ap keys h ∙ follow_keys id from at r) keeps
-call_kept x r (Event lane at place site callsite values) t sound allowed h keeps = kept x x r t (λ q. refl) (ap keys h ∙ event_keys (place_on (entries_on lane.id x.lanes) place) at callsite values r) keeps
+call_kept x r (Event lane at parent site callsite values) t sound allowed h keeps = kept x x r t (λ q. refl) (ap keys h ∙ event_keys (place_on (entries_on lane.id x.lanes) parent) at callsite values r) keeps
 call_kept x r (Enter id at before later) t sound allowed h keeps =
     kept x (with_span_entry x id before.id) r t (alive_entered x id before.id allowed)
     (if_known (knows_span id r.spans) (Enters r id at before later t) (Stays r before later t) r t h (λ e. ap keys e.is ∙ entry_keys id before.id at e.attached r) (λ e. ap keys e.0)) keeps
@@ -313,9 +313,9 @@ event_by_keys (Some f) None lane at callsite values r = refl
 event_by_keys (Some f) (Some id) lane at callsite values r = counted_keys (enables_in f lane callsite) id at callsite values r
 
 pub call_kept_by : (counter : Option FilterState) (x : Spans) (r : Recording) (call : SubscriberCall) (t : Recording) → IsSound x → Allowed x call → RecordsCallBy counter x r call t → KeepsLive x r → KeepsLive (spans_after_call x call) t
-call_kept_by counter x r (Event lane at place site callsite values) t sound allowed h keeps =
-    kept x x r t (λ q. refl) (ap keys h ∙ event_by_keys counter (place_on (entries_on lane.id x.lanes) place) lane.id at callsite values r) keeps
-call_kept_by counter x r (NewSpan lane at place site callsite values) t sound allowed h keeps = call_kept x r (NewSpan lane at place site callsite values) t sound allowed h keeps
+call_kept_by counter x r (Event lane at parent site callsite values) t sound allowed h keeps =
+    kept x x r t (λ q. refl) (ap keys h ∙ event_by_keys counter (place_on (entries_on lane.id x.lanes) parent) lane.id at callsite values r) keeps
+call_kept_by counter x r (NewSpan lane at parent site callsite values) t sound allowed h keeps = call_kept x r (NewSpan lane at parent site callsite values) t sound allowed h keeps
 call_kept_by counter x r (Records id at callsite values) t sound allowed h keeps = call_kept x r (Records id at callsite values) t sound allowed h keeps
 call_kept_by counter x r (Follows id from at) t sound allowed h keeps = call_kept x r (Follows id from at) t sound allowed h keeps
 call_kept_by counter x r (Enter id at before later) t sound allowed h keeps = call_kept x r (Enter id at before later) t sound allowed h keeps

@@ -24,17 +24,17 @@ context_is false (Some s) t at id place.Contextual up setup active now =
 
 module _ (setup : Setup) (t : Tables) (fit : IsFit setup t) where
   abbrev here : ℕ → ℕ → Here
-  here at lane = here_at setup t at lane
+  here at place = here_at setup t at place
 
   -- what a call makes, if it does
   abbrev Makes : ℕ → ℕ → Call → Option MadeSpan → Type 0
-  Makes at lane what_for None = asks_admitted setup t (here at lane).lane what_for ≡ false
-  Makes at lane what_for (Some m) = (asks_admitted setup t (here at lane).lane what_for ≡ true) × IsMadeBy setup t at lane what_for m
+  Makes at place what_for None = asks_admitted setup t (here at place).lane what_for ≡ false
+  Makes at place what_for (Some m) = (asks_admitted setup t (here at place).lane what_for ≡ true) × IsMadeBy setup t at place what_for m
 
-  module _ (at lane site : ℕ) (under : Place) (fields : Fields) (callsite : Callsite) (up : Scope) (values : ValueSet) (there : span_site setup.sites site ≡ Some callsite)
-      (placed : scope_at t (here at lane).lane under ≡ Some up) (read : all_values callsite fields ≡ Some values) where
+  module _ (at place site : ℕ) (under : Place) (fields : Fields) (callsite : Callsite) (up : Scope) (values : ValueSet) (there : span_site setup.sites site ≡ Some callsite)
+      (placed : scope_at t (here at place).lane under ≡ Some up) (read : all_values callsite fields ≡ Some values) where
     abbrev id : ℕ
-    id = (here at lane).lane
+    id = (here at place).lane
 
     abbrev source : Option ℕ
     source = parent_source setup.layer.activation (parent_at under up) (current_of (t.entries id))
@@ -45,7 +45,7 @@ module _ (setup : Setup) (t : Tables) (fit : IsFit setup t) where
     settings : r.settings ≡ setup.layer
     settings = (starts_keep source at t.recording).0 ∙ fit.settings_are
 
-    made_so : IsMadeBy setup t at lane (call.New site under fields) (record { site = site; scope = length t.spans ∷ up; made_with = new_span_data_at (here at lane) callsite values (parent_at under up) })
+    made_so : IsMadeBy setup t at place (call.New site under fields) (record { site = site; scope = length t.spans ∷ up; made_with = new_span_data_at (here at place) callsite values (parent_at under up) })
     made_so = record {
       under = under;
       fields = fields;
@@ -57,114 +57,114 @@ module _ (setup : Setup) (t : Tables) (fit : IsFit setup t) where
       parent = placed;
       given = read;
       scope = refl;
-      making = record { name = callsite.name; parent = context_from r.spans (context_around (t.contexts id) (parent_at under up)) source; made = at; first = first_attributes callsite (lane_in (here at lane)) r.settings; counting = r.counting; inactivity = r.settings.inactivity };
+      making = record { name = callsite.name; parent = context_from r.spans (context_around (t.contexts id) (parent_at under up)) source; made = at; first = first_attributes callsite (lane_in (here at place)) r.settings; counting = r.counting; inactivity = r.settings.inactivity };
       name = refl;
       context = context_is setup.layer.activation (current_of (t.entries id)) t at id under up setup refl refl;
-      first = ap (first_attributes callsite (lane_in (here at lane))) settings;
+      first = ap (first_attributes callsite (lane_in (here at place))) settings;
       began = record { update = span_update callsite values r.settings; is = refl; made = refl; tracked = ap (λ (s : LayerSettings). s.inactivity) settings; counting_is = (starts_keep source at t.recording).1 ∙ fit.counting_is };
       written = ap (span_update callsite values) settings;
     }
 
-    by_gate : (b : Bool) → admits_at setup t id callsite ≡ b → Makes at lane (call.New site under fields) (cond b (span_effect (here at lane) site callsite values under up) (disabled_effect (here at lane))).new_span
+    by_gate : (b : Bool) → admits_at setup t id callsite ≡ b → Makes at place (call.New site under fields) (cond b (span_effect (here at place) site callsite values under up) (disabled_effect (here at place))).new_span
     by_gate true gate = (ap (λ (o : Option Callsite). option_map_or (admits_at setup t id) o false) there ∙ gate, made_so)
     by_gate false gate = ap (λ (o : Option Callsite). option_map_or (admits_at setup t id) o false) there ∙ gate
 
   -- an effect that makes none
-  nothing : (at lane : ℕ) (what_for : Call) (a e : Effect) → ◌≡◌ {A = Resolved} (Ok a) (Ok e) → a.new_span ≡ None → asks_admitted setup t (here at lane).lane what_for ≡ false → Makes at lane what_for e.new_span
-  nothing at lane what_for a e is none unasked = subst (λ (x : Effect). Makes at lane what_for x.new_span) (the_effect setup t fit a e is) (subst (Makes at lane what_for) (sym none) unasked)
+  nothing : (at place : ℕ) (what_for : Call) (a e : Effect) → ◌≡◌ {A = Resolved} (Ok a) (Ok e) → a.new_span ≡ None → asks_admitted setup t (here at place).lane what_for ≡ false → Makes at place what_for e.new_span
+  nothing at place what_for a e is none unasked = subst (λ (x : Effect). Makes at place what_for x.new_span) (the_effect setup t fit a e is) (subst (Makes at place what_for) (sym none) unasked)
 
-  opens_none : (at lane handle : ℕ) (owns : Bool) (what_for : Call) (e : Effect) → entry_call (here at lane) handle owns ≡ Ok e → asks_admitted setup t (here at lane).lane what_for ≡ false → Makes at lane what_for e.new_span
-  opens_none at lane handle owns what_for e is unasked =
+  opens_none : (at place handle : ℕ) (owns : Bool) (what_for : Call) (e : Effect) → entry_call (here at place) handle owns ≡ Ok e → asks_admitted setup t (here at place).lane what_for ≡ false → Makes at place what_for e.new_span
+  opens_none at place handle owns what_for e is unasked =
       let there = found setup t fit what.Handle (slot_at t.handles handle) _ e is in
-      let room = unrefused setup t fit (meets_full setup.layer.activation there.0 (t.contexts (here at lane).lane)) (refusal.Full lane) (Ok (enter_effect (here at lane) handle owns there.0)) e there.2 in
-      nothing at lane what_for _ e room.1 refl unasked
+      let room = unrefused setup t fit (meets_full setup.layer.activation there.0 (t.contexts (here at place).lane)) (refusal.Full place) (Ok (enter_effect (here at place) handle owns there.0)) e there.2 in
+      nothing at place what_for _ e room.1 refl unasked
 
-  follows_none : (at lane : ℕ) (scope from : Scope) → (follow_effect (here at lane) scope from).new_span ≡ None
-  follows_none at lane [] from = refl
-  follows_none at lane (s ∷ up) [] = refl
-  follows_none at lane (s ∷ up) (f ∷ above) = refl
+  follows_none : (at place : ℕ) (scope from : Scope) → (follow_effect (here at place) scope from).new_span ≡ None
+  follows_none at place [] from = refl
+  follows_none at place (s ∷ up) [] = refl
+  follows_none at place (s ∷ up) (f ∷ above) = refl
 
-  by_call : (at lane : ℕ) (what_for : Call) (e : Effect) → effect_of_call setup t at lane what_for ≡ Ok e → Makes at lane what_for e.new_span
-  by_call at lane (call.New site under fields) e is =
+  by_call : (at place : ℕ) (what_for : Call) (e : Effect) → effect_of_call setup t at place what_for ≡ Ok e → Makes at place what_for e.new_span
+  by_call at place (call.New site under fields) e is =
       let callsite = found setup t fit what.Site (span_site setup.sites site) _ e is in
-      let up = found setup t fit what.Handle (scope_at t (here at lane).lane under) _ e callsite.2 in
+      let up = found setup t fit what.Handle (scope_at t (here at place).lane under) _ e callsite.2 in
       let values = found setup t fit what.Field (all_values callsite.0 fields) _ e up.2 in
-      subst (λ (x : Effect). Makes at lane (call.New site under fields) x.new_span) (the_effect setup t fit _ e values.2)
-      (by_gate at lane site under fields callsite.0 up.0 values.0 callsite.1 up.1 values.1 (admits_at setup t (here at lane).lane callsite.0) refl)
-  by_call at lane (call.Clone handle) e is =
+      subst (λ (x : Effect). Makes at place (call.New site under fields) x.new_span) (the_effect setup t fit _ e values.2)
+      (by_gate at place site under fields callsite.0 up.0 values.0 callsite.1 up.1 values.1 (admits_at setup t (here at place).lane callsite.0) refl)
+  by_call at place (call.Clone handle) e is =
       let there = found setup t fit what.Handle (slot_at t.handles handle) _ e is in
-      nothing at lane (call.Clone handle) _ e there.2 refl refl
-  by_call at lane (call.Drop handle) e is =
+      nothing at place (call.Clone handle) _ e there.2 refl refl
+  by_call at place (call.Drop handle) e is =
       let there = found setup t fit what.Handle (slot_at t.handles handle) _ e is in
-      let free = unrefused setup t fit (is_borrowed t.guards handle) refusal.InUse (Ok (drop_effect (here at lane) handle there.0)) e there.2 in
-      nothing at lane (call.Drop handle) _ e free.1 refl refl
-  by_call at lane (call.Enter handle) e is = opens_none at lane handle false (call.Enter handle) e is refl
-  by_call at lane (call.Exit guard) e is =
+      let free = unrefused setup t fit (is_borrowed t.guards handle) refusal.InUse (Ok (drop_effect (here at place) handle there.0)) e there.2 in
+      nothing at place (call.Drop handle) _ e free.1 refl refl
+  by_call at place (call.Enter handle) e is = opens_none at place handle false (call.Enter handle) e is refl
+  by_call at place (call.Exit guard) e is =
       let there = found setup t fit what.Guard (slot_at t.guards guard) _ e is in
-      let leaves = exit_effect (here at lane) guard there.0.scope in
-      let alone = unrefused setup t fit (is_shared t.guards there.0) refusal.InUse (refuse_if (not (there.0.place == lane)) (refusal.WrongLane there.0.place) (Ok leaves)) e there.2 in
-      let mine = allowed setup t fit (there.0.place == lane) (refusal.WrongLane there.0.place) (Ok leaves) e alone.1 in
-      nothing at lane (call.Exit guard) _ e mine.1 refl refl
-  by_call at lane call.Current e is = nothing at lane call.Current _ e is refl refl
-  by_call at lane (call.OrCurrent handle) e is =
+      let leaves = exit_effect (here at place) guard there.0.scope in
+      let alone = unrefused setup t fit (is_shared t.guards there.0) refusal.InUse (refuse_if (not (there.0.place == place)) (refusal.WrongLane there.0.place) (Ok leaves)) e there.2 in
+      let mine = allowed setup t fit (there.0.place == place) (refusal.WrongLane there.0.place) (Ok leaves) e alone.1 in
+      nothing at place (call.Exit guard) _ e mine.1 refl refl
+  by_call at place call.Current e is = nothing at place call.Current _ e is refl refl
+  by_call at place (call.OrCurrent handle) e is =
       let there = found setup t fit what.Handle (slot_at t.handles handle) _ e is in
-      let free = unrefused setup t fit (is_borrowed t.guards handle) refusal.InUse (Ok (exchange_effect (here at lane) handle (scope_or_current t (here at lane).lane there.0))) e there.2 in
-      nothing at lane (call.OrCurrent handle) _ e free.1 refl refl
-  by_call at lane (call.Entered handle) e is =
+      let free = unrefused setup t fit (is_borrowed t.guards handle) refusal.InUse (Ok (exchange_effect (here at place) handle (scope_or_current t (here at place).lane there.0))) e there.2 in
+      nothing at place (call.OrCurrent handle) _ e free.1 refl refl
+  by_call at place (call.Entered handle) e is =
       let there = found setup t fit what.Handle (slot_at t.handles handle) _ e is in
-      let free = unrefused setup t fit (is_borrowed t.guards handle) refusal.InUse (entry_call (here at lane) handle true) e there.2 in
-      opens_none at lane handle true (call.Entered handle) e free.1 refl
-  by_call at lane (call.Event site under fields) e is =
+      let free = unrefused setup t fit (is_borrowed t.guards handle) refusal.InUse (entry_call (here at place) handle true) e there.2 in
+      opens_none at place handle true (call.Entered handle) e free.1 refl
+  by_call at place (call.Event site under fields) e is =
       let there = found setup t fit what.Site (event_site setup.sites site) _ e is in
-      let reached = found setup t fit what.Handle (scope_at t (here at lane).lane under) _ e there.2 in
+      let reached = found setup t fit what.Handle (scope_at t (here at place).lane under) _ e there.2 in
       let values = found setup t fit what.Field (all_values there.0 fields) _ e reached.2 in
-      nothing at lane (call.Event site under fields) _ e values.2 refl refl
-  by_call at lane (call.Record handle fields) e is =
+      nothing at place (call.Event site under fields) _ e values.2 refl refl
+  by_call at place (call.Record handle fields) e is =
       let there = found setup t fit what.Handle (slot_at t.handles handle) _ e is in
-      nothing at lane (call.Record handle fields) _ e there.2 refl refl
-  by_call at lane (call.HasField handle name) e is =
+      nothing at place (call.Record handle fields) _ e there.2 refl refl
+  by_call at place (call.HasField handle name) e is =
       let there = found setup t fit what.Handle (slot_at t.handles handle) _ e is in
-      nothing at lane (call.HasField handle name) _ e there.2 refl refl
-  by_call at lane (call.Remote ids) e is = nothing at lane (call.Remote ids) _ e is refl refl
-  by_call at lane (call.Context handle) e is =
+      nothing at place (call.HasField handle name) _ e there.2 refl refl
+  by_call at place (call.Remote ids) e is = nothing at place (call.Remote ids) _ e is refl refl
+  by_call at place (call.Context handle) e is =
       let there = found setup t fit what.Handle (slot_at t.handles handle) _ e is in
-      nothing at lane (call.Context handle) _ e there.2 refl refl
-  by_call at lane (call.Attach context) e is =
+      nothing at place (call.Context handle) _ e there.2 refl refl
+  by_call at place (call.Attach context) e is =
       let there = found setup t fit what.Context (slice_get t.named_contexts context) _ e is in
-      let room = unrefused setup t fit (is_full (t.contexts (here at lane).lane)) (refusal.Full lane) (Ok (attach_effect (here at lane) there.0)) e there.2 in
-      nothing at lane (call.Attach context) _ e room.1 refl refl
-  by_call at lane (call.Detach guard) e is =
+      let room = unrefused setup t fit (is_full (t.contexts (here at place).lane)) (refusal.Full place) (Ok (attach_effect (here at place) there.0)) e there.2 in
+      nothing at place (call.Attach context) _ e room.1 refl refl
+  by_call at place (call.Detach guard) e is =
       let there = found setup t fit what.Guard (slot_at t.attaches guard) _ e is in
-      let mine = allowed setup t fit (there.0 == lane) (refusal.WrongLane there.0) (Ok (detach_effect (here at lane) guard)) e there.2 in
-      nothing at lane (call.Detach guard) _ e mine.1 refl refl
-  by_call at lane (call.Follows handle from) e is =
+      let mine = allowed setup t fit (there.0 == place) (refusal.WrongLane there.0) (Ok (detach_effect (here at place) guard)) e there.2 in
+      nothing at place (call.Detach guard) _ e mine.1 refl refl
+  by_call at place (call.Follows handle from) e is =
       let there = found setup t fit what.Handle (slot_at t.handles handle) _ e is in
       let followed = found setup t fit what.Handle (slot_at t.handles from) _ e there.2 in
-      nothing at lane (call.Follows handle from) _ e followed.2 (follows_none at lane there.0 followed.0) refl
-  by_call at lane (call.SetParent handle context) e is =
+      nothing at place (call.Follows handle from) _ e followed.2 (follows_none at place there.0 followed.0) refl
+  by_call at place (call.SetParent handle context) e is =
       let there = found setup t fit what.Handle (slot_at t.handles handle) _ e is in
       let given = found setup t fit what.Context (slice_get t.named_contexts context) _ e there.2 in
-      nothing at lane (call.SetParent handle context) _ e given.2 refl refl
-  by_call at lane (call.AddLink handle context attributes) e is =
+      nothing at place (call.SetParent handle context) _ e given.2 refl refl
+  by_call at place (call.AddLink handle context attributes) e is =
       let there = found setup t fit what.Handle (slot_at t.handles handle) _ e is in
       let given = found setup t fit what.Context (slice_get t.named_contexts context) _ e there.2 in
-      nothing at lane (call.AddLink handle context attributes) _ e given.2 refl refl
-  by_call at lane (call.SetAttribute handle key value) e is =
+      nothing at place (call.AddLink handle context attributes) _ e given.2 refl refl
+  by_call at place (call.SetAttribute handle key value) e is =
       let there = found setup t fit what.Handle (slot_at t.handles handle) _ e is in
-      nothing at lane (call.SetAttribute handle key value) _ e there.2 refl refl
-  by_call at lane (call.SetStatus handle status) e is =
+      nothing at place (call.SetAttribute handle key value) _ e there.2 refl refl
+  by_call at place (call.SetStatus handle status) e is =
       let there = found setup t fit what.Handle (slot_at t.handles handle) _ e is in
-      nothing at lane (call.SetStatus handle status) _ e there.2 refl refl
-  by_call at lane (call.AddEvent handle name attributes time) e is =
+      nothing at place (call.SetStatus handle status) _ e there.2 refl refl
+  by_call at place (call.AddEvent handle name attributes time) e is =
       let there = found setup t fit what.Handle (slot_at t.handles handle) _ e is in
-      nothing at lane (call.AddEvent handle name attributes time) _ e there.2 refl refl
-  by_call at lane (call.Enabled site) e is =
+      nothing at place (call.AddEvent handle name attributes time) _ e there.2 refl refl
+  by_call at place (call.Enabled site) e is =
       let there = found setup t fit what.Site (slice_get setup.sites site) _ e is in
-      nothing at lane (call.Enabled site) _ e there.2 refl refl
-  by_call at lane (call.Reload text) e is = by_read (text_read text) is
+      nothing at place (call.Enabled site) _ e there.2 refl refl
+  by_call at place (call.Reload text) e is = by_read (text_read text) is
     where
-      by_read : (r : TextRead) → reload_by (here at lane) text r ≡ Ok e → Makes at lane (call.Reload text) e.new_span
-      by_read (Ok ds) read = nothing at lane (call.Reload text) _ e read refl refl
+      by_read : (r : TextRead) → reload_by (here at place) text r ≡ Ok e → Makes at place (call.Reload text) e.new_span
+      by_read (Ok ds) read = nothing at place (call.Reload text) _ e read refl refl
       by_read (Err piece) read = absurd (cc read)
 
   -- the effect of a request is that of its call
@@ -178,9 +178,9 @@ module _ (setup : Setup) (t : Tables) (fit : IsFit setup t) where
   by_request : (request : Request) (e : Effect) → effect_of setup t request ≡ Ok e → Makes request.at request.lane request.call e.new_span
   by_request request e is = by_call request.at request.lane request.call e (call_of request e is)
 
-  by_made : (at lane : ℕ) (what_for : Call) (o : Option MadeSpan) → Makes at lane what_for o → is_some o ≡ asks_admitted setup t (here at lane).lane what_for
-  by_made at lane what_for None unasked = sym unasked
-  by_made at lane what_for (Some m) made = sym made.0
+  by_made : (at place : ℕ) (what_for : Call) (o : Option MadeSpan) → Makes at place what_for o → is_some o ≡ asks_admitted setup t (here at place).lane what_for
+  by_made at place what_for None unasked = sym unasked
+  by_made at place what_for (Some m) made = sym made.0
 
 -- what starts before a span is made
 pub starts_before : (setup : Setup) (t : Tables) (fit : IsFit setup t) (request : Request) (e : Effect) (m : MadeSpan) → effect_of setup t request ≡ Ok e → e.new_span ≡ Some m → (by : IsMadeBy setup t request.at request.lane request.call m)

@@ -124,7 +124,7 @@ module _ (setup : Setup) (t : Tables) (fit : IsFit setup t) where
   Step at is_drop e = IsStep setup t at is_drop e
 
   abbrev here : ℕ → ℕ → Here
-  here at lane = here_at setup t at lane
+  here at place = here_at setup t at place
 
   abbrev Open : List ℕ → Type 0
   Open spans = AllByRecursion (λ s. is_open t.handles s ≡ true) spans
@@ -167,32 +167,32 @@ module _ (setup : Setup) (t : Tables) (fit : IsFit setup t) where
   exits_on_own [] = tt
   exits_on_own (s ∷ up) = refl
 
-  declined : (at lane : ℕ) → Step at false (disabled_effect (here at lane))
-  declined at lane = record { moment = refl; names = another [] no_scope; enters = no_entry; spends = no_spending; begins = tt; early = refl; starts = tt; reached = tt; turns = tt; closing = λ no. refl; heard = of_open None [] tt }
+  declined : (at place : ℕ) → Step at false (disabled_effect (here at place))
+  declined at place = record { moment = refl; names = another [] no_scope; enters = no_entry; spends = no_spending; begins = tt; early = refl; starts = tt; reached = tt; turns = tt; closing = λ no. refl; heard = of_open None [] tt }
 
-  made_span : (at lane site : ℕ) (callsite : Callsite) (values : ValueSet) (under : Place) (up : Scope) → IsKnown t.handles up → Step at false (span_effect (here at lane) site callsite values under up)
-  made_span at lane site callsite values under up known =
-      let source = parent_source setup.layer.activation (parent_at under up) (current_of (t.entries (here at lane).lane)) in
+  made_span : (at place site : ℕ) (callsite : Callsite) (values : ValueSet) (under : Place) (up : Scope) → IsKnown t.handles up → Step at false (span_effect (here at place) site callsite values under up)
+  made_span at place site callsite values under up known =
+      let source = parent_source setup.layer.activation (parent_at under up) (current_of (t.entries (here at place).lane)) in
       let keep = starts_keep source at t.recording in
       record {
         moment = refl;
-        names = new_span (record { site = site; scope = length t.spans ∷ up; made_with = new_span_data_at (here at lane) callsite values (parent_at under up) }) up known refl;
+        names = new_span (record { site = site; scope = length t.spans ∷ up; made_with = new_span_data_at (here at place) callsite values (parent_at under up) }) up known refl;
         enters = no_entry;
         spends = no_spending;
-        begins = told_begins setup (with_starts source at t.recording).settings callsite (lane_in (here at lane)) values _ at (with_starts source at t.recording).counting (keep.0 ∙ fit.settings_are) (keep.1 ∙ fit.counting_is);
+        begins = told_begins setup (with_starts source at t.recording).settings callsite (lane_in (here at place)) values _ at (with_starts source at t.recording).counting (keep.0 ∙ fit.settings_are) (keep.1 ∙ fit.counting_is);
         early = refl;
-        starts = source_open setup.layer.activation under up (here at lane).lane known;
+        starts = source_open setup.layer.activation under up (here at place).lane known;
         reached = tt;
         turns = tt;
         closing = λ no. refl;
         heard = of_making _ callsite values;
       }
 
-  cloned : (at lane : ℕ) (scope : Scope) → IsKnown t.handles scope → Step at false (clone_effect (here at lane) scope)
-  cloned at lane scope known = record { moment = refl; names = another scope known; enters = no_entry; spends = no_spending; begins = tt; early = refl; starts = tt; reached = tt; turns = tt; closing = λ no. refl; heard = of_open None [] tt }
+  cloned : (at place : ℕ) (scope : Scope) → IsKnown t.handles scope → Step at false (clone_effect (here at place) scope)
+  cloned at place scope known = record { moment = refl; names = another scope known; enters = no_entry; spends = no_spending; begins = tt; early = refl; starts = tt; reached = tt; turns = tt; closing = λ no. refl; heard = of_open None [] tt }
 
-  dropped : (at lane handle : ℕ) (scope : Scope) → slot_at t.handles handle ≡ Some scope → is_borrowed t.guards handle ≡ false → Step at true (drop_effect (here at lane) handle scope)
-  dropped at lane handle scope there free = record {
+  dropped : (at place handle : ℕ) (scope : Scope) → slot_at t.handles handle ≡ Some scope → is_borrowed t.guards handle ≡ false → Step at true (drop_effect (here at place) handle scope)
+  dropped at place handle scope there free = record {
     moment = refl;
     names = no_name;
     enters = no_entry;
@@ -206,12 +206,12 @@ module _ (setup : Setup) (t : Tables) (fit : IsFit setup t) where
     heard = of_open None _ (heard_close t.handles handle scope there);
   }
 
-  exchanged : (at lane handle : ℕ) (scope : Scope) → slot_at t.handles handle ≡ Some scope → is_borrowed t.guards handle ≡ false → Step at false (exchange_effect (here at lane) handle (scope_or_current t (here at lane).lane scope))
-  exchanged at lane handle [] there free = record {
+  exchanged : (at place handle : ℕ) (scope : Scope) → slot_at t.handles handle ≡ Some scope → is_borrowed t.guards handle ≡ false → Step at false (exchange_effect (here at place) handle (scope_or_current t (here at place).lane scope))
+  exchanged at place handle [] there free = record {
     moment = refl;
-    names = another (current_scope t (here at lane).lane) (fit.currents (here at lane).lane);
+    names = another (current_scope t (here at place).lane) (fit.currents (here at place).lane);
     enters = no_entry;
-    spends = one_spent handle [] [] (slot_push t.handles (Some (current_scope t (here at lane).lane)) handle [] there) free refl;
+    spends = one_spent handle [] [] (slot_push t.handles (Some (current_scope t (here at place).lane)) handle [] there) free refl;
     begins = tt;
     early = refl;
     starts = tt;
@@ -220,7 +220,7 @@ module _ (setup : Setup) (t : Tables) (fit : IsFit setup t) where
     closing = λ no. refl;
     heard = of_open None [] tt;
   }
-  exchanged at lane handle (x ∷ up) there free = record {
+  exchanged at place handle (x ∷ up) there free = record {
     moment = refl;
     names = another (x ∷ up) (of_handle handle (x ∷ up) there);
     enters = no_entry;
@@ -235,11 +235,11 @@ module _ (setup : Setup) (t : Tables) (fit : IsFit setup t) where
     heard = of_open None [] tt;
   }
 
-  entered : (at lane handle : ℕ) (owns : Bool) (scope : Scope) → slot_at t.handles handle ≡ Some scope → Step at false (enter_effect (here at lane) handle owns scope)
-  entered at lane handle owns scope there = record {
+  entered : (at place handle : ℕ) (owns : Bool) (scope : Scope) → slot_at t.handles handle ≡ Some scope → Step at false (enter_effect (here at place) handle owns scope)
+  entered at place handle owns scope there = record {
     moment = refl;
     names = no_name;
-    enters = enters_by (record { handle = handle; place = lane; owns = owns; scope = scope }) there refl;
+    enters = enters_by (record { handle = handle; place = place; owns = owns; scope = scope }) there refl;
     spends = no_spending;
     begins = tt;
     early = refl;
@@ -247,14 +247,14 @@ module _ (setup : Setup) (t : Tables) (fit : IsFit setup t) where
     reached = on_reached scope ops.Enter (of_handle handle scope there) refl;
     turns = enters_on scope;
     closing = λ no. refl;
-    heard = of_open None _ (heard_entry t.handles [] scope (here at lane).lane);
+    heard = of_open None _ (heard_entry t.handles [] scope (here at place).lane);
   }
 
-  exited : (at lane guard : ℕ) (g : ScopeGuard) → slot_at t.guards guard ≡ Some g → g.place ≡ lane → Step at false (exit_effect (here at lane) guard g.scope)
-  exited at lane guard g there on = record {
+  exited : (at place guard : ℕ) (g : ScopeGuard) → slot_at t.guards guard ≡ Some g → g.place ≡ place → Step at false (exit_effect (here at place) guard g.scope)
+  exited at place guard g there on = record {
     moment = refl;
     names = no_name;
-    enters = exits_by guard g there (ap (λ (place : ℕ). (here at place).lane) (sym on));
+    enters = exits_by guard g there (ap (λ (p : ℕ). (here at p).lane) (sym on));
     spends = no_spending;
     begins = tt;
     early = refl;
@@ -262,7 +262,7 @@ module _ (setup : Setup) (t : Tables) (fit : IsFit setup t) where
     reached = on_reached g.scope ops.Exit (of_handle g.handle g.scope (fit.still guard g there)) refl;
     turns = exits_on_own g.scope;
     closing = λ no. refl;
-    heard = of_open None _ (heard_exit t.handles [] g.scope (here at lane).lane);
+    heard = of_open None _ (heard_exit t.handles [] g.scope (here at place).lane);
   }
 
   on_calm : (scope : Scope) (op : Op) → (deed op).enters ≡ false → (deed op).exits ≡ false → AllByRecursion IsCalm (op_on scope op)
@@ -278,18 +278,18 @@ module _ (setup : Setup) (t : Tables) (fit : IsFit setup t) where
   updates_calm scope fields None = tt
   updates_calm scope fields (Some callsite) = on_calm scope (ops.Update (span_update callsite (values_of callsite fields) setup.layer)) refl refl
 
-  told : (at lane : ℕ) (answer : Reply) (done : List SpanOp) → AllByRecursion (IsReached t.handles) done → AllByRecursion IsCalm done → Step at false (ops_effect (here at lane) answer done)
-  told at lane answer done reached calm = record { moment = refl; names = no_name; enters = no_entry; spends = no_spending; begins = tt; early = refl; starts = tt; reached = reached; turns = calm; closing = λ no. refl; heard = of_open None [] tt }
+  told : (at place : ℕ) (answer : Reply) (done : List SpanOp) → AllByRecursion (IsReached t.handles) done → AllByRecursion IsCalm done → Step at false (ops_effect (here at place) answer done)
+  told at place answer done reached calm = record { moment = refl; names = no_name; enters = no_entry; spends = no_spending; begins = tt; early = refl; starts = tt; reached = reached; turns = calm; closing = λ no. refl; heard = of_open None [] tt }
 
   -- one op on a known scope's own span
-  one_told : (at lane : ℕ) (answer : Reply) (scope : Scope) (op : Op) → IsKnown t.handles scope → (deed op).own ≡ None → (deed op).enters ≡ false → (deed op).exits ≡ false → Step at false (ops_effect (here at lane) answer (op_on scope op))
-  one_told at lane answer scope op known unstarted unentered unleft = told at lane answer (op_on scope op) (on_reached scope op known unstarted) (on_calm scope op unentered unleft)
+  one_told : (at place : ℕ) (answer : Reply) (scope : Scope) (op : Op) → IsKnown t.handles scope → (deed op).own ≡ None → (deed op).enters ≡ false → (deed op).exits ≡ false → Step at false (ops_effect (here at place) answer (op_on scope op))
+  one_told at place answer scope op known unstarted unentered unleft = told at place answer (op_on scope op) (on_reached scope op known unstarted) (on_calm scope op unentered unleft)
 
   -- the followed span starts, and the other one is linked
-  follower : (at lane : ℕ) (scope from : Scope) → IsKnown t.handles scope → IsKnown t.handles from → Step at false (follow_effect (here at lane) scope from)
-  follower at lane [] from known other = told at lane reply.Done [] tt tt
-  follower at lane (s ∷ up) [] known other = told at lane reply.Done [] tt tt
-  follower at lane (s ∷ up) (f ∷ above) known other = (let op = link_of (ids_of (own_context t.recording at (f ∷ above))) [] in record {
+  follower : (at place : ℕ) (scope from : Scope) → IsKnown t.handles scope → IsKnown t.handles from → Step at false (follow_effect (here at place) scope from)
+  follower at place [] from known other = told at place reply.Done [] tt tt
+  follower at place (s ∷ up) [] known other = told at place reply.Done [] tt tt
+  follower at place (s ∷ up) (f ∷ above) known other = (let op = link_of (ids_of (own_context t.recording at (f ∷ above))) [] in record {
     moment = refl;
     names = no_name;
     enters = no_entry;
@@ -308,14 +308,14 @@ module _ (setup : Setup) (t : Tables) (fit : IsFit setup t) where
       → Step at false (record e { filter = text; hooks = heard; measures = added })
   beside at e text heard added hears s = record { moment = s.moment; names = s.names; enters = s.enters; spends = s.spends; begins = s.begins; early = s.early; starts = s.starts; reached = s.reached; turns = s.turns; closing = s.closing; heard = hears }
 
-  given : (at lane : ℕ) (starting : Option ℕ) (context : Context) → Open (option_to_list starting) → Step at false (context_effect (here at lane) starting context)
-  given at lane starting context held = record { moment = refl; names = no_name; enters = no_entry; spends = no_spending; begins = tt; early = refl; starts = held; reached = tt; turns = tt; closing = λ no. refl; heard = of_open None [] tt }
+  given : (at place : ℕ) (starting : Option ℕ) (context : Context) → Open (option_to_list starting) → Step at false (context_effect (here at place) starting context)
+  given at place starting context held = record { moment = refl; names = no_name; enters = no_entry; spends = no_spending; begins = tt; early = refl; starts = held; reached = tt; turns = tt; closing = λ no. refl; heard = of_open None [] tt }
 
-  attached : (at lane : ℕ) (context : Context) → Step at false (attach_effect (here at lane) context)
-  attached at lane context = record { moment = refl; names = no_name; enters = skips lane; spends = no_spending; begins = tt; early = refl; starts = tt; reached = tt; turns = tt; closing = λ no. refl; heard = of_open None [] tt }
+  attached : (at place : ℕ) (context : Context) → Step at false (attach_effect (here at place) context)
+  attached at place context = record { moment = refl; names = no_name; enters = skips place; spends = no_spending; begins = tt; early = refl; starts = tt; reached = tt; turns = tt; closing = λ no. refl; heard = of_open None [] tt }
 
-  detached : (at lane guard : ℕ) → Step at false (detach_effect (here at lane) guard)
-  detached at lane guard = record { moment = refl; names = no_name; enters = no_entry; spends = no_spending; begins = tt; early = refl; starts = tt; reached = tt; turns = tt; closing = λ no. refl; heard = of_open None [] tt }
+  detached : (at place guard : ℕ) → Step at false (detach_effect (here at place) guard)
+  detached at place guard = record { moment = refl; names = no_name; enters = no_entry; spends = no_spending; begins = tt; early = refl; starts = tt; reached = tt; turns = tt; closing = λ no. refl; heard = of_open None [] tt }
 
   if_both : (at : ℕ) (b : Bool) (x y : Effect) → Step at false x → Step at false y → Step at false (cond b x y)
   if_both at true x y one two = one
@@ -351,108 +351,108 @@ module _ (setup : Setup) (t : Tables) (fit : IsFit setup t) where
       the_scope a b e = cc e
   known_place lane (place.Under handle) up is = of_handle handle up is
 
-  opened : (at lane handle : ℕ) (owns : Bool) (e : Effect) → entry_call (here at lane) handle owns ≡ Ok e → Step at false e
-  opened at lane handle owns e is =
+  opened : (at place handle : ℕ) (owns : Bool) (e : Effect) → entry_call (here at place) handle owns ≡ Ok e → Step at false e
+  opened at place handle owns e is =
       let there = found what.Handle (slot_at t.handles handle) _ e is in
-      let room = unrefused (meets_full setup.layer.activation there.0 (t.contexts (here at lane).lane)) (refusal.Full lane) (Ok (enter_effect (here at lane) handle owns there.0)) e there.2 in
-      subst (Step at false) (the_effect _ e room.1) (entered at lane handle owns there.0 there.1)
+      let room = unrefused (meets_full setup.layer.activation there.0 (t.contexts (here at place).lane)) (refusal.Full place) (Ok (enter_effect (here at place) handle owns there.0)) e there.2 in
+      subst (Step at false) (the_effect _ e room.1) (entered at place handle owns there.0 there.1)
 
-  by_call : (at lane : ℕ) (what_for : Call) (e : Effect) → effect_of_call setup t at lane what_for ≡ Ok e → Step at (is_drop what_for) e
-  by_call at lane (call.New site under fields) e is =
+  by_call : (at place : ℕ) (what_for : Call) (e : Effect) → effect_of_call setup t at place what_for ≡ Ok e → Step at (is_drop what_for) e
+  by_call at place (call.New site under fields) e is =
       let callsite = found what.Site (span_site setup.sites site) _ e is in
-      let up = found what.Handle (scope_at t (here at lane).lane under) _ e callsite.2 in
+      let up = found what.Handle (scope_at t (here at place).lane under) _ e callsite.2 in
       let values = found what.Field (all_values callsite.0 fields) _ e up.2 in
       subst (Step at false) (the_effect _ e values.2)
-      (if_both at (admits_at setup t (here at lane).lane callsite.0) _ _
-      (made_span at lane site callsite.0 values.0 under up.0 (known_place (here at lane).lane under up.0 up.1)) (declined at lane))
-  by_call at lane (call.Clone handle) e is =
+      (if_both at (admits_at setup t (here at place).lane callsite.0) _ _
+      (made_span at place site callsite.0 values.0 under up.0 (known_place (here at place).lane under up.0 up.1)) (declined at place))
+  by_call at place (call.Clone handle) e is =
       let there = found what.Handle (slot_at t.handles handle) _ e is in
-      subst (Step at false) (the_effect _ e there.2) (cloned at lane there.0 (of_handle handle there.0 there.1))
-  by_call at lane (call.Drop handle) e is =
+      subst (Step at false) (the_effect _ e there.2) (cloned at place there.0 (of_handle handle there.0 there.1))
+  by_call at place (call.Drop handle) e is =
       let there = found what.Handle (slot_at t.handles handle) _ e is in
-      let free = unrefused (is_borrowed t.guards handle) refusal.InUse (Ok (drop_effect (here at lane) handle there.0)) e there.2 in
-      subst (Step at true) (the_effect _ e free.1) (dropped at lane handle there.0 there.1 free.0)
-  by_call at lane (call.Enter handle) e is = opened at lane handle false e is
-  by_call at lane (call.Exit guard) e is =
+      let free = unrefused (is_borrowed t.guards handle) refusal.InUse (Ok (drop_effect (here at place) handle there.0)) e there.2 in
+      subst (Step at true) (the_effect _ e free.1) (dropped at place handle there.0 there.1 free.0)
+  by_call at place (call.Enter handle) e is = opened at place handle false e is
+  by_call at place (call.Exit guard) e is =
       let there = found what.Guard (slot_at t.guards guard) _ e is in
-      let leaves = exit_effect (here at lane) guard there.0.scope in
-      let alone = unrefused (is_shared t.guards there.0) refusal.InUse (refuse_if (not (there.0.place == lane)) (refusal.WrongLane there.0.place) (Ok leaves)) e there.2 in
-      let mine = allowed (there.0.place == lane) (refusal.WrongLane there.0.place) (Ok leaves) e alone.1 in
-      subst (Step at false) (the_effect _ e mine.1) (exited at lane guard there.0 there.1 (eqb-true there.0.place lane mine.0))
-  by_call at lane call.Current e is = subst (Step at false) (the_effect _ e is) (cloned at lane (current_scope t (here at lane).lane) (fit.currents (here at lane).lane))
-  by_call at lane (call.OrCurrent handle) e is =
+      let leaves = exit_effect (here at place) guard there.0.scope in
+      let alone = unrefused (is_shared t.guards there.0) refusal.InUse (refuse_if (not (there.0.place == place)) (refusal.WrongLane there.0.place) (Ok leaves)) e there.2 in
+      let mine = allowed (there.0.place == place) (refusal.WrongLane there.0.place) (Ok leaves) e alone.1 in
+      subst (Step at false) (the_effect _ e mine.1) (exited at place guard there.0 there.1 (eqb-true there.0.place place mine.0))
+  by_call at place call.Current e is = subst (Step at false) (the_effect _ e is) (cloned at place (current_scope t (here at place).lane) (fit.currents (here at place).lane))
+  by_call at place (call.OrCurrent handle) e is =
       let there = found what.Handle (slot_at t.handles handle) _ e is in
-      let free = unrefused (is_borrowed t.guards handle) refusal.InUse (Ok (exchange_effect (here at lane) handle (scope_or_current t (here at lane).lane there.0))) e there.2 in
-      subst (Step at false) (the_effect _ e free.1) (exchanged at lane handle there.0 there.1 free.0)
-  by_call at lane (call.Entered handle) e is =
+      let free = unrefused (is_borrowed t.guards handle) refusal.InUse (Ok (exchange_effect (here at place) handle (scope_or_current t (here at place).lane there.0))) e there.2 in
+      subst (Step at false) (the_effect _ e free.1) (exchanged at place handle there.0 there.1 free.0)
+  by_call at place (call.Entered handle) e is =
       let there = found what.Handle (slot_at t.handles handle) _ e is in
-      let free = unrefused (is_borrowed t.guards handle) refusal.InUse (entry_call (here at lane) handle true) e there.2 in
-      opened at lane handle true e free.1
-  by_call at lane (call.Event site under fields) e is =
+      let free = unrefused (is_borrowed t.guards handle) refusal.InUse (entry_call (here at place) handle true) e there.2 in
+      opened at place handle true e free.1
+  by_call at place (call.Event site under fields) e is =
       let there = found what.Site (event_site setup.sites site) _ e is in
-      let reached = found what.Handle (scope_at t (here at lane).lane under) _ e there.2 in
+      let reached = found what.Handle (scope_at t (here at place).lane under) _ e there.2 in
       let values = found what.Field (all_values there.0 fields) _ e reached.2 in
       let op = event_of there.0 values.0 setup.layer at in
-      let enabled = admits_at setup t (here at lane).lane there.0 in
-      let known = known_place (here at lane).lane under reached.0 reached.1 in
+      let enabled = admits_at setup t (here at place).lane there.0 in
+      let known = known_place (here at place).lane under reached.0 reached.1 in
       subst (Step at false) (the_effect _ e values.2)
-      (beside at (ops_effect (here at lane) (reply.Enabled enabled) _) None [] _ (of_open None [] tt)
-      (told at lane (reply.Enabled enabled) _
+      (beside at (ops_effect (here at place) (reply.Enabled enabled) _) None [] _ (of_open None [] tt)
+      (told at place (reply.Enabled enabled) _
       (each_told _ enabled _ (each_on IsUnstarted _ reached.0 _ (reaches reached.0 known) (each_counted IsUnstarted refl setup.counting there.0 op refl)))
       (each_told _ enabled _ (each_on IsCalmOp _ reached.0 _ (λ s up o is calm. calm) (each_counted IsCalmOp (refl, refl) setup.counting there.0 op (refl, refl))))))
-  by_call at lane (call.Record handle fields) e is =
+  by_call at place (call.Record handle fields) e is =
       let there = found what.Handle (slot_at t.handles handle) _ e is in
       let callsite = callsite_of setup t there.0 in
       subst (Step at false) (the_effect _ e there.2)
-      (beside at (ops_effect (here at lane) reply.Done (update_ops setup.layer there.0 fields callsite)) None (hooks_of_values there.0 fields callsite) []
+      (beside at (ops_effect (here at place) reply.Done (update_ops setup.layer there.0 fields callsite)) None (hooks_of_values there.0 fields callsite) []
       (of_open None _ (heard_record t.handles [] there.0 fields callsite (own_open there.0 (of_handle handle there.0 there.1))))
-      (told at lane reply.Done _ (updates_reached there.0 fields callsite (of_handle handle there.0 there.1)) (updates_calm there.0 fields callsite)))
-  by_call at lane (call.HasField handle name) e is =
+      (told at place reply.Done _ (updates_reached there.0 fields callsite (of_handle handle there.0 there.1)) (updates_calm there.0 fields callsite)))
+  by_call at place (call.HasField handle name) e is =
       let there = found what.Handle (slot_at t.handles handle) _ e is in
-      subst (Step at false) (the_effect _ e there.2) (told at lane (reply.Has _) [] tt tt)
-  by_call at lane (call.Remote ids) e is = subst (Step at false) (the_effect _ e is) (given at lane None _ tt)
-  by_call at lane (call.Context handle) e is =
+      subst (Step at false) (the_effect _ e there.2) (told at place (reply.Has _) [] tt tt)
+  by_call at place (call.Remote ids) e is = subst (Step at false) (the_effect _ e is) (given at place None _ tt)
+  by_call at place (call.Context handle) e is =
       let there = found what.Handle (slot_at t.handles handle) _ e is in
-      subst (Step at false) (the_effect _ e there.2) (given at lane (own_span there.0) _ (active_open true there.0 (of_handle handle there.0 there.1)))
-  by_call at lane (call.Attach context) e is =
+      subst (Step at false) (the_effect _ e there.2) (given at place (own_span there.0) _ (active_open true there.0 (of_handle handle there.0 there.1)))
+  by_call at place (call.Attach context) e is =
       let there = found what.Context (slice_get t.named_contexts context) _ e is in
-      let room = unrefused (is_full (t.contexts (here at lane).lane)) (refusal.Full lane) (Ok (attach_effect (here at lane) there.0)) e there.2 in
-      subst (Step at false) (the_effect _ e room.1) (attached at lane there.0)
-  by_call at lane (call.Detach guard) e is =
+      let room = unrefused (is_full (t.contexts (here at place).lane)) (refusal.Full place) (Ok (attach_effect (here at place) there.0)) e there.2 in
+      subst (Step at false) (the_effect _ e room.1) (attached at place there.0)
+  by_call at place (call.Detach guard) e is =
       let there = found what.Guard (slot_at t.attaches guard) _ e is in
-      let mine = allowed (there.0 == lane) (refusal.WrongLane there.0) (Ok (detach_effect (here at lane) guard)) e there.2 in
-      subst (Step at false) (the_effect _ e mine.1) (detached at lane guard)
-  by_call at lane (call.Follows handle from) e is =
+      let mine = allowed (there.0 == place) (refusal.WrongLane there.0) (Ok (detach_effect (here at place) guard)) e there.2 in
+      subst (Step at false) (the_effect _ e mine.1) (detached at place guard)
+  by_call at place (call.Follows handle from) e is =
       let there = found what.Handle (slot_at t.handles handle) _ e is in
       let followed = found what.Handle (slot_at t.handles from) _ e there.2 in
-      subst (Step at false) (the_effect _ e followed.2) (follower at lane there.0 followed.0 (of_handle handle there.0 there.1) (of_handle from followed.0 followed.1))
-  by_call at lane (call.SetParent handle context) e is =
+      subst (Step at false) (the_effect _ e followed.2) (follower at place there.0 followed.0 (of_handle handle there.0 there.1) (of_handle from followed.0 followed.1))
+  by_call at place (call.SetParent handle context) e is =
       let there = found what.Handle (slot_at t.handles handle) _ e is in
       let given = found what.Context (slice_get t.named_contexts context) _ e there.2 in
-      subst (Step at false) (the_effect _ e given.2) (one_told at lane _ there.0 (ops.SetParent given.0) (of_handle handle there.0 there.1) refl refl refl)
-  by_call at lane (call.AddLink handle context attributes) e is =
+      subst (Step at false) (the_effect _ e given.2) (one_told at place _ there.0 (ops.SetParent given.0) (of_handle handle there.0 there.1) refl refl refl)
+  by_call at place (call.AddLink handle context attributes) e is =
       let there = found what.Handle (slot_at t.handles handle) _ e is in
       let given = found what.Context (slice_get t.named_contexts context) _ e there.2 in
       let op = link_of (ids_of given.0) attributes in
       let valid = is_valid (ids_of given.0) in
       let known = of_handle handle there.0 there.1 in
-      subst (Step at false) (the_effect _ e given.2) (told at lane reply.Done _ (each_told _ valid _ (on_reached there.0 op known refl)) (each_told _ valid _ (on_calm there.0 op refl refl)))
-  by_call at lane (call.SetAttribute handle key value) e is =
+      subst (Step at false) (the_effect _ e given.2) (told at place reply.Done _ (each_told _ valid _ (on_reached there.0 op known refl)) (each_told _ valid _ (on_calm there.0 op refl refl)))
+  by_call at place (call.SetAttribute handle key value) e is =
       let there = found what.Handle (slot_at t.handles handle) _ e is in
-      subst (Step at false) (the_effect _ e there.2) (one_told at lane _ there.0 (ops.SetAttribute (record { key = key; value = value })) (of_handle handle there.0 there.1) refl refl refl)
-  by_call at lane (call.SetStatus handle status) e is =
+      subst (Step at false) (the_effect _ e there.2) (one_told at place _ there.0 (ops.SetAttribute (record { key = key; value = value })) (of_handle handle there.0 there.1) refl refl refl)
+  by_call at place (call.SetStatus handle status) e is =
       let there = found what.Handle (slot_at t.handles handle) _ e is in
-      subst (Step at false) (the_effect _ e there.2) (one_told at lane _ there.0 (ops.SetStatus status) (of_handle handle there.0 there.1) refl refl refl)
-  by_call at lane (call.AddEvent handle name attributes time) e is =
+      subst (Step at false) (the_effect _ e there.2) (one_told at place _ there.0 (ops.SetStatus status) (of_handle handle there.0 there.1) refl refl refl)
+  by_call at place (call.AddEvent handle name attributes time) e is =
       let there = found what.Handle (slot_at t.handles handle) _ e is in
-      subst (Step at false) (the_effect _ e there.2) (one_told at lane _ there.0 (event_at name (happens_at at time) attributes) (of_handle handle there.0 there.1) refl refl refl)
-  by_call at lane (call.Enabled site) e is =
+      subst (Step at false) (the_effect _ e there.2) (one_told at place _ there.0 (event_at name (happens_at at time) attributes) (of_handle handle there.0 there.1) refl refl refl)
+  by_call at place (call.Enabled site) e is =
       let there = found what.Site (slice_get setup.sites site) _ e is in
-      subst (Step at false) (the_effect _ e there.2) (told at lane (reply.Enabled _) [] tt tt)
-  by_call at lane (call.Reload text) e is = by_read (text_read text) is
+      subst (Step at false) (the_effect _ e there.2) (told at place (reply.Enabled _) [] tt tt)
+  by_call at place (call.Reload text) e is = by_read (text_read text) is
     where
-      by_read : (r : TextRead) → reload_by (here at lane) text r ≡ Ok e → Step at false e
-      by_read (Ok ds) read = subst (Step at false) (the_effect _ e read) (beside at (ops_effect (here at lane) reply.Done []) (Some text) [] [] (of_open None [] tt) (told at lane reply.Done [] tt tt))
+      by_read : (r : TextRead) → reload_by (here at place) text r ≡ Ok e → Step at false e
+      by_read (Ok ds) read = subst (Step at false) (the_effect _ e read) (beside at (ops_effect (here at place) reply.Done []) (Some text) [] [] (of_open None [] tt) (told at place reply.Done [] tt tt))
       by_read (Err piece) read = absurd (cc read)
 
   pub step_of : (request : Request) (e : Effect) → effect_of setup t request ≡ Ok e → IsTimed t.moment e.at × IsStep setup t request.at (is_drop request.call) e

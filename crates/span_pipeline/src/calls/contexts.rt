@@ -45,10 +45,10 @@ impl Pipeline {
     pub(crate) fn remote(
         &mut self,
         at: Moment,
-        lane: u64,
+        place: u64,
         ids: SpanContext,
     ) -> Result<Reply, Refusal>
-        ensures { Serves self.old at lane (Call.Remote ids) result self.new }
+        ensures { Serves self.old at place (Call.Remote ids) result self.new }
     {
         let context = self.contexts.made.len() as u64;
         self.contexts.made.push(Context { span: Some(ids) })?;
@@ -56,8 +56,8 @@ impl Pipeline {
         Ok(Reply::Context { context, ids })
     }
 
-    pub(crate) fn context(&mut self, at: Moment, lane: u64, handle: u64) -> Result<Reply, Refusal>
-        ensures { Serves self.old at lane (Call.Context handle) result self.new }
+    pub(crate) fn context(&mut self, at: Moment, place: u64, handle: u64) -> Result<Reply, Refusal>
+        ensures { Serves self.old at place (Call.Context handle) result self.new }
     {
         laws::asks();
         let Some(span) = self.handles.get(handle) else {
@@ -74,9 +74,9 @@ impl Pipeline {
         })
     }
 
-    pub(crate) fn attach(&mut self, at: Moment, lane: u64, context: u64) -> Result<Reply, Refusal>
-        requires { lane < length self.old.lanes }
-        ensures { Serves self.old at lane (Call.Attach context) result self.new }
+    pub(crate) fn attach(&mut self, at: Moment, place: u64, context: u64) -> Result<Reply, Refusal>
+        requires { place < length self.old.lanes }
+        ensures { Serves self.old at place (Call.Attach context) result self.new }
     {
         if self.guards.len() >= MAX_NAMES {
             return Err(Refusal::Memory);
@@ -89,34 +89,31 @@ impl Pipeline {
         };
         self.guards.reserve()?;
         self.contexts.attaches.reserve()?;
-        let attached = match attach_to(&mut self.lanes[lane as usize], given) {
+        let attached = match attach_to(&mut self.lanes[place as usize], given) {
             Ok(attached) => attached,
-            Err(error) => return Err(Refusal::of_entry(lane, error)),
+            Err(error) => return Err(Refusal::of_entry(place, error)),
         };
         self.guards.skip();
-        self.contexts.attaches.keep(Attach {
-            place: lane,
-            attached,
-        });
+        self.contexts.attaches.keep(Attach { place, attached });
         self.moment = at;
         Ok(Reply::Guard { guard })
     }
 
-    pub(crate) fn detach(&mut self, at: Moment, lane: u64, guard: u64) -> Result<Reply, Refusal>
-        requires { lane < length self.old.lanes }
-        ensures { Serves self.old at lane (Call.Detach guard) result self.new }
+    pub(crate) fn detach(&mut self, at: Moment, place: u64, guard: u64) -> Result<Reply, Refusal>
+        requires { place < length self.old.lanes }
+        ensures { Serves self.old at place (Call.Detach guard) result self.new }
     {
         let Some(named) = self.contexts.attaches.get(guard) else {
             return Err(Refusal::UnknownName { what: What::Guard });
         };
-        if named.place != lane {
+        if named.place != place {
             return Err(Refusal::WrongLane { lane: named.place });
         }
         let Some(open) = self.contexts.attaches.take(guard) else {
             unreachable!()
         };
         let Attach { place: _, attached } = open;
-        detach_from(&mut self.lanes[lane as usize], attached);
+        detach_from(&mut self.lanes[place as usize], attached);
         self.moment = at;
         Ok(Reply::Done)
     }

@@ -11,9 +11,9 @@ use span_script::reply::{Refusal, Reply, What};
 impl Pipeline {
     ghost use Rattle.span_script.specs.Fits.{Serves};
 
-    pub(crate) fn current(&mut self, at: Moment, lane: u64) -> Result<Reply, Refusal>
-        requires { lane < length self.old.lanes }
-        ensures { Serves self.old at lane request.Current result self.new }
+    pub(crate) fn current(&mut self, at: Moment, place: u64) -> Result<Reply, Refusal>
+        requires { place < length self.old.lanes }
+        ensures { Serves self.old at place request.Current result self.new }
     {
         laws::calls();
         if self.handles.len() >= MAX_NAMES || self.guards.len() >= MAX_NAMES {
@@ -21,7 +21,7 @@ impl Pipeline {
         }
         let number = self.handles.len() as u64;
         self.handles.reserve()?;
-        let on = &mut self.lanes[lane as usize];
+        let on = &mut self.lanes[place as usize];
         // The lane uses the pipeline's stack.
         on.default = Some(self.dispatch);
         let span = Span::current(&mut self.world, on);
@@ -37,11 +37,11 @@ impl Pipeline {
     pub(crate) fn or_current(
         &mut self,
         at: Moment,
-        lane: u64,
+        place: u64,
         handle: u64,
     ) -> Result<Reply, Refusal>
-        requires { lane < length self.old.lanes }
-        ensures { Serves self.old at lane (request.OrCurrent handle) result self.new }
+        requires { place < length self.old.lanes }
+        ensures { Serves self.old at place (request.OrCurrent handle) result self.new }
     {
         laws::calls();
         if self.handles.len() >= MAX_NAMES || self.guards.len() >= MAX_NAMES {
@@ -58,7 +58,7 @@ impl Pipeline {
         let Some(span) = self.handles.take(handle) else {
             unreachable!()
         };
-        let on = &mut self.lanes[lane as usize];
+        let on = &mut self.lanes[place as usize];
         // The lane uses the pipeline's stack.
         on.default = Some(self.dispatch);
         let span = span.or_current(&mut self.world, on);

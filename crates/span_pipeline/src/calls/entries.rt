@@ -17,12 +17,12 @@ impl Pipeline {
     pub(crate) fn enter(
         &mut self,
         at: Moment,
-        lane: u64,
+        place: u64,
         handle: u64,
         owns: bool,
     ) -> Result<Reply, Refusal>
-        requires { lane < length self.old.lanes }
-        ensures { ServesResolved (λ t. entry_call (here_at self.old.setup t at lane) handle owns) false self.old result self.new }
+        requires { place < length self.old.lanes }
+        ensures { ServesResolved (λ t. entry_call (here_at self.old.setup t at place) handle owns) false self.old result self.new }
     {
         laws::calls();
         laws::same();
@@ -35,13 +35,13 @@ impl Pipeline {
         };
         self.guards.reserve_for(handle)?;
         self.contexts.attaches.reserve()?;
-        let entry = match span.open_entry(&mut self.world, &mut self.lanes[lane as usize], at) {
+        let entry = match span.open_entry(&mut self.world, &mut self.lanes[place as usize], at) {
             Ok(entry) => entry,
-            Err(error) => return Err(Refusal::of_entry(lane, error)),
+            Err(error) => return Err(Refusal::of_entry(place, error)),
         };
         self.guards.keep(Guard {
             handle,
-            place: lane,
+            place,
             owns,
             entry,
         });
@@ -50,9 +50,9 @@ impl Pipeline {
         Ok(Reply::Guard { guard })
     }
 
-    pub(crate) fn entered(&mut self, at: Moment, lane: u64, handle: u64) -> Result<Reply, Refusal>
-        requires { lane < length self.old.lanes }
-        ensures { Serves self.old at lane (Call.Entered handle) result self.new }
+    pub(crate) fn entered(&mut self, at: Moment, place: u64, handle: u64) -> Result<Reply, Refusal>
+        requires { place < length self.old.lanes }
+        ensures { Serves self.old at place (Call.Entered handle) result self.new }
     {
         let Some(_named) = self.handles.get(handle) else {
             return Err(Refusal::UnknownName { what: What::Handle });
@@ -60,12 +60,12 @@ impl Pipeline {
         if self.guards.is_borrowed(handle) {
             return Err(Refusal::InUse);
         }
-        self.enter(at, lane, handle, true)
+        self.enter(at, place, handle, true)
     }
 
-    pub(crate) fn exit(&mut self, at: Moment, lane: u64, guard: u64) -> Result<Reply, Refusal>
-        requires { lane < length self.old.lanes }
-        ensures { Serves self.old at lane (Call.Exit guard) result self.new }
+    pub(crate) fn exit(&mut self, at: Moment, place: u64, guard: u64) -> Result<Reply, Refusal>
+        requires { place < length self.old.lanes }
+        ensures { Serves self.old at place (Call.Exit guard) result self.new }
     {
         laws::calls();
         let Some(named) = self.guards.at(guard) else {
@@ -74,7 +74,7 @@ impl Pipeline {
         if self.guards.is_shared(named) {
             return Err(Refusal::InUse);
         }
-        if named.place != lane {
+        if named.place != place {
             return Err(Refusal::WrongLane { lane: named.place });
         }
         let Some(open) = self.guards.take(guard) else {
@@ -89,7 +89,7 @@ impl Pipeline {
         let Some(span) = self.handles.get(handle) else {
             unreachable!()
         };
-        span.close_entry(entry, &mut self.world, &mut self.lanes[lane as usize], at);
+        span.close_entry(entry, &mut self.world, &mut self.lanes[place as usize], at);
         self.moment = at;
         Ok(Reply::Done)
     }

@@ -8,9 +8,8 @@ ghost use Rattle.span_script.specs.Slots.{TellsOnly};
 
 use crate::fields::all_values;
 use crate::laws;
-use crate::names::place_above;
+use crate::names::{callsite_at, parent_for, site_at};
 use crate::pipeline::Pipeline;
-use crate::sites::{callsite_at, site_at};
 use otel_base::list::Items;
 use otel_base::memory::Memory;
 use otel_base::record::Moment;
@@ -71,13 +70,13 @@ impl Pipeline {
     pub(crate) fn event(
         &mut self,
         at: Moment,
-        lane: u64,
+        place: u64,
         site: u64,
         parent: Place,
         fields: Items<(Text, Value)>,
     ) -> Result<Reply, Refusal>
-        requires { lane < length self.old.lanes }
-        ensures { Serves self.old at lane (Call.Event site parent fields) result self.new }
+        requires { place < length self.old.lanes }
+        ensures { Serves self.old at place (Call.Event site parent fields) result self.new }
     {
         laws::calls();
         laws::same();
@@ -85,15 +84,14 @@ impl Pipeline {
         let Some(found) = event_site(&self.world, site) else {
             return Err(Refusal::UnknownName { what: What::Site });
         };
-        let Some(above) = place_above(&self.handles, parent) else {
+        let Some(parent) = parent_for(&self.handles, parent) else {
             return Err(Refusal::UnknownName { what: What::Handle });
         };
-        let parent = above.parent();
         let callsite = callsite_at(&self.world, found);
         let Some(values) = all_values(*self.lanes.allocator(), callsite, fields)? else {
             return Err(Refusal::UnknownName { what: What::Field });
         };
-        let on = &self.lanes[lane as usize];
+        let on = &self.lanes[place as usize];
         let enabled = admits(&self.world, self.dispatch, on, found);
         tell_if(
             enabled,

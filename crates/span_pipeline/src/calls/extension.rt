@@ -31,11 +31,11 @@ impl Pipeline {
     pub(crate) fn set_parent(
         &mut self,
         at: Moment,
-        lane: u64,
+        place: u64,
         handle: u64,
         context: u64,
     ) -> Result<Reply, Refusal>
-        ensures { Serves self.old at lane (Call.SetParent handle context) result self.new }
+        ensures { Serves self.old at place (Call.SetParent handle context) result self.new }
     {
         laws::asks();
         let Some(span) = self.handles.get(handle) else {
@@ -54,12 +54,12 @@ impl Pipeline {
     pub(crate) fn set_attribute(
         &mut self,
         at: Moment,
-        lane: u64,
+        place: u64,
         handle: u64,
         key: Text,
         value: OtelValue,
     ) -> Result<Reply, Refusal>
-        ensures { Serves self.old at lane (Call.SetAttribute handle key value) result self.new }
+        ensures { Serves self.old at place (Call.SetAttribute handle key value) result self.new }
     {
         laws::asks();
         let Some(span) = self.handles.get(handle) else {
@@ -73,11 +73,11 @@ impl Pipeline {
     pub(crate) fn set_status(
         &mut self,
         at: Moment,
-        lane: u64,
+        place: u64,
         handle: u64,
         status: Status,
     ) -> Result<Reply, Refusal>
-        ensures { Serves self.old at lane (Call.SetStatus handle status) result self.new }
+        ensures { Serves self.old at place (Call.SetStatus handle status) result self.new }
     {
         laws::asks();
         let Some(span) = self.handles.get(handle) else {
@@ -92,13 +92,13 @@ impl Pipeline {
     pub(crate) fn add_event(
         &mut self,
         at: Moment,
-        lane: u64,
+        place: u64,
         handle: u64,
         name: Text,
         attributes: Items<KeyValue>,
         time: Option<Moment>,
     ) -> Result<Reply, Refusal>
-        ensures { Serves self.old at lane (Call.AddEvent handle name attributes time) result self.new }
+        ensures { Serves self.old at place (Call.AddEvent handle name attributes time) result self.new }
     {
         laws::asks();
         let Some(span) = self.handles.get(handle) else {

@@ -16,11 +16,11 @@ impl Pipeline {
     pub(crate) fn record(
         &mut self,
         at: Moment,
-        lane: u64,
+        place: u64,
         handle: u64,
         fields: Items<(Text, Value)>,
     ) -> Result<Reply, Refusal>
-        ensures { Serves self.old at lane (Call.Record handle fields) result self.new }
+        ensures { Serves self.old at place (Call.Record handle fields) result self.new }
     {
         laws::calls();
         laws::same();
@@ -37,11 +37,11 @@ impl Pipeline {
     pub(crate) fn has_field(
         &mut self,
         at: Moment,
-        lane: u64,
+        place: u64,
         handle: u64,
         name: Text,
     ) -> Result<Reply, Refusal>
-        ensures { Serves self.old at lane (Call.HasField handle name) result self.new }
+        ensures { Serves self.old at place (Call.HasField handle name) result self.new }
     {
         let Some(span) = self.handles.get(handle) else {
             return Err(Refusal::UnknownName { what: What::Handle });

@@ -3,8 +3,8 @@ ghost use Rattle.std.specs.Prelude.{◌<◌, length};
 ghost use Rattle.span_script.specs.declared.request.Call.{Call};
 
 use crate::filters::read_filter;
+use crate::names::site_at;
 use crate::pipeline::Pipeline;
-use crate::sites::site_at;
 use otel_base::record::Moment;
 use otel_base::text::Text;
 use span_script::open_error::OpenError;
@@ -14,9 +14,9 @@ use span_stack::{admits, put_in_force};
 impl Pipeline {
     ghost use Rattle.span_script.specs.Fits.{Serves};
 
-    pub(crate) fn enabled(&mut self, at: Moment, lane: u64, site: u64) -> Result<Reply, Refusal>
-        requires { lane < length self.old.lanes }
-        ensures { Serves self.old at lane (Call.Enabled site) result self.new }
+    pub(crate) fn enabled(&mut self, at: Moment, place: u64, site: u64) -> Result<Reply, Refusal>
+        requires { place < length self.old.lanes }
+        ensures { Serves self.old at place (Call.Enabled site) result self.new }
     {
         let Some(found) = site_at(&self.world, site) else {
             return Err(Refusal::UnknownName { what: What::Site });
@@ -24,15 +24,15 @@ impl Pipeline {
         let enabled = admits(
             &self.world,
             self.dispatch,
-            &self.lanes[lane as usize],
+            &self.lanes[place as usize],
             found,
         );
         self.moment = at;
         Ok(Reply::Enabled { enabled })
     }
 
-    pub(crate) fn reload(&mut self, at: Moment, lane: u64, text: Text) -> Result<Reply, Refusal>
-        ensures { Serves self.old at lane (Call.Reload text) result self.new }
+    pub(crate) fn reload(&mut self, at: Moment, place: u64, text: Text) -> Result<Reply, Refusal>
+        ensures { Serves self.old at place (Call.Reload text) result self.new }
     {
         let filter = match read_filter(*self.lanes.allocator(), false, text.as_str()) {
             Ok(filter) => filter,

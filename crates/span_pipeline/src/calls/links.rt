@@ -16,11 +16,11 @@ impl Pipeline {
     pub(crate) fn follows(
         &mut self,
         at: Moment,
-        lane: u64,
+        place: u64,
         handle: u64,
         from: u64,
     ) -> Result<Reply, Refusal>
-        ensures { Serves self.old at lane (Call.Follows handle from) result self.new }
+        ensures { Serves self.old at place (Call.Follows handle from) result self.new }
     {
         laws::calls();
         laws::same();
@@ -38,12 +38,12 @@ impl Pipeline {
     pub(crate) fn add_link(
         &mut self,
         at: Moment,
-        lane: u64,
+        place: u64,
         handle: u64,
         context: u64,
         attributes: Items<KeyValue>,
     ) -> Result<Reply, Refusal>
-        ensures { Serves self.old at lane (Call.AddLink handle context attributes) result self.new }
+        ensures { Serves self.old at place (Call.AddLink handle context attributes) result self.new }
     {
         laws::asks();
         let Some(span) = self.handles.get(handle) else {

@@ -4,13 +4,12 @@ ghost use Rattle.span_handles.specs.Worlds.{Replaced};
 ghost use Rattle.span_handles.specs.Handles.{MayMake};
 ghost use Rattle.span_script.specs.declared.request.Call.{Call};
 ghost use Rattle.span_script.specs.Setups.{span_site};
-ghost use Rattle.span_script.specs.Slots.{parent_of, IsAbove, MakesOnly};
+ghost use Rattle.span_script.specs.Slots.{MakesOnly};
 
 use crate::fields::all_values;
 use crate::laws;
-use crate::names::place_above;
+use crate::names::{callsite_at, parent_for, site_at};
 use crate::pipeline::{MAX_NAMES, Pipeline};
-use crate::sites::{callsite_at, site_at};
 use otel_base::list::Items;
 use otel_base::memory::Memory;
 use otel_base::record::Moment;
@@ -18,12 +17,12 @@ use otel_base::text::Text;
 use span_handles::span::Span;
 use span_script::reply::{Refusal, Reply, What};
 use span_script::request::Place;
-use span_script::slots::Above;
 use span_stack::{Stack, admits};
 use trace_base::callsite::{Kind, SiteId};
 use trace_base::dispatcher::Dispatch;
 use trace_base::field::{Value, ValueSet};
 use trace_base::lane::Lane;
+use trace_base::span::Parent;
 use trace_base::subscriber::Subscriber;
 use trace_base::world::World;
 
@@ -40,34 +39,27 @@ fn span_site(world: &World<Stack>, site: u64) -> Option<SiteId>
     }
 }
 
-// A new span at a place if it is let through, else a disabled handle.
+// A new span under a parent if it is let through, else a disabled handle.
 fn make_if<S: Subscriber>(
     enabled: bool,
-    above: Above<'_>,
     world: &mut World<S>,
     dispatch: Dispatch,
     lane: &Lane,
     at: Moment,
+    parent: Parent,
     site: SiteId,
     values: &ValueSet,
 ) -> Result<Span, Memory>
     requires site { site < length world.old.sites }
-    requires may { MayMake S.spans S.is_whole world.old lane.now.id (parent_of above) dispatch }
-    requires of_dispatch { IsAbove dispatch above }
+    requires may { MayMake S.spans S.is_whole world.old lane.now.id parent dispatch }
     ensures ok { IfOk result
-        (MakesOnly S.spans S.does enabled world.old world.new lane.now at (parent_of above.entry) site values.now
-        dispatch) }
+        (MakesOnly S.spans S.does enabled world.old world.new lane.now at parent site values.now dispatch) }
     ensures memory_leaves { OnErr result (Replaced S.same world.old world.new dispatch) }
 {
-    if !enabled {
-        return Ok(Span::none());
-    }
-    match above {
-        Above::Current => Span::new_with(world, lane, at, site, values, dispatch),
-        Above::Nothing => Span::new_root_with(world, lane, at, site, values, dispatch),
-        Above::Span { span } => {
-            Span::child_of_with(span, world, lane, at, site, values, dispatch)
-        }
+    if enabled {
+        Span::make_with(world, lane, at, parent, site, values, dispatch)
+    } else {
+        Ok(Span::none())
     }
 }
 
@@ -77,13 +69,13 @@ impl Pipeline {
     pub(crate) fn make(
         &mut self,
         at: Moment,
-        lane: u64,
+        place: u64,
         site: u64,
         parent: Place,
         fields: Items<(Text, Value)>,
     ) -> Result<Reply, Refusal>
-        requires { lane < length self.old.lanes }
-        ensures { Serves self.old at lane (Call.New site parent fields) result self.new }
+        requires { place < length self.old.lanes }
+        ensures { Serves self.old at place (Call.New site parent fields) result self.new }
     {
         laws::calls();
         laws::same();
@@ -95,22 +87,22 @@ impl Pipeline {
             return Err(Refusal::UnknownName { what: What::Site });
         };
         self.handles.reserve()?;
-        let Some(above) = place_above(&self.handles, parent) else {
+        let Some(parent) = parent_for(&self.handles, parent) else {
             return Err(Refusal::UnknownName { what: What::Handle });
         };
         let callsite = callsite_at(&self.world, found);
         let Some(values) = all_values(*self.lanes.allocator(), callsite, fields)? else {
             return Err(Refusal::UnknownName { what: What::Field });
         };
-        let on = &self.lanes[lane as usize];
+        let on = &self.lanes[place as usize];
         let enabled = admits(&self.world, self.dispatch, on, found);
         let span = make_if(
             enabled,
-            above,
             &mut self.world,
             self.dispatch,
             on,
             at,
+            parent,
             found,
             &values,
         )?;

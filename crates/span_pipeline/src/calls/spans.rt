@@ -12,10 +12,10 @@ impl Pipeline {
     pub(crate) fn clone_handle(
         &mut self,
         at: Moment,
-        lane: u64,
+        place: u64,
         handle: u64,
     ) -> Result<Reply, Refusal>
-        ensures { Serves self.old at lane (Call.Clone handle) result self.new }
+        ensures { Serves self.old at place (Call.Clone handle) result self.new }
     {
         laws::calls();
         if self.handles.len() >= MAX_NAMES || self.guards.len() >= MAX_NAMES {
@@ -39,10 +39,10 @@ impl Pipeline {
     pub(crate) fn drop_handle(
         &mut self,
         at: Moment,
-        lane: u64,
+        place: u64,
         handle: u64,
     ) -> Result<Reply, Refusal>
-        ensures { Serves self.old at lane (Call.Drop handle) result self.new }
+        ensures { Serves self.old at place (Call.Drop handle) result self.new }
     {
         laws::chains();
         let Some(_named) = self.handles.get(handle) else {

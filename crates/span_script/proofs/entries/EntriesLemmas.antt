@@ -69,14 +69,14 @@ the_open : (a b : Guard) → ◌≡◌ {A = Option Guard} (Some a) (Some b) → 
 the_open a b e = cc e
 
 -- an entry
-pub fits_entered : (k next : State) (t : Tables) (at lane handle : ℕ) (owns : Bool) (line : Scope) → Fits k t → slot_at t.handles handle ≡ Some line → next.spans ≡ spans_entered k.spans line (id_at k.setup.ids lane) → next.setup ≡ k.setup
-    → next.dispatch ≡ k.dispatch → next.handles ≡ k.handles → next.handle_sites ≡ k.handle_sites → next.guards ≡ k.guards ++ Some (guard_of k.dispatch (record { handle = handle; place = lane; owns = owns; scope = line })) ∷ [] → next.contexts.contexts ≡ k.contexts.contexts → next.contexts.attaches ≡ k.contexts.attaches ++ None ∷ [] → next.moment ≡ at
-    → Fits next (after_effect t (enter_effect (here_at k.setup t at lane) handle owns line))
-fits_entered k next t at lane handle owns line fits there step setup dispatch handles sites guards named attaches moment =
-    let g : ScopeGuard = record { handle = handle; place = lane; owns = owns; scope = line } in
-    let id = id_at k.setup.ids lane in
+pub fits_entered : (k next : State) (t : Tables) (at place handle : ℕ) (owns : Bool) (line : Scope) → Fits k t → slot_at t.handles handle ≡ Some line → next.spans ≡ spans_entered k.spans line (id_at k.setup.ids place) → next.setup ≡ k.setup
+    → next.dispatch ≡ k.dispatch → next.handles ≡ k.handles → next.handle_sites ≡ k.handle_sites → next.guards ≡ k.guards ++ Some (guard_of k.dispatch (record { handle = handle; place = place; owns = owns; scope = line })) ∷ [] → next.contexts.contexts ≡ k.contexts.contexts → next.contexts.attaches ≡ k.contexts.attaches ++ None ∷ [] → next.moment ≡ at
+    → Fits next (after_effect t (enter_effect (here_at k.setup t at place) handle owns line))
+fits_entered k next t at place handle owns line fits there step setup dispatch handles sites guards named attaches moment =
+    let g : ScopeGuard = record { handle = handle; place = place; owns = owns; scope = line } in
+    let id = id_at k.setup.ids place in
     let live : (s : ℕ) (up : Scope) → line ≡ s ∷ up → 0 < (span_at k.spans.made s).holds = λ s up e. fits_live k.spans (map named_by t.handles) (map (opened_by k.setup.ids) t.guards) t.entries fits.balanced handle s (named_slot t.handles handle line there ∙ ap own_span e) in
-    fits_step k t fits next (enter_effect (here_at k.setup t at lane) handle owns line) (record {
+    fits_step k t fits next (enter_effect (here_at k.setup t at place) handle owns line) (record {
       setup_is = setup;
       dispatch_is = dispatch;
       handles_are = handles;
@@ -85,7 +85,7 @@ fits_entered k next t at lane handle owns line fits there step setup dispatch ha
       attaches_are = ap (map (option_map lane_of)) attaches ∙ map_push (option_map lane_of) k.contexts.attaches None;
       named_are = named;
       moment_is = moment;
-      balanced = subst (λ (x : Spans). Balanced x (map named_by t.handles) (map (opened_by k.setup.ids) (t.guards ++ Some g ∷ [])) (lanes_with_entry t.entries id (own_span line))) (sym step) (balanced_enter k.setup.ids k.spans t.handles t.guards t.entries fits.balanced handle lane owns line there);
+      balanced = subst (λ (x : Spans). Balanced x (map named_by t.handles) (map (opened_by k.setup.ids) (t.guards ++ Some g ∷ [])) (lanes_with_entry t.entries id (own_span line))) (sym step) (balanced_enter k.setup.ids k.spans t.handles t.guards t.entries fits.balanced handle place owns line there);
       made_fit = subst (λ (x : Spans). MadeFit x.made t.spans) (sym step) (made_entered k.spans t.spans line id fits.made live);
       new_made = tt;
       new_site = tt;
@@ -99,10 +99,10 @@ fits_entered k next t at lane handle owns line fits there step setup dispatch ha
 -- an exit
 pub fits_exited : (k next : State) (t : Tables) (at guard : ℕ) (g : ScopeGuard) → Fits k t → slot_at t.guards guard ≡ Some g → next.spans ≡ spans_exited k.spans g.scope (id_at k.setup.ids g.place) → next.setup ≡ k.setup
     → next.dispatch ≡ k.dispatch → next.handles ≡ k.handles → next.handle_sites ≡ k.handle_sites → next.guards ≡ slice_set k.guards guard None → next.contexts ≡ k.contexts → next.moment ≡ at
-    → (lane : ℕ) → id_at k.setup.ids lane ≡ id_at k.setup.ids g.place → Fits next (after_effect t (exit_effect (here_at k.setup t at lane) guard g.scope))
-fits_exited k next t at guard g fits there step setup dispatch handles sites guards contexts moment lane on =
+    → (place : ℕ) → id_at k.setup.ids place ≡ id_at k.setup.ids g.place → Fits next (after_effect t (exit_effect (here_at k.setup t at place) guard g.scope))
+fits_exited k next t at guard g fits there step setup dispatch handles sites guards contexts moment place on =
     let id = id_at k.setup.ids g.place in
-    fits_step k t fits next (exit_effect (here_at k.setup t at lane) guard g.scope) (record {
+    fits_step k t fits next (exit_effect (here_at k.setup t at place) guard g.scope) (record {
       setup_is = setup;
       dispatch_is = dispatch;
       handles_are = handles;
@@ -151,13 +151,13 @@ on_known [] heard n known = refl
 on_known (s ∷ up) heard n known = let k = known s up refl in (k.0, k.1)
 
 module _ {S : Type 0} (spans : S → Spans) (views : Views S) (attaches : S → Bool) (kept : S → ℕ → ℕ → ℕ) (is_whole : S → Type 0) (parts : Parts S) (new : Worlds S) where
-  entered_spans : (at lane : ℕ) (before later : Lane) (line : Scope) → before.id ≡ lane → ShownOn spans views attaches kept is_whole parts.world new parts.dispatch line (λ id. Enter id at before later) → spans_in spans new parts.dispatch ≡ spans_entered (spans_in spans parts.world parts.dispatch) line lane
-  entered_spans at lane before later [] id same = ap (λ (w : Worlds S). spans_in spans w parts.dispatch) same
-  entered_spans at lane before later (s ∷ up) id shown = shown.0.spans_after ∙ ap (λ (l : ℕ). with_span_entry (spans_in spans parts.world parts.dispatch) s l) id
+  entered_spans : (at place : ℕ) (before later : Lane) (line : Scope) → before.id ≡ place → ShownOn spans views attaches kept is_whole parts.world new parts.dispatch line (λ id. Enter id at before later) → spans_in spans new parts.dispatch ≡ spans_entered (spans_in spans parts.world parts.dispatch) line place
+  entered_spans at place before later [] id same = ap (λ (w : Worlds S). spans_in spans w parts.dispatch) same
+  entered_spans at place before later (s ∷ up) id shown = shown.0.spans_after ∙ ap (λ (l : ℕ). with_span_entry (spans_in spans parts.world parts.dispatch) s l) id
 
-  exited_spans : (at lane : ℕ) (before later : Lane) (line : Scope) → before.id ≡ lane → ShownOn spans views attaches kept is_whole parts.world new parts.dispatch line (λ id. Exit id at before later) → spans_in spans new parts.dispatch ≡ spans_exited (spans_in spans parts.world parts.dispatch) line lane
-  exited_spans at lane before later [] id same = ap (λ (w : Worlds S). spans_in spans w parts.dispatch) same
-  exited_spans at lane before later (s ∷ up) id shown = shown.0.spans_after ∙ ap (λ (l : ℕ). with_span_exit (spans_in spans parts.world parts.dispatch) s l) id
+  exited_spans : (at place : ℕ) (before later : Lane) (line : Scope) → before.id ≡ place → ShownOn spans views attaches kept is_whole parts.world new parts.dispatch line (λ id. Exit id at before later) → spans_in spans new parts.dispatch ≡ spans_exited (spans_in spans parts.world parts.dispatch) line place
+  exited_spans at place before later [] id same = ap (λ (w : Worlds S). spans_in spans w parts.dispatch) same
+  exited_spans at place before later (s ∷ up) id shown = shown.0.spans_after ∙ ap (λ (l : ℕ). with_span_exit (spans_in spans parts.world parts.dispatch) s l) id
 
   -- what was recorded: the span is known, so the layer was told
   entry_told : (at : ℕ) (before later : Lane) (s : ℕ) → data_at s (member_of views.recorded no_recording parts.world parts.dispatch).spans ≢ None → RecordsCall (spans_in spans parts.world parts.dispatch) (member_of views.recorded no_recording parts.world parts.dispatch) (Enter s at before later) (member_of views.recorded no_recording new parts.dispatch)
@@ -170,15 +170,15 @@ module _ {S : Type 0} (spans : S → Spans) (views : Views S) (attaches : S → 
 
   -- over what the code has
   module _ (does : S → SubscriberCall → S → Type 0) (law : CallsLaw spans views attaches kept is_whole does)
-      (at lane : ℕ) (before later : Lane) (within : lane < length parts.lanes) (here : before ≡ get_or parts.lanes lane before) where
+      (at place : ℕ) (before later : Lane) (within : place < length parts.lanes) (here : before ≡ get_or parts.lanes place before) where
     abbrev now : State
     now = state_of spans views parts
 
     abbrev place_id : ℕ
-    place_id = id_at now.setup.ids lane
+    place_id = id_at now.setup.ids place
 
     id_is : before.id ≡ place_id
-    id_is = id_seen parts.lanes lane before within here
+    id_is = id_seen parts.lanes place before within here
 
     abbrev r : Recording
     r = member_of views.recorded no_recording parts.world parts.dispatch
@@ -186,17 +186,17 @@ module _ {S : Type 0} (spans : S → Spans) (views : Views S) (attaches : S → 
     abbrev r' : Recording
     r' = member_of views.recorded no_recording new parts.dispatch
 
-    setup_after : new.sites ≡ parts.world.sites → later.id ≡ before.id → later.name ≡ before.name → r'.settings ≡ r.settings → (state_of spans views (record parts { world = new; lanes = set parts.lanes lane later; moment = at })).setup ≡ now.setup
-    setup_after sites id name settings = rw (sites, ids_same parts.lanes lane before later within here id, names_same parts.lanes lane before later within here name, settings) refl
+    setup_after : new.sites ≡ parts.world.sites → later.id ≡ before.id → later.name ≡ before.name → r'.settings ≡ r.settings → (state_of spans views (record parts { world = new; lanes = set parts.lanes place later; moment = at })).setup ≡ now.setup
+    setup_after sites id name settings = rw (sites, ids_same parts.lanes place before later within here id, names_same parts.lanes place before later within here name, settings) refl
 
     abbrev parts_with : List (Option Guard) → ContextSlots → Parts S
-    parts_with gs' cs' = record parts { world = new; lanes = set parts.lanes lane later; guards = gs'; contexts = cs'; moment = at }
+    parts_with gs' cs' = record parts { world = new; lanes = set parts.lanes place later; guards = gs'; contexts = cs'; moment = at }
 
     abbrev then_with : List (Option Guard) → ContextSlots → State
     then_with gs' cs' = state_of spans views (parts_with gs' cs')
 
     abbrev ls' : List LaneValue
-    ls' = map lane_value (set parts.lanes lane later)
+    ls' = map lane_value (set parts.lanes place later)
 
     abbrev lanes_of : Type 0
     lanes_of = (n m : ℕ) → n < length (map lane_value parts.lanes) → m < length (map lane_value parts.lanes) → (lane_at (map lane_value parts.lanes) n).id ≡ (lane_at (map lane_value parts.lanes) m).id → n ≡ m
@@ -215,13 +215,13 @@ module _ {S : Type 0} (spans : S → Spans) (views : Views S) (attaches : S → 
     -- an exit, by the scope of its guard
     exited_record : (gs' : List (Option Guard)) (t : Tables) (guard : ℕ) (line : Scope) → RecordingFits now t → ((s : ℕ) (up : Scope) → line ≡ s ∷ up → 0 < (span_at now.spans.made s).holds) → lanes_of → later.id ≡ before.id → (line ≡ [] → later ≡ before)
         → ShownOn spans views attaches kept is_whole parts.world new parts.dispatch line (λ id. Exit id at before later)
-        → (toks : List Token) × (r' ≡ record (recorded_by (length t.spans) (exit_effect (here_at now.setup t at lane) guard line) r) { tokens = toks }) × AllFit (then_with gs' parts.contexts) (after_effect t (exit_effect (here_at now.setup t at lane) guard line)).contexts
+        → (toks : List Token) × (r' ≡ record (recorded_by (length t.spans) (exit_effect (here_at now.setup t at place) guard line) r) { tokens = toks }) × AllFit (then_with gs' parts.contexts) (after_effect t (exit_effect (here_at now.setup t at place) guard line)).contexts
     exited_record gs' t guard [] fit live differ same none shown =
         let is = ap (λ (w : Worlds S). member_of views.recorded no_recording w parts.dispatch) shown in (
           r.tokens,
           is,
-          subst (λ (c : Recording). AllContextsFit c.settings.activation ls' c.tokens parts.contexts.attaches (after_effect t (exit_effect (here_at now.setup t at lane) guard [])).contexts) (sym is)
-              (subst (λ (ls : List LaneValue). AllContextsFit r.settings.activation ls r.tokens parts.contexts.attaches (after_effect t (exit_effect (here_at now.setup t at lane) guard [])).contexts) (sym (lanes_same parts.lanes lane before later within here (ap lane_value (none refl))))
+          subst (λ (c : Recording). AllContextsFit c.settings.activation ls' c.tokens parts.contexts.attaches (after_effect t (exit_effect (here_at now.setup t at place) guard [])).contexts) (sym is)
+              (subst (λ (ls : List LaneValue). AllContextsFit r.settings.activation ls r.tokens parts.contexts.attaches (after_effect t (exit_effect (here_at now.setup t at place) guard [])).contexts) (sym (lanes_same parts.lanes place before later within here (ap lane_value (none refl))))
               (subst (λ (o : Option ℕ). AllContextsFit r.settings.activation (map lane_value parts.lanes) r.tokens parts.contexts.attaches (with_detached t.contexts place_id (option_map EntryOf o))) (sym (no_active r.settings.activation)) fit.attached)),
         )
     exited_record gs' t guard (s ∷ up) fit live differ same none shown =
@@ -229,24 +229,24 @@ module _ {S : Type 0} (spans : S → Spans) (views : Views S) (attaches : S → 
         let toks = without_last (is_token before.id s) r.tokens in (
           toks,
           x.is,
-          subst (λ (c : Recording). AllContextsFit c.settings.activation ls' c.tokens parts.contexts.attaches (after_effect t (exit_effect (here_at now.setup t at lane) guard (s ∷ up))).contexts) (sym x.is)
+          subst (λ (c : Recording). AllContextsFit c.settings.activation ls' c.tokens parts.contexts.attaches (after_effect t (exit_effect (here_at now.setup t at place) guard (s ∷ up))).contexts) (sym x.is)
               (subst (λ (l : ℕ). AllContextsFit r.settings.activation ls' toks parts.contexts.attaches (with_detached t.contexts l (option_map EntryOf (if r.settings.activation then Some s else None)))) id_is
-              (all_exited r.settings.activation parts.lanes lane before later within here same differ r.tokens parts.contexts.attaches t.contexts fit.attached s x.token x.last x.lane)),
+              (all_exited r.settings.activation parts.lanes place before later within here same differ r.tokens parts.contexts.attaches t.contexts fit.attached s x.token x.last x.lane)),
         )
 
     -- an entry, by the scope of its handle
     entered_record : (gs' : List (Option Guard)) (cs' : ContextSlots) (t : Tables) (handle : ℕ) (owns : Bool) (line : Scope) → RecordingFits now t → ((s : ℕ) (up : Scope) → line ≡ s ∷ up → 0 < (span_at now.spans.made s).holds) → lanes_of → later.id ≡ before.id → (line ≡ [] → later ≡ before)
         → cs'.attaches ≡ parts.contexts.attaches ++ None ∷ [] → ShownOn spans views attaches kept is_whole parts.world new parts.dispatch line (λ id. Enter id at before later)
-        → (toks : List Token) × (r' ≡ record (recorded_by (length t.spans) (enter_effect (here_at now.setup t at lane) handle owns line) r) { tokens = toks }) × AllFit (then_with gs' cs') (after_effect t (enter_effect (here_at now.setup t at lane) handle owns line)).contexts
+        → (toks : List Token) × (r' ≡ record (recorded_by (length t.spans) (enter_effect (here_at now.setup t at place) handle owns line) r) { tokens = toks }) × AllFit (then_with gs' cs') (after_effect t (enter_effect (here_at now.setup t at place) handle owns line)).contexts
     entered_record gs' cs' t handle owns [] fit live differ same none skip shown =
         let is = ap (λ (w : Worlds S). member_of views.recorded no_recording w parts.dispatch) shown in
         let nothing : (b : Bool) → recorded_by (length t.spans) (record (quiet_effect at place_id (reply.Guard 0)) { starts = option_to_list (active b []) }) r ≡ r = λ b. ap (λ (o : Option ℕ). recorded_by (length t.spans) (record (quiet_effect at place_id (reply.Guard 0)) { starts = option_to_list o }) r) (no_active b) in (
           r.tokens,
           is ∙ ap (λ (x : Recording). record x { tokens = r.tokens }) (sym (nothing r.settings.activation)),
-          subst (λ (ks : List (Option Attach)). AllContextsFit r'.settings.activation ls' r'.tokens ks (after_effect t (enter_effect (here_at now.setup t at lane) handle owns [])).contexts) (sym skip)
-              (all_skipped r'.settings.activation ls' r'.tokens parts.contexts.attaches (after_effect t (enter_effect (here_at now.setup t at lane) handle owns [])).contexts
-              (subst (λ (c : Recording). AllContextsFit c.settings.activation ls' c.tokens parts.contexts.attaches (after_effect t (enter_effect (here_at now.setup t at lane) handle owns [])).contexts) (sym is)
-              (subst (λ (ls : List LaneValue). AllContextsFit r.settings.activation ls r.tokens parts.contexts.attaches (after_effect t (enter_effect (here_at now.setup t at lane) handle owns [])).contexts) (sym (lanes_same parts.lanes lane before later within here (ap lane_value (none refl))))
+          subst (λ (ks : List (Option Attach)). AllContextsFit r'.settings.activation ls' r'.tokens ks (after_effect t (enter_effect (here_at now.setup t at place) handle owns [])).contexts) (sym skip)
+              (all_skipped r'.settings.activation ls' r'.tokens parts.contexts.attaches (after_effect t (enter_effect (here_at now.setup t at place) handle owns [])).contexts
+              (subst (λ (c : Recording). AllContextsFit c.settings.activation ls' c.tokens parts.contexts.attaches (after_effect t (enter_effect (here_at now.setup t at place) handle owns [])).contexts) (sym is)
+              (subst (λ (ls : List LaneValue). AllContextsFit r.settings.activation ls r.tokens parts.contexts.attaches (after_effect t (enter_effect (here_at now.setup t at place) handle owns [])).contexts) (sym (lanes_same parts.lanes place before later within here (ap lane_value (none refl))))
               (subst (λ (o : Option ℕ). AllContextsFit r.settings.activation (map lane_value parts.lanes) r.tokens parts.contexts.attaches (with_attached t.contexts place_id (attached_by t.recording at o))) (sym (no_active r.settings.activation)) fit.attached)))),
         )
     entered_record gs' cs' t handle owns (s ∷ up) fit live differ same none skip shown =
@@ -255,22 +255,22 @@ module _ {S : Type 0} (spans : S → Spans) (views : Views S) (attaches : S → 
         let token : Token = record { lane = before.id; id = s; attached = x.attached } in
         let toks = r.tokens ++ token ∷ [] in
         let own = own_or empty_context (data_at s (with_starts (source_of b s) at r).spans) in
-        let rec_is : r' ≡ record (recorded_by (length t.spans) (enter_effect (here_at now.setup t at lane) handle owns (s ∷ up)) r) { tokens = toks } =
+        let rec_is : r' ≡ record (recorded_by (length t.spans) (enter_effect (here_at now.setup t at place) handle owns (s ∷ up)) r) { tokens = toks } =
         x.is ∙ ap (λ (y : Recording). record (with_applied s at ops.Enter y) { tokens = y.tokens ++ token ∷ [] }) (sym (starts_fold (source_of b s) at r))
         ∙ ap (λ (ts : List Token). record (with_applied s at ops.Enter (fold (λ r s. with_start s at r) r (option_to_list (source_of b s)))) { tokens = ts ++ token ∷ [] }) (ap (λ (y : Recording). y.tokens) (starts_fold (source_of b s) at r) ∙ entry_tokens (source_of b s) at r) in
-        let settings : r'.settings ≡ r.settings = ap (λ (c : Recording). c.settings) rec_is ∙ recorded_settings (length t.spans) (enter_effect (here_at now.setup t at lane) handle owns (s ∷ up)) r in
+        let settings : r'.settings ≡ r.settings = ap (λ (c : Recording). c.settings) rec_is ∙ recorded_settings (length t.spans) (enter_effect (here_at now.setup t at place) handle owns (s ∷ up)) r in
         let tokens : r'.tokens ≡ toks = ap (λ (c : Recording). c.tokens) rec_is in (
           toks,
           rec_is,
-          subst (λ (ks : List (Option Attach)). AllContextsFit r'.settings.activation ls' r'.tokens ks (after_effect t (enter_effect (here_at now.setup t at lane) handle owns (s ∷ up))).contexts) (sym skip)
-              (subst (λ (ts : List Token). AllContextsFit r'.settings.activation ls' ts (parts.contexts.attaches ++ None ∷ []) (after_effect t (enter_effect (here_at now.setup t at lane) handle owns (s ∷ up))).contexts) (sym tokens)
-              (subst (λ (c : LayerSettings). AllContextsFit c.activation ls' toks (parts.contexts.attaches ++ None ∷ []) (after_effect t (enter_effect (here_at now.setup t at lane) handle owns (s ∷ up))).contexts) (sym settings)
+          subst (λ (ks : List (Option Attach)). AllContextsFit r'.settings.activation ls' r'.tokens ks (after_effect t (enter_effect (here_at now.setup t at place) handle owns (s ∷ up))).contexts) (sym skip)
+              (subst (λ (ts : List Token). AllContextsFit r'.settings.activation ls' ts (parts.contexts.attaches ++ None ∷ []) (after_effect t (enter_effect (here_at now.setup t at place) handle owns (s ∷ up))).contexts) (sym tokens)
+              (subst (λ (c : LayerSettings). AllContextsFit c.activation ls' toks (parts.contexts.attaches ++ None ∷ []) (after_effect t (enter_effect (here_at now.setup t at place) handle owns (s ∷ up))).contexts) (sym settings)
               (subst (λ (o : Option Attached). AllContextsFit b ls' toks (parts.contexts.attaches ++ None ∷ []) (with_attached t.contexts place_id o)) (attach_is b s at up r t.recording fit.recorded)
               (subst (λ (l : ℕ). AllContextsFit b ls' toks (parts.contexts.attaches ++ None ∷ []) (with_attached t.contexts l (if b then Some (record { owner = EntryOf s; context = own }) else None))) id_is
-              (all_entered b parts.lanes lane before later within here same differ r.tokens parts.contexts.attaches t.contexts fit.attached s own x.attached x.lane))))),
+              (all_entered b parts.lanes place before later within here same differ r.tokens parts.contexts.attaches t.contexts fit.attached s own x.attached x.lane))))),
         )
 
-    module _ (guard : ℕ) (g : Guard) (found : slot_at parts.guards guard ≡ Some g) (on : g.place ≡ lane) (gs' : List (Option Guard)) (one : gs' ≡ slice_set parts.guards guard None) (h : Handle) (entry_is : g.entry ≡ h.held)
+    module _ (guard : ℕ) (g : Guard) (found : slot_at parts.guards guard ≡ Some g) (on : g.place ≡ place) (gs' : List (Option Guard)) (one : gs' ≡ slice_set parts.guards guard None) (h : Handle) (entry_is : g.entry ≡ h.held)
         (did : ReplacedOn (λ id s t. does s (Exit id at before later) t) parts.world new h.held) (none : h.held ≡ None → later ≡ before) (alone : is_shared_by parts.guards g ≡ false) (inv : IsKept spans views kept is_whole parts) where
       abbrev exited_then_parts : Parts S
       exited_then_parts = parts_with gs' parts.contexts
@@ -278,29 +278,29 @@ module _ {S : Type 0} (spans : S → Spans) (views : Views S) (attaches : S → 
       abbrev exited_then : State
       exited_then = then_with gs' parts.contexts
 
-      pub serves_exited : (t : Tables) → StandsFor now t → Served (effect_of_call now.setup t at lane (call.Exit guard)) t now exited_then reply.Done
+      pub serves_exited : (t : Tables) → StandsFor now t → Served (effect_of_call now.setup t at place (call.Exit guard)) t now exited_then reply.Done
       serves_exited t stands =
           let fits = stands.fits in
           let open_one = find (guard_of parts.dispatch) parts.guards t.guards guard g fits.guard_slots found in
           let x = open_one.at in
-          let mine : x.place ≡ lane = ap (λ (x : Guard). x.place) (sym open_one.is) ∙ on in
+          let mine : x.place ≡ place = ap (λ (x : Guard). x.place) (sym open_one.is) ∙ on in
           let is : h.held ≡ held_of parts.dispatch x.scope = sym entry_is ∙ ap (λ (x : Guard). x.entry) open_one.is in
           let shown = shown_on spans views attaches kept is_whole does law parts.world new parts.dispatch x.scope h.held is (λ id. Exit id at before later) did in
           let none_at : x.scope ≡ [] → later ≡ before = λ e. none (is ∙ ap (held_of parts.dispatch) e) in
           let moved = call_lanes spans views attaches kept is_whole parts new x.scope (λ id. Exit id at before later) before later (λ s b f g l. (l.0.id, l.0.name, l.1)) none_at shown in
           let sites = call_sites spans views attaches kept is_whole parts new x.scope (λ id. Exit id at before later) shown in
           let lane_is : place_id ≡ id_at now.setup.ids x.place = ap (id_at now.setup.ids) (sym mine) in
-          let e : Effect = exit_effect (here_at now.setup t at lane) guard x.scope in
+          let e : Effect = exit_effect (here_at now.setup t at place) guard x.scope in
           let live : (s : ℕ) (up : Scope) → x.scope ≡ s ∷ up → 0 < (span_at now.spans.made s).holds = λ s up e. fits_live now.spans (map named_by t.handles) (map (opened_by now.setup.ids) t.guards) t.entries fits.balanced x.handle s (named_slot t.handles x.handle x.scope (fits.still guard x open_one.there) ∙ ap own_span e) in
           let rec_is = exited_record gs' t guard x.scope stands.recording live inv.lanes.differ moved.0 none_at shown in
           let settings = ap (λ (c : Recording). c.settings) rec_is.1 ∙ recorded_settings (length t.spans) e r in
           let setup = setup_after sites moved.0 moved.1 settings in
           let step = exited_spans at (id_at now.setup.ids x.place) before later x.scope (id_is ∙ lane_is) shown in
           serve now exited_then t e _ reply.Done stands
-          (ap (λ o. need what.Guard o >>= (λ (y : ScopeGuard). refuse_if (is_shared t.guards y) refusal.InUse (refuse_if (not (y.place == lane)) (refusal.WrongLane y.place) (Ok (exit_effect (here_at now.setup t at lane) guard y.scope))))) open_one.there
+          (ap (λ o. need what.Guard o >>= (λ (y : ScopeGuard). refuse_if (is_shared t.guards y) refusal.InUse (refuse_if (not (y.place == place)) (refusal.WrongLane y.place) (Ok (exit_effect (here_at now.setup t at place) guard y.scope))))) open_one.there
           ∙ cond-false {A = Resolved} (is_shared t.guards x) _ _ (sym (ap (λ (xs : List (Option Guard)). is_shared_by xs g) fits.guard_slots ∙ shared_is parts.dispatch t.guards g x open_one.is) ∙ alone)
-          ∙ cond-false {A = Resolved} (not (x.place == lane)) _ _ (ap not (eq-eqb x.place lane mine)))
-          refl setup rec_is.0 rec_is.1 (fits_exited now exited_then t at guard x fits open_one.there step setup refl refl refl one refl refl lane lane_is)
+          ∙ cond-false {A = Resolved} (not (x.place == place)) _ _ (ap not (eq-eqb x.place place mine)))
+          refl setup rec_is.0 rec_is.1 (fits_exited now exited_then t at guard x fits open_one.there step setup refl refl refl one refl refl place lane_is)
           (λ s some. known_still now exited_then t e rec_is.0 rec_is.1 stands.recording s refl (let a = exited_less now.spans x.scope (id_at now.setup.ids x.place) s in let b = ap (λ (y : Spans). (span_at y.made s).holds) step in omega (arith, a, b, some)))
           rec_is.2
           (record { quiet = refl; before = member_of views.filtered None parts.world parts.dispatch; later = member_of views.filtered None new parts.dispatch; shown_before = refl; shown_later = refl; told = exit_heard x.scope shown; known = on_known x.scope (λ s. HookExit s place_id) (length t.spans) (λ s up e. ((subst (IsScope t.spans) e (fits.scopes x.handle x.scope (fits.still guard x open_one.there))).0, refl)); cached = call_cached spans views attaches kept is_whole parts new x.scope (λ id. Exit id at before later) shown; aside = record { before = aside_in views parts.world parts.dispatch; later = aside_in views new parts.dispatch; shown_before = refl; shown_later = refl; waits_before = refl; waits_later = refl; adds = call_aside spans views attaches kept is_whole parts new x.scope (λ id. Exit id at before later) (λ s. refl) shown } })
@@ -313,9 +313,9 @@ module _ {S : Type 0} (spans : S → Spans) (views : Views S) (attaches : S → 
           let shown = shown_on spans views attaches kept is_whole does law parts.world new parts.dispatch x.scope h.held is (λ id. Exit id at before later) did in
           let moved = call_lanes spans views attaches kept is_whole parts new x.scope (λ id. Exit id at before later) before later (λ s b f g l. (l.0.id, l.0.name, l.1)) (λ e. none (is ∙ ap (held_of parts.dispatch) e)) shown in
           kept_served spans views kept is_whole parts exited_then_parts inv _ _ (serves_exited inv.tables inv.stands) refl (call_count spans views attaches kept is_whole parts new x.scope (λ id. Exit id at before later) shown) (call_whole spans views attaches kept is_whole parts new x.scope (λ id. Exit id at before later) shown)
-          (lanes_step _ _ parts.lanes lane before later within here inv.lanes moved.0 moved.2)
+          (lanes_step _ _ parts.lanes place before later within here inv.lanes moved.0 moved.2)
 
-    module _ (handle number : ℕ) (owns : Bool) (h : Handle) (entry : Held) (gs' : List (Option Guard)) (found : slot_at parts.handles handle ≡ Some h) (is : entry ≡ h.held) (many : number ≡ length parts.guards) (one : gs' ≡ parts.guards ++ Some (record { handle = handle; place = lane; owns = owns; entry = entry }) ∷ [])
+    module _ (handle number : ℕ) (owns : Bool) (h : Handle) (entry : Held) (gs' : List (Option Guard)) (found : slot_at parts.handles handle ≡ Some h) (is : entry ≡ h.held) (many : number ≡ length parts.guards) (one : gs' ≡ parts.guards ++ Some (record { handle = handle; place = place; owns = owns; entry = entry }) ∷ [])
         (cs' : ContextSlots) (named_same : cs'.contexts ≡ parts.contexts.contexts) (skip : cs'.attaches ≡ parts.contexts.attaches ++ None ∷ [])
         (did : ReplacedOn (λ id s t. does s (Enter id at before later) t) parts.world new h.held) (none : h.held ≡ None → later ≡ before) (inv : IsKept spans views kept is_whole parts)
         (free : (t : Tables) → StandsFor now t → (line : Scope) → slot_at t.handles handle ≡ Some line → h.held ≡ held_of parts.dispatch line → meets_full now.setup.layer.activation line (t.contexts place_id) ≡ false) where
@@ -325,7 +325,7 @@ module _ {S : Type 0} (spans : S → Spans) (views : Views S) (attaches : S → 
       abbrev entered_then : State
       entered_then = then_with gs' cs'
 
-      pub serves_entered : (t : Tables) → StandsFor now t → Served (entry_call (here_at now.setup t at lane) handle owns) t now entered_then (reply.Guard number)
+      pub serves_entered : (t : Tables) → StandsFor now t → Served (entry_call (here_at now.setup t at place) handle owns) t now entered_then (reply.Guard number)
       serves_entered t stands =
           let fits = stands.fits in
           let line = find (held_of parts.dispatch) (map held_by parts.handles) t.handles handle h.held fits.handle_slots (held_slot parts.handles handle h found) in
@@ -333,18 +333,18 @@ module _ {S : Type 0} (spans : S → Spans) (views : Views S) (attaches : S → 
           let none_at : line.at ≡ [] → later ≡ before = λ e. none (line.is ∙ ap (held_of parts.dispatch) e) in
           let moved = call_lanes spans views attaches kept is_whole parts new line.at (λ id. Enter id at before later) before later (λ s b f g l. (l.0.id, l.0.name, l.1)) none_at shown in
           let sites = call_sites spans views attaches kept is_whole parts new line.at (λ id. Enter id at before later) shown in
-          let guards_are : gs' ≡ parts.guards ++ Some (guard_of parts.dispatch (record { handle = handle; place = lane; owns = owns; scope = line.at })) ∷ [] = one ∙ ap (λ (h : Held). parts.guards ++ Some (record { handle = handle; place = lane; owns = owns; entry = h }) ∷ []) (is ∙ line.is) in
-          let e : Effect = enter_effect (here_at now.setup t at lane) handle owns line.at in
+          let guards_are : gs' ≡ parts.guards ++ Some (guard_of parts.dispatch (record { handle = handle; place = place; owns = owns; scope = line.at })) ∷ [] = one ∙ ap (λ (h : Held). parts.guards ++ Some (record { handle = handle; place = place; owns = owns; entry = h }) ∷ []) (is ∙ line.is) in
+          let e : Effect = enter_effect (here_at now.setup t at place) handle owns line.at in
           let live : (s : ℕ) (up : Scope) → line.at ≡ s ∷ up → 0 < (span_at now.spans.made s).holds = λ s up e. fits_live now.spans (map named_by t.handles) (map (opened_by now.setup.ids) t.guards) t.entries fits.balanced handle s (named_slot t.handles handle line.at line.there ∙ ap own_span e) in
           let rec_is = entered_record gs' cs' t handle owns line.at stands.recording live inv.lanes.differ moved.0 none_at skip shown in
           let settings = ap (λ (c : Recording). c.settings) rec_is.1 ∙ recorded_settings (length t.spans) e r in
           let setup = setup_after sites moved.0 moved.1 settings in
           let step = entered_spans at place_id before later line.at id_is shown in
           serve now entered_then t e _ (reply.Guard number) stands
-          (ap (λ o. need what.Handle o >>= (λ line. refuse_if (meets_full now.setup.layer.activation line (t.contexts place_id)) (refusal.Full lane) (Ok (enter_effect (here_at now.setup t at lane) handle owns line)))) line.there
+          (ap (λ o. need what.Handle o >>= (λ line. refuse_if (meets_full now.setup.layer.activation line (t.contexts place_id)) (refusal.Full place) (Ok (enter_effect (here_at now.setup t at place) handle owns line)))) line.there
           ∙ cond-false {A = Resolved} (meets_full now.setup.layer.activation line.at (t.contexts place_id)) _ _ (free t stands line.at line.there line.is))
           (ap reply.Guard (many ∙ ap length fits.guard_slots ∙ length-map t.guards (option_map (guard_of parts.dispatch))))
-          setup rec_is.0 rec_is.1 (fits_entered now entered_then t at lane handle owns line.at fits line.there step setup refl refl refl guards_are named_same skip refl)
+          setup rec_is.0 rec_is.1 (fits_entered now entered_then t at place handle owns line.at fits line.there step setup refl refl refl guards_are named_same skip refl)
           (λ s some. known_still now entered_then t e rec_is.0 rec_is.1 stands.recording s refl (entered_live now.spans line.at place_id s live (subst (λ (y : Spans). 0 < (span_at y.made s).holds) step some)))
           rec_is.2
           (record { quiet = refl; before = member_of views.filtered None parts.world parts.dispatch; later = member_of views.filtered None new parts.dispatch; shown_before = refl; shown_later = refl; told = entry_heard line.at shown; known = on_known line.at (λ s. HookEnter s place_id) (length t.spans) (λ s up e. ((subst (IsScope t.spans) e (fits.scopes handle line.at line.there)).0, refl)); cached = call_cached spans views attaches kept is_whole parts new line.at (λ id. Enter id at before later) shown; aside = record { before = aside_in views parts.world parts.dispatch; later = aside_in views new parts.dispatch; shown_before = refl; shown_later = refl; waits_before = refl; waits_later = refl; adds = call_aside spans views attaches kept is_whole parts new line.at (λ id. Enter id at before later) (λ s. refl) shown } })
@@ -355,67 +355,67 @@ module _ {S : Type 0} (spans : S → Spans) (views : Views S) (attaches : S → 
           let shown = shown_on spans views attaches kept is_whole does law parts.world new parts.dispatch line.at h.held line.is (λ id. Enter id at before later) did in
           let moved = call_lanes spans views attaches kept is_whole parts new line.at (λ id. Enter id at before later) before later (λ s b f g l. (l.0.id, l.0.name, l.1)) (λ e. none (line.is ∙ ap (held_of parts.dispatch) e)) shown in
           kept_served spans views kept is_whole parts entered_then_parts inv _ _ (serves_entered inv.tables inv.stands) refl (call_count spans views attaches kept is_whole parts new line.at (λ id. Enter id at before later) shown) (call_whole spans views attaches kept is_whole parts new line.at (λ id. Enter id at before later) shown)
-          (lanes_step _ _ parts.lanes lane before later within here inv.lanes moved.0 moved.2)
+          (lanes_step _ _ parts.lanes place before later within here inv.lanes moved.0 moved.2)
 
 -- an exit of a guard that owns its handle, which has another open guard
-pub refuses_shared : (k : State) (guard : ℕ) (g : Guard) → slot_at k.guards guard ≡ Some g → is_shared_by k.guards g ≡ true → (at lane : ℕ) (t : Tables) → StandsFor k t → effect_of_call k.setup t at lane (call.Exit guard) ≡ Err refusal.InUse
-refuses_shared k guard g found shared at lane t stands =
+pub refuses_shared : (k : State) (guard : ℕ) (g : Guard) → slot_at k.guards guard ≡ Some g → is_shared_by k.guards g ≡ true → (at place : ℕ) (t : Tables) → StandsFor k t → effect_of_call k.setup t at place (call.Exit guard) ≡ Err refusal.InUse
+refuses_shared k guard g found shared at place t stands =
     let fits = stands.fits in
     let x = find (guard_of k.dispatch) k.guards t.guards guard g fits.guard_slots found in
-    ap (λ o. need what.Guard o >>= (λ (y : ScopeGuard). refuse_if (is_shared t.guards y) refusal.InUse (refuse_if (not (y.place == lane)) (refusal.WrongLane y.place) (Ok (exit_effect (here_at k.setup t at lane) guard y.scope))))) x.there
+    ap (λ o. need what.Guard o >>= (λ (y : ScopeGuard). refuse_if (is_shared t.guards y) refusal.InUse (refuse_if (not (y.place == place)) (refusal.WrongLane y.place) (Ok (exit_effect (here_at k.setup t at place) guard y.scope))))) x.there
     ∙ cond-true {A = Resolved} (is_shared t.guards x.at) _ _ (sym (ap (λ (xs : List (Option Guard)). is_shared_by xs g) fits.guard_slots ∙ shared_is k.dispatch t.guards g x.at x.is) ∙ shared)
 
 abbrev wrong_lane : ℕ → Resolved
-wrong_lane lane = Err (refusal.WrongLane lane)
+wrong_lane place = Err (refusal.WrongLane place)
 
 -- one on another lane than the guard's
-pub refuses_wrong_lane : (k : State) (guard : ℕ) (g : Guard) → slot_at k.guards guard ≡ Some g → is_shared_by k.guards g ≡ false → (at lane : ℕ) → (g.place ≡ lane → ⊥) → (t : Tables) → StandsFor k t → effect_of_call k.setup t at lane (call.Exit guard) ≡ Err (refusal.WrongLane g.place)
-refuses_wrong_lane k guard g found alone at lane other t stands =
+pub refuses_wrong_lane : (k : State) (guard : ℕ) (g : Guard) → slot_at k.guards guard ≡ Some g → is_shared_by k.guards g ≡ false → (at place : ℕ) → (g.place ≡ place → ⊥) → (t : Tables) → StandsFor k t → effect_of_call k.setup t at place (call.Exit guard) ≡ Err (refusal.WrongLane g.place)
+refuses_wrong_lane k guard g found alone at place other t stands =
     let fits = stands.fits in
     let x = find (guard_of k.dispatch) k.guards t.guards guard g fits.guard_slots found in
     let lane_is : g.place ≡ x.at.place = ap (λ (y : Guard). y.place) x.is in
-    ap (λ o. need what.Guard o >>= (λ (y : ScopeGuard). refuse_if (is_shared t.guards y) refusal.InUse (refuse_if (not (y.place == lane)) (refusal.WrongLane y.place) (Ok (exit_effect (here_at k.setup t at lane) guard y.scope))))) x.there
+    ap (λ o. need what.Guard o >>= (λ (y : ScopeGuard). refuse_if (is_shared t.guards y) refusal.InUse (refuse_if (not (y.place == place)) (refusal.WrongLane y.place) (Ok (exit_effect (here_at k.setup t at place) guard y.scope))))) x.there
     ∙ cond-false {A = Resolved} (is_shared t.guards x.at) _ _ (sym (ap (λ (xs : List (Option Guard)). is_shared_by xs g) fits.guard_slots ∙ shared_is k.dispatch t.guards g x.at x.is) ∙ alone)
-    ∙ cond-true {A = Resolved} (not (x.at.place == lane)) _ _ (ap not (ne_eqb x.at.place lane (λ e. other (lane_is ∙ e))))
+    ∙ cond-true {A = Resolved} (not (x.at.place == place)) _ _ (ap not (ne_eqb x.at.place place (λ e. other (lane_is ∙ e))))
     ∙ ap wrong_lane (sym lane_is)
 
 pub alone_at : (gs : List (Option Guard)) (n : ℕ) (a b : Guard) → slot_at gs n ≡ Some a → slot_at gs n ≡ Some b → is_shared_by gs a ≡ false → is_shared_by gs b ≡ false
 alone_at gs n a b one other alone = subst (λ (g : Guard). is_shared_by gs g ≡ false) (the_open a b (sym one ∙ other)) alone
 
 -- what is said of the fields is said of the value that they make
-pub by_view_opens : (at lane handle : ℕ) (owns : Bool) (next : State) (answer : Reply) (view k : State) → view ≡ k → ((t : Tables) → StandsFor view t → Served (entry_call (here_at view.setup t at lane) handle owns) t view next answer)
-    → ServesResolved (λ t. entry_call (here_at k.setup t at lane) handle owns) false k (Ok answer) next
-by_view_opens at lane handle owns next answer view k is serves = record {
-  ok = subst (λ (x : State). (t : Tables) → StandsFor x t → Served (entry_call (here_at x.setup t at lane) handle owns) t x next answer) is serves;
+pub by_view_opens : (at place handle : ℕ) (owns : Bool) (next : State) (answer : Reply) (view k : State) → view ≡ k → ((t : Tables) → StandsFor view t → Served (entry_call (here_at view.setup t at place) handle owns) t view next answer)
+    → ServesResolved (λ t. entry_call (here_at k.setup t at place) handle owns) false k (Ok answer) next
+by_view_opens at place handle owns next answer view k is serves = record {
+  ok = subst (λ (x : State). (t : Tables) → StandsFor x t → Served (entry_call (here_at x.setup t at place) handle owns) t x next answer) is serves;
   refused = λ t stands. tt;
   err = tt;
   room = λ none wants. cc wants;
 }
 
 -- a guard that owns its handle, made where no other one is open
-pub entered_is : (k : State) (hs : List (Option Handle)) → k.handles ≡ map held_by hs → (handle : ℕ) (h : Handle) → slot_at hs handle ≡ Some h → (at lane : ℕ) (t : Tables) → StandsFor k t
-    → (is_named k.guards handle ≡ false → effect_of_call k.setup t at lane (call.Entered handle) ≡ entry_call (here_at k.setup t at lane) handle true) × (is_named k.guards handle ≡ true → effect_of_call k.setup t at lane (call.Entered handle) ≡ Err refusal.InUse)
-entered_is k hs are handle h found at lane t stands =
+pub entered_is : (k : State) (hs : List (Option Handle)) → k.handles ≡ map held_by hs → (handle : ℕ) (h : Handle) → slot_at hs handle ≡ Some h → (at place : ℕ) (t : Tables) → StandsFor k t
+    → (is_named k.guards handle ≡ false → effect_of_call k.setup t at place (call.Entered handle) ≡ entry_call (here_at k.setup t at place) handle true) × (is_named k.guards handle ≡ true → effect_of_call k.setup t at place (call.Entered handle) ≡ Err refusal.InUse)
+entered_is k hs are handle h found at place t stands =
     let fits = stands.fits in
     let line = find (held_of k.dispatch) (map held_by hs) t.handles handle h.held (sym are ∙ fits.handle_slots) (held_slot hs handle h found) in
     let named_is : is_named k.guards handle ≡ is_borrowed t.guards handle = ap (λ (xs : List (Option Guard)). is_named xs handle) fits.guard_slots ∙ borrowed_is k.dispatch t.guards handle in
-    let there = ap (λ o. need what.Handle o >>= (λ (scope : Scope). refuse_if (is_borrowed t.guards handle) refusal.InUse (entry_call (here_at k.setup t at lane) handle true))) line.there in (
+    let there = ap (λ o. need what.Handle o >>= (λ (scope : Scope). refuse_if (is_borrowed t.guards handle) refusal.InUse (entry_call (here_at k.setup t at place) handle true))) line.there in (
       λ free. there ∙ cond-false {A = Resolved} (is_borrowed t.guards handle) _ _ (sym named_is ∙ free),
       λ used. there ∙ cond-true {A = Resolved} (is_borrowed t.guards handle) _ _ (sym named_is ∙ used),
     )
 
-pub entered_ok : (view k : State) → view ≡ k → (hs : List (Option Handle)) → view.handles ≡ map held_by hs → (handle : ℕ) (h : Handle) → slot_at hs handle ≡ Some h → is_named view.guards handle ≡ false → (at lane : ℕ) (result : Result Reply Refusal) (next : State)
-    → ((t : Tables) → StandsFor k t → IfOk result (Served (entry_call (here_at k.setup t at lane) handle true) t k next)) → (t : Tables) → StandsFor k t → IfOk result (Served (effect_of_call k.setup t at lane (call.Entered handle)) t k next)
-entered_ok view k same hs are handle h found free at lane result next did t stands =
-    let is = (entered_is k hs (ap (λ (x : State). x.handles) (sym same) ∙ are) handle h found at lane t stands).0 (ap (λ (x : State). is_named x.guards handle) (sym same) ∙ free) in
+pub entered_ok : (view k : State) → view ≡ k → (hs : List (Option Handle)) → view.handles ≡ map held_by hs → (handle : ℕ) (h : Handle) → slot_at hs handle ≡ Some h → is_named view.guards handle ≡ false → (at place : ℕ) (result : Result Reply Refusal) (next : State)
+    → ((t : Tables) → StandsFor k t → IfOk result (Served (entry_call (here_at k.setup t at place) handle true) t k next)) → (t : Tables) → StandsFor k t → IfOk result (Served (effect_of_call k.setup t at place (call.Entered handle)) t k next)
+entered_ok view k same hs are handle h found free at place result next did t stands =
+    let is = (entered_is k hs (ap (λ (x : State). x.handles) (sym same) ∙ are) handle h found at place t stands).0 (ap (λ (x : State). is_named x.guards handle) (sym same) ∙ free) in
     subst (λ (r : Resolved). IfOk result (Served r t k next)) (sym is) (did t stands)
 
-pub entered_refused : (view k : State) → view ≡ k → (hs : List (Option Handle)) → view.handles ≡ map held_by hs → (handle : ℕ) (h : Handle) → slot_at hs handle ≡ Some h → is_named view.guards handle ≡ false → (at lane : ℕ) (result : Result Reply Refusal)
-    → ((t : Tables) → StandsFor k t → IfErr result (IsRefusal (entry_call (here_at k.setup t at lane) handle true))) → (t : Tables) → StandsFor k t → IfErr result (IsRefusal (effect_of_call k.setup t at lane (call.Entered handle)))
-entered_refused view k same hs are handle h found free at lane result did t stands =
-    let is = (entered_is k hs (ap (λ (x : State). x.handles) (sym same) ∙ are) handle h found at lane t stands).0 (ap (λ (x : State). is_named x.guards handle) (sym same) ∙ free) in
+pub entered_refused : (view k : State) → view ≡ k → (hs : List (Option Handle)) → view.handles ≡ map held_by hs → (handle : ℕ) (h : Handle) → slot_at hs handle ≡ Some h → is_named view.guards handle ≡ false → (at place : ℕ) (result : Result Reply Refusal)
+    → ((t : Tables) → StandsFor k t → IfErr result (IsRefusal (entry_call (here_at k.setup t at place) handle true))) → (t : Tables) → StandsFor k t → IfErr result (IsRefusal (effect_of_call k.setup t at place (call.Entered handle)))
+entered_refused view k same hs are handle h found free at place result did t stands =
+    let is = (entered_is k hs (ap (λ (x : State). x.handles) (sym same) ∙ are) handle h found at place t stands).0 (ap (λ (x : State). is_named x.guards handle) (sym same) ∙ free) in
     subst (λ (r : Resolved). IfErr result (IsRefusal r)) (sym is) (did t stands)
 
-pub by_view_opens_refused : (at lane handle : ℕ) (owns : Bool) (given : Refusal) (view k : State) → view ≡ k → ((t : Tables) → StandsFor view t → entry_call (here_at view.setup t at lane) handle owns ≡ Err given)
-    → (t : Tables) → StandsFor k t → entry_call (here_at k.setup t at lane) handle owns ≡ Err given
-by_view_opens_refused at lane handle owns given view k is refuses = subst (λ (x : State). (t : Tables) → StandsFor x t → entry_call (here_at x.setup t at lane) handle owns ≡ Err given) is refuses
+pub by_view_opens_refused : (at place handle : ℕ) (owns : Bool) (given : Refusal) (view k : State) → view ≡ k → ((t : Tables) → StandsFor view t → entry_call (here_at view.setup t at place) handle owns ≡ Err given)
+    → (t : Tables) → StandsFor k t → entry_call (here_at k.setup t at place) handle owns ≡ Err given
+by_view_opens_refused at place handle owns given view k is refuses = subst (λ (x : State). (t : Tables) → StandsFor x t → entry_call (here_at x.setup t at place) handle owns ≡ Err given) is refuses

@@ -34,22 +34,22 @@ meets_made true s up items on many = eq-eqb (length items) MAX_CONTEXTS many
 meets_made false s up items on many = absurd (true≢false (sym on))
 
 module _ {S : Type 0} (spans : S → Spans) (views : Views S) (activates : S → ℕ → Bool) (kept : S → ℕ → ℕ → ℕ) (is_whole : S → Type 0) (acts : Activates views activates) (parts : Parts S)
-    (at lane : ℕ) (before : Lane) (within : lane < length parts.lanes) (here : before ≡ get_or parts.lanes lane before)
+    (at place : ℕ) (before : Lane) (within : place < length parts.lanes) (here : before ≡ get_or parts.lanes place before)
     (handle : ℕ) (h : Handle) (found : slot_at parts.handles handle ≡ Some h) (inv : IsKept spans views kept is_whole parts) where
   abbrev now : State
   now = state_of spans views parts
 
   abbrev place_id : ℕ
-  place_id = id_at now.setup.ids lane
+  place_id = id_at now.setup.ids place
 
   -- as many contexts are live as the history attached
   lives : (t : Tables) → StandsFor now t → length before.contexts.live ≡ length (t.contexts place_id)
   lives t stands =
-      let seen_at = lane_seen parts.lanes lane before within here in
-      let fit = stands.recording.attached lane (let l = length-map parts.lanes lane_value in omega (arith, within, l)) in
-      let mine : (lane_at now.lanes lane).id ≡ place_id = ap (λ (l : LaneValue). l.id) seen_at ∙ id_seen parts.lanes lane before within here in
-      ap (λ (l : LaneValue). length l.live) (sym seen_at) ∙ sym (length-map (lane_at now.lanes lane).live (λ (x : ℕ × Context). x.1)) ∙ ap length fit.contexts
-      ∙ length-map (t.contexts (lane_at now.lanes lane).id) (λ (a : Attached). a.context) ∙ ap (λ (n : ℕ). length (t.contexts n)) mine
+      let seen_at = lane_seen parts.lanes place before within here in
+      let fit = stands.recording.attached place (let l = length-map parts.lanes lane_value in omega (arith, within, l)) in
+      let mine : (lane_at now.lanes place).id ≡ place_id = ap (λ (l : LaneValue). l.id) seen_at ∙ id_seen parts.lanes place before within here in
+      ap (λ (l : LaneValue). length l.live) (sym seen_at) ∙ sym (length-map (lane_at now.lanes place).live (λ (x : ℕ × Context). x.1)) ∙ ap length fit.contexts
+      ∙ length-map (t.contexts (lane_at now.lanes place).id) (λ (a : Attached). a.context) ∙ ap (λ (n : ℕ). length (t.contexts n)) mine
 
   -- the subscriber attaches for an open span where the setup activates
   acts_here : (t : Tables) → StandsFor now t → (s : ℕ) (up : Scope) → slot_at t.handles handle ≡ Some (s ∷ up) → (x : S) → slice_get parts.world.subscribers parts.dispatch ≡ Some x → activates x s ≡ now.setup.layer.activation
@@ -81,12 +81,12 @@ module _ {S : Type 0} (spans : S → Spans) (views : Views S) (activates : S →
   pub meets_full_of : (t : Tables) → StandsFor now t → (line : Scope) → slot_at t.handles handle ≡ Some line → h.held ≡ held_of parts.dispatch line → MeetsFullLane activates parts.world before h.held → meets_full now.setup.layer.activation line (t.contexts place_id) ≡ true
   meets_full_of t stands line there is meets = meets_of t stands line there (subst (λ (x : Held). MeetsFullLane activates parts.world before x) is meets)
 
-  pub refuses_entry : (owns : Bool) (error : EnterError) (given : Refusal) → given ≡ refused_entry lane error → (error ≡ errors.Full → MeetsFullLane activates parts.world before h.held) → is_for_memory given ≡ false → (t : Tables) → StandsFor now t → entry_call (here_at now.setup t at lane) handle owns ≡ Err given
+  pub refuses_entry : (owns : Bool) (error : EnterError) (given : Refusal) → given ≡ refused_entry place error → (error ≡ errors.Full → MeetsFullLane activates parts.world before h.held) → is_for_memory given ≡ false → (t : Tables) → StandsFor now t → entry_call (here_at now.setup t at place) handle owns ≡ Err given
   refuses_entry owns errors.Memory given is full other t stands = absurd (true≢false (sym (ap is_for_memory is) ∙ other))
   refuses_entry owns errors.Full given is full other t stands =
       let line = find (held_of parts.dispatch) (map held_by parts.handles) t.handles handle h.held stands.fits.handle_slots (held_slot parts.handles handle h found) in
       let meets = meets_full_of t stands line.at line.there line.is (full refl) in
-      ap (λ o. need what.Handle o >>= (λ line. refuse_if (meets_full now.setup.layer.activation line (t.contexts place_id)) (refusal.Full lane) (Ok (enter_effect (here_at now.setup t at lane) handle owns line)))) line.there
+      ap (λ o. need what.Handle o >>= (λ line. refuse_if (meets_full now.setup.layer.activation line (t.contexts place_id)) (refusal.Full place) (Ok (enter_effect (here_at now.setup t at place) handle owns line)))) line.there
       ∙ cond-true {A = Resolved} (meets_full now.setup.layer.activation line.at (t.contexts place_id)) _ _ meets ∙ ap (λ (x : Refusal). Err x) (sym is)
 
 -- a filter over a stack attaches nothing

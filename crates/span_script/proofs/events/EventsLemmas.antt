@@ -1,5 +1,5 @@
 -- Ops on spans that leave all else as it is, served; and events.
-use Rattle.span_script.proofs.Common.{length-map, Measure, Token, Recording, no_recording, with_start, with_applied, Lane, Callsite, Kind, ValueSet, Parent, Worlds, FilterState, IsNewFilter, enables_in, Spans, span_at, entries_on, place_on, SubscriberCall, OneEach, member_of, spans_in, kept_in, Has, Reply, Place, id_at, if_event, event_site, Scope, SpanOp, FilterHook, Effect, Tables, own_span, recorded_by, quiet_effect, Fields, all_values, text_filter, here_at, Resolved, ◌>>=◌, need, ops_on, effect_of_call, if_enabled, counted_ops, event_effect, after_filter_hook, scope_at, place_for, TellsOnly, LetsThrough, Balanced, named_by, opened_by, Views, shown_of, State, state_of, lane_value, held_by, StandsFor, MadeFit, LanesFit, IsKept, Served, Parts, with_counted, with_event_by, AddsMeasures, CallsLaw, aside_in}
+use Rattle.span_script.proofs.Common.{length-map, Measure, Token, Recording, no_recording, with_start, with_applied, Lane, Callsite, Kind, ValueSet, Parent, Worlds, FilterState, IsNewFilter, enables_in, Spans, span_at, entries_on, place_on, SubscriberCall, OneEach, member_of, spans_in, kept_in, Has, Reply, Place, id_at, if_event, event_site, Scope, SpanOp, FilterHook, Effect, Tables, own_span, recorded_by, quiet_effect, Fields, all_values, text_filter, here_at, Resolved, ◌>>=◌, need, ops_on, effect_of_call, if_enabled, counted_ops, event_effect, after_filter_hook, scope_at, parent_for, TellsOnly, LetsThrough, Balanced, named_by, opened_by, Views, shown_of, State, state_of, lane_value, held_by, StandsFor, MadeFit, LanesFit, IsKept, Served, Parts, with_counted, with_event_by, AddsMeasures, CallsLaw, aside_in}
 use Rattle.std.proofs.Common.{◌≡◌, ℕ, ◌<◌, List, [], ◌∷◌, length, Bool, true, false, fold, get_or, Option, Some, None, Ok, option_map, map, refl, sym, ap, subst, ◌∙◌, arith, slice_get, option_and_then, is_some, IfSome}
 use Rattle.otel_state.specs.fields.EventFields.{event_of}
 use Rattle.otel_state.specs.declared.op.Op.TheVariants as ops
@@ -44,7 +44,7 @@ event_kind sites site callsite is = by_site (slice_get sites site) is
 
 -- ops on spans, of which the filter hears
 abbrev pub tells_heard : ℕ → ℕ → Reply → List SpanOp → List FilterHook → Effect
-tells_heard at lane answer done heard = record (quiet_effect at lane answer) { ops = done; hooks = heard }
+tells_heard at place answer done heard = record (quiet_effect at place answer) { ops = done; hooks = heard }
 
 -- what a list of ops makes of what was recorded
 abbrev pub done_by : ℕ → List SpanOp → Recording → Recording
@@ -60,9 +60,9 @@ Decides = (f : FilterState) (lane : ℕ) (c : Callsite) → IsNewFilter f → c.
 
 -- an event is some ops of the own span of the scope that it reaches
 told_is : Decides → (ids : List ℕ) (counting : Option (List ℕ)) (counter : Option FilterState) → option_map (shown_of 0 ids) counter ≡ option_map (shown_of 0 ids) (option_map text_filter counting) → IfSome (option_map text_filter counting) IsNewFilter
-    → (scope : Scope) (id lane : ℕ) → id ≡ id_at ids lane → lane < length ids → (at : ℕ) (callsite : Callsite) → callsite.kind ≡ kinds.Event → (values : ValueSet) (r : Recording)
+    → (scope : Scope) (id place : ℕ) → id ≡ id_at ids place → place < length ids → (at : ℕ) (callsite : Callsite) → callsite.kind ≡ kinds.Event → (values : ValueSet) (r : Recording)
     → with_event_by counter (own_span scope) id at callsite values r ≡ done_by at (ops_on scope (counted_ops counting callsite (event_of callsite values r.settings at))) r
-told_is decides ids counting counter shown new scope id lane mine within at callsite event values r = by_counting counting counter shown new scope
+told_is decides ids counting counter shown new scope id place mine within at callsite event values r = by_counting counting counter shown new scope
   where
     by_flag : (b : Bool) (s : ℕ) → with_counted b s at callsite values r ≡ done_by at (ops_on (s ∷ []) (ops.Counted ∷ if_enabled b (event_of callsite values r.settings at ∷ []))) r
     by_flag true s = refl
@@ -70,7 +70,7 @@ told_is decides ids counting counter shown new scope id lane mine within at call
 
     takes : (f g : FilterState) → Some (shown_of 0 ids f) ≡ Some (shown_of 0 ids g) → IsNewFilter g → enables_in f id callsite ≡ admits g.statics.directives callsite
     takes f g same fresh =
-        ap (λ (l : ℕ). enables_in f l callsite) mine ∙ enables_alike 0 ids f g lane callsite (agree_by 0 ids f g (let e : shown_of 0 ids f ≡ shown_of 0 ids g = cc same in e)) within ∙ decides g (id_at ids lane) callsite fresh event
+        ap (λ (l : ℕ). enables_in f l callsite) mine ∙ enables_alike 0 ids f g place callsite (agree_by 0 ids f g (let e : shown_of 0 ids f ≡ shown_of 0 ids g = cc same in e)) within ∙ decides g (id_at ids place) callsite fresh event
 
     by_counting : (text : Option (List ℕ)) (o : Option FilterState) → option_map (shown_of 0 ids) o ≡ option_map (shown_of 0 ids) (option_map text_filter text) → IfSome (option_map text_filter text) IsNewFilter → (reached : Scope)
         → with_event_by o (own_span reached) id at callsite values r ≡ done_by at (ops_on reached (counted_ops text callsite (event_of callsite values r.settings at))) r
@@ -118,7 +118,7 @@ module _ {S : Type 0} (spans : S → Spans) (views : Views S) (attaches : S → 
   abbrev r : Recording
   r = member_of views.recorded no_recording parts.world parts.dispatch
 
-  module _ (at lane : ℕ) where
+  module _ (at place : ℕ) where
     abbrev then_parts : Parts S
     then_parts = record parts { world = new; moment = at }
 
@@ -127,7 +127,7 @@ module _ {S : Type 0} (spans : S → Spans) (views : Views S) (attaches : S → 
 
     -- the effect of some starts and ops, of which the filter hears, and of measures
     abbrev pub measures_then : List ℕ → List SpanOp → List FilterHook → List Measure → Reply → Effect
-    measures_then ss o heard added answer = record (tells_heard at (id_at now.setup.ids lane) answer o heard) { starts = ss; measures = added }
+    measures_then ss o heard added answer = record (tells_heard at (id_at now.setup.ids place) answer o heard) { starts = ss; measures = added }
 
     abbrev pub starts_then : List ℕ → List SpanOp → List FilterHook → Reply → Effect
     starts_then ss o heard answer = measures_then ss o heard [] answer
@@ -179,17 +179,17 @@ module _ {S : Type 0} (spans : S → Spans) (views : Views S) (attaches : S → 
     keeps_starts inv ss o heard known answer resolved did is = keeps_measures inv ss o heard [] known answer resolved did is
 
     -- the same of ops alone
-    pub serves_ops : (t : Tables) → StandsFor now t → (o : List SpanOp) (heard : List FilterHook) (known : AreKnown (length t.spans) heard (length t.spans)) (answer : Reply) (resolved : Resolved) → Does at o heard → resolved ≡ Ok (tells_heard at (id_at now.setup.ids lane) answer o heard) → Served resolved t now then answer
+    pub serves_ops : (t : Tables) → StandsFor now t → (o : List SpanOp) (heard : List FilterHook) (known : AreKnown (length t.spans) heard (length t.spans)) (answer : Reply) (resolved : Resolved) → Does at o heard → resolved ≡ Ok (tells_heard at (id_at now.setup.ids place) answer o heard) → Served resolved t now then answer
     serves_ops t stands o heard known answer resolved did is = serves_starts t stands [] o heard known answer resolved did is
 
-    pub keeps_ops : (inv : IsKept spans views kept is_whole parts) (o : List SpanOp) (heard : List FilterHook) (known : AreKnown (length inv.tables.spans) heard (length inv.tables.spans)) (answer : Reply) (resolved : Resolved) → Does at o heard → resolved ≡ Ok (tells_heard at (id_at now.setup.ids lane) answer o heard) → IsKept spans views kept is_whole then_parts
+    pub keeps_ops : (inv : IsKept spans views kept is_whole parts) (o : List SpanOp) (heard : List FilterHook) (known : AreKnown (length inv.tables.spans) heard (length inv.tables.spans)) (answer : Reply) (resolved : Resolved) → Does at o heard → resolved ≡ Ok (tells_heard at (id_at now.setup.ids place) answer o heard) → IsKept spans views kept is_whole then_parts
     keeps_ops inv o heard known answer resolved did is = keeps_starts inv [] o heard known answer resolved did is
 
   module _ (does : S → SubscriberCall → S → Type 0) (law : CallsLaw spans views attaches kept is_whole does)
-      (at lane : ℕ) where
-    module _ (under : Place) (p : Parent) (found : place_for (map held_by parts.handles) under ≡ Some p) (found_site site : ℕ) (sited_is : found_site ≡ site) (evented : is_some (event_site parts.world.sites site) ≡ true)
+      (at place : ℕ) where
+    module _ (under : Place) (p : Parent) (found : parent_for (map held_by parts.handles) under ≡ Some p) (found_site site : ℕ) (sited_is : found_site ≡ site) (evented : is_some (event_site parts.world.sites site) ≡ true)
         (fields : Fields) (values : ValueSet) (given : Callsite) (given_is : slice_get parts.world.sites found_site ≡ Some given) (valued : all_values given fields ≡ Some values)
-        (before : Lane) (within : lane < length parts.lanes) (here : before ≡ get_or parts.lanes lane before) (enabled : Bool) (gate : LetsThrough (member_of views.filtered None parts.world parts.dispatch) parts.world.sites before.id found_site enabled) (did : TellsOnly does enabled parts.world new before at p found_site values parts.dispatch) (decides : Decides) where
+        (before : Lane) (within : place < length parts.lanes) (here : before ≡ get_or parts.lanes place before) (enabled : Bool) (gate : LetsThrough (member_of views.filtered None parts.world parts.dispatch) parts.world.sites before.id found_site enabled) (did : TellsOnly does enabled parts.world new before at p found_site values parts.dispatch) (decides : Decides) where
       its_site : (callsite : Callsite) × (event_site parts.world.sites site ≡ Some callsite)
       its_site = found_site_is (event_site parts.world.sites site) evented
 
@@ -216,7 +216,7 @@ module _ {S : Type 0} (spans : S → Spans) (views : Views S) (attaches : S → 
             sites_same = ap (λ (w : Worlds S). w.sites) told.told.others;
             recorded_is = recalled.0 ∙ ap (λ (o : Option ℕ). with_event_by counter o before.id at told.callsite values rec) reaches
                 ∙ ap (λ (c : Callsite). with_event_by counter (own_span reached) before.id at c values rec) (same_site told.callsite told.is)
-                ∙ told_is decides (map (λ (l : Lane). l.id) parts.lanes) parts.opening.counting counter stands.filtering.counter stands.filtering.new reached before.id lane (id_seen parts.lanes lane before within here) (let l = length-map parts.lanes (λ (x : Lane). x.id) in omega (arith, within, l)) at its_site.0 (event_kind parts.world.sites site its_site.0 its_site.1) values rec;
+                ∙ told_is decides (map (λ (l : Lane). l.id) parts.lanes) parts.opening.counting counter stands.filtering.counter stands.filtering.new reached before.id place (id_seen parts.lanes place before within here) (let l = length-map parts.lanes (λ (x : Lane). x.id) in omega (arith, within, l)) at its_site.0 (event_kind parts.world.sites site its_site.0 its_site.1) values rec;
             filter_is = recalled.1;
             aside_is = subst (λ (c : Callsite). AddsMeasures (aside_in views parts.world parts.dispatch) (aside_in views new parts.dispatch) (measures c values)) (same_site told.callsite told.is) recalled.2;
             cached_same = ap (λ (w : Worlds S). w.cached) told.told.others;
@@ -229,27 +229,27 @@ module _ {S : Type 0} (spans : S → Spans) (views : Views S) (attaches : S → 
         ops : List SpanOp
         added : List Measure
         done : Starts at [] ops [] added
-        is : effect_of_call now.setup t at lane (call.Event site under fields) ≡ Ok (measures_then at lane [] ops [] added (reply.Enabled enabled))
+        is : effect_of_call now.setup t at place (call.Event site under fields) ≡ Ok (measures_then at place [] ops [] added (reply.Enabled enabled))
 
       told : (t : Tables) → StandsFor now t → Told t
       told t stands =
           let k = now in
-          let id = id_at k.setup.ids lane in
+          let id = id_at k.setup.ids place in
           let callsite = its_site.0 in
           let up = find_up k t stands.fits id under p found in
-          let reaches = ap (λ (l : ℕ). place_on (entries_on l (spans_in spans parts.world parts.dispatch).lanes) p) (id_seen parts.lanes lane before within here) ∙ up.on in
+          let reaches = ap (λ (l : ℕ). place_on (entries_on l (spans_in spans parts.world parts.dispatch).lanes) p) (id_seen parts.lanes place before within here) ∙ up.on in
           record {
             ops = ops_of enabled up.up;
             added = measures_of enabled;
             done = does_told t stands enabled did up.up reaches;
-            is = ap (λ o. need what.Site o >>= (λ c. need what.Handle (scope_at t id under) >>= (λ reached. need what.Field (all_values c fields) >>= (λ v. Ok (event_effect (here_at k.setup t at lane) c v reached))))) its_site.1
-                ∙ ap (λ o. need what.Handle o >>= (λ reached. need what.Field (all_values callsite fields) >>= (λ v. Ok (event_effect (here_at k.setup t at lane) callsite v reached)))) up.is
-                ∙ ap (λ o. need what.Field o >>= (λ v. Ok (event_effect (here_at k.setup t at lane) callsite v up.up))) (ap (λ (c : Callsite). all_values c fields) (sym (same_site given given_is)) ∙ valued)
-                ∙ ap (λ (b : Bool). Ok (measures_then at lane [] (ops_of b up.up) [] (measures_of b) (reply.Enabled b))) (answered spans views parts lane before within here found_site callsite (ap (λ (n : ℕ). slice_get parts.world.sites n) sited_is ∙ site_is parts.world.sites site callsite its_site.1) enabled gate t stands);
+            is = ap (λ o. need what.Site o >>= (λ c. need what.Handle (scope_at t id under) >>= (λ reached. need what.Field (all_values c fields) >>= (λ v. Ok (event_effect (here_at k.setup t at place) c v reached))))) its_site.1
+                ∙ ap (λ o. need what.Handle o >>= (λ reached. need what.Field (all_values callsite fields) >>= (λ v. Ok (event_effect (here_at k.setup t at place) callsite v reached)))) up.is
+                ∙ ap (λ o. need what.Field o >>= (λ v. Ok (event_effect (here_at k.setup t at place) callsite v up.up))) (ap (λ (c : Callsite). all_values c fields) (sym (same_site given given_is)) ∙ valued)
+                ∙ ap (λ (b : Bool). Ok (measures_then at place [] (ops_of b up.up) [] (measures_of b) (reply.Enabled b))) (answered spans views parts place before within here found_site callsite (ap (λ (n : ℕ). slice_get parts.world.sites n) sited_is ∙ site_is parts.world.sites site callsite its_site.1) enabled gate t stands);
           }
 
-      pub serves_told : (t : Tables) → StandsFor now t → Served (effect_of_call now.setup t at lane (call.Event site under fields)) t now (then at lane) (reply.Enabled enabled)
-      serves_told t stands = (let e = told t stands in serves_measures at lane t stands [] e.ops [] e.added refl (reply.Enabled enabled) _ e.done e.is)
+      pub serves_told : (t : Tables) → StandsFor now t → Served (effect_of_call now.setup t at place (call.Event site under fields)) t now (then at place) (reply.Enabled enabled)
+      serves_told t stands = (let e = told t stands in serves_measures at place t stands [] e.ops [] e.added refl (reply.Enabled enabled) _ e.done e.is)
 
-      pub keeps_told : IsKept spans views kept is_whole parts → IsKept spans views kept is_whole (then_parts at lane)
-      keeps_told inv = (let e = told inv.tables inv.stands in keeps_measures at lane inv [] e.ops [] e.added refl (reply.Enabled enabled) _ e.done e.is)
+      pub keeps_told : IsKept spans views kept is_whole parts → IsKept spans views kept is_whole (then_parts at place)
+      keeps_told inv = (let e = told inv.tables inv.stands in keeps_measures at place inv [] e.ops [] e.added refl (reply.Enabled enabled) _ e.done e.is)

@@ -1,5 +1,5 @@
 -- Fields that are declared or not, recorded on spans, and asked for.
-use Rattle.span_script.proofs.Common.{list_all, cons_option, cond-true, cond-false, Recording, no_recording, Callsite, ValueSet, Parent, Worlds, Spans, SubscriberCall, member_of, Handle, Held, IsSite, RecordsAt, RecordsOn, callsite_in, field_at, field_in, place_under, Place, id_at, span_site, event_site, Scope, Tables, slot_at, site_of, Fields, declared_value, declares, declared_by, all_values, values_of, values_by, here_at, ◌>>=◌, need, ops_effect, effect_of_call, event_effect, scope_at, new_effect, place_for, Views, State, state_of, StandsFor, IsScope, IsKept, Served, held_by, held_of, Parts, get_or-map, CallsLaw}
+use Rattle.span_script.proofs.Common.{list_all, cons_option, cond-true, cond-false, Recording, no_recording, Callsite, ValueSet, Parent, Worlds, Spans, SubscriberCall, member_of, Handle, Held, IsSite, RecordsAt, RecordsOn, callsite_in, field_at, field_in, place_under, Place, id_at, span_site, event_site, Scope, Tables, slot_at, site_of, Fields, declared_value, declares, declared_by, all_values, values_of, values_by, here_at, ◌>>=◌, need, ops_effect, effect_of_call, event_effect, scope_at, new_effect, parent_for, Views, State, state_of, StandsFor, IsScope, IsKept, Served, held_by, held_of, Parts, get_or-map, CallsLaw}
 use Rattle.std.proofs.lemmas.Bool.{true≢false}
 use Rattle.std.proofs.Common.{◌≡◌, ℕ, suc, ◌<◌, ◌≤◌, List, [], ◌∷◌, length, Bool, true, false, Option, Some, None, Ok, Err, option_map, map, refl, sym, ap, subst, ◌∙◌, arith, ◌&&◌, is_some, slice_get, filter_map, option_and_then}
 use Rattle.trace_base.specs.declared.field.Field.{Field}
@@ -20,7 +20,7 @@ use Rattle.span_script.specs.declared.request.Place.TheVariants as place
 
 -- ---- places that aren't there
 
-no_scope : (k : State) (t : Tables) → Fits k t → (lane : ℕ) (under : Place) → place_for k.handles under ≡ None → scope_at t lane under ≡ None
+no_scope : (k : State) (t : Tables) → Fits k t → (lane : ℕ) (under : Place) → parent_for k.handles under ≡ None → scope_at t lane under ≡ None
 no_scope k t fits lane place.Root is = absurd (cc is)
 no_scope k t fits lane place.Contextual is = absurd (cc is)
 no_scope k t fits lane (place.Under handle) is = by_slot (slot_at t.handles handle) (sym (ap (λ xs. option_map place_under (slot_at xs handle)) fits.handle_slots ∙ ap (option_map place_under) (get_or-map (option_map (held_of k.dispatch)) t.handles handle None)) ∙ is)
@@ -29,46 +29,46 @@ no_scope k t fits lane (place.Under handle) is = by_slot (slot_at t.handles hand
     by_slot None e = refl
     by_slot (Some scope) e = absurd (cc e)
 
-pub refuses_place : (k : State) (t : Tables) → Fits k t → (at lane site : ℕ) (under : Place) (fields : Fields) → is_some (span_site k.setup.sites site) ≡ true → place_for k.handles under ≡ None
-    → effect_of_call k.setup t at lane (call.New site under fields) ≡ Err (refusal.UnknownName what.Handle)
-refuses_place k t fits at lane site under fields spanned gone = by_site (span_site k.setup.sites site) refl spanned
+pub refuses_place : (k : State) (t : Tables) → Fits k t → (at place site : ℕ) (under : Place) (fields : Fields) → is_some (span_site k.setup.sites site) ≡ true → parent_for k.handles under ≡ None
+    → effect_of_call k.setup t at place (call.New site under fields) ≡ Err (refusal.UnknownName what.Handle)
+refuses_place k t fits at place site under fields spanned gone = by_site (span_site k.setup.sites site) refl spanned
   where
-    by_site : (o : Option Callsite) → span_site k.setup.sites site ≡ o → is_some o ≡ true → effect_of_call k.setup t at lane (call.New site under fields) ≡ Err (refusal.UnknownName what.Handle)
+    by_site : (o : Option Callsite) → span_site k.setup.sites site ≡ o → is_some o ≡ true → effect_of_call k.setup t at place (call.New site under fields) ≡ Err (refusal.UnknownName what.Handle)
     by_site None is e = absurd (true≢false (sym e))
     by_site (Some c) is e =
-        ap (λ o. need what.Site o >>= (λ c. need what.Handle (scope_at t (id_at k.setup.ids lane) under) >>= (λ up. need what.Field (all_values c fields) >>= (λ v. Ok (new_effect (here_at k.setup t at lane) site c v under up))))) is
-        ∙ ap (λ o. need what.Handle o >>= (λ up. need what.Field (all_values c fields) >>= (λ v. Ok (new_effect (here_at k.setup t at lane) site c v under up)))) (no_scope k t fits (id_at k.setup.ids lane) under gone)
+        ap (λ o. need what.Site o >>= (λ c. need what.Handle (scope_at t (id_at k.setup.ids place) under) >>= (λ up. need what.Field (all_values c fields) >>= (λ v. Ok (new_effect (here_at k.setup t at place) site c v under up))))) is
+        ∙ ap (λ o. need what.Handle o >>= (λ up. need what.Field (all_values c fields) >>= (λ v. Ok (new_effect (here_at k.setup t at place) site c v under up)))) (no_scope k t fits (id_at k.setup.ids place) under gone)
 
 -- ---- fields that aren't declared
 
 -- the callsite that the code found is the one that the request names
-module _ (k : State) (t : Tables) (fits : Fits k t) (at lane site found_site : ℕ) (same : found_site ≡ site) (under : Place) (p : Parent) (found : place_for k.handles under ≡ Some p) (fields : Fields)
+module _ (k : State) (t : Tables) (fits : Fits k t) (at place site found_site : ℕ) (same : found_site ≡ site) (under : Place) (p : Parent) (found : parent_for k.handles under ≡ Some p) (fields : Fields)
     (given : Callsite) (given_is : slice_get k.setup.sites found_site ≡ Some given) (none : all_values given fields ≡ None) where
-  pub refuses_new : is_some (span_site k.setup.sites site) ≡ true → effect_of_call k.setup t at lane (call.New site under fields) ≡ Err (refusal.UnknownName what.Field)
+  pub refuses_new : is_some (span_site k.setup.sites site) ≡ true → effect_of_call k.setup t at place (call.New site under fields) ≡ Err (refusal.UnknownName what.Field)
   refuses_new spanned = by_site (span_site k.setup.sites site) refl spanned
     where
-      by_site : (o : Option Callsite) → span_site k.setup.sites site ≡ o → is_some o ≡ true → effect_of_call k.setup t at lane (call.New site under fields) ≡ Err (refusal.UnknownName what.Field)
+      by_site : (o : Option Callsite) → span_site k.setup.sites site ≡ o → is_some o ≡ true → effect_of_call k.setup t at place (call.New site under fields) ≡ Err (refusal.UnknownName what.Field)
       by_site None is e = absurd (true≢false (sym e))
       by_site (Some c) is e =
-          let id = id_at k.setup.ids lane in
+          let id = id_at k.setup.ids place in
           let up = find_up k t fits id under p found in
           let c_is = the_callsite given c (sym given_is ∙ ap (λ (n : ℕ). slice_get k.setup.sites n) same ∙ site_is k.setup.sites site c is) in
-          ap (λ o. need what.Site o >>= (λ c. need what.Handle (scope_at t id under) >>= (λ up. need what.Field (all_values c fields) >>= (λ v. Ok (new_effect (here_at k.setup t at lane) site c v under up))))) is
-          ∙ ap (λ o. need what.Handle o >>= (λ up. need what.Field (all_values c fields) >>= (λ v. Ok (new_effect (here_at k.setup t at lane) site c v under up)))) up.is
-          ∙ ap (λ o. need what.Field o >>= (λ v. Ok (new_effect (here_at k.setup t at lane) site c v under up.up))) (ap (λ (x : Callsite). all_values x fields) (sym c_is) ∙ none)
+          ap (λ o. need what.Site o >>= (λ c. need what.Handle (scope_at t id under) >>= (λ up. need what.Field (all_values c fields) >>= (λ v. Ok (new_effect (here_at k.setup t at place) site c v under up))))) is
+          ∙ ap (λ o. need what.Handle o >>= (λ up. need what.Field (all_values c fields) >>= (λ v. Ok (new_effect (here_at k.setup t at place) site c v under up)))) up.is
+          ∙ ap (λ o. need what.Field o >>= (λ v. Ok (new_effect (here_at k.setup t at place) site c v under up.up))) (ap (λ (x : Callsite). all_values x fields) (sym c_is) ∙ none)
 
-  pub refuses_event : is_some (event_site k.setup.sites site) ≡ true → effect_of_call k.setup t at lane (call.Event site under fields) ≡ Err (refusal.UnknownName what.Field)
+  pub refuses_event : is_some (event_site k.setup.sites site) ≡ true → effect_of_call k.setup t at place (call.Event site under fields) ≡ Err (refusal.UnknownName what.Field)
   refuses_event evented = by_site (event_site k.setup.sites site) refl evented
     where
-      by_site : (o : Option Callsite) → event_site k.setup.sites site ≡ o → is_some o ≡ true → effect_of_call k.setup t at lane (call.Event site under fields) ≡ Err (refusal.UnknownName what.Field)
+      by_site : (o : Option Callsite) → event_site k.setup.sites site ≡ o → is_some o ≡ true → effect_of_call k.setup t at place (call.Event site under fields) ≡ Err (refusal.UnknownName what.Field)
       by_site None is e = absurd (true≢false (sym e))
       by_site (Some c) is e =
-          let id = id_at k.setup.ids lane in
+          let id = id_at k.setup.ids place in
           let up = find_up k t fits id under p found in
           let c_is = the_callsite given c (sym given_is ∙ ap (λ (n : ℕ). slice_get k.setup.sites n) same ∙ event_is k.setup.sites site c is) in
-          ap (λ o. need what.Site o >>= (λ c. need what.Handle (scope_at t id under) >>= (λ reached. need what.Field (all_values c fields) >>= (λ v. Ok (event_effect (here_at k.setup t at lane) c v reached))))) is
-          ∙ ap (λ o. need what.Handle o >>= (λ reached. need what.Field (all_values c fields) >>= (λ v. Ok (event_effect (here_at k.setup t at lane) c v reached)))) up.is
-          ∙ ap (λ o. need what.Field o >>= (λ v. Ok (event_effect (here_at k.setup t at lane) c v up.up))) (ap (λ (x : Callsite). all_values x fields) (sym c_is) ∙ none)
+          ap (λ o. need what.Site o >>= (λ c. need what.Handle (scope_at t id under) >>= (λ reached. need what.Field (all_values c fields) >>= (λ v. Ok (event_effect (here_at k.setup t at place) c v reached))))) is
+          ∙ ap (λ o. need what.Handle o >>= (λ reached. need what.Field (all_values c fields) >>= (λ v. Ok (event_effect (here_at k.setup t at place) c v reached)))) up.is
+          ∙ ap (λ o. need what.Field o >>= (λ v. Ok (event_effect (here_at k.setup t at place) c v up.up))) (ap (λ (x : Callsite). all_values x fields) (sym c_is) ∙ none)
 
 -- values are fewer than the fields exactly where one of these isn't declared
 module _ (c : Callsite) where
@@ -144,7 +144,7 @@ module _ {S : Type 0} (spans : S → Spans) (views : Views S) (attaches : S → 
         by_scope [] is site e = subst (IsSite parts.world) (sym e) tt
         by_scope (s ∷ up) is site e = subst (IsSite parts.world) (sym e) (inv.stands.fits.sited s is.0)
 
-    module _ (new : Worlds S) (at lane : ℕ) where
+    module _ (new : Worlds S) (at place : ℕ) where
       abbrev then_parts : Parts S
       then_parts = record parts { world = new; moment = at }
 
@@ -153,17 +153,17 @@ module _ {S : Type 0} (spans : S → Spans) (views : Views S) (attaches : S → 
 
       -- whether a name is declared is asked
       module _ (name : List ℕ) (has : Bool) (is : has ≡ is_some (field_in (named_field name) parts.world h.site)) (same : new ≡ parts.world) where
-        asked : (t : Tables) → StandsFor now t → effect_of_call now.setup t at lane (call.HasField handle name) ≡ Ok (ops_effect (here_at now.setup t at lane) (reply.Has has) [])
+        asked : (t : Tables) → StandsFor now t → effect_of_call now.setup t at place (call.HasField handle name) ≡ Ok (ops_effect (here_at now.setup t at place) (reply.Has has) [])
         asked t stands =
             let line = its_scope t stands.fits in
-            ap (λ o. need what.Handle o >>= (λ scope. Ok (ops_effect (here_at now.setup t at lane) (reply.Has (declared_by (callsite_of now.setup t scope) name)) []))) line.there
-            ∙ ap (λ (b : Bool). Ok (ops_effect (here_at now.setup t at lane) (reply.Has b) [])) (ap (λ (o : Option Callsite). declared_by o name) (sym (its_callsite t stands.fits)) ∙ sym (has_in parts.world name h.site) ∙ sym is)
+            ap (λ o. need what.Handle o >>= (λ scope. Ok (ops_effect (here_at now.setup t at place) (reply.Has (declared_by (callsite_of now.setup t scope) name)) []))) line.there
+            ∙ ap (λ (b : Bool). Ok (ops_effect (here_at now.setup t at place) (reply.Has b) [])) (ap (λ (o : Option Callsite). declared_by o name) (sym (its_callsite t stands.fits)) ∙ sym (has_in parts.world name h.site) ∙ sym is)
 
-        pub serves_asked : (t : Tables) → StandsFor now t → Served (effect_of_call now.setup t at lane (call.HasField handle name)) t now then (reply.Has has)
-        serves_asked t stands = serves_ops spans views attaches kept is_whole parts new at lane t stands [] [] refl (reply.Has has) _ (does_none spans views attaches kept is_whole parts new at same) (asked t stands)
+        pub serves_asked : (t : Tables) → StandsFor now t → Served (effect_of_call now.setup t at place (call.HasField handle name)) t now then (reply.Has has)
+        serves_asked t stands = serves_ops spans views attaches kept is_whole parts new at place t stands [] [] refl (reply.Has has) _ (does_none spans views attaches kept is_whole parts new at same) (asked t stands)
 
         pub keeps_asked : IsKept spans views kept is_whole parts → IsKept spans views kept is_whole then_parts
-        keeps_asked inv = keeps_ops spans views attaches kept is_whole parts new at lane inv [] [] refl (reply.Has has) _ (does_none spans views attaches kept is_whole parts new at same) (asked inv.tables inv.stands)
+        keeps_asked inv = keeps_ops spans views attaches kept is_whole parts new at place inv [] [] refl (reply.Has has) _ (does_none spans views attaches kept is_whole parts new at same) (asked inv.tables inv.stands)
 
       -- values are recorded
       module _ (does : S → SubscriberCall → S → Type 0) (law : CallsLaw spans views attaches kept is_whole does)
@@ -203,11 +203,11 @@ module _ {S : Type 0} (spans : S → Spans) (views : Views S) (attaches : S → 
         values_known [] (Some c) n = refl
         values_known (s ∷ up) (Some c) n = (tt, refl)
 
-        its_update : (t : Tables) (fits : Fits now t) → effect_of_call now.setup t at lane (call.Record handle fields) ≡ Ok (record_effect (here_at now.setup t at lane) (its_scope t fits).at fields)
-        its_update t fits = ap (λ o. need what.Handle o >>= (λ scope. Ok (record_effect (here_at now.setup t at lane) scope fields))) (its_scope t fits).there
+        its_update : (t : Tables) (fits : Fits now t) → effect_of_call now.setup t at place (call.Record handle fields) ≡ Ok (record_effect (here_at now.setup t at place) (its_scope t fits).at fields)
+        its_update t fits = ap (λ o. need what.Handle o >>= (λ scope. Ok (record_effect (here_at now.setup t at place) scope fields))) (its_scope t fits).there
 
-        pub serves_recorded : (t : Tables) → StandsFor now t → Served (effect_of_call now.setup t at lane (call.Record handle fields)) t now then reply.Done
-        serves_recorded t stands = serves_ops spans views attaches kept is_whole parts new at lane t stands _ _ (values_known (its_scope t stands.fits).at (callsite_of now.setup t (its_scope t stands.fits).at) (length t.spans)) reply.Done _ (updated t stands.fits) (its_update t stands.fits)
+        pub serves_recorded : (t : Tables) → StandsFor now t → Served (effect_of_call now.setup t at place (call.Record handle fields)) t now then reply.Done
+        serves_recorded t stands = serves_ops spans views attaches kept is_whole parts new at place t stands _ _ (values_known (its_scope t stands.fits).at (callsite_of now.setup t (its_scope t stands.fits).at) (length t.spans)) reply.Done _ (updated t stands.fits) (its_update t stands.fits)
 
         pub keeps_recorded : IsKept spans views kept is_whole parts → IsKept spans views kept is_whole then_parts
-        keeps_recorded inv = keeps_ops spans views attaches kept is_whole parts new at lane inv _ _ (values_known (its_scope inv.tables inv.stands.fits).at (callsite_of now.setup inv.tables (its_scope inv.tables inv.stands.fits).at) (length inv.tables.spans)) reply.Done _ (updated inv.tables inv.stands.fits) (its_update inv.tables inv.stands.fits)
+        keeps_recorded inv = keeps_ops spans views attaches kept is_whole parts new at place inv _ _ (values_known (its_scope inv.tables inv.stands.fits).at (callsite_of now.setup inv.tables (its_scope inv.tables inv.stands.fits).at) (length inv.tables.spans)) reply.Done _ (updated inv.tables inv.stands.fits) (its_update inv.tables inv.stands.fits)

@@ -145,18 +145,18 @@ agree_all n m ids f g [] known a = subst (λ (k : ℕ). Agree k ids f g) known a
 agree_all n m ids f g (heard ∷ all) known a = agree_all (count_heard n heard) m ids (after_filter_hook f heard) (after_filter_hook g heard) all known.1 (agree_heard n ids f g heard known.0 a)
 
 -- on the lanes that are seen
-lane_agrees : (f g : ℕ → List OpenLevel) (ids : List ℕ) (lane : ℕ) → map f ids ≡ map g ids → lane < length ids → f (id_at ids lane) ≡ g (id_at ids lane)
-lane_agrees f g [] lane same within = absurd (omega (arith, within))
+lane_agrees : (f g : ℕ → List OpenLevel) (ids : List ℕ) (place : ℕ) → map f ids ≡ map g ids → place < length ids → f (id_at ids place) ≡ g (id_at ids place)
+lane_agrees f g [] place same within = absurd (omega (arith, within))
 lane_agrees f g (i ∷ ids) zero same within = cc same
-lane_agrees f g (i ∷ ids) (suc lane) same within = lane_agrees f g ids lane (let tail : map f ids ≡ map g ids = cc same in tail) (omega (arith, within))
+lane_agrees f g (i ∷ ids) (suc place) same within = lane_agrees f g ids place (let tail : map f ids ≡ map g ids = cc same in tail) (omega (arith, within))
 
 -- filters that are seen alike admit the same there
-pub admits_alike : (n : ℕ) (ids : List ℕ) (f g : FilterState) (lane : ℕ) (c : Callsite) → Agree n ids f g → lane < length ids → is_admitted f (id_at ids lane) c ≡ is_admitted g (id_at ids lane) c
-admits_alike n ids f g lane c a within = rw (a.statics, a.dynamics, lane_agrees f.lanes g.lanes ids lane a.lanes within) refl
+pub admits_alike : (n : ℕ) (ids : List ℕ) (f g : FilterState) (place : ℕ) (c : Callsite) → Agree n ids f g → place < length ids → is_admitted f (id_at ids place) c ≡ is_admitted g (id_at ids place) c
+admits_alike n ids f g place c a within = rw (a.statics, a.dynamics, lane_agrees f.lanes g.lanes ids place a.lanes within) refl
 
 -- and take the same
-pub enables_alike : (n : ℕ) (ids : List ℕ) (f g : FilterState) (lane : ℕ) (c : Callsite) → Agree n ids f g → lane < length ids → enables_in f (id_at ids lane) c ≡ enables_in g (id_at ids lane) c
-enables_alike n ids f g lane c a within = rw (a.statics, a.dynamics, lane_agrees f.lanes g.lanes ids lane a.lanes within) refl
+pub enables_alike : (n : ℕ) (ids : List ℕ) (f g : FilterState) (place : ℕ) (c : Callsite) → Agree n ids f g → place < length ids → enables_in f (id_at ids place) c ≡ enables_in g (id_at ids place) c
+enables_alike n ids f g place c a within = rw (a.statics, a.dynamics, lane_agrees f.lanes g.lanes ids place a.lanes within) refl
 
 -- ---- one effect more
 

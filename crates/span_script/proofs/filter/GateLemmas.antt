@@ -22,15 +22,15 @@ module _ {S : Type 0} (spans : S → Spans) (views : Views S) (parts : Parts S) 
   pub is_current : (kept : S → ℕ → ℕ → ℕ) (is_whole : S → Type 0) (interest : S → Callsite → Interest) → ((s : S) (f : FilterState) (c : Callsite) → views.filtered s ≡ Some f → interest s c ≡ interest_in f c)
       → IsKept spans views kept is_whole parts → IsFresh interest parts.world
   is_current kept is_whole interest shown inv =
-      let place = placed inv.tables inv.stands.fits.made.count inv.stands.filtering in
-      rows_fresh views interest shown parts.world parts.dispatch place.filter inv.alone inv.there place.is
-      (inv.stands.filtering.fresh ∙ rows_alike (length inv.tables.spans) now.setup.ids place.filter (filter_at now.setup inv.tables) place.agree parts.world.sites)
+      let current = placed inv.tables inv.stands.fits.made.count inv.stands.filtering in
+      rows_fresh views interest shown parts.world parts.dispatch current.filter inv.alone inv.there current.is
+      (inv.stands.filtering.fresh ∙ rows_alike (length inv.tables.spans) now.setup.ids current.filter (filter_at now.setup inv.tables) current.agree parts.world.sites)
 
-  pub answered : (lane : ℕ) (before : Lane) → lane < length parts.lanes → before ≡ get_or parts.lanes lane before → (site : ℕ) (callsite : Callsite) → slice_get parts.world.sites site ≡ Some callsite
-      → (enabled : Bool) → LetsThrough (member_of views.filtered None parts.world parts.dispatch) parts.world.sites before.id site enabled → (t : Tables) → StandsFor now t → admits_at now.setup t (id_at now.setup.ids lane) callsite ≡ enabled
-  answered lane before within here site callsite is enabled gate t stands =
+  pub answered : (place : ℕ) (before : Lane) → place < length parts.lanes → before ≡ get_or parts.lanes place before → (site : ℕ) (callsite : Callsite) → slice_get parts.world.sites site ≡ Some callsite
+      → (enabled : Bool) → LetsThrough (member_of views.filtered None parts.world parts.dispatch) parts.world.sites before.id site enabled → (t : Tables) → StandsFor now t → admits_at now.setup t (id_at now.setup.ids place) callsite ≡ enabled
+  answered place before within here site callsite is enabled gate t stands =
       let ids = now.setup.ids in
       let force = filter_at now.setup t in
-      let place = placed t stands.fits.made.count stands.filtering in
-      let inside : lane < length ids = (let l = length-map parts.lanes (λ (x : Lane). x.id) in omega (arith, within, l)) in
-      sym (admits_alike (length t.spans) ids place.filter force lane callsite place.agree inside) ∙ ap (λ (l : ℕ). is_admitted place.filter l callsite) (sym (id_seen parts.lanes lane before within here)) ∙ sym (gate place.filter callsite place.is is)
+      let current = placed t stands.fits.made.count stands.filtering in
+      let inside : place < length ids = (let l = length-map parts.lanes (λ (x : Lane). x.id) in omega (arith, within, l)) in
+      sym (admits_alike (length t.spans) ids current.filter force place callsite current.agree inside) ∙ ap (λ (l : ℕ). is_admitted current.filter l callsite) (sym (id_seen parts.lanes place before within here)) ∙ sym (gate current.filter callsite current.is is)

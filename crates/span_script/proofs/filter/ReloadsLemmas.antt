@@ -11,26 +11,26 @@ use Rattle.span_script.proofs.steps.ServesLemmas.{serve_with, known_still, all_s
 use Rattle.span_script.proofs.steps.StepLemmas.{fits_step}
 use Rattle.span_script.proofs.events.EventsLemmas.{does_none, serves_ops, keeps_ops}
 
-module _ {S : Type 0} (spans : S → Spans) (views : Views S) (attaches : S → Bool) (kept : S → ℕ → ℕ → ℕ) (is_whole : S → Type 0) (parts : Parts S) (at lane : ℕ) where
+module _ {S : Type 0} (spans : S → Spans) (views : Views S) (attaches : S → Bool) (kept : S → ℕ → ℕ → ℕ) (is_whole : S → Type 0) (parts : Parts S) (at place : ℕ) where
   abbrev now : State
   now = state_of spans views parts
 
   -- the gate is asked
-  module _ (before : Lane) (within : lane < length parts.lanes) (here : before ≡ get_or parts.lanes lane before) (found_site site : ℕ) (sited_is : found_site ≡ site) (there : site < length parts.world.sites)
+  module _ (before : Lane) (within : place < length parts.lanes) (here : before ≡ get_or parts.lanes place before) (found_site site : ℕ) (sited_is : found_site ≡ site) (there : site < length parts.world.sites)
       (enabled : Bool) (gate : LetsThrough (member_of views.filtered None parts.world parts.dispatch) parts.world.sites before.id found_site enabled) where
     its_site : (c : Callsite) × (slice_get parts.world.sites site ≡ Some c)
     its_site = within_get parts.world.sites site there
 
-    its_answer : (t : Tables) → StandsFor now t → effect_of_call now.setup t at lane (call.Enabled site) ≡ Ok (quiet_effect at (id_at now.setup.ids lane) (reply.Enabled enabled))
+    its_answer : (t : Tables) → StandsFor now t → effect_of_call now.setup t at place (call.Enabled site) ≡ Ok (quiet_effect at (id_at now.setup.ids place) (reply.Enabled enabled))
     its_answer t stands =
-        ap (λ o. need what.Site o >>= (λ c. Ok (enabled_effect (here_at now.setup t at lane) c))) its_site.1
-        ∙ ap (λ (b : Bool). Ok (quiet_effect at (id_at now.setup.ids lane) (reply.Enabled b))) (answered spans views parts lane before within here found_site its_site.0 (ap (λ (n : ℕ). slice_get parts.world.sites n) sited_is ∙ its_site.1) enabled gate t stands)
+        ap (λ o. need what.Site o >>= (λ c. Ok (enabled_effect (here_at now.setup t at place) c))) its_site.1
+        ∙ ap (λ (b : Bool). Ok (quiet_effect at (id_at now.setup.ids place) (reply.Enabled b))) (answered spans views parts place before within here found_site its_site.0 (ap (λ (n : ℕ). slice_get parts.world.sites n) sited_is ∙ its_site.1) enabled gate t stands)
 
-    pub serves_enabled : (t : Tables) → StandsFor now t → Served (effect_of_call now.setup t at lane (call.Enabled site)) t now (state_of spans views (record parts { moment = at })) (reply.Enabled enabled)
-    serves_enabled t stands = serves_ops spans views attaches kept is_whole parts parts.world at lane t stands [] [] refl (reply.Enabled enabled) _ (does_none spans views attaches kept is_whole parts parts.world at refl) (its_answer t stands)
+    pub serves_enabled : (t : Tables) → StandsFor now t → Served (effect_of_call now.setup t at place (call.Enabled site)) t now (state_of spans views (record parts { moment = at })) (reply.Enabled enabled)
+    serves_enabled t stands = serves_ops spans views attaches kept is_whole parts parts.world at place t stands [] [] refl (reply.Enabled enabled) _ (does_none spans views attaches kept is_whole parts parts.world at refl) (its_answer t stands)
 
     pub keeps_enabled : IsKept spans views kept is_whole parts → IsKept spans views kept is_whole (record parts { moment = at })
-    keeps_enabled inv = keeps_ops spans views attaches kept is_whole parts parts.world at lane inv [] [] refl (reply.Enabled enabled) _ (does_none spans views attaches kept is_whole parts parts.world at refl)
+    keeps_enabled inv = keeps_ops spans views attaches kept is_whole parts parts.world at place inv [] [] refl (reply.Enabled enabled) _ (does_none spans views attaches kept is_whole parts parts.world at refl)
         (its_answer inv.tables inv.stands)
 
   -- a filter of another text
@@ -56,7 +56,7 @@ module _ {S : Type 0} (spans : S → Spans) (views : Views S) (attaches : S → 
       setup : then.setup ≡ now.setup
       setup = rw (sites, records) refl
 
-      filter_is : (t : Tables) → length (spans_in spans new parts.dispatch).made ≡ length t.spans → FilteringFits then (after_effect t (reload_effect (here_at now.setup t at lane) text))
+      filter_is : (t : Tables) → length (spans_in spans new parts.dispatch).made ≡ length t.spans → FilteringFits then (after_effect t (reload_effect (here_at now.setup t at place) text))
       filter_is t count = record {
         counter = ap (option_map (shown_of 0 then.setup.ids)) aside.counter ∙ inv.stands.filtering.counter;
         new = inv.stands.filtering.new;
@@ -64,13 +64,13 @@ module _ {S : Type 0} (spans : S → Spans) (views : Views S) (attaches : S → 
         fresh = cached_rows views interest shown new parts.dispatch f (alike.count ∙ inv.alone) (let c = alike.count in let b = inv.there in omega (arith, c, b)) filters fresh ∙ ap (λ (x : FilterState). rows_of x new.sites) (sym force_is);
       }
 
-      pub serves_reloaded : (t : Tables) → StandsFor now t → Served (effect_of_call now.setup t at lane (call.Reload text)) t now then reply.Done
+      pub serves_reloaded : (t : Tables) → StandsFor now t → Served (effect_of_call now.setup t at place (call.Reload text)) t now then reply.Done
       serves_reloaded t stands =
           let fits = stands.fits in
           let ids = now.setup.ids in
           let step = alike.spans_same in
-          let e : Effect = reload_effect (here_at now.setup t at lane) text in
-          serve_with now then t e _ reply.Done stands (ap (reload_by (here_at now.setup t at lane) text) read.read) refl setup r.tokens records
+          let e : Effect = reload_effect (here_at now.setup t at place) text in
+          serve_with now then t e _ reply.Done stands (ap (reload_by (here_at now.setup t at place) text) read.read) refl setup r.tokens records
           (fits_step now t fits then e (record {
             setup_is = setup;
             dispatch_is = refl;

@@ -29,22 +29,22 @@ lives_there k t stands lanes are n before within here =
     ∙ length-map (t.contexts (lane_at k.lanes n).id) (λ (a : Attached). a.context) ∙ ap (λ (l : LaneValue). length (t.contexts l.id)) seen_at
 
 module _ {S : Type 0} (spans : S → Spans) (views : Views S) (kept : S → ℕ → ℕ → ℕ) (is_whole : S → Type 0) (parts : Parts S)
-    (at lane : ℕ) (before : Lane) (within : lane < length parts.lanes) (here : before ≡ get_or parts.lanes lane before)
+    (at place : ℕ) (before : Lane) (within : place < length parts.lanes) (here : before ≡ get_or parts.lanes place before)
     (inv : IsKept spans views kept is_whole parts) (context : ℕ) (given : Context) (found : slice_get parts.contexts.contexts context ≡ Some given) where
   abbrev now : State
   now = state_of spans views parts
 
   abbrev place_id : ℕ
-  place_id = id_at now.setup.ids lane
+  place_id = id_at now.setup.ids place
 
   abbrev r : Recording
   r = member_of views.recorded no_recording parts.world parts.dispatch
 
   id_is : before.id ≡ place_id
-  id_is = id_seen parts.lanes lane before within here
+  id_is = id_seen parts.lanes place before within here
 
   lives : (t : Tables) → StandsFor now t → length before.contexts.live ≡ length (t.contexts place_id)
-  lives t stands = lives_there now t stands parts.lanes refl lane before within here ∙ ap (λ (n : ℕ). length (t.contexts n)) id_is
+  lives t stands = lives_there now t stands parts.lanes refl place before within here ∙ ap (λ (n : ℕ). length (t.contexts n)) id_is
 
   named_is : (t : Tables) → StandsFor now t → slice_get t.named_contexts context ≡ Some given
   named_is t stands = ap (λ (xs : List Context). slice_get xs context) (sym stands.fits.named_contexts) ∙ found
@@ -52,10 +52,10 @@ module _ {S : Type 0} (spans : S → Spans) (views : Views S) (kept : S → ℕ 
   -- after a refusal what is kept is as it was
   module _ (later : Lane) (same_id : later.id ≡ before.id) (same_name : later.name ≡ before.name) (live : later.contexts.live ≡ before.contexts.live) (gs' : List (Option Guard)) (guards_same : gs' ≡ parts.guards) (ks' : List (Option Attach)) (attaches_same : ks' ≡ parts.contexts.attaches) where
     abbrev left_parts : Parts S
-    left_parts = record parts { lanes = set parts.lanes lane later; guards = gs'; contexts = record parts.contexts { attaches = ks' } }
+    left_parts = record parts { lanes = set parts.lanes place later; guards = gs'; contexts = record parts.contexts { attaches = ks' } }
 
     pub left_state : state_of spans views left_parts ≡ now
-    left_state = rw (lanes_same parts.lanes lane before later within here (same_lane before later same_id live), ids_same parts.lanes lane before later within here same_id, names_same parts.lanes lane before later within here same_name, guards_same, attaches_same) refl
+    left_state = rw (lanes_same parts.lanes place before later within here (same_lane before later same_id live), ids_same parts.lanes place before later within here same_id, names_same parts.lanes place before later within here same_name, guards_same, attaches_same) refl
 
     pub left_kept : IsKept spans views kept is_whole left_parts
     left_kept = record {
@@ -68,40 +68,40 @@ module _ {S : Type 0} (spans : S → Spans) (views : Views S) (kept : S → ℕ 
     }
 
   -- a lane with as many contexts as may be
-  pub refuses_attach : (error : EnterError) (refused : Refusal) → refused ≡ refused_entry lane error → (error ≡ errors.Full → length before.contexts.live ≡ MAX_CONTEXTS) → is_for_memory refused ≡ false → (t : Tables) → StandsFor now t
-      → effect_of_call now.setup t at lane (call.Attach context) ≡ Err refused
+  pub refuses_attach : (error : EnterError) (refused : Refusal) → refused ≡ refused_entry place error → (error ≡ errors.Full → length before.contexts.live ≡ MAX_CONTEXTS) → is_for_memory refused ≡ false → (t : Tables) → StandsFor now t
+      → effect_of_call now.setup t at place (call.Attach context) ≡ Err refused
   refuses_attach errors.Memory refused is full other t stands = absurd (true≢false (sym (ap is_for_memory is) ∙ other))
   refuses_attach errors.Full refused is full other t stands =
-      ap (λ o. need what.Context o >>= (λ c. refuse_if (is_full (t.contexts place_id)) (refusal.Full lane) (Ok (attach_effect (here_at now.setup t at lane) c)))) (named_is t stands)
+      ap (λ o. need what.Context o >>= (λ c. refuse_if (is_full (t.contexts place_id)) (refusal.Full place) (Ok (attach_effect (here_at now.setup t at place) c)))) (named_is t stands)
       ∙ cond-true {A = Resolved} (is_full (t.contexts place_id)) _ _ (eq-eqb (length (t.contexts place_id)) MAX_CONTEXTS (sym (lives t stands) ∙ full refl)) ∙ ap (λ (x : Refusal). Err x) (sym is)
 
   module _ (later : Lane) (same_id : later.id ≡ before.id) (same_name : later.name ≡ before.name) (number guard : ℕ) (many : guard ≡ length parts.guards) (fresh : has_number number before.contexts.live ≡ false) (live : later.contexts.live ≡ before.contexts.live ++ (number, given) ∷ [])
-      (room : length before.contexts.live ≡ MAX_CONTEXTS → ⊥) (gs' : List (Option Guard)) (skip : gs' ≡ parts.guards ++ None ∷ []) (cs' : ContextSlots) (made_same : cs'.contexts ≡ parts.contexts.contexts) (one : cs'.attaches ≡ parts.contexts.attaches ++ Some (record { place = lane; attached = number }) ∷ []) where
+      (room : length before.contexts.live ≡ MAX_CONTEXTS → ⊥) (gs' : List (Option Guard)) (skip : gs' ≡ parts.guards ++ None ∷ []) (cs' : ContextSlots) (made_same : cs'.contexts ≡ parts.contexts.contexts) (one : cs'.attaches ≡ parts.contexts.attaches ++ Some (record { place = place; attached = number }) ∷ []) where
     abbrev then_parts : Parts S
-    then_parts = record parts { lanes = set parts.lanes lane later; guards = gs'; contexts = cs'; moment = at }
+    then_parts = record parts { lanes = set parts.lanes place later; guards = gs'; contexts = cs'; moment = at }
 
     abbrev then : State
     then = state_of spans views then_parts
 
     setup_same : then.setup ≡ now.setup
-    setup_same = rw (ids_same parts.lanes lane before later within here same_id, names_same parts.lanes lane before later within here same_name) refl
+    setup_same = rw (ids_same parts.lanes place before later within here same_id, names_same parts.lanes place before later within here same_name) refl
 
     all_fit : (t : Tables) → StandsFor now t → AllContextsFit r.settings.activation then.lanes r.tokens cs'.attaches (with_attached t.contexts place_id (Some (record { owner = GuardOf (length t.guards); context = given })))
     all_fit t stands =
         let numbered : length parts.contexts.attaches ≡ length t.guards = sym (length-map parts.contexts.attaches (option_map lane_of)) ∙ ap length stands.fits.attach_slots ∙ stands.fits.paired in
         subst (λ (ks : List (Option Attach)). AllContextsFit r.settings.activation then.lanes r.tokens ks (with_attached t.contexts place_id (Some (record { owner = GuardOf (length t.guards); context = given })))) (sym one)
-        (subst (λ (l : ℕ). AllContextsFit r.settings.activation then.lanes r.tokens (parts.contexts.attaches ++ Some (record { place = lane; attached = number }) ∷ []) (with_attached t.contexts l (Some (record { owner = GuardOf (length t.guards); context = given })))) id_is
-        (subst (λ (n : ℕ). AllContextsFit r.settings.activation then.lanes r.tokens (parts.contexts.attaches ++ Some (record { place = lane; attached = number }) ∷ []) (with_attached t.contexts before.id (Some (record { owner = GuardOf n; context = given })))) numbered
-        (all_attached r.settings.activation parts.lanes lane before later within here same_id inv.lanes.differ r.tokens parts.contexts.attaches t.contexts stands.recording.attached number given fresh live)))
+        (subst (λ (l : ℕ). AllContextsFit r.settings.activation then.lanes r.tokens (parts.contexts.attaches ++ Some (record { place = place; attached = number }) ∷ []) (with_attached t.contexts l (Some (record { owner = GuardOf (length t.guards); context = given })))) id_is
+        (subst (λ (n : ℕ). AllContextsFit r.settings.activation then.lanes r.tokens (parts.contexts.attaches ++ Some (record { place = place; attached = number }) ∷ []) (with_attached t.contexts before.id (Some (record { owner = GuardOf n; context = given })))) numbered
+        (all_attached r.settings.activation parts.lanes place before later within here same_id inv.lanes.differ r.tokens parts.contexts.attaches t.contexts stands.recording.attached number given fresh live)))
 
-    pub serves_attached : (t : Tables) → StandsFor now t → Served (effect_of_call now.setup t at lane (call.Attach context)) t now then (reply.Guard guard)
+    pub serves_attached : (t : Tables) → StandsFor now t → Served (effect_of_call now.setup t at place (call.Attach context)) t now then (reply.Guard guard)
     serves_attached t stands =
         let fits = stands.fits in
         let ids = now.setup.ids in
-        let e : Effect = attach_effect (here_at now.setup t at lane) given in
+        let e : Effect = attach_effect (here_at now.setup t at place) given in
         let free : is_full (t.contexts place_id) ≡ false = ne_eqb (length (t.contexts place_id)) MAX_CONTEXTS (λ e. room (lives t stands ∙ e)) in
         serve now then t e _ (reply.Guard guard) stands
-        (ap (λ o. need what.Context o >>= (λ c. refuse_if (is_full (t.contexts place_id)) (refusal.Full lane) (Ok (attach_effect (here_at now.setup t at lane) c)))) (named_is t stands) ∙ cond-false {A = Resolved} (is_full (t.contexts place_id)) _ _ free)
+        (ap (λ o. need what.Context o >>= (λ c. refuse_if (is_full (t.contexts place_id)) (refusal.Full place) (Ok (attach_effect (here_at now.setup t at place) c)))) (named_is t stands) ∙ cond-false {A = Resolved} (is_full (t.contexts place_id)) _ _ free)
         (ap reply.Guard (many ∙ ap length fits.guard_slots ∙ length-map t.guards (option_map _))) setup_same r.tokens refl
         (fits_step now t fits then e (record {
           setup_is = setup_same;
@@ -109,7 +109,7 @@ module _ {S : Type 0} (spans : S → Spans) (views : Views S) (kept : S → ℕ 
           handles_are = refl;
           sites_are = refl;
           guards_are = skip;
-          attaches_are = ap (map (option_map lane_of)) one ∙ map_push (option_map lane_of) parts.contexts.attaches (Some (record { place = lane; attached = number }));
+          attaches_are = ap (map (option_map lane_of)) one ∙ map_push (option_map lane_of) parts.contexts.attaches (Some (record { place = place; attached = number }));
           named_are = made_same;
           moment_is = refl;
           balanced = subst (λ (xs : List (Option OpenGuard)). Balanced now.spans (map named_by t.handles) xs t.entries) (sym (map_push (opened_by ids) t.guards None)) (quiet_guard now.spans (map named_by t.handles) (map (opened_by ids) t.guards) t.entries fits.balanced);
@@ -129,9 +129,9 @@ module _ {S : Type 0} (spans : S → Spans) (views : Views S) (kept : S → ℕ 
     pub keeps_attached : IsKept spans views kept is_whole then_parts
     keeps_attached =
         kept_served spans views kept is_whole parts then_parts inv _ _ (serves_attached inv.tables inv.stands) refl refl (λ has. has)
-        (lanes_after (kept_in kept parts.world parts.dispatch) (kept_in kept parts.world parts.dispatch) parts.lanes lane before later within here inv.lanes same_id
+        (lanes_after (kept_in kept parts.world parts.dispatch) (kept_in kept parts.world parts.dispatch) parts.lanes place before later within here inv.lanes same_id
         (λ n. (
-        let still = are_attached (kept_in kept parts.world parts.dispatch) parts.lanes lane before within here inv.lanes n in
+        let still = are_attached (kept_in kept parts.world parts.dispatch) parts.lanes place before within here inv.lanes n in
         let more = ap (λ (xs : List (ℕ × Context)). count_by (λ item. item.0 == n) xs) live in
         let push = count_push (λ (item : ℕ × Context). item.0 == n) before.contexts.live (number, given) in
         omega (arith, still, more, push)))

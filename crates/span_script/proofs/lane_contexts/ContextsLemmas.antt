@@ -21,7 +21,7 @@ shown_is None = refl
 shown_is (Some told) = refl
 
 module _ {S : Type 0} (spans : S → Spans) (views : Views S) (attaches : S → Bool) (kept : S → ℕ → ℕ → ℕ) (is_whole : S → Type 0) (parts : Parts S) (new : Worlds S)
-    (at lane number : ℕ) (many : number ≡ length parts.contexts.contexts)
+    (at place number : ℕ) (many : number ≡ length parts.contexts.contexts)
     (inv : IsKept spans views kept is_whole parts) where
   abbrev now : State
   now = state_of spans views parts
@@ -63,13 +63,13 @@ module _ {S : Type 0} (spans : S → Spans) (views : Views S) (attaches : S → 
     aside = adds_same views parts.world new parts.dispatch same;
   }
 
-  given_served : (t : Tables) → StandsFor now t → (o : Option ℕ) → Starts o → (context : Context) (cs' : ContextSlots) → cs'.contexts ≡ parts.contexts.contexts ++ context ∷ [] → cs'.attaches ≡ parts.contexts.attaches → (resolved : Resolved) → resolved ≡ Ok (context_effect (here_at now.setup t at lane) o context)
+  given_served : (t : Tables) → StandsFor now t → (o : Option ℕ) → Starts o → (context : Context) (cs' : ContextSlots) → cs'.contexts ≡ parts.contexts.contexts ++ context ∷ [] → cs'.attaches ≡ parts.contexts.attaches → (resolved : Resolved) → resolved ≡ Ok (context_effect (here_at now.setup t at place) o context)
       → Served resolved t now (then_with cs') (reply.Context number (ids_of context))
   given_served t stands o did context cs' made_is attaches_are resolved is =
       let fits = stands.fits in
       let ids = now.setup.ids in
       let then : State = then_with cs' in
-      let e : Effect = context_effect (here_at now.setup t at lane) o context in
+      let e : Effect = context_effect (here_at now.setup t at place) o context in
       let rec : r' ≡ recorded_by (length t.spans) e r = did.records ∙ sym (starts_fold o at r) in
       let rec_is : r' ≡ record (recorded_by (length t.spans) e r) { tokens = r.tokens } = rec ∙ ap (λ (ts : List Token). record (recorded_by (length t.spans) e r) { tokens = ts }) (recorded_tokens (length t.spans) e r) in
       let settings = ap (λ (x : Recording). x.settings) rec_is ∙ recorded_settings (length t.spans) e r in
@@ -104,7 +104,7 @@ module _ {S : Type 0} (spans : S → Spans) (views : Views S) (attaches : S → 
 
   -- a context of ids that are given
   module _ (same : new ≡ parts.world) (ids : SpanContext) (cs' : ContextSlots) (made_is : cs'.contexts ≡ parts.contexts.contexts ++ record { span = Some ids } ∷ []) (attaches_are : cs'.attaches ≡ parts.contexts.attaches) where
-    pub serves_remote : (t : Tables) → StandsFor now t → Served (effect_of_call now.setup t at lane (call.Remote ids)) t now (then_with cs') (reply.Context number ids)
+    pub serves_remote : (t : Tables) → StandsFor now t → Served (effect_of_call now.setup t at place (call.Remote ids)) t now (then_with cs') (reply.Context number ids)
     serves_remote t stands = given_served t stands None (unchanged same) (record { span = Some ids }) cs' made_is attaches_are _ refl
 
     pub keeps_remote : IsKept spans views kept is_whole (parts_with cs')
@@ -126,14 +126,14 @@ module _ {S : Type 0} (spans : S → Spans) (views : Views S) (attaches : S → 
           asks_it.is ∙ ap context_or_empty records.1 ∙ shown_is (data_at s r'.spans) ∙ ap (λ (x : Recording). own_or empty_context (data_at s x.spans)) records.0,
         )
 
-    pub serves_context : (ids : SpanContext) → ids ≡ ids_of given → (t : Tables) → StandsFor now t → Served (effect_of_call now.setup t at lane (call.Context handle)) t now (then_with cs') (reply.Context number ids)
+    pub serves_context : (ids : SpanContext) → ids ≡ ids_of given → (t : Tables) → StandsFor now t → Served (effect_of_call now.setup t at place (call.Context handle)) t now (then_with cs') (reply.Context number ids)
     serves_context ids ids_are t stands =
         let line = find (held_of parts.dispatch) (map held_by parts.handles) t.handles handle h.held stands.fits.handle_slots (held_slot parts.handles handle h found) in
         let shown = asked line.at h.held line.is did in
         let given_is : given ≡ own_context t.recording at line.at = shown.1 ∙ own_open line.at at r t.recording stands.recording.recorded in
-        subst (λ (i : SpanContext). Served (effect_of_call now.setup t at lane (call.Context handle)) t now (then_with cs') (reply.Context number i)) (sym (ids_are ∙ ap (λ (c : Context). ids_of c) given_is))
+        subst (λ (i : SpanContext). Served (effect_of_call now.setup t at place (call.Context handle)) t now (then_with cs') (reply.Context number i)) (sym (ids_are ∙ ap (λ (c : Context). ids_of c) given_is))
         (given_served t stands (own_span line.at) shown.0 (own_context t.recording at line.at) cs' (made_is ∙ ap (λ (c : Context). parts.contexts.contexts ++ c ∷ []) given_is) attaches_are _
-        (ap (λ o. need what.Handle o >>= (λ scope. Ok (context_effect (here_at now.setup t at lane) (own_span scope) (own_context t.recording at scope)))) line.there))
+        (ap (λ o. need what.Handle o >>= (λ scope. Ok (context_effect (here_at now.setup t at place) (own_span scope) (own_context t.recording at scope)))) line.there))
 
     pub keeps_context : IsKept spans views kept is_whole (parts_with cs')
     keeps_context =

@@ -23,7 +23,7 @@ attach_told : (k : State) (t : Tables) → Fits k t → (n : ℕ) → slot_at t.
 attach_told k t fits n = ap (λ (xs : List (Option ℕ)). slot_at xs n) (sym fits.attach_slots) ∙ get_or-map (option_map lane_of) k.contexts.attaches n None
 
 abbrev detached : State → Tables → ℕ → ℕ → ℕ → Option ℕ → Resolved
-detached k t at lane guard o = need what.Guard o >>= (λ mine. refuse_if (not (mine == lane)) (refusal.WrongLane mine) (Ok (detach_effect (here_at k.setup t at lane) guard)))
+detached k t at place guard o = need what.Guard o >>= (λ mine. refuse_if (not (mine == place)) (refusal.WrongLane mine) (Ok (detach_effect (here_at k.setup t at place) guard)))
 
 -- the others stay as often live
 count_without : (n number : ℕ) (live : List (ℕ × Context)) → (n ≡ number → ⊥) → count_by (λ (item : ℕ × Context). item.0 == number) (without_number n live) ≡ count_by (λ (item : ℕ × Context). item.0 == number) live
@@ -47,50 +47,50 @@ abbrev pub KeepsTokens : {S : Type 0} → Views S → (S → ℕ → ℕ → ℕ
 KeepsTokens {S} views kept = (s : S) (lane number : ℕ) → kept s lane number ≡ kept_by (views.recorded s).settings.activation (views.recorded s).tokens lane number
 
 module _ {S : Type 0} (spans : S → Spans) (views : Views S) (kept : S → ℕ → ℕ → ℕ) (is_whole : S → Type 0) (parts : Parts S)
-    (at lane : ℕ) (before : Lane) (within : lane < length parts.lanes) (here : before ≡ get_or parts.lanes lane before)
-    (inv : IsKept spans views kept is_whole parts) (guard : ℕ) (a : Attach) (found : slot_at parts.contexts.attaches guard ≡ Some a) (on : a.place ≡ lane) where
+    (at place : ℕ) (before : Lane) (within : place < length parts.lanes) (here : before ≡ get_or parts.lanes place before)
+    (inv : IsKept spans views kept is_whole parts) (guard : ℕ) (a : Attach) (found : slot_at parts.contexts.attaches guard ≡ Some a) (on : a.place ≡ place) where
   abbrev now : State
   now = state_of spans views parts
 
   abbrev place_id : ℕ
-  place_id = id_at now.setup.ids lane
+  place_id = id_at now.setup.ids place
 
   abbrev r : Recording
   r = member_of views.recorded no_recording parts.world parts.dispatch
 
   id_is : before.id ≡ place_id
-  id_is = id_seen parts.lanes lane before within here
+  id_is = id_seen parts.lanes place before within here
 
-  its_fit : ContextsFit (numbers_by r.settings.activation lane before.id r.tokens parts.contexts.attaches) before.contexts.live (inv.tables.contexts before.id)
-  its_fit = own_fit r.settings.activation parts.lanes lane before before within here refl inv.lanes.differ r.tokens parts.contexts.attaches inv.tables.contexts inv.stands.recording.attached
+  its_fit : ContextsFit (numbers_by r.settings.activation place before.id r.tokens parts.contexts.attaches) before.contexts.live (inv.tables.contexts before.id)
+  its_fit = own_fit r.settings.activation parts.lanes place before before within here refl inv.lanes.differ r.tokens parts.contexts.attaches inv.tables.contexts inv.stands.recording.attached
 
   -- what it attached is still live
   pub still_live : has_number a.attached before.contexts.live ≡ true
-  still_live = owned_has (GuardOf guard) before.contexts.live (inv.tables.contexts before.id) a.attached _ its_fit (guard_keeps r.settings.activation lane before.id r.tokens parts.contexts.attaches guard a found on)
+  still_live = owned_has (GuardOf guard) before.contexts.live (inv.tables.contexts before.id) a.attached _ its_fit (guard_keeps r.settings.activation place before.id r.tokens parts.contexts.attaches guard a found on)
 
   module _ (later : Lane) (same_id : later.id ≡ before.id) (same_name : later.name ≡ before.name) (live : later.contexts.live ≡ without_number a.attached before.contexts.live)
       (cs' : ContextSlots) (made_same : cs'.contexts ≡ parts.contexts.contexts) (one : cs'.attaches ≡ slice_set parts.contexts.attaches guard None) where
     abbrev then_parts : Parts S
-    then_parts = record parts { lanes = set parts.lanes lane later; contexts = cs'; moment = at }
+    then_parts = record parts { lanes = set parts.lanes place later; contexts = cs'; moment = at }
 
     abbrev then : State
     then = state_of spans views then_parts
 
     setup_same : then.setup ≡ now.setup
-    setup_same = rw (ids_same parts.lanes lane before later within here same_id, names_same parts.lanes lane before later within here same_name) refl
+    setup_same = rw (ids_same parts.lanes place before later within here same_id, names_same parts.lanes place before later within here same_name) refl
 
     all_fit : (t : Tables) → StandsFor now t → AllContextsFit r.settings.activation then.lanes r.tokens cs'.attaches (with_detached t.contexts place_id (Some (GuardOf guard)))
     all_fit t stands =
         subst (λ (ks : List (Option Attach)). AllContextsFit r.settings.activation then.lanes r.tokens ks (with_detached t.contexts place_id (Some (GuardOf guard)))) (sym one)
         (subst (λ (l : ℕ). AllContextsFit r.settings.activation then.lanes r.tokens (slice_set parts.contexts.attaches guard None) (with_detached t.contexts l (Some (GuardOf guard)))) id_is
-        (all_detached r.settings.activation parts.lanes lane before later within here same_id inv.lanes.differ r.tokens parts.contexts.attaches t.contexts stands.recording.attached guard a found on live))
+        (all_detached r.settings.activation parts.lanes place before later within here same_id inv.lanes.differ r.tokens parts.contexts.attaches t.contexts stands.recording.attached guard a found on live))
 
-    pub serves_detached : (t : Tables) → StandsFor now t → Served (effect_of_call now.setup t at lane (call.Detach guard)) t now then reply.Done
+    pub serves_detached : (t : Tables) → StandsFor now t → Served (effect_of_call now.setup t at place (call.Detach guard)) t now then reply.Done
     serves_detached t stands =
         let fits = stands.fits in
-        let e : Effect = detach_effect (here_at now.setup t at lane) guard in
+        let e : Effect = detach_effect (here_at now.setup t at place) guard in
         serve now then t e _ reply.Done stands
-        (ap (detached now t at lane guard) (attach_told now t fits guard ∙ ap (option_map lane_of) found) ∙ cond-false {A = Resolved} (not (a.place == lane)) _ _ (ap not (eq-eqb a.place lane on)))
+        (ap (detached now t at place guard) (attach_told now t fits guard ∙ ap (option_map lane_of) found) ∙ cond-false {A = Resolved} (not (a.place == place)) _ _ (ap not (eq-eqb a.place place on)))
         refl setup_same r.tokens refl
         (fits_step now t fits then e (record {
           setup_is = setup_same;
@@ -115,19 +115,19 @@ module _ {S : Type 0} (spans : S → Spans) (views : Views S) (kept : S → ℕ 
         (all_fit t stands)
         (record { quiet = refl; before = member_of views.filtered None parts.world parts.dispatch; later = member_of views.filtered None parts.world parts.dispatch; shown_before = refl; shown_later = refl; told = heard_none (member_of views.filtered None parts.world parts.dispatch); known = refl; cached = refl; aside = record { before = aside_in views parts.world parts.dispatch; later = aside_in views parts.world parts.dispatch; shown_before = refl; shown_later = refl; waits_before = refl; waits_later = refl; adds = adds_same views parts.world parts.world parts.dispatch refl } })
 
-    pub keeps_detached : ((lane number : ℕ) → kept_in kept parts.world parts.dispatch lane number ≡ kept_by r.settings.activation r.tokens lane number) → IsKept spans views kept is_whole then_parts
+    pub keeps_detached : ((place number : ℕ) → kept_in kept parts.world parts.dispatch place number ≡ kept_by r.settings.activation r.tokens place number) → IsKept spans views kept is_whole then_parts
     keeps_detached keeps =
         kept_served spans views kept is_whole parts then_parts inv _ _ (serves_detached inv.tables inv.stands) refl refl (λ has. has)
-        (lanes_after (kept_in kept parts.world parts.dispatch) (kept_in kept parts.world parts.dispatch) parts.lanes lane before later within here inv.lanes same_id
+        (lanes_after (kept_in kept parts.world parts.dispatch) (kept_in kept parts.world parts.dispatch) parts.lanes place before later within here inv.lanes same_id
         (λ n. (
         let less = ap (λ (xs : List (ℕ × Context)). count_by (λ item. item.0 == n) xs) live in
         elim (cases_eq a.attached n) [
           | inl this ↦ (
-              let none = guard_alone r.settings.activation lane before.id r.tokens parts.contexts.attaches before.contexts.live (inv.tables.contexts before.id) guard a.attached its_fit (guard_keeps r.settings.activation lane before.id r.tokens parts.contexts.attaches guard a found on) in
+              let none = guard_alone r.settings.activation place before.id r.tokens parts.contexts.attaches before.contexts.live (inv.tables.contexts before.id) guard a.attached its_fit (guard_keeps r.settings.activation place before.id r.tokens parts.contexts.attaches guard a found on) in
               let zero_kept : kept_in kept parts.world parts.dispatch before.id n ≡ 0 = keeps before.id n ∙ ap (λ (k : ℕ). kept_by r.settings.activation r.tokens before.id k) (sym this) ∙ none in
               omega (arith, zero_kept))
           | inr other ↦ (
-              let still = are_attached (kept_in kept parts.world parts.dispatch) parts.lanes lane before within here inv.lanes n in
+              let still = are_attached (kept_in kept parts.world parts.dispatch) parts.lanes place before within here inv.lanes n in
               let same = count_without a.attached n before.contexts.live other in
               omega (arith, still, less, same))
         ]))

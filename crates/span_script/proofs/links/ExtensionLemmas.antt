@@ -58,7 +58,7 @@ set_by (Some told) known held spans now id at context (Some (Err m)) did = absur
 
 module _ {S : Type 0} (spans : S → Spans) (views : Views S) (attaches : S → Bool) (kept : S → ℕ → ℕ → ℕ) (is_whole : S → Type 0) (parts : Parts S) (new : Worlds S)
     (touches : S → PartCall → S → Type 0) (law : AsksLaw spans views attaches kept is_whole touches)
-    (at lane : ℕ) (handle : ℕ) (h : Handle) (found : slot_at parts.handles handle ≡ Some h) where
+    (at place : ℕ) (handle : ℕ) (h : Handle) (found : slot_at parts.handles handle ≡ Some h) where
   abbrev now : State
   now = state_of spans views parts
 
@@ -136,7 +136,7 @@ module _ {S : Type 0} (spans : S → Spans) (views : Views S) (attaches : S → 
 
   -- an op of the handle's span
   abbrev asked : Tables → Op → Resolved
-  asked t op = need what.Handle (slot_at t.handles handle) >>= (λ scope. Ok (ops_effect (here_at now.setup t at lane) reply.Done (op_on scope op)))
+  asked t op = need what.Handle (slot_at t.handles handle) >>= (λ scope. Ok (ops_effect (here_at now.setup t at place) reply.Done (op_on scope op)))
 
   module _ (op : Op) (result : Result (Unit {0}) Memory) (did : AsksDone touches parts.world new at op h.held result) where
     line_did : (t : Tables) (fits : Fits now t) → AppliesOn touches parts.world new at op (held_of parts.dispatch (its_scope t fits).at) did.answer
@@ -147,15 +147,15 @@ module _ {S : Type 0} (spans : S → Spans) (views : Views S) (attaches : S → 
       its_op : (t : Tables) (stands : StandsFor now t) → IsDone (op_on (its_scope t stands.fits).at op)
       its_op t stands = (let line = its_scope t stands.fits in did_op line.at (known t stands line.at line.there) op did.answer (line_did t stands.fits) (sym did.is ∙ ok))
 
-      its_effect : (t : Tables) (fits : Fits now t) → asked t op ≡ Ok (ops_effect (here_at now.setup t at lane) reply.Done (op_on (its_scope t fits).at op))
-      its_effect t fits = ap (λ o. need what.Handle o >>= (λ scope. Ok (ops_effect (here_at now.setup t at lane) reply.Done (op_on scope op)))) (its_scope t fits).there
+      its_effect : (t : Tables) (fits : Fits now t) → asked t op ≡ Ok (ops_effect (here_at now.setup t at place) reply.Done (op_on (its_scope t fits).at op))
+      its_effect t fits = ap (λ o. need what.Handle o >>= (λ scope. Ok (ops_effect (here_at now.setup t at place) reply.Done (op_on scope op)))) (its_scope t fits).there
 
       pub serves_op : (t : Tables) → StandsFor now t → Served (asked t op) t now later reply.Done
-      serves_op t stands = serves_ops spans views attaches kept is_whole parts new at lane t stands _ [] refl reply.Done _ (its_op t stands) (its_effect t stands.fits)
+      serves_op t stands = serves_ops spans views attaches kept is_whole parts new at place t stands _ [] refl reply.Done _ (its_op t stands) (its_effect t stands.fits)
 
       pub keeps_op : IsKept spans views kept is_whole parts → IsKept spans views kept is_whole later_parts
       keeps_op inv = (let t = inv.tables in let stands : StandsFor now t = inv.stands in
-          keeps_ops spans views attaches kept is_whole parts new at lane inv _ [] refl reply.Done _ (its_op t stands) (its_effect t inv.stands.fits))
+          keeps_ops spans views attaches kept is_whole parts new at place inv _ [] refl reply.Done _ (its_op t stands) (its_effect t inv.stands.fits))
 
     -- where it was, what is kept is as it was
     module _ (memory : Memory) (wanted : result ≡ Err memory) (inv : IsKept spans views kept is_whole parts) where
@@ -222,17 +222,17 @@ module _ {S : Type 0} (spans : S → Spans) (views : Views S) (attaches : S → 
             let line = its_scope t stands.fits in
             did_op line.at (known t stands line.at line.there) (ops.SetParent given) did.answer (parent_did t stands.fits) (still_done line.at (ops.SetParent given) did.answer refl (parent_did t stands.fits))
 
-        parent_effect : (t : Tables) (stands : StandsFor now t) → effect_of_call now.setup t at lane (call.SetParent handle context) ≡ Ok (ops_effect (here_at now.setup t at lane) (reply.Set set) (op_on (its_scope t stands.fits).at (ops.SetParent given)))
+        parent_effect : (t : Tables) (stands : StandsFor now t) → effect_of_call now.setup t at place (call.SetParent handle context) ≡ Ok (ops_effect (here_at now.setup t at place) (reply.Set set) (op_on (its_scope t stands.fits).at (ops.SetParent given)))
         parent_effect t stands =
-            its_context t stands.fits (λ scope given. Ok (ops_effect (here_at now.setup t at lane) (reply.Set (is_set t.recording scope)) (op_on scope (ops.SetParent given))))
-            ∙ ap (λ (x : Result (Unit {0}) SetParentError). Ok (ops_effect (here_at now.setup t at lane) (reply.Set x) (op_on (its_scope t stands.fits).at (ops.SetParent given)))) (sym (its_set t stands))
+            its_context t stands.fits (λ scope given. Ok (ops_effect (here_at now.setup t at place) (reply.Set (is_set t.recording scope)) (op_on scope (ops.SetParent given))))
+            ∙ ap (λ (x : Result (Unit {0}) SetParentError). Ok (ops_effect (here_at now.setup t at place) (reply.Set x) (op_on (its_scope t stands.fits).at (ops.SetParent given)))) (sym (its_set t stands))
 
-        pub serves_parent : (t : Tables) → StandsFor now t → Served (effect_of_call now.setup t at lane (call.SetParent handle context)) t now later (reply.Set set)
-        serves_parent t stands = serves_ops spans views attaches kept is_whole parts new at lane t stands _ [] refl (reply.Set set) _ (its_parent t stands) (parent_effect t stands)
+        pub serves_parent : (t : Tables) → StandsFor now t → Served (effect_of_call now.setup t at place (call.SetParent handle context)) t now later (reply.Set set)
+        serves_parent t stands = serves_ops spans views attaches kept is_whole parts new at place t stands _ [] refl (reply.Set set) _ (its_parent t stands) (parent_effect t stands)
 
         pub keeps_parent : IsKept spans views kept is_whole parts → IsKept spans views kept is_whole later_parts
         keeps_parent inv = (let t = inv.tables in let stands : StandsFor now t = inv.stands in
-            keeps_ops spans views attaches kept is_whole parts new at lane inv _ [] refl (reply.Set set) _ (its_parent t stands) (parent_effect t stands))
+            keeps_ops spans views attaches kept is_whole parts new at place inv _ [] refl (reply.Set set) _ (its_parent t stands) (parent_effect t stands))
 
       -- a link
       module _ (ids : SpanContext) (shown : ids ≡ ids_of given) (attributes : List KeyValue) (result : Result (Unit {0}) Memory) (valid : is_valid ids ≡ true → AsksDone touches parts.world new at (link_of ids attributes) h.held result)
@@ -241,17 +241,17 @@ module _ {S : Type 0} (spans : S → Spans) (views : Views S) (attaches : S → 
         linked ok t stands true is = its_op (link_of ids attributes) result (valid is) ok t stands
         linked ok t stands false is = does_none spans views attaches kept is_whole parts new at (invalid is).1
 
-        link_effect : (t : Tables) (stands : StandsFor now t) → effect_of_call now.setup t at lane (call.AddLink handle context attributes) ≡ Ok (ops_effect (here_at now.setup t at lane) reply.Done (link_ops (its_scope t stands.fits).at ids attributes))
+        link_effect : (t : Tables) (stands : StandsFor now t) → effect_of_call now.setup t at place (call.AddLink handle context attributes) ≡ Ok (ops_effect (here_at now.setup t at place) reply.Done (link_ops (its_scope t stands.fits).at ids attributes))
         link_effect t stands =
-            its_context t stands.fits (λ scope given. Ok (ops_effect (here_at now.setup t at lane) reply.Done (link_ops scope (ids_of given) attributes)))
-            ∙ ap (λ (x : SpanContext). Ok (ops_effect (here_at now.setup t at lane) reply.Done (link_ops (its_scope t stands.fits).at x attributes))) (sym shown)
+            its_context t stands.fits (λ scope given. Ok (ops_effect (here_at now.setup t at place) reply.Done (link_ops scope (ids_of given) attributes)))
+            ∙ ap (λ (x : SpanContext). Ok (ops_effect (here_at now.setup t at place) reply.Done (link_ops (its_scope t stands.fits).at x attributes))) (sym shown)
 
-        pub serves_link : result ≡ Ok tt → (t : Tables) → StandsFor now t → Served (effect_of_call now.setup t at lane (call.AddLink handle context attributes)) t now later reply.Done
-        serves_link ok t stands = serves_ops spans views attaches kept is_whole parts new at lane t stands _ [] refl reply.Done _ (linked ok t stands (is_valid ids) refl) (link_effect t stands)
+        pub serves_link : result ≡ Ok tt → (t : Tables) → StandsFor now t → Served (effect_of_call now.setup t at place (call.AddLink handle context attributes)) t now later reply.Done
+        serves_link ok t stands = serves_ops spans views attaches kept is_whole parts new at place t stands _ [] refl reply.Done _ (linked ok t stands (is_valid ids) refl) (link_effect t stands)
 
         pub keeps_link : result ≡ Ok tt → IsKept spans views kept is_whole parts → IsKept spans views kept is_whole later_parts
         keeps_link ok inv = (let t = inv.tables in let stands : StandsFor now t = inv.stands in
-            keeps_ops spans views attaches kept is_whole parts new at lane inv _ [] refl reply.Done _ (linked ok t stands (is_valid ids) refl) (link_effect t stands))
+            keeps_ops spans views attaches kept is_whole parts new at place inv _ [] refl reply.Done _ (linked ok t stands (is_valid ids) refl) (link_effect t stands))
 
         -- no memory is wanted where the context is invalid
         wanted_link : (memory : Memory) → result ≡ Err memory → AsksDone touches parts.world new at (link_of ids attributes) h.held result

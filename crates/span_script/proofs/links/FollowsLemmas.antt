@@ -40,17 +40,17 @@ module _ {S : Type 0} (spans : S → Spans) (views : Views S) (attaches : S → 
   its_scope t fits n x there = find (held_of parts.dispatch) (map held_by parts.handles) t.handles n x.held fits.handle_slots (held_slot parts.handles n x there)
 
   -- the followed handle isn't there
-  pub refuses_from : (k : State) → now ≡ k → (from : ℕ) → slot_at parts.handles from ≡ None → (t : Tables) → StandsFor k t → (at lane : ℕ) → effect_of_call k.setup t at lane (call.Follows handle from) ≡ Err (refusal.UnknownName what.Handle)
-  refuses_from k is from gone t stands at lane =
+  pub refuses_from : (k : State) → now ≡ k → (from : ℕ) → slot_at parts.handles from ≡ None → (t : Tables) → StandsFor k t → (at place : ℕ) → effect_of_call k.setup t at place (call.Follows handle from) ≡ Err (refusal.UnknownName what.Handle)
+  refuses_from k is from gone t stands at place =
       let line = its_scope t (subst (λ (x : State). Fits x t) (sym is) stands.fits) handle h found in
-      ap (λ o. need what.Handle o >>= (λ scope. need what.Handle (slot_at t.handles from) >>= (λ followed. Ok (follow_effect (here_at k.setup t at lane) scope followed)))) line.there
+      ap (λ o. need what.Handle o >>= (λ scope. need what.Handle (slot_at t.handles from) >>= (λ followed. Ok (follow_effect (here_at k.setup t at place) scope followed)))) line.there
       ∙ refuses_unknown now k is parts.handles refl from gone t stands.fits _
 
   module _ (from : ℕ) (f : Handle) (found_from : slot_at parts.handles from ≡ Some f) where
     pub needs_one : IsKept spans views kept is_whole parts → AreOfOne h.held f.held
     needs_one inv = (let line = its_scope inv.tables inv.stands.fits handle h found in let other = its_scope inv.tables inv.stands.fits from f found_from in of_one parts.dispatch line.at other.at h.held f.held line.is other.is)
 
-    module _ (new : Worlds S) (at lane : ℕ) (does : S → SubscriberCall → S → Type 0) (law : CallsLaw spans views attaches kept is_whole does)
+    module _ (new : Worlds S) (at place : ℕ) (does : S → SubscriberCall → S → Type 0) (law : CallsLaw spans views attaches kept is_whole does)
         (did : FollowsOn does parts.world new at h.held f.held) where
       abbrev then_parts : Parts S
       then_parts = record parts { world = new; moment = at }
@@ -63,7 +63,7 @@ module _ {S : Type 0} (spans : S → Spans) (views : Views S) (attaches : S → 
         starting : List ℕ
         ops : List SpanOp
         done : Starts spans views attaches kept is_whole parts new at starting ops [] []
-        is : follow_effect (here_at now.setup t at lane) line other ≡ starts_then spans views attaches kept is_whole parts new at lane starting ops [] reply.Done
+        is : follow_effect (here_at now.setup t at place) line other ≡ starts_then spans views attaches kept is_whole parts new at place starting ops [] reply.Done
 
       followed_by : (t : Tables) → StandsFor now t → (line other : Scope) → slot_at t.handles from ≡ Some other → FollowsOn does parts.world new at (held_of parts.dispatch line) (held_of parts.dispatch other) → Followed t line other
       followed_by t stands [] other there same = record { starting = []; ops = []; done = does_none spans views attaches kept is_whole parts new at same; is = refl }
@@ -88,7 +88,7 @@ module _ {S : Type 0} (spans : S → Spans) (views : Views S) (attaches : S → 
               count = shown.count;
               whole = shown.whole;
             };
-            is = ap (λ (c : _). starts_then spans views attaches kept is_whole parts new at lane (q ∷ []) (op_on (s ∷ up) (link_of (ids_of c) [])) [] reply.Done)
+            is = ap (λ (c : _). starts_then spans views attaches kept is_whole parts new at place (q ∷ []) (op_on (s ∷ up) (link_of (ids_of c) [])) [] reply.Done)
                 (sym (own_open (q ∷ above) at r t.recording stands.recording.recorded));
           }
 
@@ -99,18 +99,18 @@ module _ {S : Type 0} (spans : S → Spans) (views : Views S) (attaches : S → 
           followed_by t stands line.at other.at other.there
           (subst (λ (x : Held). FollowsOn does parts.world new at x (held_of parts.dispatch other.at)) line.is (subst (λ (y : Held). FollowsOn does parts.world new at h.held y) other.is did))
 
-      its_effect : (t : Tables) (stands : StandsFor now t) → effect_of_call now.setup t at lane (call.Follows handle from)
-          ≡ Ok (starts_then spans views attaches kept is_whole parts new at lane (its_follow t stands).starting (its_follow t stands).ops [] reply.Done)
+      its_effect : (t : Tables) (stands : StandsFor now t) → effect_of_call now.setup t at place (call.Follows handle from)
+          ≡ Ok (starts_then spans views attaches kept is_whole parts new at place (its_follow t stands).starting (its_follow t stands).ops [] reply.Done)
       its_effect t stands =
           let line = its_scope t stands.fits handle h found in
           let other = its_scope t stands.fits from f found_from in
-          ap (λ o. need what.Handle o >>= (λ scope. need what.Handle (slot_at t.handles from) >>= (λ followed. Ok (follow_effect (here_at now.setup t at lane) scope followed)))) line.there
-          ∙ ap (λ o. need what.Handle o >>= (λ followed. Ok (follow_effect (here_at now.setup t at lane) line.at followed))) other.there
+          ap (λ o. need what.Handle o >>= (λ scope. need what.Handle (slot_at t.handles from) >>= (λ followed. Ok (follow_effect (here_at now.setup t at place) scope followed)))) line.there
+          ∙ ap (λ o. need what.Handle o >>= (λ followed. Ok (follow_effect (here_at now.setup t at place) line.at followed))) other.there
           ∙ ap (λ (e : Effect). Ok e) (its_follow t stands).is
 
-      pub serves_follow : (t : Tables) → StandsFor now t → Served (effect_of_call now.setup t at lane (call.Follows handle from)) t now then reply.Done
-      serves_follow t stands = (let step = its_follow t stands in serves_starts spans views attaches kept is_whole parts new at lane t stands step.starting step.ops [] refl reply.Done _ step.done (its_effect t stands))
+      pub serves_follow : (t : Tables) → StandsFor now t → Served (effect_of_call now.setup t at place (call.Follows handle from)) t now then reply.Done
+      serves_follow t stands = (let step = its_follow t stands in serves_starts spans views attaches kept is_whole parts new at place t stands step.starting step.ops [] refl reply.Done _ step.done (its_effect t stands))
 
       pub keeps_follow : IsKept spans views kept is_whole parts → IsKept spans views kept is_whole then_parts
       keeps_follow inv = (let stands : StandsFor now inv.tables = inv.stands in let step = its_follow inv.tables stands in
-          keeps_starts spans views attaches kept is_whole parts new at lane inv step.starting step.ops [] refl reply.Done _ step.done (its_effect inv.tables stands))
+          keeps_starts spans views attaches kept is_whole parts new at place inv step.starting step.ops [] refl reply.Done _ step.done (its_effect inv.tables stands))

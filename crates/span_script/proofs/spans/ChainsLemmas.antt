@@ -131,14 +131,14 @@ pub still_spent : (gs : List (Option ScopeGuard)) (hs : List (Option Scope)) (ha
     → (n : ℕ) (x : ScopeGuard) → slot_at gs n ≡ Some x → slot_at (slice_set hs handle None) x.handle ≡ Some x.scope
 still_spent gs hs handle free still n x there = get_or-set_other hs handle x.handle None None (not_borrowed gs handle n x free there) ∙ still n x there
 
-pub fits_dropped : (k next : State) (t : Tables) (at lane handle : ℕ) (line : Scope) → Fits k t → slot_at t.handles handle ≡ Some line → is_borrowed t.guards handle ≡ false → ReleasedOn k.spans next.spans line → next.setup ≡ k.setup
-    → next.dispatch ≡ k.dispatch → next.handles ≡ slice_set k.handles handle None → next.handle_sites ≡ slice_set k.handle_sites handle None → next.guards ≡ k.guards → next.contexts ≡ k.contexts → next.moment ≡ at → Fits next (after_effect t (drop_effect (here_at k.setup t at lane) handle line))
-fits_dropped k next t at lane handle line fits there free chain setup dispatch handles sites guards contexts moment =
+pub fits_dropped : (k next : State) (t : Tables) (at place handle : ℕ) (line : Scope) → Fits k t → slot_at t.handles handle ≡ Some line → is_borrowed t.guards handle ≡ false → ReleasedOn k.spans next.spans line → next.setup ≡ k.setup
+    → next.dispatch ≡ k.dispatch → next.handles ≡ slice_set k.handles handle None → next.handle_sites ≡ slice_set k.handle_sites handle None → next.guards ≡ k.guards → next.contexts ≡ k.contexts → next.moment ≡ at → Fits next (after_effect t (drop_effect (here_at k.setup t at place) handle line))
+fits_dropped k next t at place handle line fits there free chain setup dispatch handles sites guards contexts moment =
     let ids = k.setup.ids in
     let hs = map named_by t.handles in
     let ends = drop_ends k.spans next.spans hs (map (opened_by ids) t.guards) t.entries fits.balanced handle line (named_slot t.handles handle line there) chain in
     let spent : slice_set hs handle None ≡ map named_by (slice_set t.handles handle None) = sym (map-set named_by t.handles handle None) in
-    fits_step k t fits next (drop_effect (here_at k.setup t at lane) handle line) (record {
+    fits_step k t fits next (drop_effect (here_at k.setup t at place) handle line) (record {
       setup_is = setup;
       dispatch_is = dispatch;
       handles_are = handles;

@@ -66,7 +66,7 @@ module _ {S : Type 0} (spans : S → Spans) (views : Views S) (attaches : S → 
   clone_filter (s ∷ up) shown = shown.3 ∙ sym (heard_none (member_of views.filtered None parts.world parts.dispatch))
 
   module _ (does : S → SubscriberCall → S → Type 0) (law : CallsLaw spans views attaches kept is_whole does)
-      (hs' : List (Option Handle)) (at lane number : ℕ) (many : number ≡ length parts.handles) (inv : IsKept spans views kept is_whole parts) where
+      (hs' : List (Option Handle)) (at place number : ℕ) (many : number ≡ length parts.handles) (inv : IsKept spans views kept is_whole parts) where
     abbrev now : State
     now = state_of spans views parts
 
@@ -80,7 +80,7 @@ module _ {S : Type 0} (spans : S → Spans) (views : Views S) (attaches : S → 
     next_number t fits = many ∙ sym (length-map parts.handles held_by) ∙ ap length fits.handle_slots ∙ length-map t.handles (option_map (held_of parts.dispatch))
 
     module _ (handle : ℕ) (h copy : Handle) (enabled : Bool) (found : slot_at parts.handles handle ≡ Some h) (is : copy ≡ h) (shows : enabled ≡ is_some (id_of h.held)) (one : hs' ≡ parts.handles ++ Some copy ∷ []) (did : ReplacedOn (λ id s t. does s (CloneSpan id) t) parts.world new h.held) where
-      pub serves_cloned : (t : Tables) → StandsFor now t → Served (effect_of_call now.setup t at lane (call.Clone handle)) t now then (reply.Made enabled number)
+      pub serves_cloned : (t : Tables) → StandsFor now t → Served (effect_of_call now.setup t at place (call.Clone handle)) t now then (reply.Made enabled number)
       serves_cloned t stands =
           let fits = stands.fits in
           let line = find (held_of parts.dispatch) (map held_by parts.handles) t.handles handle h.held fits.handle_slots (held_slot parts.handles handle h found) in
@@ -92,9 +92,9 @@ module _ {S : Type 0} (spans : S → Spans) (views : Views S) (attaches : S → 
           let sites = call_sites spans views attaches kept is_whole parts new line.at (λ id. CloneSpan id) shown in
           let setup : then.setup ≡ now.setup = ap (λ x. record now.setup { sites = x; layer = (member_of views.recorded no_recording new parts.dispatch).settings }) sites ∙ ap (λ (r : Recording). record now.setup { layer = r.settings }) same in
           let live : (s : ℕ) (up : Scope) → line.at ≡ s ∷ up → 0 < (span_at sp.made s).holds = λ s up e. fits_live sp (map named_by t.handles) (map (opened_by ids) t.guards) t.entries fits.balanced handle s (named_slot t.handles handle line.at line.there ∙ ap own_span e) in
-          let e : Effect = clone_effect (here_at now.setup t at lane) line.at in
+          let e : Effect = clone_effect (here_at now.setup t at place) line.at in
           serve now then t e _ (reply.Made enabled number) stands
-          (ap (λ o. need what.Handle o >>= (λ line. Ok (clone_effect (here_at now.setup t at lane) line))) line.there)
+          (ap (λ o. need what.Handle o >>= (λ line. Ok (clone_effect (here_at now.setup t at place) line))) line.there)
           (ap (λ n. reply.Made enabled n) (next_number t fits) ∙ ap (λ b. reply.Made b (length t.handles)) (shows ∙ enabled_is parts.dispatch line.at h.held line.is))
           setup (member_of views.recorded no_recording parts.world parts.dispatch).tokens same
           (fits_step now t fits then e (record {

@@ -109,14 +109,14 @@ current_site {S} spans does old new dispatch lane line h there on did made fit l
     (λ s up e. ap (λ (x : Spans). (span_at x.made s).site) (sym is) ∙ fit.site s (live_at (spans_in spans old dispatch) line live s up e))
 
 -- a handle with an open guard isn't exchanged
-pub refuses_in_use : (k : State) (hs : List (Option Handle)) → k.handles ≡ map held_by hs → (handle : ℕ) (h : Handle) → slot_at hs handle ≡ Some h → is_named k.guards handle ≡ true → (at lane : ℕ) (t : Tables) → StandsFor k t
-    → effect_of_call k.setup t at lane (call.OrCurrent handle) ≡ Err refusal.InUse
-refuses_in_use k hs are handle h found used at lane t stands =
+pub refuses_in_use : (k : State) (hs : List (Option Handle)) → k.handles ≡ map held_by hs → (handle : ℕ) (h : Handle) → slot_at hs handle ≡ Some h → is_named k.guards handle ≡ true → (at place : ℕ) (t : Tables) → StandsFor k t
+    → effect_of_call k.setup t at place (call.OrCurrent handle) ≡ Err refusal.InUse
+refuses_in_use k hs are handle h found used at place t stands =
     let fits = stands.fits in
-    let id = id_at k.setup.ids lane in
+    let id = id_at k.setup.ids place in
     let line = find (held_of k.dispatch) (map held_by hs) t.handles handle h.held (sym are ∙ fits.handle_slots) (held_slot hs handle h found) in
     let borrowed : is_borrowed t.guards handle ≡ true = sym (borrowed_is k.dispatch t.guards handle) ∙ ap (λ (xs : List (Option Guard)). is_named xs handle) (sym fits.guard_slots) ∙ used in
-    ap (λ o. need what.Handle o >>= (λ scope. refuse_if (is_borrowed t.guards handle) refusal.InUse (Ok (exchange_effect (here_at k.setup t at lane) handle (scope_or_current t id scope))))) line.there ∙ cond-true {A = Resolved} (is_borrowed t.guards handle) _ _ borrowed
+    ap (λ o. need what.Handle o >>= (λ scope. refuse_if (is_borrowed t.guards handle) refusal.InUse (Ok (exchange_effect (here_at k.setup t at place) handle (scope_or_current t id scope))))) line.there ∙ cond-true {A = Resolved} (is_borrowed t.guards handle) _ _ borrowed
 
 -- ---- a handle more, and perhaps one less
 
@@ -184,36 +184,36 @@ handed_on k t fits handle s up there free = record {
 
 module _ {S : Type 0} (spans : S → Spans) (views : Views S) (attaches : S → Bool) (kept : S → ℕ → ℕ → ℕ) (is_whole : S → Type 0) (parts : Parts S) (new : Worlds S) where
   module _ (does : S → SubscriberCall → S → Type 0) (law : CallsLaw spans views attaches kept is_whole does)
-      (hs' : List (Option Handle)) (at lane number : ℕ) (many : number ≡ length parts.handles) (before : Lane) (within : lane < length parts.lanes) (here : before ≡ get_or parts.lanes lane before)
+      (hs' : List (Option Handle)) (at place number : ℕ) (many : number ≡ length parts.handles) (before : Lane) (within : place < length parts.lanes) (here : before ≡ get_or parts.lanes place before)
       (inv : IsKept spans views kept is_whole parts) where
     abbrev now : State
     now = state_of spans views parts
 
     abbrev then_parts : Parts S
-    then_parts = record parts { world = new; lanes = set parts.lanes lane (using before parts.dispatch); handles = hs'; moment = at }
+    then_parts = record parts { world = new; lanes = set parts.lanes place (using before parts.dispatch); handles = hs'; moment = at }
 
     abbrev then : State
     then = state_of spans views then_parts
 
     abbrev place_id : ℕ
-    place_id = id_at now.setup.ids lane
+    place_id = id_at now.setup.ids place
 
     next_number : (t : Tables) → Fits now t → number ≡ length t.handles
     next_number t fits = many ∙ sym (length-map parts.handles held_by) ∙ ap length fits.handle_slots ∙ length-map t.handles (option_map (held_of parts.dispatch))
 
-    lanes_are : map lane_value (set parts.lanes lane (using before parts.dispatch)) ≡ map lane_value parts.lanes
-    lanes_are = lanes_same parts.lanes lane before (using before parts.dispatch) within here refl
+    lanes_are : map lane_value (set parts.lanes place (using before parts.dispatch)) ≡ map lane_value parts.lanes
+    lanes_are = lanes_same parts.lanes place before (using before parts.dispatch) within here refl
 
     on_id : (t : Tables) → Fits now t → current_of (entries_on before.id now.spans.lanes) ≡ own_span (current_scope t place_id)
-    on_id t fits = ap (λ (l : ℕ). current_of (entries_on l now.spans.lanes)) (id_seen parts.lanes lane before within here) ∙ (is_on now t fits place_id).on
+    on_id t fits = ap (λ (l : ℕ). current_of (entries_on l now.spans.lanes)) (id_seen parts.lanes place before within here) ∙ (is_on now t fits place_id).on
 
-    serves_handed : (t : Tables) → StandsFor now t → (resolved : Resolved) (line : Scope) (spent : Option ℕ) (enabled : Bool) → resolved ≡ Ok (hands (here_at now.setup t at lane) line spent) → enabled ≡ is_some (own_span line) → new.sites ≡ parts.world.sites
+    serves_handed : (t : Tables) → StandsFor now t → (resolved : Resolved) (line : Scope) (spent : Option ℕ) (enabled : Bool) → resolved ≡ Ok (hands (here_at now.setup t at place) line spent) → enabled ≡ is_some (own_span line) → new.sites ≡ parts.world.sites
         → member_of views.recorded no_recording new parts.dispatch ≡ member_of views.recorded no_recording parts.world parts.dispatch → member_of views.filtered None new parts.dispatch ≡ member_of views.filtered None parts.world parts.dispatch → new.cached ≡ parts.world.cached → AddsMeasures (aside_in views parts.world parts.dispatch) (aside_in views new parts.dispatch) [] → then.handles ≡ slots_after now.handles (Some (held_of parts.dispatch line)) spent → then.handle_sites ≡ slots_after now.handle_sites (Some (site_of t.spans line)) spent → Handed now t then.spans line spent
         → Served resolved t now then (reply.Made enabled number)
     serves_handed t stands resolved line spent enabled is shows sites same filters cached aside handles handle_sites handed =
         let fits = stands.fits in
-        let setup : then.setup ≡ now.setup = rw (sites, ids_same parts.lanes lane before (using before parts.dispatch) within here refl, names_same parts.lanes lane before (using before parts.dispatch) within here refl, same) refl in
-        let e : Effect = hands (here_at now.setup t at lane) line spent in
+        let setup : then.setup ≡ now.setup = rw (sites, ids_same parts.lanes place before (using before parts.dispatch) within here refl, names_same parts.lanes place before (using before parts.dispatch) within here refl, same) refl in
+        let e : Effect = hands (here_at now.setup t at place) line spent in
         let more = one_more t.handles line spent in
         serve now then t e resolved (reply.Made enabled number) stands is
         (ap (λ n. reply.Made enabled n) (next_number t fits) ∙ ap (λ b. reply.Made b (length t.handles)) shows)
@@ -247,7 +247,7 @@ module _ {S : Type 0} (spans : S → Spans) (views : Views S) (attaches : S → 
 
     -- a handle of the lane's current span
     module _ (h : Handle) (enabled : Bool) (shows : enabled ≡ is_some (id_of h.held)) (one : hs' ≡ parts.handles ++ Some h ∷ []) (did : IsCurrent spans does parts.world new before.id (Some parts.dispatch) h) where
-      pub serves_current : (t : Tables) → StandsFor now t → Served (effect_of_call now.setup t at lane call.Current) t now then (reply.Made enabled number)
+      pub serves_current : (t : Tables) → StandsFor now t → Served (effect_of_call now.setup t at place call.Current) t now then (reply.Made enabled number)
       serves_current t stands =
           let fits = stands.fits in
           let line = current_scope t place_id in
@@ -288,15 +288,15 @@ module _ {S : Type 0} (spans : S → Spans) (views : Views S) (attaches : S → 
       not_used : (t : Tables) → Fits now t → is_borrowed t.guards handle ≡ false
       not_used t fits = sym (borrowed_is parts.dispatch t.guards handle) ∙ ap (λ (xs : List (Option Guard)). is_named xs handle) (sym fits.guard_slots) ∙ free
 
-      its_effect : (t : Tables) → Fits now t → (line : Scope) → slot_at t.handles handle ≡ Some line → effect_of_call now.setup t at lane (call.OrCurrent handle) ≡ Ok (hands (here_at now.setup t at lane) (scope_or_current t place_id line) (Some handle))
+      its_effect : (t : Tables) → Fits now t → (line : Scope) → slot_at t.handles handle ≡ Some line → effect_of_call now.setup t at place (call.OrCurrent handle) ≡ Ok (hands (here_at now.setup t at place) (scope_or_current t place_id line) (Some handle))
       its_effect t fits line there =
-          ap (λ o. need what.Handle o >>= (λ scope. refuse_if (is_borrowed t.guards handle) refusal.InUse (Ok (exchange_effect (here_at now.setup t at lane) handle (scope_or_current t place_id scope))))) there ∙ cond-false {A = Resolved} (is_borrowed t.guards handle) _ _ (not_used t fits)
+          ap (λ o. need what.Handle o >>= (λ scope. refuse_if (is_borrowed t.guards handle) refusal.InUse (Ok (exchange_effect (here_at now.setup t at place) handle (scope_or_current t place_id scope))))) there ∙ cond-false {A = Resolved} (is_borrowed t.guards handle) _ _ (not_used t fits)
 
       its_line : (t : Tables) → Fits now t → Found (held_of parts.dispatch) t.handles handle h.held
       its_line t fits = find (held_of parts.dispatch) (map held_by parts.handles) t.handles handle h.held fits.handle_slots (held_slot parts.handles handle h found)
 
       record Exchanged (t : Tables) : Type 0 where
-        served : Served (effect_of_call now.setup t at lane (call.OrCurrent handle)) t now then (reply.Made enabled number)
+        served : Served (effect_of_call now.setup t at place (call.OrCurrent handle)) t now then (reply.Made enabled number)
         count : length new.subscribers ≡ length parts.world.subscribers
         whole : Has is_whole parts.world parts.dispatch → Has is_whole new parts.dispatch
         same : kept_in kept new parts.dispatch ≡ kept_in kept parts.world parts.dispatch
@@ -329,7 +329,7 @@ module _ {S : Type 0} (spans : S → Spans) (views : Views S) (attaches : S → 
             same = ap (λ (w : Worlds S). kept_in kept w parts.dispatch) mine.1;
           }
 
-      pub serves_exchanged : (t : Tables) → StandsFor now t → Served (effect_of_call now.setup t at lane (call.OrCurrent handle)) t now then (reply.Made enabled number)
+      pub serves_exchanged : (t : Tables) → StandsFor now t → Served (effect_of_call now.setup t at place (call.OrCurrent handle)) t now then (reply.Made enabled number)
       serves_exchanged t stands = let line = its_line t stands.fits in (exchanged t stands line.at line.there line.is).served
 
       pub keeps_exchanged : IsKept spans views kept is_whole then_parts

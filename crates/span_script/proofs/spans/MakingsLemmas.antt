@@ -1,6 +1,6 @@
 -- Makings, served.
 use Rattle.std.proofs.Common.{◌≡◌, ℕ, ◌+◌, ◌<◌, ◌≤◌, ◌^◌, List, [], ◌∷◌, ◌++◌, length, Bool, true, false, fold, get_or, Option, Some, None, Ok, option_map, map, refl, sym, ap, subst, ◌∙◌, arith, inl, inr, IfSome, slice_get, is_some, ◌≢◌, option_and_then}
-use Rattle.span_script.proofs.Common.{cases_eq, cases_lt, cond-true, cond-false, length-map, length_push, map_push, get_or_past, get_or_push, get_or_append_left, Lane, Parent, Callsite, ValueSet, Worlds, FilterState, Span, Spans, no_span, span_at, held_by_child, entries_on, place_on, current_of, SubscriberCall, NewSpan, with_new_span, IsLivePlace, HasFewHolds, AreFew, HasFewHoldsAbove, OneEach, Shown, Replaced, member_of, spans_in, kept_in, no_spans, Has, Handle, Makes, MayMake, no_handle, Place, Setup, id_at, name_at, if_span, span_site, Context, KeyValue, empty_context, LayerSettings, SpanData, data_at_making, after_op, Token, parent_source, around, context_from, new_span_data, data_at, with_span_data, Recording, source_of, no_recording, with_start, with_starts, Kind, length_held, holds_other, Scope, MadeSpan, Attached, no_made_span, HookNew, Effect, Tables, recorded_by, open_part, slot_at, own_span, made_of, here_at, ◌>>=◌, need, effect_of_call, after_filter_hook, admits_at, lane_in, new_span_data_at, context_around, parent_at, new_effect, span_effect, disabled_effect, scope_at, Fields, all_values, place_for, MakesOnly, LetsThrough, Balanced, named_by, opened_by, Views, State, state_of, lane_value, StandsFor, MadeFit, LanesFit, IsKept, Served, IsScope, held_of, guard_of, held_by, site_by, Parts, parent_in, CallsLaw, SameLaw, aside_in}
+use Rattle.span_script.proofs.Common.{cases_eq, cases_lt, cond-true, cond-false, length-map, length_push, map_push, get_or_past, get_or_push, get_or_append_left, Lane, Parent, Callsite, ValueSet, Worlds, FilterState, Span, Spans, no_span, span_at, held_by_child, entries_on, place_on, current_of, SubscriberCall, NewSpan, with_new_span, IsLivePlace, HasFewHolds, AreFew, HasFewHoldsAbove, OneEach, Shown, Replaced, member_of, spans_in, kept_in, no_spans, Has, Handle, Makes, MayMake, no_handle, Place, Setup, id_at, name_at, if_span, span_site, Context, KeyValue, empty_context, LayerSettings, SpanData, data_at_making, after_op, Token, parent_source, around, context_from, new_span_data, data_at, with_span_data, Recording, source_of, no_recording, with_start, with_starts, Kind, length_held, holds_other, Scope, MadeSpan, Attached, no_made_span, HookNew, Effect, Tables, recorded_by, open_part, slot_at, own_span, made_of, here_at, ◌>>=◌, need, effect_of_call, after_filter_hook, admits_at, lane_in, new_span_data_at, context_around, parent_at, new_effect, span_effect, disabled_effect, scope_at, Fields, all_values, parent_for, MakesOnly, LetsThrough, Balanced, named_by, opened_by, Views, State, state_of, lane_value, StandsFor, MadeFit, LanesFit, IsKept, Served, IsScope, held_of, guard_of, held_by, site_by, Parts, parent_in, CallsLaw, SameLaw, aside_in}
 use Rattle.span_handles.proofs.Showing.{seen_before}
 use Rattle.span_script.specs.declared.reply.Reply.TheVariants as reply
 use Rattle.span_script.specs.declared.request.Call.TheVariants as call
@@ -17,7 +17,6 @@ use Rattle.span_script.proofs.lane_contexts.OwnersLemmas.{last_is}
 use Rattle.span_script.proofs.lane_contexts.LaneContextsLemmas.{own_fit}
 use Rattle.span_script.proofs.steps.RecordingLemmas.{recorded_settings, recorded_tokens, starts_fold, starts_open, entry_settings, entry_counting}
 use Rattle.span_script.specs.Fits.{Fits}
-use Rattle.span_script.proofs.steps.SlotsLemmas.{find}
 use Rattle.span_script.proofs.spans.ScopesLemmas.{new_line}
 use Rattle.span_script.proofs.spans.SitesLemmas.{got_within, the_callsite, found_site_is}
 use Rattle.span_script.proofs.steps.StepLemmas.{fits_step}
@@ -113,38 +112,38 @@ site_is sites site callsite is = by_site (slice_get sites site) is
     by_site (Some c) e = by_kind c c.kind e
 
 -- the settings are those of the open part, whatever started
-told_settings : (setup : Setup) (t : Tables) (at lane : ℕ) (callsite : Callsite) (values : ValueSet) (q : Parent) (r : Recording) → open_part r ≡ t.recording
-    → new_span_data callsite (lane_in (here_at setup t at lane)) values
-    (context_from (with_starts (parent_source r.settings.activation q (current_of (t.entries (here_at setup t at lane).lane))) at t.recording).spans (context_around (t.contexts (here_at setup t at lane).lane) q) (parent_source r.settings.activation q (current_of (t.entries (here_at setup t at lane).lane)))) at r.settings r.counting
-    ≡ new_span_data_at (here_at (record setup { layer = r.settings }) t at lane) callsite values q
-told_settings setup t at lane callsite values q r is =
-    let source = parent_source r.settings.activation q (current_of (t.entries (here_at setup t at lane).lane)) in
-    let c = context_from (with_starts source at t.recording).spans (context_around (t.contexts (here_at setup t at lane).lane) q) source in
-    ap (λ (x : LayerSettings). new_span_data callsite (lane_in (here_at setup t at lane)) values c at x r.counting) (ap (λ (x : Recording). x.settings) is ∙ sym (entry_settings source at t.recording))
-    ∙ ap (λ (b : Bool). new_span_data callsite (lane_in (here_at setup t at lane)) values c at (with_starts source at t.recording).settings b) (ap (λ (x : Recording). x.counting) is ∙ sym (entry_counting source at t.recording))
+told_settings : (setup : Setup) (t : Tables) (at place : ℕ) (callsite : Callsite) (values : ValueSet) (q : Parent) (r : Recording) → open_part r ≡ t.recording
+    → new_span_data callsite (lane_in (here_at setup t at place)) values
+    (context_from (with_starts (parent_source r.settings.activation q (current_of (t.entries (here_at setup t at place).lane))) at t.recording).spans (context_around (t.contexts (here_at setup t at place).lane) q) (parent_source r.settings.activation q (current_of (t.entries (here_at setup t at place).lane)))) at r.settings r.counting
+    ≡ new_span_data_at (here_at (record setup { layer = r.settings }) t at place) callsite values q
+told_settings setup t at place callsite values q r is =
+    let source = parent_source r.settings.activation q (current_of (t.entries (here_at setup t at place).lane)) in
+    let c = context_from (with_starts source at t.recording).spans (context_around (t.contexts (here_at setup t at place).lane) q) source in
+    ap (λ (x : LayerSettings). new_span_data callsite (lane_in (here_at setup t at place)) values c at x r.counting) (ap (λ (x : Recording). x.settings) is ∙ sym (entry_settings source at t.recording))
+    ∙ ap (λ (b : Bool). new_span_data callsite (lane_in (here_at setup t at place)) values c at (with_starts source at t.recording).settings b) (ap (λ (x : Recording). x.counting) is ∙ sym (entry_counting source at t.recording))
 
 -- the recording with a span more
 abbrev made_record : ℕ → SpanData → Recording → Recording
 made_record n told x = record x { spans = with_span_data n told x.spans }
 
 -- what was made is what the effect makes
-made_is : (setup : Setup) (t : Tables) (at lane : ℕ) (callsite c : Callsite) (values : ValueSet) (p q : Parent) (before : Lane) (r : Recording) (current : Option ℕ) → open_part r ≡ t.recording → setup.layer ≡ r.settings → c ≡ callsite → p ≡ q
-    → before.id ≡ (here_at setup t at lane).lane → before.name ≡ name_at setup.names lane → current ≡ current_of (t.entries (here_at setup t at lane).lane) → map (λ (x : ℕ × Context). x.1) before.contexts.live ≡ map (λ (a : Attached). a.context) (t.contexts (here_at setup t at lane).lane)
+made_is : (setup : Setup) (t : Tables) (at place : ℕ) (callsite c : Callsite) (values : ValueSet) (p q : Parent) (before : Lane) (r : Recording) (current : Option ℕ) → open_part r ≡ t.recording → setup.layer ≡ r.settings → c ≡ callsite → p ≡ q
+    → before.id ≡ (here_at setup t at place).lane → before.name ≡ name_at setup.names place → current ≡ current_of (t.entries (here_at setup t at place).lane) → map (λ (x : ℕ × Context). x.1) before.contexts.live ≡ map (λ (a : Attached). a.context) (t.contexts (here_at setup t at place).lane)
     → new_span_data c before values (context_from (with_starts (parent_source r.settings.activation p current) at r).spans (around before p) (parent_source r.settings.activation p current)) at r.settings r.counting
-    ≡ new_span_data callsite (lane_in (here_at setup t at lane)) values
-    (context_from (with_starts (parent_source r.settings.activation q (current_of (t.entries (here_at setup t at lane).lane))) at t.recording).spans (context_around (t.contexts (here_at setup t at lane).lane) q) (parent_source r.settings.activation q (current_of (t.entries (here_at setup t at lane).lane)))) at r.settings r.counting
-made_is setup t at lane callsite c values p q before r current recorded layer c_is p_is id name current_is contexts =
+    ≡ new_span_data callsite (lane_in (here_at setup t at place)) values
+    (context_from (with_starts (parent_source r.settings.activation q (current_of (t.entries (here_at setup t at place).lane))) at t.recording).spans (context_around (t.contexts (here_at setup t at place).lane) q) (parent_source r.settings.activation q (current_of (t.entries (here_at setup t at place).lane)))) at r.settings r.counting
+made_is setup t at place callsite c values p q before r current recorded layer c_is p_is id name current_is contexts =
     let source = λ (x : Parent) (o : Option ℕ). parent_source r.settings.activation x o in
     ap (λ (x : Callsite). new_span_data x before values (context_from (with_starts (source p current) at r).spans (around before p) (source p current)) at r.settings r.counting) c_is
     ∙ ap (λ (x : Parent). new_span_data callsite before values (context_from (with_starts (source x current) at r).spans (around before x) (source x current)) at r.settings r.counting) p_is
     ∙ ap (λ (o : Option ℕ). new_span_data callsite before values (context_from (with_starts (source q o) at r).spans (around before q) (source q o)) at r.settings r.counting) current_is
-    ∙ ap (λ (xs : List (ℕ × SpanData)). new_span_data callsite before values (context_from xs (around before q) (source q (current_of (t.entries (here_at setup t at lane).lane)))) at r.settings r.counting) (starts_open (source q (current_of (t.entries (here_at setup t at lane).lane))) at r t.recording recorded)
-    ∙ ap (λ (x : Context). new_span_data callsite before values (context_from (with_starts (source q (current_of (t.entries (here_at setup t at lane).lane))) at t.recording).spans x (source q (current_of (t.entries (here_at setup t at lane).lane)))) at r.settings r.counting) (around_is q before (t.contexts (here_at setup t at lane).lane) contexts)
-    ∙ ap (λ (first : List KeyValue). after_op (data_at_making (record { name = callsite.name; parent = context_from (with_starts (source q (current_of (t.entries (here_at setup t at lane).lane))) at t.recording).spans (context_around (t.contexts (here_at setup t at lane).lane) q) (source q (current_of (t.entries (here_at setup t at lane).lane))); made = at; first = first; counting = r.counting; inactivity = r.settings.inactivity })) at (ops.Update (span_update callsite values r.settings))) (first_same callsite before (lane_in (here_at setup t at lane)) r.settings id name)
+    ∙ ap (λ (xs : List (ℕ × SpanData)). new_span_data callsite before values (context_from xs (around before q) (source q (current_of (t.entries (here_at setup t at place).lane)))) at r.settings r.counting) (starts_open (source q (current_of (t.entries (here_at setup t at place).lane))) at r t.recording recorded)
+    ∙ ap (λ (x : Context). new_span_data callsite before values (context_from (with_starts (source q (current_of (t.entries (here_at setup t at place).lane))) at t.recording).spans x (source q (current_of (t.entries (here_at setup t at place).lane)))) at r.settings r.counting) (around_is q before (t.contexts (here_at setup t at place).lane) contexts)
+    ∙ ap (λ (first : List KeyValue). after_op (data_at_making (record { name = callsite.name; parent = context_from (with_starts (source q (current_of (t.entries (here_at setup t at place).lane))) at t.recording).spans (context_around (t.contexts (here_at setup t at place).lane) q) (source q (current_of (t.entries (here_at setup t at place).lane))); made = at; first = first; counting = r.counting; inactivity = r.settings.inactivity })) at (ops.Update (span_update callsite values r.settings))) (first_same callsite before (lane_in (here_at setup t at place)) r.settings id name)
 
 module _ {S : Type 0} (spans : S → Spans) (views : Views S) (attaches : S → Bool) (kept : S → ℕ → ℕ → ℕ) (is_whole : S → Type 0) (parts : Parts S) (new : Worlds S) where
   module _ (does : S → SubscriberCall → S → Type 0) (law : CallsLaw spans views attaches kept is_whole does)
-      (hs' : List (Option Handle)) (at lane number : ℕ) (many : number ≡ length parts.handles) (inv : IsKept spans views kept is_whole parts) where
+      (hs' : List (Option Handle)) (at place number : ℕ) (many : number ≡ length parts.handles) (inv : IsKept spans views kept is_whole parts) where
     abbrev now : State
     now = state_of spans views parts
 
@@ -155,7 +154,7 @@ module _ {S : Type 0} (spans : S → Spans) (views : Views S) (attaches : S → 
     then = state_of spans views then_parts
 
     abbrev place_id : ℕ
-    place_id = id_at now.setup.ids lane
+    place_id = id_at now.setup.ids place
 
     abbrev r : Recording
     r = member_of views.recorded no_recording parts.world parts.dispatch
@@ -163,9 +162,9 @@ module _ {S : Type 0} (spans : S → Spans) (views : Views S) (attaches : S → 
     next_number : (t : Tables) → Fits now t → number ≡ length t.handles
     next_number t fits = many ∙ sym (length-map parts.handles held_by) ∙ ap length fits.handle_slots ∙ length-map t.handles (option_map (held_of parts.dispatch))
 
-    module _ (under : Place) (p : Parent) (site : ℕ) (callsite : Callsite) (sited : span_site parts.world.sites site ≡ Some callsite) (found : place_for (map held_by parts.handles) under ≡ Some p) where
+    module _ (under : Place) (p : Parent) (site : ℕ) (callsite : Callsite) (sited : span_site parts.world.sites site ≡ Some callsite) (found : parent_for (map held_by parts.handles) under ≡ Some p) where
       -- a span that is let through
-      module _ (fields : Fields) (values : ValueSet) (valued : all_values callsite fields ≡ Some values) (made : Handle) (before : Lane) (within : lane < length parts.lanes) (seen_is : before ≡ get_or parts.lanes lane before) (through : (t : Tables) → StandsFor now t → admits_at now.setup t place_id callsite ≡ true) (one : hs' ≡ parts.handles ++ Some made ∷ [])
+      module _ (fields : Fields) (values : ValueSet) (valued : all_values callsite fields ≡ Some values) (made : Handle) (before : Lane) (within : place < length parts.lanes) (seen_is : before ≡ get_or parts.lanes place before) (through : (t : Tables) → StandsFor now t → admits_at now.setup t place_id callsite ≡ true) (one : hs' ≡ parts.handles ++ Some made ∷ [])
           (did : Makes spans does parts.world new before at p site values parts.dispatch made) where
         abbrev made_call : Replaced (λ s t. does s (NewSpan before at p site did.callsite values) t) parts.world new parts.dispatch
         made_call = record { before = did.made.before; later = did.made.later; there = did.made.there; did = did.made.did.1; others = did.made.others }
@@ -176,13 +175,13 @@ module _ {S : Type 0} (spans : S → Spans) (views : Views S) (attaches : S → 
         id_is : did.id ≡ length (spans_in spans parts.world parts.dispatch).made
         id_is = did.made.did.0 ∙ ap (λ (x : Spans). length x.made) (sym (seen_before (λ s t. does s (NewSpan before at p site did.callsite values) t) parts.world new parts.dispatch made_call spans no_spans))
 
-        pub serves_made : (t : Tables) → StandsFor now t → Served (effect_of_call now.setup t at lane (call.New site under fields)) t now then (reply.Made true number)
+        pub serves_made : (t : Tables) → StandsFor now t → Served (effect_of_call now.setup t at place (call.New site under fields)) t now then (reply.Made true number)
         serves_made t stands =
             let fits = stands.fits in
             let up = find_up now t fits place_id under p found in
             let sp = spans_in spans parts.world parts.dispatch in
             let ids = now.setup.ids in
-            let id_is' = id_seen parts.lanes lane before within seen_is in
+            let id_is' = id_seen parts.lanes place before within seen_is in
             let step : spans_in spans new parts.dispatch ≡ with_new_span sp (own_span up.up) site = made_shown.spans_after ∙ ap (λ (l : ℕ). with_new_span sp (place_on (entries_on l sp.lanes) p) site) id_is' ∙ ap (λ (o : Option ℕ). with_new_span sp o site) up.on in
             let line : Scope = length t.spans ∷ up.up in
             let mine : did.id ≡ length t.spans = id_is ∙ fits.made.count in
@@ -191,14 +190,14 @@ module _ {S : Type 0} (spans : S → Spans) (views : Views S) (attaches : S → 
             let current_is : current ≡ current_of (t.entries place_id) = ap (λ (l : ℕ). current_of (entries_on l sp.lanes)) id_is' ∙ ap current_of (fits.balanced.entries place_id) in
             let callsite_is : did.callsite ≡ callsite = the_callsite did.callsite callsite (sym did.is ∙ site_is parts.world.sites site callsite sited) in
             let contexts : map (λ (x : ℕ × Context). x.1) before.contexts.live ≡ map (λ (a : Attached). a.context) (t.contexts place_id) =
-            (own_fit r.settings.activation parts.lanes lane before before within seen_is refl inv.lanes.differ r.tokens parts.contexts.attaches t.contexts stands.recording.attached).contexts ∙ ap (λ (l : ℕ). map (λ (a : Attached). a.context) (t.contexts l)) id_is' in
-            let told : SpanData = new_span_data_at (here_at now.setup t at lane) callsite values q in
+            (own_fit r.settings.activation parts.lanes place before before within seen_is refl inv.lanes.differ r.tokens parts.contexts.attaches t.contexts stands.recording.attached).contexts ∙ ap (λ (l : ℕ). map (λ (a : Attached). a.context) (t.contexts l)) id_is' in
+            let told : SpanData = new_span_data_at (here_at now.setup t at place) callsite values q in
             let raw : SpanData = new_span_data did.callsite before values (context_from (with_starts (parent_source r.settings.activation p current) at r).spans (around before p) (parent_source r.settings.activation p current)) at r.settings r.counting in
             let told_is : raw ≡ told =
-            made_is now.setup t at lane callsite did.callsite values p q before r current stands.recording.recorded refl callsite_is up.parent_is id_is' (name_seen parts.lanes lane before within seen_is) current_is contexts
-            ∙ told_settings now.setup t at lane callsite values q r stands.recording.recorded in
+            made_is now.setup t at place callsite did.callsite values p q before r current stands.recording.recorded refl callsite_is up.parent_is id_is' (name_seen parts.lanes place before within seen_is) current_is contexts
+            ∙ told_settings now.setup t at place callsite values q r stands.recording.recorded in
             let new_made : MadeSpan = record { site = site; scope = line; made_with = told } in
-            let e : Effect = span_effect (here_at now.setup t at lane) site callsite values under up.up in
+            let e : Effect = span_effect (here_at now.setup t at place) site callsite values under up.up in
             let source = parent_source r.settings.activation p current in
             let source_is : source ≡ parent_source r.settings.activation q (current_of (t.entries place_id)) = ap (λ (x : Parent). parent_source r.settings.activation x current) up.parent_is ∙ ap (λ (o : Option ℕ). parent_source r.settings.activation q o) current_is in
             let recalled = law.recalled parts.world new parts.dispatch _ made_call in
@@ -215,9 +214,9 @@ module _ {S : Type 0} (spans : S → Spans) (views : Views S) (attaches : S → 
               | inr other ↦ known_still now then t e r.tokens rec_is stands.recording s refl (new_live sp.made (own_span up.up) site s up.live (λ e. other (e ∙ length_held sp.made (own_span up.up) ∙ fits.made.count)) (subst (λ (x : Spans). 0 < (span_at x.made s).holds) step some))
             ] in
             serve now then t e _ (reply.Made true number) stands
-            (ap (λ o. need what.Site o >>= (λ callsite. need what.Handle (scope_at t place_id under) >>= (λ up. need what.Field (all_values callsite fields) >>= (λ v. Ok (new_effect (here_at now.setup t at lane) site callsite v under up))))) sited
-            ∙ ap (λ o. need what.Handle o >>= (λ up. need what.Field (all_values callsite fields) >>= (λ v. Ok (new_effect (here_at now.setup t at lane) site callsite v under up)))) up.is
-            ∙ ap (λ o. need what.Field o >>= (λ v. Ok (new_effect (here_at now.setup t at lane) site callsite v under up.up))) valued
+            (ap (λ o. need what.Site o >>= (λ callsite. need what.Handle (scope_at t place_id under) >>= (λ up. need what.Field (all_values callsite fields) >>= (λ v. Ok (new_effect (here_at now.setup t at place) site callsite v under up))))) sited
+            ∙ ap (λ o. need what.Handle o >>= (λ up. need what.Field (all_values callsite fields) >>= (λ v. Ok (new_effect (here_at now.setup t at place) site callsite v under up)))) up.is
+            ∙ ap (λ o. need what.Field o >>= (λ v. Ok (new_effect (here_at now.setup t at place) site callsite v under up.up))) valued
             ∙ ap Ok (cond-true {A = Effect} (admits_at now.setup t place_id callsite) _ _ (through t stands)))
             (ap (λ n. reply.Made true n) (next_number t fits))
             setup r.tokens rec_is
@@ -261,7 +260,7 @@ module _ {S : Type 0} (spans : S → Spans) (views : Views S) (attaches : S → 
 
       -- one that isn't
       module _ (fields : Fields) (values : ValueSet) (valued : all_values callsite fields ≡ Some values) (through : (t : Tables) → StandsFor now t → admits_at now.setup t place_id callsite ≡ false) (one : hs' ≡ parts.handles ++ Some no_handle ∷ []) (same : new ≡ parts.world) where
-        pub serves_declined : (t : Tables) → StandsFor now t → Served (effect_of_call now.setup t at lane (call.New site under fields)) t now then (reply.Made false number)
+        pub serves_declined : (t : Tables) → StandsFor now t → Served (effect_of_call now.setup t at place (call.New site under fields)) t now then (reply.Made false number)
         serves_declined t stands =
             let fits = stands.fits in
             let up = find_up now t fits place_id under p found in
@@ -270,11 +269,11 @@ module _ {S : Type 0} (spans : S → Spans) (views : Views S) (attaches : S → 
             let step : spans_in spans new parts.dispatch ≡ sp = ap (λ (w : Worlds S). spans_in spans w parts.dispatch) same in
             let rec_is : member_of views.recorded no_recording new parts.dispatch ≡ r = ap (λ (w : Worlds S). member_of views.recorded no_recording w parts.dispatch) same in
             let setup : then.setup ≡ now.setup = ap (λ (w : Worlds S). record now.setup { sites = w.sites; layer = (member_of views.recorded no_recording w parts.dispatch).settings }) same in
-            let e : Effect = disabled_effect (here_at now.setup t at lane) in
+            let e : Effect = disabled_effect (here_at now.setup t at place) in
             serve now then t e _ (reply.Made false number) stands
-            (ap (λ o. need what.Site o >>= (λ callsite. need what.Handle (scope_at t place_id under) >>= (λ up. need what.Field (all_values callsite fields) >>= (λ v. Ok (new_effect (here_at now.setup t at lane) site callsite v under up))))) sited
-            ∙ ap (λ o. need what.Handle o >>= (λ up. need what.Field (all_values callsite fields) >>= (λ v. Ok (new_effect (here_at now.setup t at lane) site callsite v under up)))) up.is
-            ∙ ap (λ o. need what.Field o >>= (λ v. Ok (new_effect (here_at now.setup t at lane) site callsite v under up.up))) valued
+            (ap (λ o. need what.Site o >>= (λ callsite. need what.Handle (scope_at t place_id under) >>= (λ up. need what.Field (all_values callsite fields) >>= (λ v. Ok (new_effect (here_at now.setup t at place) site callsite v under up))))) sited
+            ∙ ap (λ o. need what.Handle o >>= (λ up. need what.Field (all_values callsite fields) >>= (λ v. Ok (new_effect (here_at now.setup t at place) site callsite v under up)))) up.is
+            ∙ ap (λ o. need what.Field o >>= (λ v. Ok (new_effect (here_at now.setup t at place) site callsite v under up.up))) valued
             ∙ ap Ok (cond-false {A = Effect} (admits_at now.setup t place_id callsite) _ _ (through t stands)))
             (ap (λ n. reply.Made false n) (next_number t fits))
             setup r.tokens rec_is
@@ -306,9 +305,9 @@ module _ {S : Type 0} (spans : S → Spans) (views : Views S) (attaches : S → 
             (subst (λ (w : Worlds S). LanesFit (kept_in kept w parts.dispatch) (map lane_value parts.lanes)) (sym same) inv.lanes)
 
     -- let through or not
-    module _ (under : Place) (p : Parent) (found_site site : ℕ) (sited_is : found_site ≡ site) (spanned : is_some (span_site parts.world.sites site) ≡ true) (found : place_for (map held_by parts.handles) under ≡ Some p)
+    module _ (under : Place) (p : Parent) (found_site site : ℕ) (sited_is : found_site ≡ site) (spanned : is_some (span_site parts.world.sites site) ≡ true) (found : parent_for (map held_by parts.handles) under ≡ Some p)
         (fields : Fields) (values : ValueSet) (given : Callsite) (given_is : slice_get parts.world.sites found_site ≡ Some given) (valued : all_values given fields ≡ Some values)
-        (made : Handle) (before : Lane) (within : lane < length parts.lanes) (seen_is : before ≡ get_or parts.lanes lane before) (one : hs' ≡ parts.handles ++ Some made ∷ []) where
+        (made : Handle) (before : Lane) (within : place < length parts.lanes) (seen_is : before ≡ get_or parts.lanes place before) (one : hs' ≡ parts.handles ++ Some made ∷ []) where
       its_site : (callsite : Callsite) × (span_site parts.world.sites site ≡ Some callsite)
       its_site = found_site_is (span_site parts.world.sites site) spanned
 
@@ -318,10 +317,10 @@ module _ {S : Type 0} (spans : S → Spans) (views : Views S) (attaches : S → 
       -- the gate answered by the filter in force
       its_answer : (enabled : Bool) → LetsThrough (member_of views.filtered None parts.world parts.dispatch) parts.world.sites before.id found_site enabled → (t : Tables) → StandsFor now t → admits_at now.setup t place_id its_site.0 ≡ enabled
       its_answer enabled gate t stands =
-          answered spans views parts lane before within seen_is found_site its_site.0 (ap (λ (k : ℕ). slice_get parts.world.sites k) sited_is ∙ site_is parts.world.sites site its_site.0 its_site.1) enabled gate t stands
+          answered spans views parts place before within seen_is found_site its_site.0 (ap (λ (k : ℕ). slice_get parts.world.sites k) sited_is ∙ site_is parts.world.sites site its_site.0 its_site.1) enabled gate t stands
 
       pub serves_new : (enabled : Bool) → LetsThrough (member_of views.filtered None parts.world parts.dispatch) parts.world.sites before.id found_site enabled → MakesOnly spans does enabled parts.world new before at p found_site values parts.dispatch made
-          → (t : Tables) → StandsFor now t → Served (effect_of_call now.setup t at lane (call.New site under fields)) t now then (reply.Made enabled number)
+          → (t : Tables) → StandsFor now t → Served (effect_of_call now.setup t at place (call.New site under fields)) t now then (reply.Made enabled number)
       serves_new true gate did t stands = serves_made under p site its_site.0 its_site.1 found fields values its_values made before within seen_is (its_answer true gate) one (subst (λ (k : ℕ). Makes spans does parts.world new before at p k values parts.dispatch made) sited_is did) t stands
       serves_new false gate did t stands = serves_declined under p site its_site.0 its_site.1 found fields values its_values (its_answer false gate) (one ∙ ap (λ (h : Handle). parts.handles ++ Some h ∷ []) did.0) did.1 t stands
 
@@ -334,12 +333,8 @@ few_if : (o : Option ℕ) (made : List Span) → ((s : ℕ) → HasFewHolds made
 few_if None made few = tt
 few_if (Some s) made few = few s
 
-of_held : (dispatch : ℕ) (line : Scope) (held : ℕ × ℕ) → Some held ≡ held_of dispatch line → held.0 ≡ dispatch
-of_held dispatch [] held is = absurd (cc is)
-of_held dispatch (s ∷ up) held is = (let e : held ≡ (dispatch, s) = cc is in ap (λ (h : ℕ × ℕ). h.0) e)
-
 module _ {S : Type 0} (spans : S → Spans) (views : Views S) (kept : S → ℕ → ℕ → ℕ) (is_whole : S → Type 0) (parts : Parts S) (inv : IsKept spans views kept is_whole parts) where
-  pub make_may : (under : Place) (p : Parent) → place_for (map held_by parts.handles) under ≡ Some p → (lane : ℕ) → length parts.handles < 2 ^ 62 → length parts.guards < 2 ^ 62 → MayMake spans is_whole parts.world lane p parts.dispatch
+  pub make_may : (under : Place) (p : Parent) → parent_for (map held_by parts.handles) under ≡ Some p → (lane : ℕ) → length parts.handles < 2 ^ 62 → length parts.guards < 2 ^ 62 → MayMake spans is_whole parts.world lane p parts.dispatch
   make_may under p found lane few_handles few_guards =
       let a = sym (length-map parts.handles held_by) ∙ ap length inv.stands.fits.handle_slots ∙ length-map inv.tables.handles (option_map (held_of parts.dispatch)) in
       let b = ap length inv.stands.fits.guard_slots ∙ length-map inv.tables.guards (option_map (guard_of parts.dispatch)) in
@@ -352,14 +347,8 @@ module _ {S : Type 0} (spans : S → Spans) (views : Views S) (kept : S → ℕ 
             (few_if (place_on (entries_on lane (spans_in spans parts.world parts.dispatch).lanes) p) (spans_in spans parts.world parts.dispatch).made (λ s. let f = inv.stands.fits.few_holds s in omega (arith, f, a, b, few_handles, few_guards)));
       }
 
-  pub tell_live : (under : Place) (p : Parent) → place_for (map held_by parts.handles) under ≡ Some p → Has (λ s. IsLivePlace (spans s).made p) parts.world parts.dispatch
+  pub tell_live : (under : Place) (p : Parent) → parent_for (map held_by parts.handles) under ≡ Some p → Has (λ s. IsLivePlace (spans s).made p) parts.world parts.dispatch
   tell_live under p found = has_by spans no_spans parts.world parts.dispatch (λ (x : Spans). IsLivePlace x.made p) (find_up (state_of spans views parts) inv.tables inv.stands.fits 0 under p found).live_place
-
-  all_held : (n : ℕ) (held : ℕ × ℕ) → slot_at (map held_by parts.handles) n ≡ Some (Some held) → held.0 ≡ parts.dispatch
-  all_held n held there = (let f = find (held_of parts.dispatch) (map held_by parts.handles) inv.tables.handles n (Some held) inv.stands.fits.handle_slots there in of_held parts.dispatch f.at held f.is)
-
-  pub all_of : (hs' : List (Option Handle)) → hs' ≡ parts.handles → (n : ℕ) (held : ℕ × ℕ) → slot_at (map held_by hs') n ≡ Some (Some held) → held.0 ≡ parts.dispatch
-  all_of hs' same n held there = all_held n held (ap (λ (xs : List (Option Handle)). slot_at (map held_by xs) n) (sym same) ∙ there)
 
 -- after a refusal for want of memory
 pub made_alike : {S : Type 0} (spans : S → Spans) (views : Views S) (attaches : S → Bool) (kept : S → ℕ → ℕ → ℕ) (is_whole : S → Type 0) (same : S → S → Type 0) → SameLaw spans views attaches kept is_whole same

@@ -1,6 +1,6 @@
 -- A handle more, of a span that is there or of a new one.
 use Rattle.std.proofs.Common.{◌≡◌, ℕ, ◌+◌, ◌<◌, List, [], ◌∷◌, ◌++◌, length, cond, count_by, Option, Some, None, option_map, map, refl, sym, ap, subst, ◌∙◌, arith, inl, inr, ◌==◌, IfSome}
-use Rattle.span_script.proofs.Common.{cases_eq, cases_lt, cond-true, cond-false, length_push, map_push, get_or_past, get_or_push, get_or_append_left, get_or-map, Span, Spans, no_span, span_at, with_hold, first_entries, is_open_child, is_child_of, open_children, entries_on, current_of, place_on, with_new_span, IsLive, IsLivePlace, Parent, count_push, made_if_held, keeps_children, holds_set, holds_other, current_in, first_if_in, place_under, Balanced, OpenGuard, names_span, named_by, opened_by, Place, Scope, ScopeGuard, Tables, slot_at, own_span, scope_of, scope_at, parent_at, place_for, State, IsScope, held_of}
+use Rattle.span_script.proofs.Common.{cases_eq, cases_lt, cond-true, cond-false, length_push, map_push, get_or_past, get_or_push, get_or_append_left, get_or-map, Span, Spans, no_span, span_at, with_hold, first_entries, is_open_child, is_child_of, open_children, entries_on, current_of, place_on, with_new_span, IsLive, IsLivePlace, Parent, count_push, made_if_held, keeps_children, holds_set, holds_other, current_in, first_if_in, place_under, Balanced, OpenGuard, names_span, named_by, opened_by, Place, Scope, ScopeGuard, Tables, slot_at, own_span, scope_of, scope_at, parent_at, parent_for, State, IsScope, held_of}
 use Rattle.std.proofs.lemmas.Bool.{eq-eqb, ne_eqb}
 use Rattle.std.proofs.lemmas.List.{length-set}
 use Rattle.trace_base.specs.declared.span.Parent.TheVariants as parent
@@ -142,7 +142,7 @@ own_lines k t fits (Some s) live =
 the_place : (p q : Parent) → ◌≡◌ {A = Option Parent} (Some p) (Some q) → p ≡ q
 the_place p q e = cc e
 
-pub find_up : (k : State) (t : Tables) → Fits k t → (lane : ℕ) (under : Place) (p : Parent) → place_for k.handles under ≡ Some p → FoundUp k t lane under p
+pub find_up : (k : State) (t : Tables) → Fits k t → (lane : ℕ) (under : Place) (p : Parent) → parent_for k.handles under ≡ Some p → FoundUp k t lane under p
 find_up k t fits lane place.Root p is = subst (FoundUp k t lane place.Root) (the_place parent.Root p is) (record { up = []; is = refl; parent_is = refl; scope = tt; on = refl; live_place = tt; live = tt })
 find_up k t fits lane place.Contextual p is =
     let same = ap current_of (fits.balanced.entries lane) in

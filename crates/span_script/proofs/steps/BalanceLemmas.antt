@@ -30,13 +30,13 @@ abbrev pub spans_exited : Spans → Scope → ℕ → Spans
 spans_exited spans [] lane = spans
 spans_exited spans (s ∷ up) lane = with_span_exit spans s lane
 
-pub balanced_enter : (ids : List ℕ) (spans : Spans) (hs : List (Option Scope)) (gs : List (Option ScopeGuard)) (es : ℕ → List ℕ) → Balanced spans (map named_by hs) (map (opened_by ids) gs) es → (handle lane : ℕ) (owns : Bool) (line : Scope) → slot_at hs handle ≡ Some line
-    → Balanced (spans_entered spans line (id_at ids lane)) (map named_by hs) (map (opened_by ids) (gs ++ Some (record { handle = handle; place = lane; owns = owns; scope = line }) ∷ [])) (lanes_with_entry es (id_at ids lane) (own_span line))
-balanced_enter ids spans hs gs es fits handle lane owns [] there =
-    subst (λ (xs : List (Option OpenGuard)). Balanced spans (map named_by hs) xs es) (sym (map_push (opened_by ids) gs (Some (record { handle = handle; place = lane; owns = owns; scope = [] })))) (quiet_guard spans (map named_by hs) (map (opened_by ids) gs) es fits)
-balanced_enter ids spans hs gs es fits handle lane owns (s ∷ up) there =
-    subst (λ (xs : List (Option OpenGuard)). Balanced (with_span_entry spans s (id_at ids lane)) (map named_by hs) xs (lanes_with es (id_at ids lane) (es (id_at ids lane) ++ s ∷ []))) (sym (map_push (opened_by ids) gs (Some (record { handle = handle; place = lane; owns = owns; scope = s ∷ up }))))
-    (fits_enter spans (map named_by hs) (map (opened_by ids) gs) es fits handle s (id_at ids lane) (named_slot hs handle (s ∷ up) there))
+pub balanced_enter : (ids : List ℕ) (spans : Spans) (hs : List (Option Scope)) (gs : List (Option ScopeGuard)) (es : ℕ → List ℕ) → Balanced spans (map named_by hs) (map (opened_by ids) gs) es → (handle place : ℕ) (owns : Bool) (line : Scope) → slot_at hs handle ≡ Some line
+    → Balanced (spans_entered spans line (id_at ids place)) (map named_by hs) (map (opened_by ids) (gs ++ Some (record { handle = handle; place = place; owns = owns; scope = line }) ∷ [])) (lanes_with_entry es (id_at ids place) (own_span line))
+balanced_enter ids spans hs gs es fits handle place owns [] there =
+    subst (λ (xs : List (Option OpenGuard)). Balanced spans (map named_by hs) xs es) (sym (map_push (opened_by ids) gs (Some (record { handle = handle; place = place; owns = owns; scope = [] })))) (quiet_guard spans (map named_by hs) (map (opened_by ids) gs) es fits)
+balanced_enter ids spans hs gs es fits handle place owns (s ∷ up) there =
+    subst (λ (xs : List (Option OpenGuard)). Balanced (with_span_entry spans s (id_at ids place)) (map named_by hs) xs (lanes_with es (id_at ids place) (es (id_at ids place) ++ s ∷ []))) (sym (map_push (opened_by ids) gs (Some (record { handle = handle; place = place; owns = owns; scope = s ∷ up }))))
+    (fits_enter spans (map named_by hs) (map (opened_by ids) gs) es fits handle s (id_at ids place) (named_slot hs handle (s ∷ up) there))
 
 -- a span written has as many holds as are written
 pub held_most : (made : List Span) (id q : ℕ) → (span_at (with_hold made id) q).holds ≤ (span_at made q).holds + 1

@@ -12,10 +12,10 @@ use Rattle.span_script.proofs.steps.CallsLemmas.{ShownOn}
 use Rattle.span_script.specs.declared.reply.Refusal.TheVariants as refusals
 
 -- what is said of the fields is said of the value that they make
-pub by_view : (at lane : ℕ) (request : Call) (then : State) (answer : Reply) (view k : State) → view ≡ k → ((t : Tables) → StandsFor view t → Served (effect_of_call view.setup t at lane request) t view then answer)
-    → Serves k at lane request (Ok answer) then
-by_view at lane request then answer view k is serves = record {
-  ok = subst (λ (x : State). (t : Tables) → StandsFor x t → Served (effect_of_call x.setup t at lane request) t x then answer) is serves;
+pub by_view : (at place : ℕ) (request : Call) (then : State) (answer : Reply) (view k : State) → view ≡ k → ((t : Tables) → StandsFor view t → Served (effect_of_call view.setup t at place request) t view then answer)
+    → Serves k at place request (Ok answer) then
+by_view at place request then answer view k is serves = record {
+  ok = subst (λ (x : State). (t : Tables) → StandsFor x t → Served (effect_of_call x.setup t at place request) t x then answer) is serves;
   refused = λ t stands. tt;
   err = tt;
   room = λ none wants. cc wants;
@@ -31,9 +31,9 @@ serves_refusal resolved takes_none old new given refuses same named = record {
   room = λ none wants. (let memory : given ≡ refusals.Memory = cc wants in absurd (true≢false (sym (ap is_for_memory memory) ∙ named)));
 }
 
-pub by_view_refused : (at lane : ℕ) (request : Call) (given : Refusal) (view k : State) → view ≡ k → ((t : Tables) → StandsFor view t → effect_of_call view.setup t at lane request ≡ Err given)
-    → (t : Tables) → StandsFor k t → effect_of_call k.setup t at lane request ≡ Err given
-by_view_refused at lane request given view k is refuses = subst (λ (x : State). (t : Tables) → StandsFor x t → effect_of_call x.setup t at lane request ≡ Err given) is refuses
+pub by_view_refused : (at place : ℕ) (request : Call) (given : Refusal) (view k : State) → view ≡ k → ((t : Tables) → StandsFor view t → effect_of_call view.setup t at place request ≡ Err given)
+    → (t : Tables) → StandsFor k t → effect_of_call k.setup t at place request ≡ Err given
+by_view_refused at place request given view k is refuses = subst (λ (x : State). (t : Tables) → StandsFor x t → effect_of_call x.setup t at place request ≡ Err given) is refuses
 
 -- what the lanes' contexts have to fit
 abbrev pub AllFit : State → (ℕ → List Attached) → Type 0

@@ -1,8 +1,7 @@
 -- Lists of slots, of which some are spent.
 use Rattle.std.proofs.Common.{◌≡◌, ℕ, zero, suc, ◌+◌, ◌<◌, List, [], ◌∷◌, ◌++◌, length, Option, Some, None, option_map, map, refl, sym, ap, ◌∙◌, arith, slice_set}
-use Rattle.span_script.proofs.Common.{map_push, map-set, length_push, get_or-map, Handle, Held, IsOf, Parent, Place, parent_of, place_for, held_by, slot_at, with_item, spend, slots_after, with_either, either_after}
+use Rattle.span_script.proofs.Common.{map_push, map-set, length_push, get_or-map, Handle, Held, Parent, Place, parent_for, held_by, slot_at, with_item, spend, slots_after, with_either, either_after}
 use Rattle.std.proofs.lemmas.List.{length-set}
-use Rattle.span_script.specs.declared.slots.Above.{Above}
 
 -- what holds of each name that isn't spent holds after one more, if it holds of that
 pub named_push : {A : Type 0} (P : A → Type 0) (slots : List (Option A)) (o : Option A) → ((n : ℕ) (x : A) → slot_at slots n ≡ Some x → P x) → ((x : A) → o ≡ Some x → P x) → (n : ℕ) (x : A) → slot_at (slots ++ o ∷ []) n ≡ Some x → P x
@@ -80,20 +79,9 @@ find f ys xs n y slots there = by_slot (slot_at xs n) refl (sym (ap (λ zs. slot
 pub held_slot : (hs : List (Option Handle)) (n : ℕ) (handle : Handle) → slot_at hs n ≡ Some handle → slot_at (map held_by hs) n ≡ Some handle.held
 held_slot hs n handle there = get_or-map held_by hs n None ∙ ap held_by there
 
--- what all handles are of, a handle in a slot is of
-pub of_all : (hs : List (Option Held)) (n : ℕ) (held : Held) → slot_at hs n ≡ Some held → (dispatch : ℕ) → ((n : ℕ) (h : ℕ × ℕ) → slot_at hs n ≡ Some (Some h) → h.0 ≡ dispatch) → IsOf held dispatch
-of_all hs n None there dispatch all = tt
-of_all hs n (Some h) there dispatch all = all n h there
-
--- the place behind what was found
-pub found_place : (hs' hs : List (Option Handle)) (under : Place) (o : Option Above) (x : Above) → hs' ≡ hs → option_map parent_of o ≡ place_for (map held_by hs') under → o ≡ Some x → place_for (map held_by hs) under ≡ Some (parent_of x)
-found_place hs' hs under o x same is found = ap (λ (xs : List (Option Handle)). place_for (map held_by xs) under) (sym same) ∙ sym is ∙ ap (option_map parent_of) found
-
-pub found_nowhere : (hs' hs : List (Option Handle)) (under : Place) (o : Option Above) → hs' ≡ hs → option_map parent_of o ≡ place_for (map held_by hs') under → o ≡ None → place_for (map held_by hs) under ≡ None
-found_nowhere hs' hs under o same is gone = ap (λ (xs : List (Option Handle)). place_for (map held_by xs) under) (sym same) ∙ sym is ∙ ap (option_map parent_of) gone
-
-pub found_parent : (hs : List (Option Handle)) (under : Place) (o : Option Above) (x : Above) → option_map parent_of o ≡ place_for (map held_by hs) under → o ≡ Some x → (p : Parent) → p ≡ parent_of x → place_for (map held_by hs) under ≡ Some p
-found_parent hs under o x is found p same = found_place hs hs under o x refl is found ∙ ap Some (sym same)
+-- the parent that a place has in the handles, also as they were
+pub found_parent : (hs' hs : List (Option Handle)) (under : Place) (o p : Option Parent) → hs' ≡ hs → o ≡ parent_for (map held_by hs') under → o ≡ p → parent_for (map held_by hs) under ≡ p
+found_parent hs' hs under o p same is found = ap (λ (xs : List (Option Handle)). parent_for (map held_by xs) under) (sym same) ∙ sym is ∙ found
 
 -- what is there is one
 pub some_is : {A : Type 0} (a b : A) → Some a ≡ Some b → a ≡ b

@@ -11,8 +11,8 @@ use Rattle.span_script.specs.declared.request.Call.TheVariants as call
 
 -- what an entry is refused by, on the lane at a place
 abbrev pub refused_entry : ℕ → EnterError → Refusal
-refused_entry lane errors.Full = refusals.Full lane
-refused_entry lane errors.Memory = refusals.Memory
+refused_entry place errors.Full = refusals.Full place
+refused_entry place errors.Memory = refusals.Memory
 
 -- what a reload is refused by
 abbrev pub refused_text : OpenError → Refusal

@@ -12,18 +12,18 @@ pub ask-requires : goal.ask-requires
 ask-requires c = needs_there _ _ _ _ (parts_of c.self.inside) c.self.invariant c.args.handle c.in-Some.span.now (search rules)
 
 pub invariant_of-self : goal.invariant_of-self
-invariant_of-self c = left_kept _ _ _ _ _ (parts_of c.self.inside) c.ask.new.world _ c.asks.ensures c.args.at c.args.lane c.args.handle c.in-Some.span.now (search rules) (event_at c.args.name c.happens_at-time.result c.args.attributes) c.ask.result c.ask.ensures _ (search rules) c.self.invariant
+invariant_of-self c = left_kept _ _ _ _ _ (parts_of c.self.inside) c.ask.new.world _ c.asks.ensures c.args.at c.args.place c.args.handle c.in-Some.span.now (search rules) (event_at c.args.name c.happens_at-time.result c.args.attributes) c.ask.result c.ask.ensures _ (search rules) c.self.invariant
 
 pub returns-in_err-ask : goal.returns-in_err-ask
 returns-in_err-ask c = record {
   ok = (search rules);
   refused = (search rules);
-  err = on_err _ _ (left_state _ _ _ _ _ (parts_of c.self.inside) c.ask.new.world _ c.asks.ensures c.args.at c.args.lane c.args.handle c.in-Some.span.now (search rules) (event_at c.args.name c.happens_at-time.result c.args.attributes) c.ask.result c.ask.ensures _ (search rules) c.self.invariant ∙ c.self.view_is);
+  err = on_err _ _ (left_state _ _ _ _ _ (parts_of c.self.inside) c.ask.new.world _ c.asks.ensures c.args.at c.args.place c.args.handle c.in-Some.span.now (search rules) (event_at c.args.name c.happens_at-time.result c.args.attributes) c.ask.result c.ask.ensures _ (search rules) c.self.invariant ∙ c.self.view_is);
   room = (search rules);
 }
 
 pub invariant_of-self-2 : goal.invariant_of-self-2
-invariant_of-self-2 c = keeps_op _ _ _ _ _ (parts_of c.self.inside) c.ask.new.world _ c.asks.ensures c.args.at c.args.lane c.args.handle c.in-Some.span.now (search rules) (event_at c.args.name c.happens_at-time.result c.args.attributes) c.ask.result c.ask.ensures (search rules) c.self.invariant
+invariant_of-self-2 c = keeps_op _ _ _ _ _ (parts_of c.self.inside) c.ask.new.world _ c.asks.ensures c.args.at c.args.place c.args.handle c.in-Some.span.now (search rules) (event_at c.args.name c.happens_at-time.result c.args.attributes) c.ask.result c.ask.ensures (search rules) c.self.invariant
 
 pub returns : goal.returns
-returns c = by_view c.args.at c.args.lane (call.AddEvent c.args.handle c.args.name c.args.attributes c.args.time) _ _ _ _ c.self.view_is (λ t stands. serves_event _ _ _ _ _ (parts_of c.self.inside) c.ask.new.world _ c.asks.ensures c.args.at c.args.lane c.args.handle c.in-Some.span.now (search rules) c.args.name c.args.attributes c.args.time c.happens_at-time.result c.happens_at-time.ensures c.ask.result c.ask.ensures (search rules) t stands)
+returns c = by_view c.args.at c.args.place (call.AddEvent c.args.handle c.args.name c.args.attributes c.args.time) _ _ _ _ c.self.view_is (λ t stands. serves_event _ _ _ _ _ (parts_of c.self.inside) c.ask.new.world _ c.asks.ensures c.args.at c.args.place c.args.handle c.in-Some.span.now (search rules) c.args.name c.args.attributes c.args.time c.happens_at-time.result c.happens_at-time.ensures c.ask.result c.ask.ensures (search rules) t stands)

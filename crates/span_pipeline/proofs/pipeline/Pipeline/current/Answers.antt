@@ -7,12 +7,12 @@ use Rattle.span_pipeline.proofs.Common.{within_view, make_may, by_view, serves_c
 use Rattle.span_pipeline.proofs.pipeline.Pipeline.current.Goals as goal
 
 pub invariant_of-self-2 : goal.invariant_of-self-2
-invariant_of-self-2 c = keeps_current _ _ _ _ _ (parts_of c.self.inside) c.current-span.new.world _ c.calls.ensures c.keep.new.self.items c.args.at c.args.lane c.len-number.result (search rules)
-    c.index_mut-on.result.now (within_view _ _ c.self.inside.lanes.items c.args.lane c.self.view_is refl c.requires) c.index_mut-on.ensures.value c.self.invariant c.current-span.result c.is_some-enabled.result (search rules) (search rules) c.current-span.ensures.value
+invariant_of-self-2 c = keeps_current _ _ _ _ _ (parts_of c.self.inside) c.current-span.new.world _ c.calls.ensures c.keep.new.self.items c.args.at c.args.place c.len-number.result (search rules)
+    c.index_mut-on.result.now (within_view _ _ c.self.inside.lanes.items c.args.place c.self.view_is refl c.requires) c.index_mut-on.ensures.value c.self.invariant c.current-span.result c.is_some-enabled.result (search rules) (search rules) c.current-span.ensures.value
 
 pub returns : goal.returns
-returns c = by_view c.args.at c.args.lane call.Current _ _ _ _ c.self.view_is (λ t stands. serves_current _ _ _ _ _ (parts_of c.self.inside) c.current-span.new.world _ c.calls.ensures c.keep.new.self.items c.args.at c.args.lane c.len-number.result (search rules)
-    c.index_mut-on.result.now (within_view _ _ c.self.inside.lanes.items c.args.lane c.self.view_is refl c.requires) c.index_mut-on.ensures.value c.self.invariant c.current-span.result c.is_some-enabled.result (search rules) (search rules) c.current-span.ensures.value t stands)
+returns c = by_view c.args.at c.args.place call.Current _ _ _ _ c.self.view_is (λ t stands. serves_current _ _ _ _ _ (parts_of c.self.inside) c.current-span.new.world _ c.calls.ensures c.keep.new.self.items c.args.at c.args.place c.len-number.result (search rules)
+    c.index_mut-on.result.now (within_view _ _ c.self.inside.lanes.items c.args.place c.self.view_is refl c.requires) c.index_mut-on.ensures.value c.self.invariant c.current-span.result c.is_some-enabled.result (search rules) (search rules) c.current-span.ensures.value t stands)
 
 pub current-span-requires-clause-own : goal.current-span-requires-clause-own
 current-span-requires-clause-own c = c.self.invariant.there

@@ -9,7 +9,7 @@ pub returns-in_default : goal.returns-in_default
 returns-in_default c = serves_refusal _ _ _ _ _ (λ t stands. refuses_unknown _ _ c.self.view_is c.self.inside.handles.items refl c.args.handle (search rules) t stands.fits _) (search rules) refl
 
 pub returns-then-is_borrowed : goal.returns-then-is_borrowed
-returns-then-is_borrowed c = serves_refusal _ _ _ _ _ (λ t stands. by_view_refused c.args.at c.args.lane (call.Drop c.args.handle) _ _ _ c.self.view_is (λ t stands. refuses_borrowed _ _ _ _ _ _ (parts_of c.self.inside) c.self.inside.world c.chains.ensures c.self.inside.handles.items c.args.at c.args.lane c.args.handle c.in-Some._named.now (search rules) c.self.invariant t stands (search rules)) t stands) (search rules) refl
+returns-then-is_borrowed c = serves_refusal _ _ _ _ _ (λ t stands. by_view_refused c.args.at c.args.place (call.Drop c.args.handle) _ _ _ c.self.view_is (λ t stands. refuses_borrowed _ _ _ _ _ _ (parts_of c.self.inside) c.self.inside.world c.chains.ensures c.self.inside.handles.items c.args.at c.args.place c.args.handle c.in-Some._named.now (search rules) c.self.invariant t stands (search rules)) t stands) (search rules) refl
 
 pub close-requires-clause-known : goal.close-requires-clause-known
 close-requires-clause-known c = needs_known _ _ _ _ (parts_of c.self.inside) c.self.invariant c.args.handle c.in-Some-take.span (search rules)
@@ -18,7 +18,7 @@ pub close-requires-clause-whole : goal.close-requires-clause-whole
 close-requires-clause-whole c = needs_whole _ _ _ _ (parts_of c.self.inside) c.self.invariant c.args.handle c.in-Some-take.span (search rules)
 
 pub invariant_of-self : goal.invariant_of-self
-invariant_of-self c = keeps_dropped _ _ _ _ _ _ (parts_of c.self.inside) c.close.new.world c.chains.ensures c.take.new.self.items c.args.at c.args.lane c.args.handle c.in-Some-take.span (search rules) c.self.invariant (search rules) c.take.ensures.spent c.close.ensures.did
+invariant_of-self c = keeps_dropped _ _ _ _ _ _ (parts_of c.self.inside) c.close.new.world c.chains.ensures c.take.new.self.items c.args.at c.args.place c.args.handle c.in-Some-take.span (search rules) c.self.invariant (search rules) c.take.ensures.spent c.close.ensures.did
 
 pub returns : goal.returns
-returns c = by_view c.args.at c.args.lane (call.Drop c.args.handle) _ _ _ _ c.self.view_is (λ t stands. serves_dropped _ _ _ _ _ _ (parts_of c.self.inside) c.close.new.world c.chains.ensures c.take.new.self.items c.args.at c.args.lane c.args.handle c.in-Some-take.span (search rules) c.self.invariant (search rules) c.take.ensures.spent c.close.ensures.did t stands)
+returns c = by_view c.args.at c.args.place (call.Drop c.args.handle) _ _ _ _ c.self.view_is (λ t stands. serves_dropped _ _ _ _ _ _ (parts_of c.self.inside) c.close.new.world c.chains.ensures c.take.new.self.items c.args.at c.args.place c.args.handle c.in-Some-take.span (search rules) c.self.invariant (search rules) c.take.ensures.spent c.close.ensures.did t stands)

@@ -9,7 +9,7 @@ pub returns-in_default : goal.returns-in_default
 returns-in_default c = serves_refusal _ _ _ _ _ (λ t stands. refuses_unknown _ _ c.self.view_is c.self.inside.handles.items refl c.args.handle (search rules) t stands.fits _) (search rules) refl
 
 pub returns-in_default-get : goal.returns-in_default-get
-returns-in_default-get c = serves_refusal _ _ _ _ _ (λ t stands. refuses_from _ _ (λ x. false) (λ x lane number. 0) (λ x. Unit {0}) (parts_of c.self.inside) c.args.handle c.in-Some.span.now (search rules) _ c.self.view_is c.args.from (search rules) t stands c.args.at c.args.lane) (search rules) refl
+returns-in_default-get c = serves_refusal _ _ _ _ _ (λ t stands. refuses_from _ _ (λ x. false) (λ x lane number. 0) (λ x. Unit {0}) (parts_of c.self.inside) c.args.handle c.in-Some.span.now (search rules) _ c.self.view_is c.args.from (search rules) t stands c.args.at c.args.place) (search rules) refl
 
 pub follows_from-requires-clause-known : goal.follows_from-requires-clause-known
 follows_from-requires-clause-known c = needs_known _ _ _ _ (parts_of c.self.inside) c.self.invariant c.args.handle c.in-Some.span.now (search rules)
@@ -35,7 +35,7 @@ returns-in_err-follows_from c = record {
 }
 
 pub invariant_of-self-2 : goal.invariant_of-self-2
-invariant_of-self-2 c = keeps_follow _ _ _ _ _ (parts_of c.self.inside) c.args.handle c.in-Some.span.now (search rules) c.args.from c.in-Some-get.followed.now (search rules) c.follows_from.new.world c.args.at c.args.lane _ c.calls.ensures c.in_ok-follows_from.ensures.did c.self.invariant
+invariant_of-self-2 c = keeps_follow _ _ _ _ _ (parts_of c.self.inside) c.args.handle c.in-Some.span.now (search rules) c.args.from c.in-Some-get.followed.now (search rules) c.follows_from.new.world c.args.at c.args.place _ c.calls.ensures c.in_ok-follows_from.ensures.did c.self.invariant
 
 pub returns : goal.returns
-returns c = by_view c.args.at c.args.lane (call.Follows c.args.handle c.args.from) _ _ _ _ c.self.view_is (λ t stands. serves_follow _ _ _ _ _ (parts_of c.self.inside) c.args.handle c.in-Some.span.now (search rules) c.args.from c.in-Some-get.followed.now (search rules) c.follows_from.new.world c.args.at c.args.lane _ c.calls.ensures c.in_ok-follows_from.ensures.did t stands)
+returns c = by_view c.args.at c.args.place (call.Follows c.args.handle c.args.from) _ _ _ _ c.self.view_is (λ t stands. serves_follow _ _ _ _ _ (parts_of c.self.inside) c.args.handle c.in-Some.span.now (search rules) c.args.from c.in-Some-get.followed.now (search rules) c.follows_from.new.world c.args.at c.args.place _ c.calls.ensures c.in_ok-follows_from.ensures.did t stands)

@@ -10,15 +10,15 @@ pub returns-in_default : goal.returns-in_default
 returns-in_default c = serves_refusal _ _ _ _ _ (λ t stands. refuses_unknown _ _ c.self.view_is c.self.inside.handles.items refl c.args.handle (search rules) t stands.fits _) (search rules) refl
 
 pub returns-then-is_borrowed : goal.returns-then-is_borrowed
-returns-then-is_borrowed c = serves_refusal _ _ _ _ _ (λ t stands. by_view_refused c.args.at c.args.lane (call.OrCurrent c.args.handle) _ _ _ c.self.view_is (λ t stands. refuses_in_use _ c.self.inside.handles.items refl c.args.handle c.in-Some._named.now (search rules) (search rules) c.args.at c.args.lane t stands) t stands) (search rules) refl
+returns-then-is_borrowed c = serves_refusal _ _ _ _ _ (λ t stands. by_view_refused c.args.at c.args.place (call.OrCurrent c.args.handle) _ _ _ c.self.view_is (λ t stands. refuses_in_use _ c.self.inside.handles.items refl c.args.handle c.in-Some._named.now (search rules) (search rules) c.args.at c.args.place t stands) t stands) (search rules) refl
 
 pub invariant_of-self-2 : goal.invariant_of-self-2
-invariant_of-self-2 c = keeps_exchanged _ _ _ _ _ (parts_of c.self.inside) c.or_current-span.new.world _ c.calls.ensures c.keep.new.self.items c.args.at c.args.lane c.len-number.result (search rules)
-    c.index_mut-on.result.now (within_view _ _ c.self.inside.lanes.items c.args.lane c.self.view_is refl c.requires) c.index_mut-on.ensures.value c.self.invariant c.args.handle c.in-Some-take.span c.or_current-span.result (search rules) (search rules) c.is_some-enabled.result (search rules) (search rules) c.or_current-span.ensures.enabled c.or_current-span.ensures.disabled
+invariant_of-self-2 c = keeps_exchanged _ _ _ _ _ (parts_of c.self.inside) c.or_current-span.new.world _ c.calls.ensures c.keep.new.self.items c.args.at c.args.place c.len-number.result (search rules)
+    c.index_mut-on.result.now (within_view _ _ c.self.inside.lanes.items c.args.place c.self.view_is refl c.requires) c.index_mut-on.ensures.value c.self.invariant c.args.handle c.in-Some-take.span c.or_current-span.result (search rules) (search rules) c.is_some-enabled.result (search rules) (search rules) c.or_current-span.ensures.enabled c.or_current-span.ensures.disabled
 
 pub returns : goal.returns
-returns c = by_view c.args.at c.args.lane (call.OrCurrent c.args.handle) _ _ _ _ c.self.view_is (λ t stands. serves_exchanged _ _ _ _ _ (parts_of c.self.inside) c.or_current-span.new.world _ c.calls.ensures c.keep.new.self.items c.args.at c.args.lane c.len-number.result (search rules)
-    c.index_mut-on.result.now (within_view _ _ c.self.inside.lanes.items c.args.lane c.self.view_is refl c.requires) c.index_mut-on.ensures.value c.self.invariant c.args.handle c.in-Some-take.span c.or_current-span.result (search rules) (search rules) c.is_some-enabled.result (search rules) (search rules) c.or_current-span.ensures.enabled c.or_current-span.ensures.disabled t stands)
+returns c = by_view c.args.at c.args.place (call.OrCurrent c.args.handle) _ _ _ _ c.self.view_is (λ t stands. serves_exchanged _ _ _ _ _ (parts_of c.self.inside) c.or_current-span.new.world _ c.calls.ensures c.keep.new.self.items c.args.at c.args.place c.len-number.result (search rules)
+    c.index_mut-on.result.now (within_view _ _ c.self.inside.lanes.items c.args.place c.self.view_is refl c.requires) c.index_mut-on.ensures.value c.self.invariant c.args.handle c.in-Some-take.span c.or_current-span.result (search rules) (search rules) c.is_some-enabled.result (search rules) (search rules) c.or_current-span.ensures.enabled c.or_current-span.ensures.disabled t stands)
 
 pub or_current-span-requires-clause-own : goal.or_current-span-requires-clause-own
 or_current-span-requires-clause-own c = c.self.invariant.there

@@ -31,7 +31,7 @@ returns-in_err-record_all c = record {
 }
 
 pub invariant_of-self-2 : goal.invariant_of-self-2
-invariant_of-self-2 c = keeps_recorded _ _ _ _ _ (parts_of c.self.inside) c.args.handle c.in-Some.span.now (search rules) c.record_all.new.world c.args.at c.args.lane _ c.calls.ensures c.args.fields c.in_ok-values.values (search rules) c.in_ok-record_all.ensures.did c.self.invariant
+invariant_of-self-2 c = keeps_recorded _ _ _ _ _ (parts_of c.self.inside) c.args.handle c.in-Some.span.now (search rules) c.record_all.new.world c.args.at c.args.place _ c.calls.ensures c.args.fields c.in_ok-values.values (search rules) c.in_ok-record_all.ensures.did c.self.invariant
 
 pub returns : goal.returns
-returns c = by_view c.args.at c.args.lane (call.Record c.args.handle c.args.fields) _ _ _ _ c.self.view_is (λ t stands. serves_recorded _ _ _ _ _ (parts_of c.self.inside) c.args.handle c.in-Some.span.now (search rules) c.record_all.new.world c.args.at c.args.lane _ c.calls.ensures c.args.fields c.in_ok-values.values (search rules) c.in_ok-record_all.ensures.did t stands)
+returns c = by_view c.args.at c.args.place (call.Record c.args.handle c.args.fields) _ _ _ _ c.self.view_is (λ t stands. serves_recorded _ _ _ _ _ (parts_of c.self.inside) c.args.handle c.in-Some.span.now (search rules) c.record_all.new.world c.args.at c.args.place _ c.calls.ensures c.args.fields c.in_ok-values.values (search rules) c.in_ok-record_all.ensures.did t stands)
