@@ -98,16 +98,16 @@ made_requests n = rounds 0 n
 -- ---- the lines
 
 -- what a line says of a call: no fields where there are none
-abbrev pub said : Call → List (List ℕ × Data)
-said (call.New site put []) = number_member (codes "site") site ++ parent_member put
-said other = number_members_of other
+abbrev pub call_members : Call → List (List ℕ × Data)
+call_members (call.New site put []) = number_member (codes "site") site ++ parent_member put
+call_members other = number_members_of other
 
 -- the line of a request: an object's compact text
 abbrev pub request_members : Request → Members
 request_members request = by_name (
     (codes "at", whole_number request.at) ∷
     (codes "lane", whole_number request.lane) ∷
-    (codes "do", string (word_of request.call)) ∷ said request.call)
+    (codes "do", string (word_of request.call)) ∷ call_members request.call)
 
 abbrev pub request_line : Request → List ℕ
 request_line request = compact_text (object (request_members request))

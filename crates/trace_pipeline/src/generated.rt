@@ -161,7 +161,7 @@ fn calls(
             0,
             Call::New {
                 site: 0,
-                place: Place::Root,
+                parent: Place::Root,
                 fields: root,
             },
         ),
@@ -171,7 +171,7 @@ fn calls(
             20,
             Call::New {
                 site: 1,
-                place: Place::Contextual,
+                parent: Place::Contextual,
                 fields: below,
             },
         ),
@@ -181,7 +181,7 @@ fn calls(
             40,
             Call::Event {
                 site: 2,
-                place: Place::Contextual,
+                parent: Place::Contextual,
                 fields: row,
             },
         ),

@@ -14,25 +14,19 @@ mod attributes;
 mod decimal;
 mod extension;
 mod fields;
-mod flat;
 mod hex;
 pub mod laws;
-mod object;
 mod plain;
 mod plain_fields;
 mod quick;
 mod request;
-pub mod scan;
 mod settings;
-mod tree;
-mod value;
+pub mod syntax;
 
 pub use attributes::{otel_value_of, read_attribute_value, read_attributes, read_status};
 pub use decimal::u128_of;
 pub use fields::{fields_of, read_fields};
-pub use flat::{closes, is_text};
 pub use hex::{read_span_id, read_trace_id};
-pub use object::Object;
 use otel_base::memory;
 pub use plain_fields::leading_fields;
 pub use request::fields as given_fields;
@@ -40,7 +34,9 @@ use serde_json::Value as Json;
 use span_script::request::Request;
 use span_script::settings::Settings;
 use std::alloc::{AllocError, AllocFailed, Global};
-pub use value::Value;
+pub use syntax::flat::{closes, is_text};
+pub use syntax::object::Object;
+pub use syntax::value::Value;
 
 /// Why a line gives no value.
 #[derive(Clone, Copy, Debug, PartialEq, Eq)]
@@ -120,5 +116,5 @@ pub fn read_request(alloc: Global, line: &[u8]) -> Result<Request, LineError>
 pub fn read_value(alloc: Global, line: &[u8]) -> Result<Json, LineError>
     ensures { Gives view result (line_value line.now) }
 {
-    tree::value_of(alloc, line)
+    syntax::tree::value_of(alloc, line)
 }

@@ -1,7 +1,7 @@
 -- What a nested text is, beside the reader of its tree.
 use Rattle.std.proofs.Common.{◌≡◌, List, [], ◌∷◌, ◌++◌, Option, Some, None, option_and_then, unwrap_or, refl, ap, ap₂, sym, ◌∙◌}
 use Rattle.trace_pipeline.proofs.Common.{Data, null, boolean, number, string, array, object, Items, no_items, item, as_object, as_array, as_str, as_bool, as_whole, value_data, items, nested_value}
-use Rattle.trace_pipeline.specs.declared.read.value.Value.{Value}
+use Rattle.trace_pipeline.specs.declared.read.syntax.value.Value.{Value}
 use Rattle.trace_pipeline.proofs.readings.CompactLemmas.{Pair, read_items}
 
 of_nested : (d : Data) → as_object (nested_value d) ≡ as_object d

@@ -1,5 +1,5 @@
 -- Texts that are added one after another.
-use Rattle.std.proofs.Common.{◌≡◌, ℕ, ◌+◌, ◌<◌, ◌≤◌, List, [], ◌∷◌, ◌++◌, length, get_or, drop, drop_of_length-le, Bool, true, sym, ap, subst, ◌∙◌, append_assoc, append-nil}
+use Rattle.std.proofs.Common.{◌≡◌, ℕ, ◌+◌, ◌<◌, ◌≤◌, List, [], ◌∷◌, ◌++◌, length, arith, get_or, drop, drop_of_length-le, Bool, true, sym, ap, subst, ◌∙◌, append_assoc, append-nil}
 use Rattle.std.specs.Str.{IsUtf8}
 use Rattle.trace_pipeline.proofs.Common.{IsUtf8-append, IsUtf8-nil, drop_more, escape, quoted, IsUtf8-quoted, Data, compact_text, items_text, comma_if, items, AddsText}
 
@@ -20,10 +20,11 @@ quoted_added old a b d new front s x begin body close utf8 =
     parts : (old front body : List ℕ) → (((old ++ front) ++ 34 ∷ []) ++ body) ++ 34 ∷ [] ≡ old ++ (front ++ 34 ∷ (body ++ 34 ∷ []))
     parts old front body = simp append_assoc
 
--- the same of a text that needs no escape
-pub quoted_plain : (old a b d new front s : List ℕ) → AddsText old a front → b ≡ a ++ 34 ∷ [] → AddsText b d s → new ≡ d ++ 34 ∷ [] → escape s ≡ s → AddsText old new (front ++ quoted s)
-quoted_plain old a b d new front s x begin body close plain =
-    quoted_added old a b d new front s x begin (body.0 ∙ ap (λ (l : List ℕ). b ++ l) (sym plain)) close body.1
+-- a text of one byte
+pub byte_added : (old new text : List ℕ) (byte : ℕ) → length text ≡ 1 → byte ≡ get_or text 0 byte → new ≡ old ++ byte ∷ [] → IsUtf8 text → AddsText old new text
+byte_added old new [] byte one is added utf8 = absurd (omega (arith, one))
+byte_added old new (x ∷ []) byte one is added utf8 = (added ∙ ap (λ (b : ℕ). old ++ b ∷ []) is, utf8)
+byte_added old new (x ∷ y ∷ text) byte one is added utf8 = absurd (omega (arith, one))
 
 -- a text that was added to none
 pub alone : (old new s : List ℕ) → old ≡ [] → AddsText old new s → new ≡ s

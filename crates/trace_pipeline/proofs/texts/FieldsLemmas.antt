@@ -2,7 +2,7 @@
 use Rattle.std.proofs.Common.{◌≡◌, ◌≢◌, ℕ, ◌+◌, List, [], ◌∷◌, ◌++◌, length, Option, Some, None, option_map, option_and_then, unwrap_or, refl, sym, ap, ◌∙◌, arith, append_assoc, length-append}
 use Rattle.trace_pipeline.proofs.Common.{quoted, Data, null, boolean, number, string, array, object, no_items, item, as_object, compact_text, nested_value, BeginsWithValue, typed_form, value_spelled, field_of, fields_of, all_of, each, pair_with, value_data, items}
 use Rattle.trace_base.specs.declared.field.Value.{Value as FieldValue}
-use Rattle.trace_pipeline.specs.declared.read.value.Value.{Value}
+use Rattle.trace_pipeline.specs.declared.read.syntax.value.Value.{Value}
 use Rattle.trace_pipeline.proofs.readings.CompactLemmas.{Pair, read_items}
 use Rattle.trace_pipeline.proofs.readings.ValuesLemmas.{of_nested_array}
 

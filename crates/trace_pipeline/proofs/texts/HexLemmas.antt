@@ -1,9 +1,10 @@
 -- The digits of an id, put down from the last to the first.
-use Rattle.std.proofs.Common.{◌≡◌, ℕ, zero, suc, ◌+◌, ◌-◌, ◌/◌, ◌%◌, ◌^◌, ◌<◌, ◌≤◌, ◌==◌, List, [], ◌∷◌, ◌++◌, length, Bool, true, false, cond, refl, sym, ap, ◌∙◌, arith, append-nil, subst, drop, slice_set, Result, Ok, Err, MatchResult, IsOk, replicate}
+use Rattle.std.proofs.Common.{◌≡◌, ℕ, zero, suc, ◌+◌, ◌-◌, ◌/◌, ◌%◌, ◌^◌, ◌<◌, ◌≤◌, ◌==◌, List, [], ◌∷◌, ◌++◌, length, Bool, true, false, cond, refl, sym, ap, ◌∙◌, arith, append-nil, subst, take, drop, slice_set, Result, Ok, Err, MatchResult, IsOk, replicate}
 use Rattle.trace_pipeline.proofs.Common.{digit_glyph, digits, digits_onto, pow-succ', IsUtf8-from_ascii, IsUtf8-append, drop-set, nat_tests, escape, escape_byte, hex16, hex32}
 use Rattle.std.specs.Str.{IsUtf8, IsAscii}
 use Rattle.std.proofs.lemmas.Str.Ascii.{IsAscii-nil, IsAscii-cons}
 use Rattle.std.proofs.lemmas.Bool.{eqb-true}
+use Rattle.std.proofs.Math.ListN.{take-append-drop}
 use Rattle.trace_pipeline.proofs.texts.EscapesLemmas.{plain_byte, escape_append}
 
 -- the last k digits of n, in front of some text
@@ -123,6 +124,44 @@ pub digit_put : (start at rest digit : ℕ) (digits : List ℕ) → start < at �
     → last_digits (at - 1 - start) (rest / 16) (drop (at - 1) (slice_set digits (at - 1) digit)) ≡ last_digits (at - start) rest (drop at digits)
 digit_put start at rest digit digits more within is =
     rw (drop-set digits (at - 1) digit (omega arith), is) (next_digit (at - 1 - start) (at - start) rest (at - 1 + 1) at digits (omega arith) (omega arith))
+
+-- the zeros in front of what is put
+zero_set : (k digit : ℕ) (text : List ℕ) → slice_set (replicate (suc k) 48 ++ text) k digit ≡ replicate k 48 ++ digit ∷ text
+zero_set zero digit text = refl
+zero_set (suc k) digit text = ap (λ (t : List ℕ). 48 ∷ t) (zero_set k digit text)
+
+zeros_set : (start at k digit : ℕ) (old text : List ℕ) → at ≡ start + k → drop start old ≡ replicate (suc k) 48 ++ text → drop start (slice_set old at digit) ≡ replicate k 48 ++ digit ∷ text
+zeros_set zero at k digit old text there is =
+    ap (λ (i : ℕ). slice_set old i digit) {x = at} {y = k} (omega (arith, there)) ∙ ap (λ (l : List ℕ). slice_set l k digit) is ∙ zero_set k digit text
+zeros_set (suc start) at k digit [] text there is = absurd (omega (arith, ap length is))
+zeros_set (suc start) zero k digit (x ∷ old) text there is = absurd (omega (arith, there))
+zeros_set (suc start) (suc at) k digit (x ∷ old) text there is = zeros_set start at k digit old text (omega (arith, there)) is
+
+front_set : (start at digit : ℕ) (old : List ℕ) → start ≤ at → take start (slice_set old at digit) ≡ take start old
+front_set zero at digit old below = refl
+front_set (suc start) at digit [] below = refl
+front_set (suc start) zero digit (x ∷ old) below = absurd (omega (arith, below))
+front_set (suc start) (suc at) digit (x ∷ old) below = ap (λ (l : List ℕ). x ∷ l) (front_set start at digit old (omega (arith, below)))
+
+-- a digit more leaves one zero less
+pub zeros_put : (start at digit : ℕ) (old : List ℕ) → start < at → at ≤ length old → drop start old ≡ replicate (at - start) 48 ++ drop at old
+    → drop start (slice_set old (at - 1) digit) ≡ replicate (at - 1 - start) 48 ++ drop (at - 1) (slice_set old (at - 1) digit)
+zeros_put start at digit old more within are =
+    zeros_set start (at - 1) (at - 1 - start) digit old (drop at old) (omega (arith, more)) (are ∙ ap (λ (k : ℕ). replicate k 48 ++ drop at old) {x = at - start} {y = suc (at - 1 - start)} (omega (arith, more)))
+    ∙ ap (λ (l : List ℕ). replicate (at - 1 - start) 48 ++ l) (sym (drop-set old (at - 1) digit (omega (arith, more, within)) ∙ ap (λ (i : ℕ). digit ∷ drop i old) {x = at - 1 + 1} {y = at} (omega (arith, more))))
+
+-- what stands in front stays
+pub front_put : (start at digit : ℕ) (old : List ℕ) → start < at → take start (slice_set old (at - 1) digit) ≡ take start old
+front_put start at digit old more = front_set start (at - 1) digit old (omega (arith, more))
+
+-- where zeros alone are left, they stand there
+pub zeros_left : (start at rest : ℕ) (digits : List ℕ) → rest ≡ 0 → drop start digits ≡ replicate (at - start) 48 ++ drop at digits → last_digits (at - start) rest (drop at digits) ≡ drop start digits
+zeros_left start at rest digits none are =
+    ap (λ (n : ℕ). last_digits (at - start) n (drop at digits)) none ∙ all_zeros (at - start) (drop at digits) ∙ sym are
+
+-- the first half holds zeros still, once the second is put
+pub zeros_before : (low : List ℕ) → take 16 low ≡ replicate 16 48 → drop 0 low ≡ replicate 16 48 ++ drop 16 low
+zeros_before low is = sym (take-append-drop 16 low) ∙ ap (λ (l : List ℕ). l ++ drop 16 low) is
 
 -- no digit is left
 pub all_put : (start at rest : ℕ) (digits : List ℕ) → at ≡ start → last_digits (at - start) rest (drop at digits) ≡ drop start digits

@@ -25,8 +25,8 @@ abbrev pub when : {A : Type 0} → Option A → Members → Option (A × Members
 when o ms = option_map (λ a. (a, ms)) o
 
 -- something, if a test holds
-abbrev pub provided : Bool → Option ⊤
-provided b = if b then Some tt else None
+abbrev pub unit_if : Bool → Option ⊤
+unit_if b = if b then Some tt else None
 
 -- the members without the one of a name
 abbrev pub without_member : List ℕ → Members → Members

@@ -3,8 +3,6 @@ use Rattle.std.specs.Prelude.{ℕ, List, [], Option, Some, None, if◌then◌els
 use Rattle.serde_json.specs.Data.{Data}
 use Rattle.serde_json.specs.Find.{as_str}
 use Rattle.trace_base.specs.declared.field.Value.{Value}
-use Rattle.trace_pipeline.specs.declared.read.request.Verb.{Verb}
-use Rattle.trace_pipeline.specs.declared.read.request.Verb.TheVariants as verb
 use Rattle.span_script.specs.declared.request.Request.{Request}
 use Rattle.span_script.specs.declared.request.Call.{Call}
 use Rattle.span_script.specs.declared.request.Call.TheVariants as call
@@ -14,33 +12,6 @@ use Rattle.trace_pipeline.specs.forms.ExtensionForm.{follows_form, set_parent_fo
 use Rattle.trace_pipeline.specs.forms.FieldForm.{fields_of}
 use Rattle.trace_pipeline.specs.forms.Forms.{Form, ◌>>=◌, give, when, natural, text, member, optional, if_absent, as_whole}
 use Rattle.trace_pipeline.specs.text.Hex.{id_word, long_id_word}
-
--- the words of `do` that are built
-abbrev pub verb_word : List ℕ → Option Verb
-verb_word word =
-    if bytes_eq word (codes "new") then Some verb.New else
-    (if bytes_eq word (codes "current") then Some verb.Current else
-    (if bytes_eq word (codes "clone") then Some verb.Clone else
-    (if bytes_eq word (codes "or_current") then Some verb.OrCurrent else
-    (if bytes_eq word (codes "drop") then Some verb.Drop else
-    (if bytes_eq word (codes "enter") then Some verb.Enter else
-    (if bytes_eq word (codes "entered") then Some verb.Entered else
-    (if bytes_eq word (codes "exit") then Some verb.Exit else
-    (if bytes_eq word (codes "record") then Some verb.Record else
-    (if bytes_eq word (codes "has_field") then Some verb.HasField else
-    (if bytes_eq word (codes "event") then Some verb.Event else
-    (if bytes_eq word (codes "remote") then Some verb.Remote else
-    (if bytes_eq word (codes "context") then Some verb.Context else
-    (if bytes_eq word (codes "attach") then Some verb.Attach else
-    (if bytes_eq word (codes "detach") then Some verb.Detach else
-    (if bytes_eq word (codes "follows") then Some verb.Follows else
-    (if bytes_eq word (codes "set_parent") then Some verb.SetParent else
-    (if bytes_eq word (codes "add_link") then Some verb.AddLink else
-    (if bytes_eq word (codes "set_attribute") then Some verb.SetAttribute else
-    (if bytes_eq word (codes "set_status") then Some verb.SetStatus else
-    (if bytes_eq word (codes "add_event") then Some verb.AddEvent else
-    (if bytes_eq word (codes "enabled") then Some verb.Enabled else
-    (if bytes_eq word (codes "reload") then Some verb.Reload else None))))))))))))))))))))))
 
 -- the word of no span
 abbrev pub root_word : List ℕ → Option Place
@@ -172,43 +143,43 @@ reload_form = do
   directives ← text (codes "text")
   give (call.Reload directives)
 
--- what a word of `do` goes on with
-abbrev pub call_form : Verb → Form Call
-call_form verb.New = new_form
-call_form verb.Current = give call.Current
-call_form verb.Clone = clone_form
-call_form verb.OrCurrent = or_current_form
-call_form verb.Drop = drop_form
-call_form verb.Enter = enter_form
-call_form verb.Entered = entered_form
-call_form verb.Exit = exit_form
-call_form verb.Record = record_form
-call_form verb.HasField = has_field_form
-call_form verb.Event = event_form
-call_form verb.Remote = remote_form
-call_form verb.Context = context_form
-call_form verb.Attach = attach_form
-call_form verb.Detach = detach_form
-call_form verb.Follows = follows_form
-call_form verb.SetParent = set_parent_form
-call_form verb.AddLink = add_link_form
-call_form verb.SetAttribute = set_attribute_form
-call_form verb.SetStatus = set_status_form
-call_form verb.AddEvent = add_event_form
-call_form verb.Enabled = enabled_form
-call_form verb.Reload = reload_form
+-- what a word of `do` goes on with; there is no other word
+abbrev pub call_by : List ℕ → Form Call
+call_by word =
+    if bytes_eq word (codes "new") then new_form else
+    (if bytes_eq word (codes "current") then give call.Current else
+    (if bytes_eq word (codes "clone") then clone_form else
+    (if bytes_eq word (codes "or_current") then or_current_form else
+    (if bytes_eq word (codes "drop") then drop_form else
+    (if bytes_eq word (codes "enter") then enter_form else
+    (if bytes_eq word (codes "entered") then entered_form else
+    (if bytes_eq word (codes "exit") then exit_form else
+    (if bytes_eq word (codes "record") then record_form else
+    (if bytes_eq word (codes "has_field") then has_field_form else
+    (if bytes_eq word (codes "event") then event_form else
+    (if bytes_eq word (codes "remote") then remote_form else
+    (if bytes_eq word (codes "context") then context_form else
+    (if bytes_eq word (codes "attach") then attach_form else
+    (if bytes_eq word (codes "detach") then detach_form else
+    (if bytes_eq word (codes "follows") then follows_form else
+    (if bytes_eq word (codes "set_parent") then set_parent_form else
+    (if bytes_eq word (codes "add_link") then add_link_form else
+    (if bytes_eq word (codes "set_attribute") then set_attribute_form else
+    (if bytes_eq word (codes "set_status") then set_status_form else
+    (if bytes_eq word (codes "add_event") then add_event_form else
+    (if bytes_eq word (codes "enabled") then enabled_form else
+    (if bytes_eq word (codes "reload") then reload_form else when None))))))))))))))))))))))
 
--- what is to be done, by its word
-abbrev pub verb_form : Form Verb
-verb_form = do
+-- what is to be done
+abbrev pub call_form : Form Call
+call_form = do
   word ← text (codes "do")
-  when (verb_word word)
+  call_by word
 
--- a moment, a lane, and what a word of `do` goes on with
+-- a moment, a lane, and what is to be done
 unfoldable pub request_form : Form Request
 request_form = do
   at ← natural (codes "at")
   lane ← natural (codes "lane")
-  verb ← verb_form
-  call ← call_form verb
+  call ← call_form
   give (record { at = at; lane = lane; call = call })

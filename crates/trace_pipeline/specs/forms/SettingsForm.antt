@@ -7,7 +7,7 @@ use Rattle.trace_base.specs.declared.callsite.Callsite.{Callsite}
 use Rattle.trace_base.specs.declared.callsite.Kind.{Kind}
 use Rattle.trace_base.specs.declared.level.Level.{Level}
 use Rattle.span_script.specs.declared.settings.Settings.{Settings}
-use Rattle.trace_pipeline.specs.forms.Forms.{Form, ◌>>=◌, give, when, provided, whole_to, text, flag_or, optional, if_absent, optional_text, optional_u32, array, texts, each, object_of}
+use Rattle.trace_pipeline.specs.forms.Forms.{Form, ◌>>=◌, give, when, unit_if, whole_to, text, flag_or, optional, if_absent, optional_text, optional_u32, array, texts, each, object_of}
 use Rattle.trace_pipeline.specs.text.Words.{level_word, kind_word}
 
 -- a lane's id and name
@@ -119,7 +119,7 @@ abbrev pub lanes_form : Form (List Lane)
 lanes_form = do
   lane_items ← array (codes "lanes")
   lanes ← when (each (object_of lane_form) lane_items)
-  differ ← when (provided (all_differ (lane_ids lanes)))
+  differ ← when (unit_if (all_differ (lane_ids lanes)))
   give lanes
 
 -- what the layer tells, which is what is usual where nothing is said

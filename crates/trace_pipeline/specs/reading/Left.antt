@@ -5,11 +5,11 @@ use Rattle.serde_json.specs.Data.{Data, Members}
 use Rattle.serde_json.specs.View.{view, members_view}
 use Rattle.trace_pipeline.specs.text.Compact.{plain_data, members_of}
 use Rattle.trace_pipeline.specs.declared.read.plain.Plain.{Plain}
-use Rattle.trace_pipeline.specs.declared.read.flat.FlatMembers.{FlatMembers}
-use Rattle.trace_pipeline.specs.declared.read.object.Object.{Object}
-use Rattle.trace_pipeline.specs.declared.read.object.Object.TheVariants.{Flat, Tree}
-use Rattle.trace_pipeline.specs.declared.read.value.Value.{Value}
-use Rattle.trace_pipeline.specs.declared.read.value.Value.TheVariants as value
+use Rattle.trace_pipeline.specs.declared.read.syntax.flat.FlatMembers.{FlatMembers}
+use Rattle.trace_pipeline.specs.declared.read.syntax.object.Object.{Object}
+use Rattle.trace_pipeline.specs.declared.read.syntax.object.Object.TheVariants.{Flat, Tree}
+use Rattle.trace_pipeline.specs.declared.read.syntax.value.Value.{Value}
+use Rattle.trace_pipeline.specs.declared.read.syntax.value.Value.TheVariants as value
 
 abbrev pub value_data : Value → Data
 value_data (value.Plain plain) = plain_data plain

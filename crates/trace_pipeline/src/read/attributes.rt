@@ -10,9 +10,9 @@ ghost use Rattle.trace_pipeline.specs.reading.Object.{items};
 
 use crate::read::LineError;
 use crate::read::fields::{texts, two_of};
-use crate::read::object::Object;
 use crate::read::plain::Plain;
-use crate::read::value::Value;
+use crate::read::syntax::object::Object;
+use crate::read::syntax::value::Value;
 use otel_base::list::Items;
 use otel_base::status::Status;
 use otel_base::text::Text;

@@ -5,7 +5,7 @@ ghost use Rattle.trace_pipeline.specs.reading.Left.{members_left};
 
 use crate::read::LineError;
 use crate::read::attributes::{given_attributes, otel_value_of, status_of};
-use crate::read::object::{Object, within};
+use crate::read::syntax::object::{Object, within};
 use otel_base::record::Moment;
 use span_script::request::{Call, LAST_MOMENT};
 use std::alloc::Global;

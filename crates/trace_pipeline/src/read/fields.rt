@@ -13,10 +13,10 @@ ghost use Rattle.trace_pipeline.specs.reading.Object.{items};
 
 use crate::read::LineError;
 use crate::read::decimal::{i128_of, u128_of};
-use crate::read::object::Object;
 use crate::read::plain::Plain;
 use crate::read::plain_fields::plain_fields;
-use crate::read::value::Value;
+use crate::read::syntax::object::Object;
+use crate::read::syntax::value::Value;
 use otel_base::list::Items;
 use otel_base::text::Text;
 use serde_json::{Number, Value as Json};

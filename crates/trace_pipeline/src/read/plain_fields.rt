@@ -6,9 +6,9 @@ ghost use Rattle.trace_pipeline.specs.forms.FieldForm.{value_spelled, field_of, 
 ghost use Rattle.trace_pipeline.specs.reading.Spelled.{line_value};
 
 use crate::read::fields::plain_value;
-use crate::read::flat::ends;
 use crate::read::plain::Plain;
-use crate::read::scan::{DEEPEST, behind, text, value};
+use crate::read::syntax::flat::ends;
+use crate::read::syntax::scan::{DEEPEST, behind, text, value};
 use otel_base::list::Items;
 use otel_base::text::Text;
 use std::alloc::Global;

@@ -6,9 +6,9 @@ ghost use Rattle.std.specs.Str.{IsUtf8};
 ghost use Rattle.trace_pipeline.specs.text.QuickLines.{line_from, two_numbers};
 ghost use Rattle.trace_pipeline.specs.reading.Spelled.{request_spelled};
 
-use crate::read::flat::{closes, is_text};
 use crate::read::plain_fields::leading_fields;
-use crate::read::scan::{number, word};
+use crate::read::syntax::flat::{closes, is_text};
+use crate::read::syntax::scan::{number, word};
 use otel_base::list::Items;
 use span_script::request::{Call, Place, Request};
 use std::alloc::Global;
@@ -115,7 +115,7 @@ fn new_line(alloc: Global, line: &[u8], at: u64, rest: &[u8]) -> Option<Request>
             lane,
             call: Call::New {
                 site,
-                place: Place::Contextual,
+                parent: Place::Contextual,
                 fields,
             },
         }),
@@ -126,7 +126,7 @@ fn new_line(alloc: Global, line: &[u8], at: u64, rest: &[u8]) -> Option<Request>
                 lane,
                 call: Call::New {
                     site,
-                    place: Place::Root,
+                    parent: Place::Root,
                     fields,
                 },
             })
@@ -146,7 +146,7 @@ fn new_fields_line(alloc: Global, line: &[u8], at: u64, rest: &[u8]) -> Option<R
     let (lane, site) = pair(tail, b",\"lane\":", b",\"site\":")?;
     let call = Call::New {
         site,
-        place: Place::Contextual,
+        parent: Place::Contextual,
         fields,
     };
     Some(Request { at, lane, call })
@@ -166,7 +166,7 @@ fn event_line(alloc: Global, line: &[u8], at: u64, rest: &[u8]) -> Option<Reques
             lane,
             call: Call::Event {
                 site,
-                place: Place::Contextual,
+                parent: Place::Contextual,
                 fields,
             },
         }),
@@ -181,7 +181,7 @@ fn event_line(alloc: Global, line: &[u8], at: u64, rest: &[u8]) -> Option<Reques
                 lane,
                 call: Call::Event {
                     site,
-                    place: Place::Root,
+                    parent: Place::Root,
                     fields,
                 },
             })
@@ -201,7 +201,7 @@ fn event_fields_line(alloc: Global, line: &[u8], at: u64, rest: &[u8]) -> Option
     let (lane, site) = pair(tail, b",\"lane\":", b",\"site\":")?;
     let call = Call::Event {
         site,
-        place: Place::Contextual,
+        parent: Place::Contextual,
         fields,
     };
     Some(Request { at, lane, call })

@@ -2,7 +2,7 @@
 ghost use Rattle.std.specs.Prelude.{◌≡◌};
 ghost use Rattle.trace_pipeline.specs.reading.Gives.{Gives};
 ghost use Rattle.trace_pipeline.specs.reading.Left.{value_data, members_left};
-ghost use Rattle.trace_pipeline.specs.forms.RequestForm.{verb_word, verb_form, root_word, place_spelled, place_form, fields_form, new_form, clone_form, or_current_form, drop_form, enter_form, entered_form, exit_form, record_form, has_field_form, event_form, remote_form, context_form, attach_form, detach_form, call_form, request_form, enabled_form, reload_form};
+ghost use Rattle.trace_pipeline.specs.forms.RequestForm.{root_word, place_spelled, place_form, fields_form, new_form, clone_form, or_current_form, drop_form, enter_form, entered_form, exit_form, record_form, has_field_form, event_form, remote_form, context_form, attach_form, detach_form, call_by, call_form, request_form, enabled_form, reload_form};
 
 use crate::read::LineError;
 use crate::read::extension::{
@@ -11,81 +11,14 @@ use crate::read::extension::{
 };
 use crate::read::fields::fields_of;
 use crate::read::hex::{id_of, long_id_of};
-use crate::read::object::Object;
-use crate::read::value::Value;
+use crate::read::syntax::object::Object;
+use crate::read::syntax::value::Value;
 use otel_base::context::SpanContext;
 use otel_base::list::Items;
 use otel_base::text::Text;
 use span_script::request::{Call, Place, Request};
 use std::alloc::Global;
 use trace_base::field::Value as FieldValue;
-
-/// The words of `do` that are built.
-#[derive(Clone, Copy)]
-pub(crate) enum Verb {
-    New,
-    Current,
-    Clone,
-    OrCurrent,
-    Drop,
-    Enter,
-    Entered,
-    Exit,
-    Record,
-    HasField,
-    Event,
-    Remote,
-    Context,
-    Attach,
-    Detach,
-    Follows,
-    SetParent,
-    AddLink,
-    SetAttribute,
-    SetStatus,
-    AddEvent,
-    Enabled,
-    Reload,
-}
-
-fn verb_of(word: &str) -> Option<Verb>
-    ensures { result ≡ verb_word word.now }
-{
-    match word {
-        "new" => Some(Verb::New),
-        "current" => Some(Verb::Current),
-        "clone" => Some(Verb::Clone),
-        "or_current" => Some(Verb::OrCurrent),
-        "drop" => Some(Verb::Drop),
-        "enter" => Some(Verb::Enter),
-        "entered" => Some(Verb::Entered),
-        "exit" => Some(Verb::Exit),
-        "record" => Some(Verb::Record),
-        "has_field" => Some(Verb::HasField),
-        "event" => Some(Verb::Event),
-        "remote" => Some(Verb::Remote),
-        "context" => Some(Verb::Context),
-        "attach" => Some(Verb::Attach),
-        "detach" => Some(Verb::Detach),
-        "follows" => Some(Verb::Follows),
-        "set_parent" => Some(Verb::SetParent),
-        "add_link" => Some(Verb::AddLink),
-        "set_attribute" => Some(Verb::SetAttribute),
-        "set_status" => Some(Verb::SetStatus),
-        "add_event" => Some(Verb::AddEvent),
-        "enabled" => Some(Verb::Enabled),
-        "reload" => Some(Verb::Reload),
-        _ => None,
-    }
-}
-
-// Takes what is to be done.
-fn taken_verb(object: &mut Object) -> Result<Verb, LineError>
-    ensures { Gives (λ v. (v, members_left object.new)) result (verb_form (members_left object.old)) }
-{
-    let word = object.member("do")?;
-    verb_of(word.word()?).ok_or(LineError::BadLine)
-}
 
 fn root_of(word: &str) -> Option<Place>
     ensures { result ≡ root_word word.now }
@@ -108,7 +41,7 @@ fn place_of(value: &Value<'_>) -> Result<Place, LineError>
 }
 
 // Takes where a new span or an event is put: under the current span where nothing is said.
-fn place(object: &mut Object) -> Result<Place, LineError>
+fn parent(object: &mut Object) -> Result<Place, LineError>
     ensures { Gives (λ place. (place, members_left object.new)) result (place_form (members_left object.old)) }
 {
     match object.optional("parent") {
@@ -132,11 +65,11 @@ fn new_call(alloc: Global, object: &mut Object) -> Result<Call, LineError>
     ensures { Gives (λ c. (c, members_left object.new)) result (new_form (members_left object.old)) }
 {
     let site = object.whole("site")?;
-    let place = place(object)?;
+    let parent = parent(object)?;
     let fields = fields(alloc, object)?;
     Ok(Call::New {
         site,
-        place,
+        parent,
         fields,
     })
 }
@@ -236,11 +169,11 @@ fn event_call(alloc: Global, object: &mut Object) -> Result<Call, LineError>
     ensures { Gives (λ c. (c, members_left object.new)) result (event_form (members_left object.old)) }
 {
     let site = object.whole("site")?;
-    let place = place(object)?;
+    let parent = parent(object)?;
     let fields = fields(alloc, object)?;
     Ok(Call::Event {
         site,
-        place,
+        parent,
         fields,
     })
 }
@@ -271,34 +204,44 @@ fn reload_call(alloc: Global, object: &mut Object) -> Result<Call, LineError>
     Ok(Call::Reload { text })
 }
 
-fn call(alloc: Global, verb: Verb, object: &mut Object) -> Result<Call, LineError>
-    ensures { Gives (λ c. (c, members_left object.new)) result (call_form verb (members_left object.old)) }
+// Takes what a word of `do` goes on with.
+fn call_by(alloc: Global, word: &str, object: &mut Object) -> Result<Call, LineError>
+    ensures { Gives (λ c. (c, members_left object.new)) result (call_by word.now (members_left object.old)) }
 {
-    match verb {
-        Verb::New => new_call(alloc, object),
-        Verb::Current => Ok(Call::Current),
-        Verb::Clone => clone_call(object),
-        Verb::OrCurrent => or_current_call(object),
-        Verb::Drop => drop_call(object),
-        Verb::Enter => enter_call(object),
-        Verb::Entered => entered_call(object),
-        Verb::Exit => exit_call(object),
-        Verb::Record => record_call(alloc, object),
-        Verb::HasField => has_field_call(alloc, object),
-        Verb::Event => event_call(alloc, object),
-        Verb::Remote => remote_call(object),
-        Verb::Context => context_call(object),
-        Verb::Attach => attach_call(object),
-        Verb::Detach => detach_call(object),
-        Verb::Follows => follows_call(object),
-        Verb::SetParent => set_parent_call(object),
-        Verb::AddLink => add_link_call(alloc, object),
-        Verb::SetAttribute => set_attribute_call(alloc, object),
-        Verb::SetStatus => set_status_call(alloc, object),
-        Verb::AddEvent => add_event_call(alloc, object),
-        Verb::Enabled => enabled_call(object),
-        Verb::Reload => reload_call(alloc, object),
+    match word {
+        "new" => new_call(alloc, object),
+        "current" => Ok(Call::Current),
+        "clone" => clone_call(object),
+        "or_current" => or_current_call(object),
+        "drop" => drop_call(object),
+        "enter" => enter_call(object),
+        "entered" => entered_call(object),
+        "exit" => exit_call(object),
+        "record" => record_call(alloc, object),
+        "has_field" => has_field_call(alloc, object),
+        "event" => event_call(alloc, object),
+        "remote" => remote_call(object),
+        "context" => context_call(object),
+        "attach" => attach_call(object),
+        "detach" => detach_call(object),
+        "follows" => follows_call(object),
+        "set_parent" => set_parent_call(object),
+        "add_link" => add_link_call(alloc, object),
+        "set_attribute" => set_attribute_call(alloc, object),
+        "set_status" => set_status_call(alloc, object),
+        "add_event" => add_event_call(alloc, object),
+        "enabled" => enabled_call(object),
+        "reload" => reload_call(alloc, object),
+        _ => Err(LineError::BadLine),
     }
+}
+
+// Takes what is to be done.
+fn call(alloc: Global, object: &mut Object) -> Result<Call, LineError>
+    ensures { Gives (λ c. (c, members_left object.new)) result (call_form (members_left object.old)) }
+{
+    let word = object.member("do")?;
+    call_by(alloc, word.word()?, object)
 }
 
 /// Takes the members of a request.
@@ -308,7 +251,6 @@ pub(crate) fn request_members(alloc: Global, object: &mut Object) -> Result<Requ
 {
     let at = object.whole("at")?;
     let lane = object.whole("lane")?;
-    let verb = taken_verb(object)?;
-    let call = call(alloc, verb, object)?;
+    let call = call(alloc, object)?;
     Ok(Request { at, lane, call })
 }

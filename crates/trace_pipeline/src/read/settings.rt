@@ -2,15 +2,15 @@
 ghost use Rattle.std.specs.Prelude.{◌≡◌, true, IfOk};
 ghost use Rattle.trace_pipeline.specs.reading.Gives.{Gives};
 ghost use Rattle.trace_pipeline.specs.reading.Left.{value_data, members_left};
-ghost use Rattle.trace_pipeline.specs.forms.Forms.{each, object_of, provided};
+ghost use Rattle.trace_pipeline.specs.forms.Forms.{each, object_of, unit_if};
 ghost use Rattle.trace_pipeline.specs.reading.Object.{items};
 ghost use Rattle.trace_pipeline.specs.forms.SettingsForm.{lane_form, level_form, kind_form, source_form, callsite_form, callsites_form, error_flags, span_flags, layer_form, lanes_form, given_layer, settings_form, lane_ids, all_differ};
 
 use crate::level_words::{kind_of, level_of};
 use crate::read::LineError;
 use crate::read::fields::taken_texts;
-use crate::read::object::Object;
-use crate::read::value::Value;
+use crate::read::syntax::object::Object;
+use crate::read::syntax::value::Value;
 use otel_base::list::Items;
 use otel_base::text::Text;
 use otel_state::settings::LayerSettings;
@@ -195,7 +195,7 @@ fn layer_of(alloc: Global, value: Value<'_>) -> Result<LayerSettings, LineError>
 
 // Makes sure that no two lanes have the same id.
 fn distinct(alloc: Global, lanes: &[(u64, Option<Text>)]) -> Result<(), LineError>
-    ensures { Gives (λ u. u) result (provided (all_differ (lane_ids lanes.now))) }
+    ensures { Gives (λ u. u) result (unit_if (all_differ (lane_ids lanes.now))) }
 {
     let mut seen = BTreeSet::new(alloc);
     for lane in lanes {

@@ -1,5 +1,5 @@
 //! Ids in hexadecimal, written without an allocation.
-ghost use Rattle.std.specs.Prelude.{◌≡◌, ◌+◌, ◌<◌, ◌≤◌, ◌++◌, drop, length, false};
+ghost use Rattle.std.specs.Prelude.{◌≡◌, ◌+◌, ◌<◌, ◌≤◌, ◌++◌, drop, length, replicate, take, false};
 ghost use Rattle.std.specs.Fmt.{digit_glyph};
 ghost use Rattle.std.specs.Str.{IsUtf8};
 ghost use Rattle.json.specs.Print.{escape, quoted};
@@ -14,7 +14,7 @@ pub fn add_id(out: &mut Vec<u8>, front: &str, id: u64) -> Result<(), AllocError>
     ensures { Writes result out.old out.new (front.now ++ quoted (hex16 id)) }
 {
     let digits = digits_of(id);
-    add_plain(out, front, as_text(&digits))?;
+    add_plain(out, front, &digits)?;
     Ok(())
 }
 
@@ -23,7 +23,7 @@ pub fn add_long_id(out: &mut Vec<u8>, front: &str, id: u128) -> Result<(), Alloc
     ensures { Writes result out.old out.new (front.now ++ quoted (hex32 id)) }
 {
     let digits = digits_of_long(id);
-    add_plain(out, front, as_text(&digits))?;
+    add_plain(out, front, &digits)?;
     Ok(())
 }
 
@@ -61,15 +61,17 @@ pub(crate) fn digits_of_long(id: u128) -> [u8; 32]
     digits
 }
 
-// Puts 16 digits at `start`, the last of them first.
+// Puts the 16 digits of an id at `start`, where zeros stand: the last of them first, until zeros alone are left.
 fn put_digits(digits: &mut [u8], start: usize, id: u64)
-    requires { start + 16 ≤ length digits.old }
+    requires room { start + 16 ≤ length digits.old }
+    requires zeros { drop start digits.old ≡ replicate 16 48 ++ drop (start + 16) digits.old }
     ensures len { length digits.new ≡ length digits.old }
+    ensures front { take start digits.new ≡ take start digits.old }
     ensures from_start { drop start digits.new ≡ hex16 id ++ drop (start + 16) digits.old }
 {
     let mut rest = id;
     let mut at = start + 16;
-    while at > start {
+    while at > start && rest > 0 {
         at -= 1;
         digits[at] = digit_of(rest % 16);
         rest /= 16;

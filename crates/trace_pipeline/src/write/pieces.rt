@@ -1,6 +1,7 @@
 //! The pieces of lines: each is a text as it is given, and then a value.
 ghost use Rattle.std.specs.Prelude.{◌≡◌, ◌++◌, decimal};
 ghost use Rattle.std.specs.Fmt.{signed_decimal};
+ghost use Rattle.std.specs.Str.{IsUtf8};
 ghost use Rattle.json.specs.Print.{escape, quoted};
 ghost use Rattle.serde_json.specs.Data.{boolean};
 ghost use Rattle.serde_json.specs.Written.{compact_text, comma_if};
@@ -12,10 +13,17 @@ use std::alloc::AllocError;
 
 /// Adds a text as it is.
 #[inline(always)]
+#[tactic(auto, using(crate::proofs::texts::AddsLemmas::byte_added))]
 pub fn add(out: &mut Vec<u8>, front: &str) -> Result<(), AllocError>
     ensures { Writes result out.old out.new front.now }
 {
-    out.extend_from_slice(front.as_bytes())?;
+    let bytes = front.as_bytes();
+    // Most texts that are one byte are known to the compiler, so this test costs less than a copy.
+    if bytes.len() == 1 {
+        out.push(bytes[0])?;
+        return Ok(());
+    }
+    out.extend_from_slice(bytes)?;
     Ok(())
 }
 
@@ -81,14 +89,15 @@ pub fn add_text(out: &mut Vec<u8>, front: &str, text: &str) -> Result<(), AllocE
     Ok(())
 }
 
-/// Adds a text in quotes that needs no escape.
-pub fn add_plain(out: &mut Vec<u8>, front: &str, text: &str) -> Result<(), AllocError>
-    requires { escape text.now ≡ text.now }
+/// Adds a text in quotes that needs no escape, by its bytes.
+pub fn add_plain(out: &mut Vec<u8>, front: &str, text: &[u8]) -> Result<(), AllocError>
+    requires utf8 { IsUtf8 text.now }
+    requires plain { escape text.now ≡ text.now }
     ensures { Writes result out.old out.new (front.now ++ quoted text.now) }
 {
     add(out, front)?;
     out.push(b'"')?;
-    add(out, text)?;
+    out.extend_from_slice(text)?;
     out.push(b'"')?;
     Ok(())
 }

@@ -1,5 +1,6 @@
 //! Records as JSON.
 ghost use Rattle.std.specs.Prelude.{◌≡◌, ◌++◌};
+ghost use Rattle.json.specs.Print.{quoted};
 ghost use Rattle.serde_json.specs.Written.{compact_text};
 ghost use Rattle.trace_pipeline.specs.reading.Object.{array_of};
 ghost use Rattle.trace_pipeline.specs.values.RecordData.{event_data, link_data, kind_name, status_data, lane_text, record_object};
@@ -25,7 +26,7 @@ pub fn add_record(
     add_attributes(out, "{\"attributes\":", finished.attributes.as_slice())?;
     add_number(out, ",\"end\":", finished.end)?;
     add_events(out, ",\"events\":", finished.events.as_slice())?;
-    add_text(out, ",\"kind\":", name_of(finished.kind))?;
+    add_kind(out, ",\"kind\":", finished.kind)?;
     add_lane(out, lane)?;
     add_links(out, ",\"links\":", finished.links.as_slice())?;
     add_text(out, ",\"name\":", finished.name.as_str())?;
@@ -59,6 +60,28 @@ pub(crate) fn name_of(kind: SpanKind) -> &'static str
         SpanKind::Consumer => "consumer",
         SpanKind::Internal => "internal",
     }
+}
+
+// The same in quotes, of which none needs an escape.
+#[tactic(auto, unfolding(json::specs::Print::escape_byte))]
+fn quoted_name(kind: SpanKind) -> &'static str
+    ensures { result.now ≡ quoted (kind_name kind) }
+{
+    match kind {
+        SpanKind::Server => "\"server\"",
+        SpanKind::Client => "\"client\"",
+        SpanKind::Producer => "\"producer\"",
+        SpanKind::Consumer => "\"consumer\"",
+        SpanKind::Internal => "\"internal\"",
+    }
+}
+
+fn add_kind(out: &mut Vec<u8>, front: &str, kind: SpanKind) -> Result<(), AllocError>
+    ensures { Writes result out.old out.new (front.now ++ quoted (kind_name kind)) }
+{
+    add(out, front)?;
+    add(out, quoted_name(kind))?;
+    Ok(())
 }
 
 fn add_error(out: &mut Vec<u8>, front: &str, description: &str) -> Result<(), AllocError>

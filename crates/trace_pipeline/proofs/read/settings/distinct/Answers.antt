@@ -1,6 +1,6 @@
 -- The set is seen as a function: whether it has a number.
 use Rattle.std.proofs.Common.{nat_cmp, ap, ◌∙◌, sym, arith}
-use Rattle.trace_pipeline.proofs.Common.{contains, is_at, list_any, provided, lane_ids}
+use Rattle.trace_pipeline.proofs.Common.{contains, is_at, list_any, unit_if, lane_ids}
 use Rattle.trace_pipeline.proofs.ids.DistinctLemmas.{begins, next_lane, same_lane}
 use Rattle.trace_pipeline.proofs.read.settings.distinct.Goals as goal
 
@@ -14,6 +14,6 @@ loop-lane-preserved c =
 
 pub returns-then-not-branch : goal.returns-then-not-branch
 returns-then-not-branch c =
-    ap provided (sym c.loop-lane.invariant
+    ap unit_if (sym c.loop-lane.invariant
     ∙ same_lane (contains nat_cmp c.loop-lane.seen) (contains nat_cmp c.insert.new.self) c.args.lanes.now c.loop-lane.lane-index c.lane-item.result (omega arith) c.lane-item.is
     c.in_ok-insert.field-0 c.in_ok-insert.ensures.added c.if-not-branch.true)

@@ -34,7 +34,7 @@ returns c =
     let s1 : List ℕ = codes "{\"attributes\":" ++ compact_text (attributes_data c.as_slice.result.now) in
     let s2 : List ℕ = codes ",\"end\":" ++ decimal finished.end in
     let s3 : List ℕ = codes ",\"events\":" ++ compact_text (array_of event_data c.as_slice-2.result.now) in
-    let s4 : List ℕ = codes ",\"kind\":" ++ quoted c.name_of.result.now in
+    let s4 : List ℕ = codes ",\"kind\":" ++ quoted (kind_name finished.kind) in
     let s : List ℕ = lane_text c.args.lane in
     let s5 : List ℕ = codes ",\"links\":" ++ compact_text (array_of link_data c.as_slice-3.result.now) in
     let s6 : List ℕ = codes ",\"name\":" ++ quoted c.as_str.result.now in
@@ -57,15 +57,15 @@ returns c =
     let t8 : List ℕ = s8 ++ t9 in
     let x8 : AddsText c.add_id.new.out.items new t8 = then c.add_id.new.out.items c.add_number-2.new.out.items new s8 t9 c.in_ok-add_number-2.ensures x9 in
     let t7 : List ℕ = s7 ++ t8 in
-    let x7 : AddsText c.add_text-2.new.out.items new t7 = then c.add_text-2.new.out.items c.add_id.new.out.items new s7 t8 c.in_ok-add_id.ensures x8 in
+    let x7 : AddsText c.add_text.new.out.items new t7 = then c.add_text.new.out.items c.add_id.new.out.items new s7 t8 c.in_ok-add_id.ensures x8 in
     let t6 : List ℕ = s6 ++ t7 in
-    let x6 : AddsText c.add_links.new.out.items new t6 = then c.add_links.new.out.items c.add_text-2.new.out.items new s6 t7 c.in_ok-add_text-2.ensures x7 in
+    let x6 : AddsText c.add_links.new.out.items new t6 = then c.add_links.new.out.items c.add_text.new.out.items new s6 t7 c.in_ok-add_text.ensures x7 in
     let t5 : List ℕ = s5 ++ t6 in
     let x5 : AddsText c.add_lane.new.out.items new t5 = then c.add_lane.new.out.items c.add_links.new.out.items new s5 t6 c.in_ok-add_links.ensures x6 in
     let t : List ℕ = s ++ t5 in
-    let x : AddsText c.add_text.new.out.items new t = then c.add_text.new.out.items c.add_lane.new.out.items new s t5 c.in_ok-add_lane.ensures x5 in
+    let x : AddsText c.add_kind.new.out.items new t = then c.add_kind.new.out.items c.add_lane.new.out.items new s t5 c.in_ok-add_lane.ensures x5 in
     let t4 : List ℕ = s4 ++ t in
-    let x4 : AddsText c.add_events.new.out.items new t4 = then c.add_events.new.out.items c.add_text.new.out.items new s4 t c.in_ok-add_text.ensures x in
+    let x4 : AddsText c.add_events.new.out.items new t4 = then c.add_events.new.out.items c.add_kind.new.out.items new s4 t c.in_ok-add_kind.ensures x in
     let t3 : List ℕ = s3 ++ t4 in
     let x3 : AddsText c.add_number.new.out.items new t3 = then c.add_number.new.out.items c.add_events.new.out.items new s3 t4 c.in_ok-add_events.ensures x4 in
     let t2 : List ℕ = s2 ++ t3 in
@@ -73,4 +73,4 @@ returns c =
     let t1 : List ℕ = s1 ++ t2 in
     let x1 : AddsText c.args.out.now.items new t1 = then c.args.out.now.items c.add_attributes.new.out.items new s1 t2 c.in_ok-add_attributes.ensures x2 in
     retold c.args.out.now.items new t1 (compact_text (record_object c.args.lane c.args.number finished)) x1
-    (rw (c.as_slice.ensures, c.as_slice-2.ensures, c.name_of.ensures, c.as_slice-3.ensures, c.as_str.ensures) (whole c.args.lane c.args.number finished))
+    (rw (c.as_slice.ensures, c.as_slice-2.ensures, c.as_slice-3.ensures, c.as_str.ensures) (whole c.args.lane c.args.number finished))
