@@ -1,8 +1,11 @@
 //! Task lines as they are mostly written: compact, and with their members in the order of their names, which are read in one
 //! pass. None says nothing of what a text is.
-ghost use Rattle.std.specs.Prelude.{◌≡◌, ◌<◌, ◌^◌, ◌++◌, [], ◌∷◌, Some, Ok, IfSome, decimal};
+ghost use Rattle.std.specs.Prelude.{◌≡◌, ◌<◌, ◌^◌, ◌+◌, ◌++◌, [], ◌∷◌, Some, Ok, IfSome, decimal};
+ghost use Rattle.serde_json.specs.Data.{Data};
 ghost use Rattle.trace_pipeline.specs.forms.AttributeForm.{otel_value_of};
+ghost use Rattle.trace_pipeline.specs.forms.FieldForm.{fields_of};
 ghost use Rattle.trace_pipeline.specs.reading.Left.{value_data};
+ghost use Rattle.trace_pipeline.specs.text.Compact.{BeginsWithValue};
 ghost use Rattle.task_lines.specs.Compact.{BeginsStep, BeginsSteps, EndsTask};
 ghost use Rattle.task_lines.specs.TaskForm.{task_spelled};
 
@@ -10,7 +13,8 @@ use otel_base::list::Items;
 use otel_base::text::Text;
 use otel_base::value::OtelValue;
 use std::alloc::Global;
-use trace_pipeline::read::scan::{number, text, value, word};
+use trace_base::field::Value as FieldValue;
+use trace_pipeline::read::syntax::scan::{DEEPEST, number, text, value, word};
 use trace_pipeline::read::{closes, is_text, leading_fields};
 use trace_pipeline::{Value, otel_value_of};
 use trace_tasks::script::{Step, Task};
@@ -29,11 +33,31 @@ fn closing_site<'a>(bytes: &'a [u8], front: &[u8]) -> Option<(u64, &'a [u8])>
     Some((site, rest))
 }
 
+// The items of a list, in room for no more, since tasks are kept until all are read.
+fn fitted<T: Drop>(alloc: Global, items: Vec<T>) -> Option<Items<T>>
+    ensures { IfSome result (λ fitted. fitted ≡ items.items) }
+{
+    let mut items = items;
+    let mut fitted = Vec::with_capacity(alloc, items.len()).ok()?;
+    fitted.append(&mut items).ok()?;
+    Some(Items::from(fitted))
+}
+
+// The fields that an array in front of a text spells, and what stands behind it.
+fn fields_in_front(alloc: Global, bytes: &[u8]) -> Option<(Items<(Text, FieldValue)>, &[u8])>
+    ensures { IfSome result (λ r.
+        (d : Data) × BeginsWithValue (DEEPEST + 2) bytes.now d r.1.now × (fields_of d ≡ Some r.0)) }
+{
+    let (listed, tail) = leading_fields(alloc, bytes)?;
+    let fields = fitted(alloc, listed.into_vec())?;
+    Some((fields, tail))
+}
+
 fn event_with_fields(alloc: Global, bytes: &[u8]) -> Option<(Step, &[u8])>
     ensures { IfSome result (λ r. BeginsStep bytes.now r.0 r.1.now) }
 {
     let list = word(bytes, b"{\"do\":\"event\",\"fields\":")?;
-    let (fields, tail) = leading_fields(alloc, list)?;
+    let (fields, tail) = fields_in_front(alloc, list)?;
     let (site, rest) = closing_site(tail, b",\"site\":")?;
     Some((Step::Event { site, fields }, rest))
 }
@@ -50,7 +74,7 @@ fn record(alloc: Global, bytes: &[u8]) -> Option<(Step, &[u8])>
     ensures { IfSome result (λ r. BeginsStep bytes.now r.0 r.1.now) }
 {
     let list = word(bytes, b"{\"do\":\"record\",\"fields\":")?;
-    let (fields, tail) = leading_fields(alloc, list)?;
+    let (fields, tail) = fields_in_front(alloc, list)?;
     let rest = word(tail, b"}")?;
     Some((Step::Record { fields }, rest))
 }
@@ -133,7 +157,8 @@ fn leading_steps(alloc: Global, bytes: &[u8]) -> Option<(Items<Step>, &[u8])>
             Some(more) => rest = more,
             None => {
                 let end = word(after, b"]")?;
-                return Some((Items::from(steps), end));
+                let listed = fitted(alloc, steps)?;
+                return Some((listed, end));
             }
         }
     }
@@ -162,7 +187,7 @@ pub(crate) fn quick_task(alloc: Global, line: &[u8]) -> Option<Task>
     }
     match word(line, b"{\"fields\":") {
         Some(list) => {
-            let (fields, tail) = leading_fields(alloc, list)?;
+            let (fields, tail) = fields_in_front(alloc, list)?;
             let (site, steps) = site_and_steps(alloc, tail, b",\"site\":")?;
             Some(Task {
                 site,

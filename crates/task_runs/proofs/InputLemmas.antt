@@ -1,7 +1,6 @@
 -- What is written for a script of tasks is of what its lines come to.
 use Rattle.std.proofs.Common.{◌≡◌, ℕ, List, refl, sym, ap, ◌∙◌, inl, inr, Vec, Global}
 use Rattle.std.specs.Prelude.{Option, Some, None, Result, Ok, Err, true, false, not, is_ok, IfOk, IfSome}
-use Rattle.span_script.specs.declared.outcome.Outcome.{Outcome}
 use Rattle.trace_pipeline.specs.text.Texts.{refusal_text}
 use Rattle.script_lines.specs.declared.answer.Answer.{Answer}
 use Rattle.script_lines.specs.declared.refused_line.RefusedLine.{RefusedLine}
@@ -9,11 +8,10 @@ use Rattle.script_lines.specs.Refusals.{Refuses, NoneRefused}
 use Rattle.trace_tasks.specs.declared.script.TaskScript.{TaskScript}
 use Rattle.task_runs.specs.Reading.{EndsAs, IsRefusedBy, IsStopped}
 use Rattle.task_runs.specs.Scripts.{tasks_of}
-use Rattle.task_runs.specs.Texts.{outcome_text, tasks_outcome, TellsTasks, accepts_tasks}
+use Rattle.task_runs.specs.Texts.{tasks_outcome, TellsOutcome, TellsTasks, accepts_tasks}
 
-pub tells_outcome : (lines : List (List ℕ)) (script : TaskScript) (outcome : Outcome) (text : List ℕ) → EndsAs lines (Ok script) → outcome ≡ tasks_outcome script → outcome.refused ≡ None → text ≡ outcome_text outcome → TellsTasks lines text
-tells_outcome lines script outcome text ends is served told =
-    rw ends.0 (ap (λ (o : Outcome). o.refused) (sym is) ∙ served, told ∙ ap outcome_text is)
+pub tells_outcome : (lines : List (List ℕ)) (script : TaskScript) (text : List ℕ) → EndsAs lines (Ok script) → TellsOutcome (tasks_outcome script) text → TellsTasks lines text
+tells_outcome lines script text ends told = rw ends.0 told
 
 pub accepted : (lines : List (List ℕ)) (script : TaskScript) → EndsAs lines (Ok script) → accepts_tasks lines ≡ true
 accepted lines script ends = ap is_ok ends.0

@@ -3,3 +3,4 @@ pub mod InputLemmas
 pub mod OneLineLemmas
 pub mod ReadingLemmas
 pub mod TapesLemmas
+pub mod WritingLemmas

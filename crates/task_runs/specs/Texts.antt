@@ -17,9 +17,13 @@ outcome_text outcome = record_lines 1 outcome.records ++ end_text outcome.left_o
 abbrev pub tasks_outcome : TaskScript → Outcome
 tasks_outcome script = outcome_of (setup_by script.settings) (flat script.settings.callsites script.tasks)
 
--- the text of a script's outcome, in which no request is refused, or the refusal line alone
+-- no request is refused, and the text is that of the outcome
+abbrev pub TellsOutcome : Outcome → List ℕ → Type 0
+TellsOutcome outcome text = (outcome.refused ≡ None) × (text ≡ outcome_text outcome)
+
+-- the text of a script's outcome, or the refusal line alone
 abbrev pub TellsScript : Lines → List ℕ → Type 0
-TellsScript (Ok script) text = ((tasks_outcome script).refused ≡ None) × (text ≡ outcome_text (tasks_outcome script))
+TellsScript (Ok script) text = TellsOutcome (tasks_outcome script) text
 TellsScript (Err refused) text = text ≡ refusal_text refused.line refused.told
 
 abbrev pub TellsTasks : List (List ℕ) → List ℕ → Type 0

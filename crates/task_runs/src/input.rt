@@ -7,7 +7,6 @@ ghost use Rattle.task_runs.specs.Texts.{accepts_tasks, TellsTasks};
 
 use crate::run::run_task_script;
 use crate::script::TaskReader;
-use crate::text::outcome_text;
 use otel_base::memory::Memory;
 use script_lines::{Answer, first_line, refused_answer};
 use std::alloc::{AllocGlobal, Global};
@@ -39,8 +38,7 @@ pub fn tasks_answer<R: RandomSource + AllocGlobal>(
 {
     match read_lines(alloc, bytes)?.end()? {
         Ok(script) => {
-            let outcome = run_task_script(rt, alloc, script)?;
-            let text = outcome_text(alloc, &outcome)?;
+            let text = run_task_script(rt, alloc, script)?;
             let refused = false;
             Ok(Answer { text, refused })
         }

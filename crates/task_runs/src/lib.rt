@@ -10,9 +10,8 @@ pub mod input;
 pub mod run;
 pub mod script;
 mod spell;
-pub mod text;
+mod text;
 
 pub use input::{tasks_answer, tasks_refusal};
 pub use run::run_task_script;
 pub use script::TaskReader;
-pub use text::outcome_text;

@@ -1,33 +1,56 @@
-//! What is written of an outcome.
-ghost use Rattle.std.specs.Prelude.{◌≡◌, ◌++◌, IfOk, OnOk};
+//! What is written of the records of a run.
+ghost use Rattle.std.specs.Prelude.{◌≡◌, ◌+◌, ◌++◌, [], length, OnOk, IfOk};
 ghost use Rattle.trace_pipeline.specs.Report.{record_lines};
-ghost use Rattle.task_runs.specs.Texts.{outcome_text};
+ghost use Rattle.trace_pipeline.specs.text.Texts.{end_text};
+ghost use Rattle.trace_records.specs.Following.{without_taken};
 
 use otel_base::memory::Memory;
-use otel_base::record::Record;
-use span_script::outcome::Outcome;
+use span_pipeline::pipeline::Pipeline;
 use std::alloc::Global;
 use trace_pipeline::{add_end_line, add_record_line};
 
-// Adds the lines of records, numbered from 1.
-fn add_records(text: &mut Vec<u8>, records: &[Record]) -> Result<(), Memory>
-    ensures { OnOk result (text.new.items ≡ text.old.items ++ record_lines 1 records.now) }
-{
-    let mut number = 1u64;
-    for record in records {
-        add_record_line(text, number, record)?;
-        number += 1;
-    }
-    Ok(())
+/// The lines of the records so far, which are numbered from 1.
+#[derive(Drop)]
+pub(crate) struct RecordLines {
+    pub(crate) text: Vec<u8>,
+    pub(crate) count: u64,
 }
 
-/// The record lines of an outcome, and the end line. `Memory` freely.
-pub fn outcome_text(alloc: Global, outcome: &Outcome) -> Result<Vec<u8>, Memory>
-    ensures { IfOk result (λ text. text.items ≡ outcome_text outcome.now) }
-{
-    let records = outcome.records.as_slice();
-    let mut text = Vec::new(alloc);
-    add_records(&mut text, records)?;
-    add_end_line(&mut text, outcome.left_open, records.len() as u64)?;
-    Ok(text)
+impl RecordLines {
+    // No lines.
+    pub(crate) fn new(alloc: Global) -> RecordLines
+        ensures text { result.text.items ≡ [] }
+        ensures count { result.count ≡ 0 }
+    {
+        RecordLines {
+            text: Vec::new(alloc),
+            count: 0,
+        }
+    }
+
+    // Takes the records that wait, and writes their lines.
+    pub(crate) fn take_records(&mut self, pipeline: &mut Pipeline) -> Result<(), Memory>
+        ensures lines { OnOk result (self.new.text.items
+            ≡ self.old.text.items ++ record_lines (self.old.count + 1) pipeline.old.recording.finished) }
+        ensures count { OnOk result (self.new.count ≡ self.old.count + length pipeline.old.recording.finished) }
+        ensures taken { OnOk result (pipeline.new.recording.finished ≡ []) }
+        ensures state { without_taken pipeline.new ≡ without_taken pipeline.old }
+    {
+        while let Some(finished) = pipeline.take_record() {
+            // No run has so many records that the sum wraps.
+            let number = self.count.checked_add(1).ok_or(Memory)?;
+            add_record_line(&mut self.text, number, &finished)?;
+            self.count = number;
+        }
+        Ok(())
+    }
+
+    // The lines, and the end line for a run that leaves so many spans open.
+    pub(crate) fn end(self, left_open: u64) -> Result<Vec<u8>, Memory>
+        ensures { IfOk result (λ text. text.items ≡ self.text.items ++ end_text left_open self.count) }
+    {
+        let RecordLines { mut text, count } = self;
+        add_end_line(&mut text, left_open, count)?;
+        Ok(text)
+    }
 }

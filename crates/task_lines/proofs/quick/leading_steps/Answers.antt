@@ -1,6 +1,6 @@
 use Rattle.std.proofs.Common.{◌+◌, ◌++◌, [], ◌∷◌, Some, ap, sym, ◌∙◌}
 use Rattle.serde_json.specs.Data.{no_items}
-use Rattle.trace_pipeline.specs.declared.read.scan.TheConstants.{DEEPEST}
+use Rattle.trace_pipeline.specs.declared.read.syntax.scan.TheConstants.{DEEPEST}
 use Rattle.trace_pipeline.proofs.readings.CompactLemmas.{Pair, AllRead-push, items_first, items_on, items_text_end, array_front, read_items}
 use Rattle.task_lines.proofs.StepsLemmas.{step_more}
 use Rattle.task_lines.proofs.quick.leading_steps.Goals as goal
@@ -25,7 +25,7 @@ returns-in-None c =
     let text = items_text_end c.in_ok-rest.rest.now c.loop.rest.now c.in_ok-next.after.now end ps p c.loop.invariant.2 b.1.1 c.in_ok-end-in-None.ensures in (
       read_items (ps ++ p ∷ []),
       array_front (DEEPEST + 3) c.args.bytes.now c.in_ok-rest.rest.now end (ps ++ p ∷ []) (AllRead-push (DEEPEST + 3) ps p c.loop.invariant.1 b.1.2) c.in_ok-rest.ensures text,
-      kept ∙ ap (λ ss. Some ss) (sym c.from-in-None.ensures),
+      kept ∙ ap (λ ss. Some ss) (sym c.in_ok-listed-in-None.ensures),
     )
 
 pub loop-preserved : goal.loop-preserved

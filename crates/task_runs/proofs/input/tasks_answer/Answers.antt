@@ -13,7 +13,7 @@ run_task_script-requires g c =
 pub returns-in_ok-text-in-Ok-clause-text : goal.returns-in_ok-text-in-Ok-clause-text
 returns-in_ok-text-in-Ok-clause-text g c =
     let ends = subst (EndsAs (lines_of c.args.bytes.now)) c.in-Ok.is (c.in_ok-script.ensures (lines_of c.args.bytes.now) c.in_ok-read_lines.ensures) in
-    tells_outcome (lines_of c.args.bytes.now) c.in-Ok.script c.in_ok-outcome-in-Ok.outcome c.in_ok-text-in-Ok.text.items ends c.in_ok-outcome-in-Ok.ensures.outcome c.in_ok-outcome-in-Ok.ensures.served c.in_ok-text-in-Ok.ensures
+    tells_outcome (lines_of c.args.bytes.now) c.in-Ok.script c.in_ok-text-in-Ok.text.items ends c.in_ok-text-in-Ok.ensures
 
 pub returns-in_ok-text-in-Ok-clause-refused : goal.returns-in_ok-text-in-Ok-clause-refused
 returns-in_ok-text-in-Ok-clause-refused g c =
