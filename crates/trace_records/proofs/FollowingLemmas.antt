@@ -11,7 +11,7 @@ use Rattle.span_script.specs.Fits.{State, StandsFor}
 use Rattle.span_script.proofs.runs.RunLemmas.{records_push}
 use Rattle.trace_pipeline.specs.declared.told.Told.TheVariants as told
 use Rattle.trace_pipeline.specs.Lines.{is_blank}
-use Rattle.script_lines.proofs.BlankLemmas.{some_before, all_blank, one_not_blank}
+use Rattle.script_lines.proofs.BlankLemmas.{some_before, one_not_blank}
 use Rattle.trace_records.specs.declared.finished.FinishedSpans.{FinishedSpans}
 use Rattle.script_lines.specs.declared.refused_line.RefusedLine.{RefusedLine}
 use Rattle.trace_records.specs.declared.line.Opened.{Opened}
@@ -27,34 +27,6 @@ use Rattle.trace_records.specs.Following.{without_taken, IsOpening, IsRunning, I
 -- what holds behind one line more
 on_line : (most : Option ℕ) (lines more : List (List ℕ)) (line : List ℕ) (r : Run) → script_of most (lines ++ line ∷ more) ≡ r → script_of most ((lines ++ line ∷ []) ++ more) ≡ r
 on_line most lines more line r is = ap (script_of most) (append_assoc lines (line ∷ []) more) ∙ is
-
--- no line changes what came of a refused line
-pub stays_stopped : (most : Option ℕ) (lines more : List (List ℕ)) (refused : RefusedLine) → IsStopped most lines refused → IsStopped most (lines ++ more) refused
-stays_stopped most lines more refused s = record {
-  some = some_before lines more s.some;
-  is_told = s.is_told;
-  script_is = λ later. ap (script_of most) (append_assoc lines more later) ∙ s.script_is (more ++ later);
-}
-
--- a blank line
-pub blank_on : {K : Type 0} (of : Record → K) (most : Option ℕ) (at : Stage) (lines : List (List ℕ)) (count next : ℕ) (finished : FinishedSpans K) (line : List ℕ)
-    → StandsAt of most at lines count finished → next ≡ count + 1 → is_blank line ≡ true → StandsAt of most at (lines ++ line ∷ []) next finished
-blank_on of most stage.Opening lines count next finished line a counted is = record {
-  blank = all_blank lines line a.blank is;
-  no_spans = a.no_spans;
-  no_lanes = a.no_lanes;
-  script_is = λ more. on_line most lines more line _ (a.script_is (line ∷ more) ∙ rw (is, counted) refl);
-}
-blank_on of most (stage.Running pipeline) lines count next finished line a counted is = record {
-  history = a.history;
-  some = some_before lines (line ∷ []) a.some;
-  stands = a.stands;
-  taken = a.taken;
-  spans_are = a.spans_are;
-  lanes_are = a.lanes_are;
-  script_is = λ more. on_line most lines more line _ (a.script_is (line ∷ more) ∙ rw (is, counted) refl);
-}
-blank_on of most (stage.Refused refused) lines count next finished line a counted is = stays_stopped most lines (line ∷ []) refused a
 
 -- the settings line
 pub opened_on : {K : Type 0} (of : Record → K) (most : Option ℕ) (lines : List (List ℕ)) (count next : ℕ) (old new : FinishedSpans K) (line : List ℕ) (opened : Opened)
@@ -154,12 +126,6 @@ on_ok (Ok x) P Q R S give p q r = give p q r
 on_ok (Err e) P Q R S give p q r = tt
 
 -- ---- the end of the lines
-
--- the line that was refused, if one was
-abbrev pub refused_at : Stage → Option RefusedLine
-refused_at stage.Opening = None
-refused_at (stage.Running pipeline) = None
-refused_at (stage.Refused refused) = Some refused
 
 with_none : (most : Option ℕ) (lines : List (List ℕ)) → script_of most lines ≡ script_of most (lines ++ [])
 with_none most lines = ap (script_of most) (sym (append-nil lines))

@@ -19,7 +19,7 @@ use Rattle.trace_pipeline.specs.Report.{effect_of_line, effect_of_request}
 use Rattle.script_lines.specs.Refusals.{IsTold}
 use Rattle.trace_records.specs.declared.line.Opened.{Opened}
 use Rattle.trace_records.specs.declared.line.Answered.{Answered}
-use Rattle.trace_records.specs.Scripts.{takes, setup_of, setup_of_line, lane_in}
+use Rattle.trace_records.specs.Scripts.{takes, setup_of, setup_of_line, lane_spelled}
 use Rattle.trace_records.specs.Lines.{Opens, AnswersRequest}
 
 -- the refusal of a step has a line but for want of memory
@@ -80,7 +80,7 @@ pub answers : (text : List ℕ) (h : History) (old new : State) (request : Reque
 answers text h old new request answered is lane did = record {
   effect = did.effect;
   is = stepped old.setup (tables old.setup h) text request did.effect is did.is;
-  lane = lane ∙ sym (ap lane_in is);
+  lane = lane ∙ sym (ap lane_spelled is);
   reply_is = did.reply_is;
   setup = did.setup;
   records = did.records;

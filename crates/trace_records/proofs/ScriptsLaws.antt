@@ -25,7 +25,7 @@ use Rattle.trace_pipeline.specs.declared.told.Told.{Told}
 use Rattle.trace_pipeline.specs.Lines.{is_blank}
 use Rattle.trace_pipeline.specs.reading.Spelled.{settings_spelled, request_spelled}
 use Rattle.trace_pipeline.specs.Report.{Report, report_on_effect, effect_of_line, effect_of_request, told_step, report_on, report_from, report_on_settings, report_on_opening, accepts, answer_count}
-use Rattle.trace_records.specs.Scripts.{ScriptRan, Run, run_unless_refused, setup_read, setup_of, setup_of_line, lane_in, lanes_on, script_on, script_from, script_of}
+use Rattle.trace_records.specs.Scripts.{ScriptRan, Run, run_unless_refused, setup_read, setup_of, setup_of_line, lane_spelled, lanes_on, script_on, script_from, script_of}
 
 -- ---- the same lines are accepted
 
@@ -126,12 +126,12 @@ legal_on setup h lanes n (text ∷ lines) s is l =
     (λ x does goes.
     let did = line_ok setup (tables setup h) text x does in
     let more_records : List Record = records_of (tables setup h) x in
-    let lane : lane_in (request_spelled text) < length setup.ids = rw did.spelled (lane_within setup (tables setup h) did.request x did.effect) in
+    let lane : lane_spelled (request_spelled text) < length setup.ids = rw did.spelled (lane_within setup (tables setup h) did.request x did.effect) in
     legal_on setup (h ++ x ∷ []) (lanes ++ lanes_on text more_records) (n + 1) lines s goes
     (record {
       history = more h did.request x l.history did.effect;
-      lanes = length-append lanes (lanes_on text more_records) ∙ rw (l.lanes, length-map more_records (λ (r : Record). lane_in (request_spelled text))) refl ∙ sym (length-append (records_of_history setup h) more_records) ∙ sym (ap length (records_push (no_tables setup) h x));
-      within = All-append (λ k. k < length setup.ids) lanes (lanes_on text more_records) l.within (all_same (λ k. k < length setup.ids) (lane_in (request_spelled text)) more_records lane);
+      lanes = length-append lanes (lanes_on text more_records) ∙ rw (l.lanes, length-map more_records (λ (r : Record). lane_spelled (request_spelled text))) refl ∙ sym (length-append (records_of_history setup h) more_records) ∙ sym (ap length (records_push (no_tables setup) h x));
+      within = All-append (λ k. k < length setup.ids) lanes (lanes_on text more_records) l.within (all_same (λ k. k < length setup.ids) (lane_spelled (request_spelled text)) more_records lane);
     })))
 
 legal_from : (most : Option ℕ) (n : ℕ) (lines : List (List ℕ)) (s : ScriptRan) → script_from most n lines ≡ Ok s → IsLegal s

@@ -8,7 +8,7 @@ use Rattle.trace_pipeline.specs.Report.{effect_of_line}
 use Rattle.script_lines.specs.Refusals.{IsTold}
 use Rattle.trace_records.specs.declared.line.Opened.{Opened}
 use Rattle.trace_records.specs.declared.line.Answered.{Answered}
-use Rattle.trace_records.specs.Scripts.{setup_of_line, lane_in}
+use Rattle.trace_records.specs.Scripts.{setup_of_line, lane_spelled}
 
 -- A pipeline that the settings on a line fix, before any request.
 pub record Opens (most : Option ℕ) (text : List ℕ) (opened : Opened) : Type 0 where
@@ -26,7 +26,7 @@ OpensLine most text (Err why) = (setup_of_line most text ≡ Err why) × IsTold 
 pub record AnswersRequest (text : List ℕ) (h : History) (old new : State) (answered : Answered) : Type 0 where
   pub effect : Effect
   pub is : effect_of_line old.setup (tables old.setup h) text ≡ Ok effect
-  pub lane : answered.lane ≡ lane_in (request_spelled text)
+  pub lane : answered.lane ≡ lane_spelled (request_spelled text)
   pub reply_is : answered.reply ≡ effect.reply
   pub setup : new.setup ≡ old.setup
   pub records : new.recording.finished ≡ old.recording.finished ++ records_of (tables old.setup h) effect

@@ -53,13 +53,13 @@ setup_of_line most text = setup_of most (settings_spelled text)
 -- ---- the lines
 
 -- the lane of the request that a line spells, by its place
-abbrev pub lane_in : Result Request Told → ℕ
-lane_in (Ok request) = request.lane
-lane_in (Err why) = 0
+abbrev pub lane_spelled : Result Request Told → ℕ
+lane_spelled (Ok request) = request.lane
+lane_spelled (Err why) = 0
 
 -- for each record that comes of a line the lane of its request
 abbrev pub lanes_on : List ℕ → List Record → List ℕ
-lanes_on text finished = map (λ r. lane_in (request_spelled text)) finished
+lanes_on text finished = map (λ r. lane_spelled (request_spelled text)) finished
 
 -- the script whose request lines follow, so many lines having come before
 abbrev pub script_on : Setup → History → List ℕ → ℕ → List (List ℕ) → Run

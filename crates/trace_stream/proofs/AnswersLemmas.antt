@@ -22,7 +22,7 @@ use Rattle.trace_records.specs.declared.line.Opened.{Opened}
 use Rattle.trace_records.specs.declared.line.Answered.{Answered}
 use Rattle.trace_records.specs.Scripts.{setup_read, setup_of, setup_of_line}
 use Rattle.trace_records.specs.Lines.{OpensLine, AnswersLine}
-use Rattle.script_lines.proofs.BlankLemmas.{some_before, all_blank, one_not_blank}
+use Rattle.script_lines.proofs.BlankLemmas.{some_before, one_not_blank}
 use Rattle.trace_records.proofs.FollowingLemmas.{stands_beside}
 use Rattle.trace_stream.specs.declared.answers.Stage.{Stage}
 use Rattle.trace_stream.specs.declared.answers.Stage.TheVariants as stage
@@ -54,31 +54,6 @@ opened_by text go line setup is = opens_by (settings_spelled text) go line ∙ a
 -- the report goes on behind one line more
 on_line : (signal : Signal) (lines more : List (List ℕ)) (line : List ℕ) (r : Report) → report_from signal 0 (lines ++ line ∷ more) ≡ r → report_from signal 0 ((lines ++ line ∷ []) ++ more) ≡ r
 on_line signal lines more line r is = ap (report_from signal 0) (append_assoc lines (line ∷ []) more) ∙ is
-
--- no line changes what is written behind a refused line
-pub stops_on : (signal : Signal) (lines more : List (List ℕ)) (text : List ℕ) → Stops signal lines text → Stops signal (lines ++ more) text
-stops_on signal lines more text stops = record {
-  some = some_before lines more stops.some;
-  report_is = λ later. ap (report_from signal 0) (append_assoc lines more later) ∙ stops.report_is (more ++ later);
-}
-
--- a blank line
-pub blank_on : (signal : Signal) (at : Stage) (lines : List (List ℕ)) (count next : ℕ) (text : List ℕ) (tally : ℕ) (line : List ℕ)
-    → AnswersAt signal at lines count text tally → next ≡ count + 1 → is_blank line ≡ true → AnswersAt signal at (lines ++ line ∷ []) next text tally
-blank_on signal stage.Opening lines count next text tally line a counted is = record {
-  blank = all_blank lines line a.blank is;
-  empty = a.empty;
-  none = a.none;
-  report_is = λ more. on_line signal lines more line _ (a.report_is (line ∷ more) ∙ rw (is, counted) refl);
-}
-blank_on signal (stage.Running pipeline) lines count next text tally line a counted is = record {
-  history = a.history;
-  some = some_before lines (line ∷ []) a.some;
-  stands = a.stands;
-  taken = a.taken;
-  report_is = λ more. on_line signal lines more line _ (a.report_is (line ∷ more) ∙ rw (is, counted) refl);
-}
-blank_on signal stage.Refused lines count next text tally line a counted is = stops_on signal lines (line ∷ []) text a
 
 -- the settings line
 pub opened : (signal : Signal) (lines : List (List ℕ)) (count next : ℕ) (text : List ℕ) (tally : ℕ) (line : List ℕ) (came : Opened)

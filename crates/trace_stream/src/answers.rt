@@ -63,6 +63,15 @@ fn go_on(stage: &mut Stage, next: Stage)
     mem::replace(stage, next).discard();
 }
 
+// Ends at a line that is refused.
+#[cold]
+#[inline(never)]
+fn stop(stage: &mut Stage)
+    ensures { stage.new ≡ Stage.Refused }
+{
+    go_on(stage, Stage::Refused);
+}
+
 impl Answers {
     /// The answers to no line, whatever is told.
     pub fn new(alloc: Global) -> Answers
@@ -75,6 +84,20 @@ impl Answers {
             lines: 0,
             stage: Stage::Opening,
         }
+    }
+
+    // Answers the first line that isn't blank. It stands apart, so that no other line has room for a stage.
+    #[cold]
+    #[inline(never)]
+    fn begin(&mut self, alloc: Global, signal: Signal, line: &[u8]) -> Result<(), Memory>
+        ensures { (put : List ℕ) (before : List (List ℕ)) (count : ℕ)
+            → Opens signal before count (put ++ self.old.written.text.items) self.old.written.count
+            → self.old.lines ≡ count + 1 → is_blank line.now ≡ false
+            → OnOk result (AnswersTo signal put (before ++ line.now ∷ []) self.new) }
+    {
+        let next = open(alloc, signal, &mut self.written, self.lines, line)?;
+        go_on(&mut self.stage, next);
+        Ok(())
     }
 
     /// Answers one line more. Behind a refused line nothing is written. `Memory` freely; what is left then answers
@@ -90,15 +113,11 @@ impl Answers {
             return Ok(());
         }
         match &mut self.stage {
-            Stage::Opening => {
-                let next = open(alloc, signal, &mut self.written, number, line)?;
-                go_on(&mut self.stage, next);
-                Ok(())
-            }
+            Stage::Opening => self.begin(alloc, signal, line),
             Stage::Running { pipeline } => {
                 let served = answer(alloc, signal, pipeline, &mut self.written, number, line)?;
                 if !served {
-                    go_on(&mut self.stage, Stage::Refused);
+                    stop(&mut self.stage);
                 }
                 Ok(())
             }

@@ -1,7 +1,19 @@
 use Rattle.std.proofs.Common.{sym, ◌∙◌}
 use Rattle.trace_stream.proofs.answers.Answers.line.Goals as goal
 
-pub returns-in_ok-next-in-Opening : goal.returns-in_ok-next-in-Opening
-returns-in_ok-next-in-Opening c put lines answers =
+pub returns-in-Opening : goal.returns-in-Opening
+returns-in-Opening c put lines answers =
     let sum = rw c.in_ok-number.ensures.ok_part at c.checked_add.ensures in
-    rw c.go_on.ensures (c.in_ok-next-in-Opening.ensures put lines c.args.self.now.lines (rw c.in-Opening.is at answers) sum.1 (sym c.is_blank.ensures ∙ c.if-is_blank.false))
+    c.begin.ensures put lines c.args.self.now.lines (rw c.in-Opening.is at answers) sum.1 (sym c.is_blank.ensures ∙ c.if-is_blank.false)
+
+pub returns-then-not-served : goal.returns-then-not-served
+returns-then-not-served c put lines answers =
+    let sum = rw c.in_ok-number.ensures.ok_part at c.checked_add.ensures in
+    let goes = c.in_ok-served-in-Running.ensures put lines c.args.self.now.lines (rw c.in-Running.is at answers) sum.1 (sym c.is_blank.ensures ∙ c.if-is_blank.false) in
+    rw c.stop.ensures (rw c.if-not-served.true at goes)
+
+pub returns-else-not-served : goal.returns-else-not-served
+returns-else-not-served c put lines answers =
+    let sum = rw c.in_ok-number.ensures.ok_part at c.checked_add.ensures in
+    let goes = c.in_ok-served-in-Running.ensures put lines c.args.self.now.lines (rw c.in-Running.is at answers) sum.1 (sym c.is_blank.ensures ∙ c.if-is_blank.false) in
+    rw c.if-not-served.false at goes
