@@ -8,7 +8,8 @@ use denote.Struct.Struct.{Struct}
 use denote.Struct.Tuple.{TupleAt, type_at}
 use Rattle.std.proofs.alloc.Global.TheSendSync as global
 use Rattle.event_gate.specs.contracts.filter.TextFilter as filter
-use Rattle.shared_value.proofs.Crossing as values
+use Rattle.value_reader.proofs.Crossing as values
+use Rattle.shared_value.proofs.Crossing.{writer_send as value_writer_send}
 use Rattle.shared_gate.specs.contracts.gate.SharedGate as gate
 use Rattle.shared_gate.specs.contracts.gate.SharedGate.TheInside as gate_inside
 use Rattle.shared_gate.specs.contracts.note.GateNote as note
@@ -27,7 +28,7 @@ note_send = view_send note_inside.the_row _ _ _ _ (recorded_send note_inside.the
 
 pub writer_send : IsSend writer.the_row
 writer_send = view_send writer_inside.the_row _ _ _ _ (recorded_send writer_inside.the_field.row _ _ writer_inside.the_type.to_one (struct_send (shape writer_inside.the_type)
-    (global.the_field_send, (values.writer_send filter.the_row _ text_filter_send text_filter_sync, tt))))
+    (global.the_field_send, (value_writer_send filter.the_row _ text_filter_send text_filter_sync, tt))))
 
 -- A closure may go to another thread with the three things that it borrows.
 pub closure_send : (ν : List ℕ) (A B C : RattleType) → IsSend A → IsSend B → IsSend C → IsSend (TupleAt ν (A ∷ B ∷ C ∷ []))

@@ -1,7 +1,7 @@
 -- The opening text stays the first.
 use Rattle.std.proofs.Common.{◌≡◌, ℕ, List, [], ◌∷◌, Some, slice_get, All, refl, ap, sym, subst, ◌∙◌}
 use Rattle.atomic_table.specs.Seated.{TableId}
-use Rattle.shared_value.specs.Knowing.{Known, IsNew}
+use Rattle.value_reader.specs.Knowing.{Known, IsNew}
 use Rattle.trace_base.specs.declared.callsite.Callsite.{Callsite}
 use Rattle.event_gate.specs.declared.levels.Admission.{Admission}
 use Rattle.event_gate.specs.declared.levels.Levels.{Levels}

@@ -2,7 +2,7 @@
 ghost use Rattle.std.specs.Prelude.{◌≡◌, ℕ, List, ◌+◌, ◌<◌, ◌≤◌, [], ◌∷◌, length, vec_len, vec_capacity, All, IsOk, IfOk};
 ghost use mathlib.Core.List.{IsPrefix};
 ghost use Rattle.atomic_table.specs.Seated.{TableId};
-ghost use Rattle.shared_value.specs.Knowing.{IsNew};
+ghost use Rattle.value_reader.specs.Knowing.{IsNew};
 ghost use Rattle.event_gate.specs.Rules.{GivesGate};
 ghost use Rattle.shared_gate.specs.Order.{opening_of};
 ghost use Rattle.shared_gate.specs.Gates.{AnswersByText, IsOpening};

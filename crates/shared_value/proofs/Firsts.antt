@@ -1,51 +1,15 @@
--- The first value stays the first, and the last stands at its number.
-use Rattle.std.proofs.Common.{◌≡◌, ℕ, ◌<◌, zero, suc, List, [], ◌∷◌, length, Option, Some, slice_get, All, refl, ap, sym, subst, ◌∙◌, arith}
+-- The first value is in place, and known to all.
+use Rattle.std.proofs.Common.{◌≡◌, List, [], ◌∷◌, length, All, ap, sym, subst, ◌∙◌, arith}
 use Rattle.std.specs.Arc.{arc_value}
 use Rattle.std.specs.declared.alloc.Global.{Global}
 use Rattle.std.specs.declared.sync.Arc.{Arc}
-use mathlib.Core.List.{IsPrefix}
-use Rattle.shared_value.specs.declared.numbered.Numbered.{Numbered}
-use Rattle.shared_value.specs.declared.order.View.{View}
-use Rattle.shared_value.specs.Order.{EndsWith}
-use Rattle.shared_value.specs.Knowing.{IsLast, IsFirst, seen_by}
-use Rattle.shared_value.proofs.Lists.{prefix_get}
-
--- a value that has replaced others stands at its number, behind the first one
-pub ends_at : {A : Type 0} (first : A) (seen : List A) (t : Numbered A) → EndsWith seen t → ¬ (t.number ≡ 0) → slice_get (first ∷ seen) t.number ≡ Some t.value
-ends_at first seen t ends some = by t.number refl
-  where
-    by : (n : ℕ) → t.number ≡ n → slice_get (first ∷ seen) n ≡ Some t.value
-    by zero is = absurd (some is)
-    by (suc k) is = ends.last k is
-
-pub stands : {A : Type 0} (first : A) (v : View A) (t : Numbered A) → IsLast first v t → slice_get (first ∷ v.seen) t.number ≡ Some t.value
-stands first v t last = by t.number refl
-  where
-    by : (n : ℕ) → t.number ≡ n → slice_get (first ∷ v.seen) n ≡ Some t.value
-    by zero is = ap (λ x. Some x) (sym (last.alone is))
-    by (suc k) is = last.ends.last k is
-
--- what was seen at its number is there too where more is seen
-pub stays_at : {A : Type 0} (first : A) (seen more : List A) (n : ℕ) (x : A) → IsPrefix seen more → slice_get (first ∷ seen) n ≡ Some x → slice_get (first ∷ more) n ≡ Some x
-stays_at first seen more zero x begins at = at
-stays_at first seen more (suc n) x begins at = prefix_get seen more n x begins at
+use Rattle.value_reader.specs.declared.numbered.Numbered.{Numbered}
+use Rattle.value_reader.specs.declared.order.View.{View}
+use Rattle.value_reader.specs.Knowing.{IsLast, IsFirst}
 
 -- copies of the first value are of the first value
 pub all_first : {A : Type 0} (first : A) (t : Numbered A) (copies : List (Arc (Numbered A) Global)) → IsFirst first t → All (λ c. arc_value c ≡ t) copies → All (λ c. IsFirst first (arc_value c)) copies
 all_first {A} first t copies is all = λ k d low. subst (λ (u : Numbered A). IsFirst first u) (sym (all k d low)) is
-
--- a value past a number that was found stands at its own number
-pub found_at : {A : Type 0} (first : A) (seen : List A) (n : ℕ) (t : Numbered A) → n < t.number → EndsWith seen t → slice_get (first ∷ seen) t.number ≡ Some t.value
-found_at first seen n t later ends = ends_at first seen t ends (λ none. absurd (omega (arith, later, none)))
-
--- what a reader had seen begins what it sees when it has looked again
-pub sees_more : {A : Type 0} (first : A) (o : Option (View A)) (v w : View A) (values : List A) → first ∷ seen_by o ≡ values → o ≡ Some v → IsPrefix v.seen w.seen → IsPrefix values (first ∷ w.seen)
-sees_more {A} first o v w values is was more =
-    subst (λ (xs : List A). IsPrefix xs (first ∷ w.seen)) is (subst (λ (p : Option (View A)). IsPrefix (first ∷ seen_by p) (first ∷ w.seen)) (sym was) (more.0, ap (λ ys. first ∷ ys) more.1))
-
--- the first value is the one that was seen first
-pub first_is : {A : Type 0} (first : A) (seen values : List A) → first ∷ seen ≡ values → Some first ≡ slice_get values 0
-first_is first seen values is = ap (λ xs. slice_get xs 0) is
 
 -- where nothing has replaced the first value, that is the last one
 pub first_is_last : {A : Type 0} (first : A) (v : View A) (t u : Numbered A) → t ≡ u → u.number ≡ 0 → u.value ≡ first → v.seen ≡ [] → IsLast first v t

@@ -1,10 +1,10 @@
 -- What the writer has put in place.
 use Rattle.std.proofs.Common.{◌≡◌, ◌+◌, Result, Ok, Err, MatchResult, OnOk, OnErr, List, [], ◌∷◌, ◌++◌, fold, refl, ap, sym, subst, ◌∙◌, arith}
-use Rattle.shared_value.specs.declared.numbered.Numbered.{Numbered}
-use Rattle.shared_value.specs.declared.numbered.Shown.{Shown}
-use Rattle.shared_value.specs.declared.order.View.{View}
-use Rattle.shared_value.specs.Order.{in_place, EndsWith, Put}
-use Rattle.shared_value.specs.Knowing.{IsPut}
+use Rattle.value_reader.specs.declared.numbered.Numbered.{Numbered}
+use Rattle.value_reader.specs.declared.numbered.Shown.{Shown}
+use Rattle.value_reader.specs.declared.order.View.{View}
+use Rattle.value_reader.specs.Order.{in_place, EndsWith}
+use Rattle.shared_value.specs.Puts.{Put, IsPut}
 use Rattle.shared_value.proofs.Lists.{prefix_whole}
 use Rattle.shared_value.proofs.Steps.{ends_more}
 

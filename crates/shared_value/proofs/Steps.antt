@@ -1,29 +1,18 @@
--- Each step keeps the rule of the values.
+-- Each step of the writer keeps the rule of the values.
 use Rattle.std.proofs.Common.{◌≡◌, ◌≢◌, ℕ, ◌+◌, List, [], ◌∷◌, ◌++◌, length, Some, slice_get, set, refl, ap, sym, subst, ◌∙◌, ⊎_elim, arith, length-append}
 use mathlib.Core.Option.{some}
 use mathlib.Core.List.{IsPrefix}
 use lib.ListN.{get_elem?}
-use Rattle.crossbeam_utils.specs.Register.{Admits, Turns, TurnsAt, Forks, Merges}
-use Rattle.atomic_table.proofs.Lists.{at_set, at_snoc}
-use Rattle.shared_value.specs.declared.numbered.Numbered.{Numbered}
-use Rattle.shared_value.specs.declared.numbered.Shown.{Shown}
-use Rattle.shared_value.specs.declared.order.View.{View}
-use Rattle.shared_value.specs.Order.{view_of, newcomer, in_place, EndsWith, IsKept, SeesAll, Put}
-use Rattle.shared_value.proofs.Lists.{prefix_self, prefix_more, get_last}
-
-abbrev Each : {A : Type 0} → List A → List (View A) → Type 0
-Each {A} values views = (j : ℕ) (v : View A) → get_elem? views j ≡ some v → IsPrefix v.seen values
-
-each_set : {A : Type 0} (values : List A) (views : List (View A)) (seat : ℕ) (w : View A) → Each values views → IsPrefix w.seen values → Each values (set views seat w)
-each_set {A} values views seat w each here j u e =
-    ⊎_elim (λ (t : (j ≡ seat) × (w ≡ u)). subst (λ (z : View A). IsPrefix z.seen values) t.1 here) (λ (t : (j ≢ seat) × (get_elem? views j ≡ some u)). each j u t.1) (at_set views seat j w u e)
-
-each_more : {A : Type 0} (values : List A) (views : List (View A)) (w : View A) → Each values views → IsPrefix w.seen values → Each values (views ++ w ∷ [])
-each_more {A} values views w each here j u e =
-    ⊎_elim (each j u) (λ (same : w ≡ u). subst (λ (z : View A). IsPrefix z.seen values) same here) (at_snoc views w u j e)
-
-none_begins : {A : Type 0} (values : List A) → IsPrefix [] values
-none_begins values = (values, refl)
+use Rattle.crossbeam_utils.specs.Register.{TurnsAt, Forks, Merges}
+use Rattle.atomic_table.proofs.Lists.{at_set}
+use Rattle.value_reader.specs.declared.numbered.Numbered.{Numbered}
+use Rattle.value_reader.specs.declared.numbered.Shown.{Shown}
+use Rattle.value_reader.specs.declared.order.View.{View}
+use Rattle.value_reader.specs.Order.{view_of, newcomer, in_place, EndsWith, IsKept}
+use Rattle.value_reader.proofs.Lists.{prefix_self}
+use Rattle.value_reader.proofs.Steps.{each_set, each_more, none_begins}
+use Rattle.shared_value.specs.Puts.{Put}
+use Rattle.shared_value.proofs.Lists.{prefix_more, get_last}
 
 pub ends_more : {A : Type 0} (values : List A) (t u : Numbered A) → EndsWith values t → u.number ≡ t.number + 1 → EndsWith (values ++ u.value ∷ []) u
 ends_more values t u ends next = record {
@@ -42,16 +31,6 @@ starts s none = record {
 
 pub starts_with : {A : Type 0} (s : Shown A) (t : Numbered A) → in_place s ≡ t → t.number ≡ 0 → IsKept s (newcomer ∷ [])
 starts_with {A} s t is none = starts s (ap (λ (u : Numbered A). u.number) is ∙ none)
-
-pub admits : {A : Type 0} → Admits (λ (s : Shown A) (views : List (View A)). IsKept s views) newcomer
-admits s views k = record { values = k.values; ends = k.ends; each = each_more k.values views newcomer k.each (none_begins k.values) }
-
-pub looks : {A : Type 0} (seat : ℕ) (v : View A) → Turns IsKept seat v (λ s. s) SeesAll
-looks seat v s views k at = (
-  view_of k.values,
-  record { values = k.values; ends = k.ends; each = each_set k.values views seat (view_of k.values) k.each (prefix_self k.values) },
-  record { begins = k.each seat v at; ends = k.ends },
-)
 
 puts : {A : Type 0} (seat : ℕ) (v : View A) (s next : Shown A) → (in_place next).number ≡ (in_place s).number + 1 → TurnsAt IsKept seat v s next Put
 puts seat v s next number views k at =

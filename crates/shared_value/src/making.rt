@@ -2,18 +2,19 @@
 ghost use Rattle.std.specs.Prelude.{◌≡◌, ◌<◌, ◌≤◌, ◌+◌, [], ◌∷◌, All, IfOk, vec_len, vec_capacity};
 ghost use Rattle.std.specs.Arc.{arc_value};
 ghost use Rattle.left_right.specs.Sides.{view};
-ghost use Rattle.shared_value.specs.Order.{in_place};
-ghost use Rattle.shared_value.specs.Knowing.{IsNew, IsFirst};
+ghost use Rattle.value_reader.specs.Order.{in_place};
+ghost use Rattle.value_reader.specs.Knowing.{IsNew, IsFirst};
 ghost use Rattle.shared_value.specs.declared.making.TheConstants.{MOST_READERS};
 
-use crate::numbered::{Numbered, Shown};
 use crate::order::OrderedWriter;
-use crate::reader::{Origin, ValueReader};
 use crate::writer::{NOTES, ValueWriter};
 use left_right::writer::Writer;
 use std::alloc::{AllocError, Global};
 use std::snapshot::Snapshot;
 use std::sync::Arc;
+use std::sync::atomic::AtomicBool;
+use value_reader::numbered::{Numbered, Shown};
+use value_reader::reader::{Origin, ValueReader};
 
 /// How many readers a writer may have.
 pub const MOST_READERS: u64 = 64;
@@ -35,6 +36,7 @@ pub fn share<T: Drop>(
         Numbered {
             number: 0,
             value: first,
+            is_replaced: AtomicBool::new(false),
         },
     )?;
     let copies = copies_of(alloc, &last, readers)?;
@@ -110,22 +112,7 @@ fn readers_of<T: Drop>(
         let Some(last) = copies.pop() else {
             unreachable!()
         };
-        made.push_reserved(reader_of(writer, origin, last));
+        made.push_reserved(ValueReader::new(writer.factory(), origin, last));
     }
     made
-}
-
-fn reader_of<T: Drop>(
-    writer: &OrderedWriter<T>,
-    origin: &Origin<T>,
-    last: Arc<Numbered<T>, Global>,
-) -> ValueReader<T>
-    requires { IsFirst origin.now.first.value (arc_value last) }
-    ensures { IsNew (arc_value origin.now.home.value.board).shared.table_id origin.now.first.value result }
-{
-    ValueReader {
-        origin: Snapshot::of(origin),
-        reader: writer.factory().reader().ok(),
-        last,
-    }
 }

@@ -2,19 +2,20 @@
 ghost use Rattle.std.specs.Prelude.{◌≡◌, ◌+◌, ◌++◌, [], ◌∷◌, length, IfOk, OnOk, OnErr};
 ghost use Rattle.std.specs.Arc.{arc_value};
 ghost use Rattle.left_right.specs.Sides.{view};
-ghost use Rattle.shared_value.specs.Order.{in_place};
-ghost use Rattle.shared_value.specs.Knowing.{KnowsAll, IsPut, IsLeft};
+ghost use Rattle.value_reader.specs.Order.{in_place};
+ghost use Rattle.shared_value.specs.Puts.{KnowsAll, IsPut, IsLeft};
 
-use crate::note::ValueNote;
-use crate::numbered::{Numbered, Shown};
-use crate::order::{Notes, OrderedReader, OrderedWriter, Puts};
-use crate::reader::Origin;
+use crate::order::{Notes, OrderedWriter, Puts};
 use core::mem::replace_with;
 use left_right::Absorb;
 use std::alloc::{AllocError, Global};
 use std::marker::Model;
-use std::snapshot::Snapshot;
+use std::sync::atomic::{AtomicBool, Ordering};
 use std::sync::{Arc, Wait};
+use value_reader::note::ValueNote;
+use value_reader::numbered::{Numbered, Shown};
+use value_reader::order::OrderedReader;
+use value_reader::reader::Origin;
 
 /// How many notes may be there at once.
 pub const NOTES: u64 = 64;
@@ -35,8 +36,8 @@ where
 {
     ghost use Rattle.std.specs.Prelude.{◌∷◌};
     ghost use Rattle.std.specs.Arc.{arc_value};
-    ghost use Rattle.shared_value.specs.Order.{in_place};
-    ghost use Rattle.shared_value.specs.Knowing.{Written, IsLast};
+    ghost use Rattle.value_reader.specs.Order.{in_place};
+    ghost use Rattle.value_reader.specs.Knowing.{Written, IsLast};
 
     ghost Value = { Written T };
 
@@ -54,9 +55,8 @@ impl<T: Drop> ValueWriter<T> {
             × (self.new.values ≡ self.old.values ++ value ∷ [])) }
         ensures leaves { OnErr result (self.new ≡ self.old) }
     {
-        let last = self.writer.published().last.number;
-        let number = last.checked_add(1).ok_or(AllocError)?;
-        let next = Arc::new(self.alloc, Numbered { number, value })?;
+        let next = next_of(self.alloc, &self.writer.published().last, value)?;
+        let number = next.number;
         let put = replace_with(
             &mut self.writer,
             next,
@@ -83,11 +83,7 @@ impl<T: Drop> ValueWriter<T> {
     {
         let last = Arc::try_clone(&self.writer.published().last)?;
         let reader = told(&mut self.writer)?;
-        Ok(ValueNote {
-            origin: Snapshot::of(&self.origin),
-            reader,
-            last,
-        })
+        Ok(ValueNote::new(&self.origin, reader, last))
     }
 
     /// Ends the writer. It waits for readers that look. The value in place stays in place.
@@ -99,6 +95,31 @@ impl<T: Drop> ValueWriter<T> {
         } = self;
         drop(writer.take(rt));
     }
+}
+
+// The value behind the last one.
+fn next_of<T: Drop>(
+    alloc: Global,
+    last: &Numbered<T>,
+    value: T,
+) -> Result<Arc<Numbered<T>, Global>, AllocError>
+    ensures number { IfOk result (λ next. (arc_value next).number ≡ last.now.number + 1) }
+    ensures value { IfOk result (λ next. (arc_value next).value ≡ value) }
+{
+    let number = last.number.checked_add(1).ok_or(AllocError)?;
+    let is_replaced = AtomicBool::new(false);
+    let next = Arc::new(
+        alloc,
+        Numbered {
+            number,
+            value,
+            is_replaced,
+        },
+    )?;
+    // From here on readers that have the last one look, so none misses the next. If that isn't put in place, they look in
+    // vain.
+    last.is_replaced.store(true, Ordering::SeqCst);
+    Ok(next)
 }
 
 // Puts a value in place. It waits for readers of the one that was in place before the last.

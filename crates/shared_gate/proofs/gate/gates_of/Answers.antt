@@ -1,7 +1,7 @@
 -- A gate more, of the last reader.
 use Rattle.std.proofs.Common.{◌≡◌, ◌∙◌, All, IfSome, sym, subst, arith}
 use Rattle.std.proofs.lemmas.List.Elements.{All-pop, All-push}
-use Rattle.shared_value.specs.Knowing.{IsNew}
+use Rattle.value_reader.specs.Knowing.{IsNew}
 use Rattle.shared_gate.specs.Gates.{IsOpening}
 use Rattle.shared_gate.proofs.gate.gates_of.Goals as goal
 

@@ -2,7 +2,7 @@
 use Rattle.std.proofs.Common.{◌∙◌, vec_capacity, arith}
 use Rattle.std.proofs.lemmas.List.Elements.{All-pop}
 use Rattle.std.specs.Arc.{arc_value}
-use Rattle.shared_value.specs.Knowing.{IsNew, IsFirst}
+use Rattle.value_reader.specs.Knowing.{IsNew, IsFirst}
 use Rattle.shared_value.proofs.Lists.{all_pushed}
 use Rattle.shared_value.proofs.making.readers_of.Goals as goal
 
@@ -22,5 +22,5 @@ loop-preserved g c =
       copies = copies.0;
       count = omega (arith, more, count);
       room = ◌∙◌ {a = vec_capacity made} c.push_reserved.ensures.capacity i.room;
-      readers = all_pushed (IsNew table first) c.loop.made.items made.items c.reader_of.result c.push_reserved.ensures.items i.readers c.reader_of.ensures;
+      readers = all_pushed (IsNew table first) c.loop.made.items made.items c.new.result c.push_reserved.ensures.items i.readers c.new.ensures;
     }

@@ -1,7 +1,7 @@
 -- So many readers were made, and there are copies for the others.
 use Rattle.std.proofs.Common.{◌≡◌, ◌+◌, vec_len, vec_capacity, All}
 use Rattle.std.specs.Arc.{arc_value}
-use Rattle.shared_value.specs.Knowing.{IsNew, IsFirst}
+use Rattle.value_reader.specs.Knowing.{IsNew, IsFirst}
 use Rattle.shared_value.proofs.making.readers_of.Given as goal
 
 abbrev pub invariant-loop : goal.invariant-loop

@@ -1,7 +1,7 @@
 -- The first value is in place, and each reader has it.
 use Rattle.std.proofs.Common.{All, ap, sym, subst, ◌∙◌}
-use Rattle.shared_value.specs.declared.numbered.Numbered.{Numbered}
-use Rattle.shared_value.specs.Knowing.{IsNew}
+use Rattle.value_reader.specs.declared.numbered.Numbered.{Numbered}
+use Rattle.value_reader.specs.Knowing.{IsNew}
 use Rattle.shared_value.proofs.Firsts.{first_is_last}
 use Rattle.shared_value.proofs.making.share.Goals as goal
 

@@ -1,8 +1,8 @@
 use Rattle.std.proofs.Common.{◌+◌, OnOk, OnErr, ap, sym, subst, ◌∙◌}
 use Rattle.std.specs.Arc.{arc_value}
 use Rattle.left_right.specs.Sides.{view}
-use Rattle.shared_value.specs.Order.{in_place}
-use Rattle.shared_value.specs.Knowing.{KnowsAll, IsPut, IsLeft}
+use Rattle.value_reader.specs.Order.{in_place}
+use Rattle.shared_value.specs.Puts.{KnowsAll, IsPut, IsLeft}
 use Rattle.shared_value.proofs.Steps.{puts_next}
 use Rattle.shared_value.proofs.Puts.{next_is, put_behind, on_ok, on_err}
 use Rattle.shared_value.proofs.writer.put_next.Goals as goal

@@ -1,4 +1,5 @@
-use Rattle.shared_value.proofs.Steps.{admits, forks, merges}
+use Rattle.value_reader.proofs.Steps.{admits}
+use Rattle.shared_value.proofs.Steps.{forks, merges}
 use Rattle.shared_value.proofs.writer.told.Goals as goal
 
 pub reader-requires : goal.reader-requires

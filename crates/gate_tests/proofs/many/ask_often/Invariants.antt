@@ -1,6 +1,0 @@
--- The gate is of the same writer.
-use Rattle.std.proofs.Common.{◌≡◌}
-use Rattle.gate_tests.proofs.many.ask_often.Given as goal
-
-abbrev pub invariant-loop : goal.invariant-loop
-invariant-loop l = l.gate.table ≡ l.initial.gate.table

@@ -1,6 +1,0 @@
--- It is the same writer.
-use Rattle.std.proofs.Common.{◌≡◌}
-use Rattle.gate_tests.proofs.many.reload_to.Given as goal
-
-abbrev pub invariant-loop-number : goal.invariant-loop-number
-invariant-loop-number g l = l.writer.table ≡ l.initial.writer.table

@@ -1,5 +1,0 @@
-use Rattle.shared_value.proofs.Steps.{looks}
-use Rattle.shared_value.proofs.reader.find.Goals as goal
-
-pub enter_as-requires : goal.enter_as-requires
-enter_as-requires g c = looks _ _

@@ -1,0 +1,26 @@
+-- What the writer knows, and what it puts in place.
+use Rattle.std.specs.Prelude.{◌≡◌, List, [], ◌∷◌, ◌++◌}
+use mathlib.Core.List.{IsPrefix}
+use Rattle.value_reader.specs.declared.numbered.Shown.{Shown}
+use Rattle.value_reader.specs.declared.order.View.{View}
+use Rattle.value_reader.specs.Order.{in_place, EndsWith}
+
+-- a value is put behind all others, which begin with what the writer had seen
+pub record Put {A : Type 0} (v : View A) (s s' : Shown A) (w : View A) : Type 0 where
+  pub values : List A
+  pub begins : IsPrefix v.seen values
+  pub ends : EndsWith values (in_place s)
+  pub put : w.seen ≡ values ++ (in_place s').value ∷ []
+
+-- the writer has seen all values
+abbrev pub KnowsAll : {A : Type 0} → View A → Shown A → Type 0
+KnowsAll v s = EndsWith v.seen (in_place s)
+
+-- a value was put behind all others
+pub record IsPut {A : Type 0} (v : View A) (value : A) (w : View A) (s' : Shown A) : Type 0 where
+  pub ends : EndsWith w.seen (in_place s')
+  pub all : w.seen ≡ v.seen ++ value ∷ []
+
+-- all is as before
+abbrev pub IsLeft : {A : Type 0} → View A → Shown A → View A → Shown A → Type 0
+IsLeft v s w s' = (w ≡ v) × (s' ≡ s)

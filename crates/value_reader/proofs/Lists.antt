@@ -1,0 +1,15 @@
+-- Beginnings of one list.
+use Rattle.std.proofs.Common.{◌≡◌, ℕ, zero, suc, List, [], ◌∷◌, Some, slice_get, refl, ap}
+use mathlib.Core.List.{IsPrefix}
+
+-- each list begins with itself
+pub prefix_self : {A : Type 0} (xs : List A) → IsPrefix xs xs
+prefix_self [] = ([], refl)
+prefix_self (x ∷ xs) = (let r = prefix_self xs in r.0, ap (λ ys. x ∷ ys) (prefix_self xs).1)
+
+-- what stands in a beginning stands in the whole, at the same place
+pub prefix_get : {A : Type 0} (xs ys : List A) (k : ℕ) (x : A) → IsPrefix xs ys → slice_get xs k ≡ Some x → slice_get ys k ≡ Some x
+prefix_get [] ys k x p h = absurd cc
+prefix_get (y ∷ xs) [] k x p h = absurd (cc (p.1))
+prefix_get (y ∷ xs) (z ∷ ys) zero x p h = cc (p.1, h)
+prefix_get (y ∷ xs) (z ∷ ys) (suc k) x p h = prefix_get xs ys k x (p.0, cc (p.1)) h
