@@ -1,10 +1,7 @@
 -- Orders at a desk: what its functions leave behind, and what an order makes of the stack, with the moment of each call.
 use Rattle.std.specs.Prelude.{◌≡◌, ◌+◌, ◌⊎◌, ℕ, Bool, true, false, List, [], ◌∷◌, Result}
-use Rattle.otel_base.specs.declared.context.Context.{Context}
-use Rattle.otel_layer.specs.Asking.{AsksParent}
-use Rattle.otel_layer.specs.Parts.{PartCall}
-use Rattle.traced.specs.Programs.{Lane, Current, Ghosts, Worlds, Handle, place_under, MakesAndCloses, EntersAndExits, TellsIfAnswered, TellsWhen, StandsAlone, Ends}
-use Rattle.traced_futures.specs.Polling.{Instrumented, Plain, PollsOnce}
+use Rattle.traced_futures.specs.Programs.{Lane, Current, Ghosts, Worlds, Handle, place_under, MakesAndCloses, EntersAndExits, TellsIfAnswered, TellsWhen, StandsAlone, StandsWith, Ends, Instrumented, Plain, PollsOnce, KeepsFuture, RunsUnder}
+use Rattle.traced_layer.specs.Programs.{Context, AsksParent, PartCall}
 use Rattle.example_desk.specs.declared.desk.Desk.{Desk}
 use Rattle.example_desk.specs.declared.given.Given.{Given}
 use Rattle.example_desk.specs.declared.payment.Payment.{Payment}
@@ -21,40 +18,50 @@ module _ {S : Type 0} (sub : Ghosts S) (most : ℕ) (lanes : Desk S → List Lan
   abbrev pub Ready : Desk S → Type 0
   Ready desk = StandsAlone sub most 5 desk.world (lanes desk)
 
-  -- the same afterwards, where all is as it was, and what was done if the result is Ok
-  abbrev pub Leaves : {E : Type 0} → Desk S → Desk S → Result (Unit {0}) E → Type 0 → Type 0
-  Leaves old new result done = Ends sub most 5 old.world (lanes old) new.world (lanes new) result done
+  -- and a handle is held
+  abbrev pub ReadyWith : Handle → Desk S → Type 0
+  ReadyWith handle desk = StandsWith sub most 5 desk.world (lanes desk) handle
 
-module _ {S : Type 0} (sub : Ghosts S) (given : Given) where
-  -- one poll, and another where that one didn't find it made
-  abbrev pub Waits : {T : Type 0} → Instrumented T → Instrumented T → Bool → Desk S → Desk S → Type 0
-  Waits {T} payment later made old new =
-      (PollsOnce (Unit {0}) sub payment old.world old.front (given.at + 22) true later new.world new.front × (made ≡ true))
-      ⊎ ((asked : Instrumented T) × (mid : Desk S) × PollsOnce (Unit {0}) sub payment old.world old.front (given.at + 22) false asked mid.world mid.front × PollsOnce (Unit {0}) sub asked mid.world mid.front (given.at + 24) made later new.world new.front)
+-- the same so long after an order came, where all is as it was, and what was done if the result is Ok
+abbrev pub Leaves : {S E : Type 0} → Ghosts S → Given → ℕ → (Desk S → List Lane) → Desk S → Desk S → Result (Unit {0}) E → (Ghosts S → Given → Desk S → Desk S → Type 0) → Type 0
+Leaves sub given after lanes old new result does = Ends sub (given.at + after) 5 old.world (lanes old) new.world (lanes new) result (does sub given old new)
 
-  -- a payment's span, under which a payment is waited for that nobody has asked for, and an event where it is made
-  abbrev pub Pays : Desk S → Desk S → Type 0
-  Pays old new = (made : Bool) × (closed : Worlds S) × MakesAndCloses sub old.front Current given.sites.pay given.pay (given.at + 20) (given.at + 26)
-      (λ span begun ended. (payment : Instrumented (Plain Payment)) × (later : Instrumented (Plain Payment)) × (payment ≡ record { inner = record { future = record { asked = false } }; span = span }) × Waits payment later made (record old { world = begun }) (record new { world = ended })) old.world closed
-      × TellsWhen made sub closed new.world new.front (given.at + 27) Current given.sites.paid given.paid
+-- the same where a payment was asked for on the front lane: the other one is left alone
+abbrev pub KeepsPayment : {S T : Type 0} → Ghosts S → ℕ → Instrumented T → Desk S → Instrumented T → Desk S → Type 0
+KeepsPayment sub most payment old later new = KeepsFuture sub most 5 payment old.world (on_front old) later new.world (on_front new) × (new.back ≡ old.back)
 
-  -- the event of an order that isn't served, inside the span of a packing
-  abbrev pub Wraps : Handle → Desk S → Desk S → Type 0
-  Wraps pack old new = EntersAndExits sub pack (given.at + 35) (given.at + 40) (λ world lane told left. (left ≡ lane) × TellsIfAnswered sub world told lane (given.at + 40) Current given.sites.failed given.failed) old.world new.world old.back new.back
+-- a poll on the front lane at a moment, and whether the payment is made
+abbrev pub Asks : {S T : Type 0} → Ghosts S → ℕ → Bool → Instrumented T → Desk S → Instrumented T → Desk S → Type 0
+Asks sub at made payment old later new = PollsOnce (Unit {0}) sub payment old.world old.front at made later new.world new.front
 
-  -- a packing's span, a child of the order's
-  abbrev pub Packs : Handle → Desk S → Desk S → Type 0
-  Packs order old new = MakesAndCloses sub old.back (place_under order.held) given.sites.pack given.pack (given.at + 30) (given.at + 45) (λ pack begun ended. Wraps pack (record old { world = begun }) (record new { world = ended })) old.world new.world
+-- one poll, and another where that one didn't find it made
+abbrev pub Waits : {S T : Type 0} → Ghosts S → Given → Bool → Instrumented T → Desk S → Instrumented T → Desk S → Type 0
+Waits {S} {T} sub given made payment old later new = (Asks sub (given.at + 22) true payment old later new × (made ≡ true))
+    ⊎ ((asked : Instrumented T) × (mid : Desk S) × Asks sub (given.at + 22) false payment old asked mid × Asks sub (given.at + 24) made asked mid later new)
 
-  -- both, one after the other, each on its lane
-  abbrev pub PaysAndPacks : Handle → Desk S → Desk S → Type 0
-  PaysAndPacks order old new = (mid : Desk S) × (mid.back ≡ old.back) × Pays old mid × (new.front ≡ mid.front) × Packs order mid new
+-- a payment's span, under which a payment is waited for that nobody has asked for, and an event where it is made
+abbrev pub Pays : {S : Type 0} → Ghosts S → Given → Desk S → Desk S → Type 0
+Pays {S} sub given old new = (made : Bool) × (closed : Worlds S)
+    × RunsUnder {T = Plain Payment} sub old.front Current given.sites.pay given.pay (given.at + 20) (given.at + 26) (record { future = record { asked = false } }) (λ payment begun later ended. Waits sub given made payment (record old { world = begun }) later (record new { world = ended })) old.world closed
+    × TellsWhen made sub closed new.world new.front (given.at + 27) Current given.sites.paid given.paid
 
-  -- both, inside the order's span
-  abbrev pub Inside : Handle → Desk S → Desk S → Type 0
-  Inside order old new = EntersAndExits sub order (given.at + 10) (given.at + 50) (λ world lane left left_lane. PaysAndPacks order (record old { world = world; front = lane }) (record new { world = left; front = left_lane })) old.world new.world old.front new.front
+-- the event of an order that isn't served, inside the span of a packing
+abbrev pub Wraps : {S : Type 0} → Handle → Ghosts S → Given → Desk S → Desk S → Type 0
+Wraps pack sub given old new = EntersAndExits sub pack (given.at + 35) (given.at + 40) (λ world lane told left. (left ≡ lane) × TellsIfAnswered sub world told lane (given.at + 40) Current given.sites.failed given.failed) old.world new.world old.back new.back
 
-  -- the order's span, whose parent is set before it starts
-  abbrev pub ServesOrder : (S → PartCall → S → Type 0) → Context → Desk S → Desk S → Type 0
-  ServesOrder touches remote old new = MakesAndCloses sub old.front Current given.sites.order given.order given.at (given.at + 60)
-      (λ order begun ended. (asked : Worlds S) × (answer : _) × AsksParent touches begun asked (given.at + 1) remote order.held answer × Inside order (record old { world = asked }) (record new { world = ended })) old.world new.world
+-- a packing's span, a child of the order's
+abbrev pub Packs : {S : Type 0} → Handle → Ghosts S → Given → Desk S → Desk S → Type 0
+Packs order sub given old new = MakesAndCloses sub old.back (place_under order.held) given.sites.pack given.pack (given.at + 30) (given.at + 45) (λ pack begun ended. Wraps pack sub given (record old { world = begun }) (record new { world = ended })) old.world new.world
+
+-- both, one after the other, each on its lane
+abbrev pub PaysAndPacks : {S : Type 0} → Handle → Ghosts S → Given → Desk S → Desk S → Type 0
+PaysAndPacks {S} order sub given old new = (mid : Desk S) × (mid.back ≡ old.back) × Pays sub given old mid × (new.front ≡ mid.front) × Packs order sub given mid new
+
+-- both, inside the order's span
+abbrev pub Inside : {S : Type 0} → Handle → Ghosts S → Given → Desk S → Desk S → Type 0
+Inside order sub given old new = EntersAndExits sub order (given.at + 10) (given.at + 50) (λ world lane left left_lane. PaysAndPacks order sub given (record old { world = world; front = lane }) (record new { world = left; front = left_lane })) old.world new.world old.front new.front
+
+-- the order's span, whose parent is set before it starts
+abbrev pub ServesOrder : {S : Type 0} → (S → PartCall → S → Type 0) → Context → Ghosts S → Given → Desk S → Desk S → Type 0
+ServesOrder {S} touches remote sub given old new = MakesAndCloses sub old.front Current given.sites.order given.order given.at (given.at + 60)
+    (λ order begun ended. (asked : Worlds S) × (answer : _) × AsksParent touches begun asked (given.at + 1) remote order.held answer × Inside order sub given (record old { world = asked }) (record new { world = ended })) old.world new.world

@@ -1,10 +1,8 @@
 //! The desk of the shop: its world, the lane that takes orders and the one that packs them.
 ghost use Rattle.std.specs.Prelude.{◌≡◌, ◌<◌, ◌^◌, ◌+◌, ◌⊎◌, IfOk, Ok, Err};
-ghost use Rattle.trace_base.specs.lanes.Contexts.{IsFull};
-ghost use Rattle.traced.specs.Programs.{IsUnused, IsHeld, Keeps};
-ghost use Rattle.traced_futures.specs.Polling.{PollsOnce};
+ghost use Rattle.traced_futures.specs.Programs.{IsFull, IsUnused};
 ghost use Rattle.example_desk.specs.declared.fault.Fault.TheVariants as fault;
-ghost use Rattle.example_desk.specs.Orders.{on_front, on_back, Ready, Leaves, Waits, Pays, Wraps, Packs, PaysAndPacks, Inside, ServesOrder};
+ghost use Rattle.example_desk.specs.Orders.{on_front, on_back, Ready, ReadyWith, Leaves, KeepsPayment, Asks, Waits, Pays, Wraps, Packs, PaysAndPacks, Inside, ServesOrder};
 
 use crate::fault::Fault;
 use crate::given::Given;
@@ -73,8 +71,7 @@ impl<S: OtelSubscriber> Desk<S> {
         cx: &mut task::Context<'_>,
     ) -> Result<(), Fault>
         requires { Ready S.Subscriber given.now.at on_front self.old }
-        ensures ends { Leaves S.Subscriber (given.now.at + 100) on_front self.old self.new result
-            (ServesOrder S.Subscriber given.now S.touches remote self.old self.new) }
+        ensures ends { Leaves S.Subscriber given.now 100 on_front self.old self.new result (ServesOrder S.touches remote) }
         ensures full { result ≡ Err fault.Full → IsFull self.old.front ⊎ IsFull self.old.back }
     {
         let (at, site) = (given.at, given.sites.order);
@@ -93,10 +90,8 @@ impl<S: OtelSubscriber> Desk<S> {
         given: &Given,
         cx: &mut task::Context<'_>,
     ) -> Result<(), Fault>
-        requires ready { Ready S.Subscriber (given.now.at + 10) on_front self.old }
-        requires held { IsHeld S.Subscriber 0 self.old.world order.now }
-        ensures ends { Leaves S.Subscriber (given.now.at + 60) on_front self.old self.new result
-            (Inside S.Subscriber given.now order.now self.old self.new) }
+        requires { ReadyWith S.Subscriber (given.now.at + 10) on_front order.now self.old }
+        ensures ends { Leaves S.Subscriber given.now 60 on_front self.old self.new result (Inside order.now) }
         ensures full { result ≡ Err fault.Full → IsFull self.old.front ⊎ IsFull self.old.back }
     {
         let at = given.at;
@@ -113,10 +108,8 @@ impl<S: OtelSubscriber> Desk<S> {
         given: &Given,
         cx: &mut task::Context<'_>,
     ) -> Result<(), Fault>
-        requires ready { Ready S.Subscriber (given.now.at + 20) on_front self.old }
-        requires held { IsHeld S.Subscriber 0 self.old.world order.now }
-        ensures ends { Leaves S.Subscriber (given.now.at + 60) on_front self.old self.new result
-            (PaysAndPacks S.Subscriber given.now order.now self.old self.new) }
+        requires { ReadyWith S.Subscriber (given.now.at + 20) on_front order.now self.old }
+        ensures ends { Leaves S.Subscriber given.now 60 on_front self.old self.new result (PaysAndPacks order.now) }
         ensures full { result ≡ Err fault.Full → IsFull self.old.back }
     {
         self.pay(given, cx)?;
@@ -126,8 +119,7 @@ impl<S: OtelSubscriber> Desk<S> {
     // A payment, by a future under a span of its own, and an event where it is made.
     fn pay(&mut self, given: &Given, cx: &mut task::Context<'_>) -> Result<(), Memory>
         requires { Ready S.Subscriber (given.now.at + 20) on_front self.old }
-        ensures ends { Leaves S.Subscriber (given.now.at + 30) on_front self.old self.new result
-            (Pays S.Subscriber given.now self.old self.new) }
+        ensures ends { Leaves S.Subscriber given.now 30 on_front self.old self.new result Pays }
         ensures back { self.new.back ≡ self.old.back }
     {
         let (at, pay, paid) = (given.at, given.sites.pay, given.sites.paid);
@@ -150,14 +142,9 @@ impl<S: OtelSubscriber> Desk<S> {
         payment: &mut Instrumented<Plain<Payment>>,
         cx: &mut task::Context<'_>,
     ) -> bool
-        requires ready { Ready S.Subscriber (given.now.at + 21) on_front self.old }
-        requires held { IsHeld S.Subscriber 0 self.old.world payment.old.span }
-        ensures keeps { Keeps S.Subscriber (given.now.at + 26) 5 self.old.world (on_front self.old) self.new.world
-            (on_front self.new) }
-        ensures waits { Waits S.Subscriber given.now payment.old payment.new result self.old self.new }
-        ensures held { IsHeld S.Subscriber 0 self.new.world payment.new.span }
-        ensures span { payment.new.span ≡ payment.old.span }
-        ensures back { self.new.back ≡ self.old.back }
+        requires { ReadyWith S.Subscriber (given.now.at + 21) on_front payment.old.span self.old }
+        ensures keeps { KeepsPayment S.Subscriber (given.now.at + 26) payment.old self.old payment.new self.new }
+        ensures waits { Waits S.Subscriber given.now result payment.old self.old payment.new self.new }
     {
         let made = self.is_made(given.at + 22, payment, cx);
         if made {
@@ -174,16 +161,10 @@ impl<S: OtelSubscriber> Desk<S> {
         payment: &mut Instrumented<Plain<Payment>>,
         cx: &mut task::Context<'_>,
     ) -> bool
-        requires ready { Ready S.Subscriber at on_front self.old }
+        requires ready { ReadyWith S.Subscriber at on_front payment.old.span self.old }
         requires early { at < 2 ^ 63 }
-        requires held { IsHeld S.Subscriber 0 self.old.world payment.old.span }
-        ensures keeps { Keeps S.Subscriber (at + 1) 5 self.old.world (on_front self.old) self.new.world
-            (on_front self.new) }
-        ensures polls { PollsOnce (Unit {0}) S.Subscriber payment.old self.old.world self.old.front at result
-            payment.new self.new.world self.new.front }
-        ensures held { IsHeld S.Subscriber 0 self.new.world payment.new.span }
-        ensures span { payment.new.span ≡ payment.old.span }
-        ensures back { self.new.back ≡ self.old.back }
+        ensures keeps { KeepsPayment S.Subscriber (at + 1) payment.old self.old payment.new self.new }
+        ensures asks { Asks S.Subscriber at result payment.old self.old payment.new self.new }
     {
         let polled = traced_futures::poll(payment, &mut self.world, &mut self.front, at, cx);
         traced_futures::is_ready(&polled)
@@ -191,10 +172,8 @@ impl<S: OtelSubscriber> Desk<S> {
 
     // Packs on the back lane, in a child of the order.
     fn pack(&mut self, order: &Span, given: &Given) -> Result<(), Fault>
-        requires ready { Ready S.Subscriber (given.now.at + 30) on_back self.old }
-        requires held { IsHeld S.Subscriber 0 self.old.world order.now }
-        ensures ends { Leaves S.Subscriber (given.now.at + 60) on_back self.old self.new result
-            (Packs S.Subscriber given.now order.now self.old self.new) }
+        requires { ReadyWith S.Subscriber (given.now.at + 30) on_back order.now self.old }
+        ensures ends { Leaves S.Subscriber given.now 60 on_back self.old self.new result (Packs order.now) }
         ensures front { self.new.front ≡ self.old.front }
         ensures full { result ≡ Err fault.Full → IsFull self.old.back }
     {
@@ -213,10 +192,8 @@ impl<S: OtelSubscriber> Desk<S> {
 
     // What is told while an order is packed.
     fn wrap(&mut self, pack: &Span, given: &Given) -> Result<(), Fault>
-        requires ready { Ready S.Subscriber (given.now.at + 35) on_back self.old }
-        requires held { IsHeld S.Subscriber 0 self.old.world pack.now }
-        ensures ends { Leaves S.Subscriber (given.now.at + 60) on_back self.old self.new result
-            (Wraps S.Subscriber given.now pack.now self.old self.new) }
+        requires { ReadyWith S.Subscriber (given.now.at + 35) on_back pack.now self.old }
+        ensures ends { Leaves S.Subscriber given.now 60 on_back self.old self.new result (Wraps pack.now) }
         ensures front { self.new.front ≡ self.old.front }
         ensures full { result ≡ Err fault.Full → IsFull self.old.back }
     {
@@ -224,6 +201,6 @@ impl<S: OtelSubscriber> Desk<S> {
         let guard = traced::enter(pack, &mut self.world, &mut self.back, at + 35)?;
         let told = traced::event(&mut self.world, &self.back, at + 40, site, &given.failed);
         traced::exit(guard, &mut self.world, &mut self.back, at + 40);
-        Ok(told?)
+        told.map_err(|_| Fault::Memory)
     }
 }

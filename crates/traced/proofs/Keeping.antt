@@ -1,11 +1,23 @@
 -- What functions of a program leave behind, call by call.
 use Rattle.std.proofs.Common.{◌≡◌, ℕ, ◌+◌, ◌≤◌, ◌<◌, ◌^◌, List, [], ◌∷◌, length, Result, Ok, Err, refl, sym, ap, ◌∙◌, subst, arith, IfSome}
+use Rattle.std.specs.Prelude.{IsErr, is_ok}
 use Rattle.traced.proofs.Common.{Memory, ValueSet, Lane, Parent, Ghosts, Worlds, dispatch_on, Handle, IsOf, place_under, Alike, EntryGuard, StandsReady, IsHeld, CanMake, CanTell, CanAsk, CanClose, CanEnter, CanExit, IsAsBefore, MakesAndCloses, EntersAndExits, TellsIfAnswered, StandsAlone, HaveSameIds, Keeps, Ends, MakesIfAnswered, Closes, Enters, Refuses, Exits, Stays, Tells}
 use Rattle.trace_base.specs.declared.span.Parent.TheVariants as parent
 use Rattle.traced.proofs.changes.Between.{makes_and_closes, enters_and_exits, tells_if_answered}
 use Rattle.traced.proofs.Moves.{later, stays_stands, stays_as_before}
 use Rattle.traced.proofs.Rules.{can_make, can_make_under, can_tell, can_close, can_enter, can_exit, can_ask_held, of_lane, alike_stands}
 use Rattle.traced.proofs.changes.Steps.{turned, inside_if_entered, held_after, made_after, entered_after, inside_after, again}
+
+-- what fails isn't Ok
+pub failed : {E : Type 0} {done : Type 0} (result : Result (Unit {0}) E) → IsErr result → result ≡ Ok tt → done
+failed (Ok x) fails is = absurd (cc fails)
+failed (Err e) fails is = absurd (cc is)
+
+-- what is Ok beside what is Ok
+both_ok : {E F : Type 0} (result : Result (Unit {0}) E) (first : Result (Unit {0}) F) → is_ok result ≡ is_ok first → result ≡ Ok tt → first ≡ Ok tt
+both_ok result (Ok x) same is = refl
+both_ok (Ok x) (Err f) same is = absurd (cc same)
+both_ok (Err e) (Err f) same is = absurd (cc is)
 
 pub same_ids : (lanes : List Lane) → HaveSameIds lanes lanes
 same_ids [] = refl
@@ -61,6 +73,10 @@ module _ {S : Type 0} {sub : Ghosts S} {sites : ℕ} where
 
     pub may_close : {handle : Handle} → IsHeld sub 0 world handle → CanClose sub world handle
     may_close {handle} held = can_close sub n 0 sites world (lane ∷ others) handle ready.stands held
+
+  -- where it stands ready, the only subscriber is there
+  pub alone_there : {n dispatch : ℕ} {world : Worlds S} {lanes : List Lane} → StandsAlone sub n sites world lanes → dispatch ≡ 0 → dispatch < length world.subscribers
+  alone_there ready first = (let alone = ready.alone in omega (arith, alone, first))
 
   -- another filter is in force
   pub ready_alike : {n dispatch : ℕ} {old new : Worlds S} {lanes : List Lane} → StandsAlone sub n sites old lanes → Alike sub.spans sub.attaches sub.kept sub.is_whole old new dispatch → dispatch ≡ 0 → new.sites ≡ old.sites → new.global ≡ old.global → StandsAlone sub n sites new lanes
@@ -159,18 +175,22 @@ module _ {S : Type 0} {sub : Ghosts S} {sites : ℕ} where
   }
 
   -- functions with results: one that fails, as a span isn't made, or not entered, or what was done before failed
-  pub ends_failed : {E : Type 0} {m : ℕ} {old new : Worlds S} {lanes left : List Lane} {error : E} {did : Type 0} → Keeps sub m sites old lanes new left → Ends sub m sites old lanes new left (Err error) did
-  ends_failed keeps = record { keeps = keeps; did = λ is. absurd (cc is) }
+  pub ends_failed : {E : Type 0} {m : ℕ} {old new : Worlds S} {lanes left : List Lane} {result : Result (Unit {0}) E} {done : Type 0} → Keeps sub m sites old lanes new left → IsErr result → Ends sub m sites old lanes new left result done
+  ends_failed {result = result} keeps fails = record { keeps = keeps; did = failed result fails }
 
-  pub ends_unmade : {E : Type 0} {n m : ℕ} {old new : Worlds S} {lane : Lane} {others : List Lane} {at site : ℕ} {place : Parent} {values : ValueSet} {memory : Memory} {error : E} {done : Type 0} → StandsAlone sub n sites old (lane ∷ others) → MakesIfAnswered sub old new lane at place site values (Err memory) → n + 1 ≤ m
-      → Ends sub m sites old (lane ∷ others) new (lane ∷ others) (Err error) done
-  ends_unmade ready makes within = ends_failed (keeps_unmade ready makes within)
+  pub ends_unmade : {E : Type 0} {n m : ℕ} {old new : Worlds S} {lane : Lane} {others : List Lane} {at site : ℕ} {place : Parent} {values : ValueSet} {memory : Memory} {result : Result (Unit {0}) E} {done : Type 0} → StandsAlone sub n sites old (lane ∷ others) → MakesIfAnswered sub old new lane at place site values (Err memory) → IsErr result → n + 1 ≤ m
+      → Ends sub m sites old (lane ∷ others) new (lane ∷ others) result done
+  ends_unmade ready makes fails within = ends_failed (keeps_unmade ready makes within) fails
 
-  pub ends_refused : {E : Type 0} {n m : ℕ} {old new : Worlds S} {before left : Lane} {others : List Lane} {handle : Handle} {error : E} {done : Type 0} → StandsAlone sub n sites old (before ∷ others) → Refuses sub old new before left handle → n ≤ m → Ends sub m sites old (before ∷ others) new (left ∷ others) (Err error) done
-  ends_refused ready refuses within = ends_failed (keeps_refused ready refuses within)
+  pub ends_refused : {E : Type 0} {n m : ℕ} {old new : Worlds S} {before left : Lane} {others : List Lane} {handle : Handle} {result : Result (Unit {0}) E} {done : Type 0} → StandsAlone sub n sites old (before ∷ others) → Refuses sub old new before left handle → IsErr result → n ≤ m → Ends sub m sites old (before ∷ others) new (left ∷ others) result done
+  ends_refused ready refuses fails within = ends_failed (keeps_refused ready refuses within) fails
 
-  pub ends_first : {E F : Type 0} {n m : ℕ} {old new : Worlds S} {lanes left : List Lane} {first : Result (Unit {0}) F} {error : E} {did done : Type 0} → Ends sub n sites old lanes new left first did → n ≤ m → Ends sub m sites old lanes new left (Err error) done
-  ends_first first within = ends_failed (keeps_late first.keeps within)
+  pub ends_first : {E F : Type 0} {n m : ℕ} {old new : Worlds S} {lanes left : List Lane} {first : Result (Unit {0}) F} {result : Result (Unit {0}) E} {did done : Type 0} → Ends sub n sites old lanes new left first did → IsErr result → n ≤ m → Ends sub m sites old lanes new left result done
+  ends_first first fails within = ends_failed (keeps_late first.keeps within) fails
+
+  -- one that did all that it does
+  pub ends_done : {E : Type 0} {n m : ℕ} {old new : Worlds S} {lanes left : List Lane} {result : Result (Unit {0}) E} {done : Type 0} → Keeps sub n sites old lanes new left → n ≤ m → done → Ends sub m sites old lanes new left result done
+  ends_done keeps within done = record { keeps = keeps_late keeps within; did = λ ok. done }
 
   -- one of a span, which is made and closed
   pub ends_closed : {E : Type 0} {n m : ℕ} {old begun ended new : Worlds S} {lane : Lane} {others left : List Lane} {at site ends : ℕ} {place : Parent} {values : ValueSet} {handle : Handle} {result : Result (Unit {0}) E} {between : Handle → Worlds S → Worlds S → Type 0}
@@ -208,3 +228,25 @@ module _ {S : Type 0} {sub : Ghosts S} {sites : ℕ} where
 
   pub ends_as : {E F : Type 0} {m : ℕ} {old new : Worlds S} {lanes left : List Lane} {first : Result (Unit {0}) E} {result : Result (Unit {0}) F} {done : Type 0} → Ends sub m sites old lanes new left first done → (result ≡ Ok tt → first ≡ Ok tt) → Ends sub m sites old lanes new left result done
   ends_as ends is = record { keeps = ends.keeps; did = λ ok. ends.did (is ok) }
+
+  -- one of a span whose layer is asked before what is done inside
+  pub ends_asked : {E : Type 0} {n k m : ℕ} {old begun asked ended new : Worlds S} {lane : Lane} {others left : List Lane} {at site ends : ℕ} {place : Parent} {values : ValueSet} {handle : Handle} {result : Result (Unit {0}) E} {between : Handle → Worlds S → Worlds S → Type 0} {inner : Type 0}
+      → StandsAlone sub n sites old (lane ∷ others) → MakesIfAnswered sub old begun lane at place site values (Ok handle) → Stays sub begun asked → Ends sub k sites asked (lane ∷ others) ended left result inner → Closes sub ended new ends handle → k ≤ m → (inner → between handle begun ended)
+      → Ends sub m sites old (lane ∷ others) new left result (MakesAndCloses sub lane place site values at ends between old new)
+  ends_asked ready makes stays inner closes within follows = ends_closed ready makes (ends_so (ends_again (keeps_quiet (next_made ready makes) stays) (ends_late inner within)) follows) closes
+
+  -- one of an event behind what was done
+  pub ends_then_told : {n m : ℕ} {old mid new : Worlds S} {lane : Lane} {lanes left : List Lane} {at site : ℕ} {place : Parent} {values : ValueSet} {result : Result (Unit {0}) Memory} {done : Type 0} → Keeps sub n sites old lanes mid left → Tells sub mid new lane at place site values result → n ≤ m
+      → (TellsIfAnswered sub mid new lane at place site values → done) → Ends sub m sites old lanes new left result done
+  ends_then_told keeps tells within follows = ends_so (ends_again keeps (ends_late (ends_told keeps.ready tells) within)) follows
+
+  -- one of an event inside an entry
+  pub ends_told_inside : {E : Type 0} {n m enters exits at site : ℕ} {old world inner new : Worlds S} {before lane left : Lane} {others : List Lane} {handle : Handle} {guard : EntryGuard} {values : ValueSet} {place : Parent} {told : Result (Unit {0}) Memory} {result : Result (Unit {0}) E}
+      → StandsAlone sub n sites old (before ∷ others) → Enters sub old world before lane enters handle guard → IsHeld sub 0 old handle → Tells sub world inner lane at place site values told → Exits sub inner new lane left exits guard → n + 1 ≤ m → is_ok result ≡ is_ok told
+      → Ends sub m sites old (before ∷ others) new (left ∷ others) result (EntersAndExits sub handle enters exits (λ in_world in_lane out_world out_lane. (out_lane ≡ in_lane) × TellsIfAnswered sub in_world out_world in_lane at place site values) old new before left)
+  ends_told_inside {told = told} {result = result} ready entered held tells exited within same = ends_as (ends_exited entered held (ends_so (ends_late (ends_told (next_entered entered held ready) tells) within) (λ did. (refl, did))) exited) (both_ok result told same)
+
+  -- one behind another, at work on the first lane and on the second
+  pub ends_turned : {E : Type 0} {n m : ℕ} {old mid new : Worlds S} {lanes rest left : List Lane} {lane other last next : Lane} {result : Result (Unit {0}) E} {does done : Type 0} → Keeps sub n sites old lanes mid (lane ∷ other ∷ rest) → Ends sub m sites mid (other ∷ lane ∷ rest) new (next ∷ last ∷ left) result does → (does → done)
+      → Ends sub m sites old lanes new (last ∷ next ∷ left) result done
+  ends_turned keeps ends follows = ends_so (ends_again keeps (turned_ends ends)) follows

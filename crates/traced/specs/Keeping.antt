@@ -3,13 +3,19 @@ use Rattle.std.specs.Prelude.{◌≡◌, ℕ, List, [], ◌∷◌, length, Resul
 use Rattle.trace_base.specs.declared.lane.Lane.{Lane}
 use Rattle.trace_base.specs.declared.subscriber.Subscriber.{Ghosts}
 use Rattle.trace_base.specs.Gate.{Worlds}
-use Rattle.traced.specs.Standing.{StandsReady}
+use Rattle.span_handles.specs.Handles.{Handle}
+use Rattle.traced.specs.Standing.{StandsReady, IsHeld}
 use Rattle.traced.specs.AsBefore.{IsAsBefore}
 
 -- the only subscriber of a world stands ready, and serves some lanes
 pub record StandsAlone {S : Type 0} (sub : Ghosts S) (most sites : ℕ) (world : Worlds S) (lanes : List Lane) : Type 0 where
   pub stands : StandsReady sub most 0 sites world lanes
   pub alone : length world.subscribers ≡ 1
+
+-- the same, and a handle of that subscriber is held
+pub record StandsWith {S : Type 0} (sub : Ghosts S) (most sites : ℕ) (world : Worlds S) (lanes : List Lane) (handle : Handle) : Type 0 where
+  pub ready : StandsAlone sub most sites world lanes
+  pub held : IsHeld sub 0 world handle
 
 -- as many lanes, each with the id that it had
 abbrev pub HaveSameIds : List Lane → List Lane → Type 0

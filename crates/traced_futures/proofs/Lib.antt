@@ -1,2 +1,3 @@
 pub mod Polled
+pub mod Programs
 pub mod Rules

@@ -1,22 +1,26 @@
 -- What polls ask for, and leave behind.
-use Rattle.std.proofs.Common.{◌≡◌, ℕ, ◌+◌, ◌≤◌, zero, suc, List, [], ◌∷◌, length, Option, Some, None, refl, sym, ap, ◌∙◌, subst, arith, slice_get, sum_by}
+use Rattle.std.proofs.Common.{◌≡◌, ℕ, ◌+◌, ◌≤◌, zero, suc, List, [], ◌∷◌, length, Option, Some, None, Ok, refl, sym, ap, ◌∙◌, subst, arith, slice_get, sum_by}
 use Rattle.std.specs.Option.{option_map_or}
 use Rattle.std.proofs.lemmas.List.Sums.{sum_by-cons}
 use Rattle.std.proofs.lemmas.Option.{slice_get_within}
+use Rattle.trace_base.specs.declared.field.ValueSet.{ValueSet}
 use Rattle.trace_base.specs.declared.lane.Lane.{Lane}
+use Rattle.trace_base.specs.declared.span.Parent.{Parent}
 use Rattle.trace_base.specs.declared.subscriber.Subscriber.{Ghosts}
 use Rattle.trace_base.specs.Gate.{Worlds}
 use Rattle.span_handles.specs.Handles.{Handle}
 use Rattle.span_futures.specs.declared.instrument.Instrumented.{Instrumented}
 use Rattle.traced.specs.Standing.{IsHeld}
-use Rattle.traced.specs.Keeping.{StandsAlone, Keeps}
+use Rattle.traced.specs.Keeping.{StandsAlone, StandsWith, Keeps}
+use Rattle.traced.specs.Making.{MakesIfAnswered}
 use Rattle.traced.specs.Moving.{Closes}
 use Rattle.traced.proofs.Asking.{asking}
-use Rattle.traced.proofs.Keeping.{same_ids}
+use Rattle.traced.proofs.Keeping.{same_ids, held_made, ready_made, ready_late, keeps_late, keeps_again, keeps_closed}
 use Rattle.traced.proofs.Moves.{later}
 use Rattle.traced.proofs.Rules.{own_there}
+use Rattle.traced.proofs.changes.Between.{makes_and_closes}
 use Rattle.traced.proofs.changes.Steps.{held_after}
-use Rattle.traced_futures.specs.Polling.{CanLend, Polls}
+use Rattle.traced_futures.specs.Polling.{CanLend, Polls, KeepsFuture, RunsUnder}
 
 -- the only one of a list, and its sum
 only_first : {S : Type 0} (P : S → Type 0) (xs : List S) → length xs ≡ 1 → ((s : S) → slice_get xs 0 ≡ Some s → P s) → (d : ℕ) (s : S) → slice_get xs d ≡ Some s → P s
@@ -57,11 +61,39 @@ module _ {S : Type 0} {sub : Ghosts S} {n sites : ℕ} {world : Worlds S} {lane 
 pub held_polled : {S : Type 0} {sub : Ghosts S} {old new : Worlds S} {before left : Lane} {handle other : Handle} → Polls sub old new before left handle → IsHeld sub 0 old handle → other ≡ handle → IsHeld sub 0 new other
 held_polled {S} {sub} {old} {new} {handle = handle} polls held same = subst (IsHeld sub 0 new) (sym same) (held_after sub 0 old new handle (polls.as_before 0 held) held)
 
--- the handle that is closed is the one of the span that the future was put under
-pub closes_same : {S : Type 0} {sub : Ghosts S} {old new : Worlds S} {at : ℕ} {closing handle : Handle} → closing ≡ handle → Closes sub old new at closing → Closes sub old new at handle
-closes_same {S} {sub} {old} {new} {at} same closes = subst (Closes sub old new at) same closes
-
 pub one_span : {T : Type 0} {future other : Instrumented T} → future ≡ other → future.span ≡ other.span
 one_span {T} same = ap (λ (f : Instrumented T). f.span) same
 
-pub ruleset polling = (asking, may_lend, keeps_polled, held_polled)
+module _ {T S : Type 0} {sub : Ghosts S} {n sites : ℕ} where
+  -- one poll
+  pub future_polled : {m : ℕ} {old new : Worlds S} {lane left : Lane} {others : List Lane} {future later : Instrumented T} → StandsWith sub n sites old (lane ∷ others) future.span → Polls sub old new lane left future.span → later.span ≡ future.span → n + 1 ≤ m
+      → KeepsFuture sub m sites future old (lane ∷ others) later new (left ∷ others)
+  future_polled {later = later} ready polls same within = record { keeps = keeps_polled ready.ready polls ready.held within; span = same; held = held_polled {other = later.span} polls ready.held same }
+
+  -- some more
+  pub future_late : {m : ℕ} {old new : Worlds S} {lanes left : List Lane} {future later : Instrumented T} → KeepsFuture sub n sites future old lanes later new left → n ≤ m → KeepsFuture sub m sites future old lanes later new left
+  future_late keeps within = record { keeps = keeps_late keeps.keeps within; span = keeps.span; held = keeps.held }
+
+  pub future_again : {k m : ℕ} {old mid new : Worlds S} {lanes between left : List Lane} {future asked later : Instrumented T} → KeepsFuture sub n sites future old lanes asked mid between → KeepsFuture sub k sites asked mid between later new left → k ≤ m → KeepsFuture sub m sites future old lanes later new left
+  future_again first last within = record { keeps = keeps_late (keeps_again first.keeps last.keeps) within; span = last.span ∙ first.span; held = last.held }
+
+  pub with_future : {m : ℕ} {old new : Worlds S} {lanes left : List Lane} {future later : Instrumented T} → KeepsFuture sub n sites future old lanes later new left → n ≤ m → StandsWith sub m sites new left later.span
+  with_future keeps within = record { ready = ready_late keeps.keeps.ready within; held = keeps.held }
+
+  -- a future that is put under a span
+  module _ {old begun : Worlds S} {lane : Lane} {others : List Lane} {at site : ℕ} {place : Parent} {values : ValueSet} {handle : Handle} {inner : T} {future : Instrumented T} (ready : StandsAlone sub n sites old (lane ∷ others)) (makes : MakesIfAnswered sub old begun lane at place site values (Ok handle)) (is : future ≡ record { inner = inner; span = handle }) where
+    pub with_instrumented : {m : ℕ} → n + 1 ≤ m → StandsWith sub m sites begun (lane ∷ others) future.span
+    with_instrumented within = record { ready = ready_made ready makes within; held = subst (IsHeld sub 0 begun) (sym (one_span is)) (held_made ready makes) }
+
+    -- and is closed
+    module _ {m ends : ℕ} {ended new : Worlds S} {left : List Lane} {later : Instrumented T} (keeps : KeepsFuture sub m sites future begun (lane ∷ others) later ended left) (closing : Closes sub ended new ends later.span) where
+      closes : Closes sub ended new ends handle
+      closes = subst (Closes sub ended new ends) (keeps.span ∙ one_span is) closing
+
+      pub keeps_under : Keeps sub m sites old (lane ∷ others) new left
+      keeps_under = keeps_closed ready makes keeps.keeps closes
+
+      pub runs_under : {between : Instrumented T → Worlds S → Instrumented T → Worlds S → Type 0} → between future begun later ended → RunsUnder sub lane place site values at ends inner between old new
+      runs_under {between} meanwhile = record { runs = makes_and_closes makes (later, subst (λ (f : Instrumented T). between f begun later ended) is meanwhile) closes }
+
+pub ruleset polling = (asking, may_lend, keeps_polled, held_polled, future_polled, future_late, future_again, with_future, with_instrumented)

@@ -1,7 +1,9 @@
 -- Polls inside spans, in a world that stands.
 use Rattle.std.specs.Prelude.{◌≡◌, ◌+◌, ◌⊎◌, ℕ, Bool, true, false, List, ◌∷◌, length, Ok, Err, IsOk}
 use Rattle.futures.specs.declared.task.Poll.TheVariants.{Ready, Pending}
+use Rattle.trace_base.specs.declared.field.ValueSet.{ValueSet}
 use Rattle.trace_base.specs.declared.lane.Lane.{Lane}
+use Rattle.trace_base.specs.declared.span.Parent.{Parent}
 use Rattle.trace_base.specs.declared.subscriber.Subscriber.{Ghosts}
 use Rattle.trace_base.specs.Gate.{Worlds, IsOwn}
 use Rattle.span_handles.specs.Handles.{Handle}
@@ -11,6 +13,8 @@ use Rattle.span_futures.specs.Lent.{HasAll, AreAllAttached}
 use Rattle.span_futures.specs.Polls.{Polled, CannotEnter, IsInside}
 use Rattle.traced.specs.Standing.{StandsReady, IsHeld}
 use Rattle.traced.specs.AsBefore.{IsAsBefore}
+use Rattle.traced.specs.Between.{MakesAndCloses}
+use Rattle.traced.specs.Keeping.{Keeps}
 
 -- A world and a lane can be lent to a future, which may call any subscriber: each is whole, and what it keeps attached to
 -- the lane is attached there.
@@ -45,3 +49,13 @@ pub record Polls {S : Type 0} (sub : Ghosts S) (old new : Worlds S) (before left
   pub count : length new.subscribers ≡ length old.subscribers
   pub stands : (most dispatch sites : ℕ) (others : List Lane) → IsHeld sub dispatch old handle → StandsReady sub most dispatch sites old (before ∷ others) → StandsReady sub (most + 1) dispatch sites new (left ∷ others)
   pub as_before : (dispatch : ℕ) → IsHeld sub dispatch old handle → IsAsBefore sub dispatch old new
+
+-- the same of some polls: the future is under the span that it was under, and that is held on
+pub record KeepsFuture {T S : Type 0} (sub : Ghosts S) (most sites : ℕ) (future : Instrumented T) (old : Worlds S) (lanes : List Lane) (later : Instrumented T) (new : Worlds S) (left : List Lane) : Type 0 where
+  pub keeps : Keeps sub most sites old lanes new left
+  pub span : later.span ≡ future.span
+  pub held : IsHeld sub 0 new later.span
+
+-- a span is made at a place and a moment, a future is put under it, and it is closed at another behind what is done with that
+pub record RunsUnder {T S : Type 0} (sub : Ghosts S) (lane : Lane) (place : Parent) (site : ℕ) (values : ValueSet) (begins ends : ℕ) (inner : T) (between : Instrumented T → Worlds S → Instrumented T → Worlds S → Type 0) (old new : Worlds S) : Type 0 where
+  pub runs : MakesAndCloses sub lane place site values begins ends (λ span begun ended. (later : Instrumented T) × between (record { inner = inner; span = span }) begun later ended) old new

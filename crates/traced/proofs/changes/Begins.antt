@@ -55,3 +55,10 @@ alone_two {S} {sub} {world} {dispatch} {front} {back} old sites first alone with
       stands = subst (λ (d : ℕ). StandsReady sub 0 d sites world (front ∷ back ∷ [])) first (begins sites (front ∷ back ∷ []) within (serves front one, (apart, tt), (serves back other, tt, tt)));
       alone = alone;
     }
+
+-- the same behind the call that starts it
+pub starts_two : {S : Type 0} {sub : Ghosts S} {world : Worlds S} {dispatch sites : ℕ} {front back : Lane} (old : Worlds S) → dispatch ≡ length old.subscribers → length old.subscribers ≡ 0 → length world.subscribers ≡ length old.subscribers + 1 → sites ≤ length old.sites → front.default ≡ Some dispatch → back.default ≡ Some dispatch → (back.id ≡ front.id → ⊥)
+    → ((sites : ℕ) (lanes : List Lane) → sites ≤ length old.sites → AreAssigned world.global dispatch lanes → StandsReady sub 0 dispatch sites world lanes) → StandsAlone sub 0 sites world (front ∷ back ∷ [])
+starts_two {dispatch = dispatch} {sites = sites} old is none count within one other apart begins =
+    let first : dispatch ≡ 0 = omega (arith, is, none) in
+    alone_two old sites first (omega (arith, count, none)) within one other apart begins

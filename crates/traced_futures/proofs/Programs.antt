@@ -1,0 +1,4 @@
+-- What the proofs of a program with futures take from here, from one place.
+pub use Rattle.std.proofs.Common.{inl, inr}
+pub use Rattle.traced.proofs.Programs.{◌≡◌, refl, sym, subst, ◌∙◌, arith, starts_two, makes_and_closes, enters_and_exits, tells_if_answered, ask_made, with_made, close_made, with_asked, ready_asked, held_asked, close_asked, with_entered, with_turned, tell_closed, tell_entered, exit_entered, turned_ready, turned_ends, may_make, may_tell, may_enter, may_close, held_kept, keeps_quiet, next_made, next_entered, keeps_late, keeps_again, keeps_closed, ready_made, held_made, ready_entered, held_entered, may_exit_kept, ready_late, ready_alike, failed, ends_failed, ends_done, ends_unmade, ends_refused, ends_first, ends_closed, ends_exited, ends_told, ends_late, ends_again, ends_so, ends_as, ends_asked, ends_then_told, ends_told_inside, ends_turned}
+pub use Rattle.traced_futures.proofs.Rules.{may_lend, keeps_polled, held_polled, future_polled, future_late, future_again, with_future, with_instrumented, keeps_under, runs_under}
