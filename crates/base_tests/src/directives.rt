@@ -1,5 +1,5 @@
 //! What no line of the program's input shows of directives: how they are made, kept, cloned and handed out.
-use crate::callsites::text;
+use crate::worlds::callsites::text;
 use env_directives::{
     BadFieldName, BadName, Directive, DirectiveSet, MatchDebug, StaticDirective, Targets,
     ValueMatch,

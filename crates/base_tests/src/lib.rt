@@ -3,34 +3,14 @@
 #![tactic(auto)]
 
 #[cfg(test)]
-mod asked;
-#[cfg(test)]
-mod callsites;
-#[cfg(test)]
-mod containers;
-#[cfg(test)]
-mod contexts;
-#[cfg(test)]
 mod directives;
-#[cfg(test)]
-mod disabled;
-#[cfg(test)]
-mod gates;
-#[cfg(test)]
-mod handles;
-#[cfg(test)]
-mod hooks;
-#[cfg(test)]
-mod lanes;
 #[cfg(test)]
 mod metrics;
 #[cfg(test)]
-mod registries;
+mod records;
+#[cfg(test)]
+mod spans;
 #[cfg(test)]
 mod states;
-#[cfg(test)]
-mod texts;
-#[cfg(test)]
-mod tracers;
 #[cfg(test)]
 mod worlds;

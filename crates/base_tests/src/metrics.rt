@@ -1,5 +1,5 @@
 //! The places of instruments, and what a filter of metrics takes. What measures events tell is shown by runs of the program.
-use crate::callsites::callsite;
+use crate::worlds::callsites::callsite;
 use otel_base::list::Items;
 use otel_base::memory::Memory;
 use otel_metrics::filter::MetricsFilter;

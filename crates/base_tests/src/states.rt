@@ -1,6 +1,6 @@
 //! The vectors of a stack of values, and a status that is written though it is unset. What ops and fields make of spans is
 //! shown by runs of programs.
-use crate::callsites::{callsite, text};
+use crate::worlds::callsites::{callsite, text};
 use otel_base::list::Items;
 use otel_base::memory::Memory;
 use otel_base::status::Status;

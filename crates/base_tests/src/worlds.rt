@@ -1,8 +1,14 @@
 //! The sites and subscribers of a world, what names a field at a site, and the defaults of lanes.
 ghost use Rattle.std.specs.Prelude.{◌<◌, ◌≤◌, length, IfOk};
 
-use crate::callsites::{bare, callsite};
-use crate::lanes::lane;
+pub mod asked;
+pub mod callsites;
+mod gates;
+pub mod lanes;
+mod texts;
+
+use crate::worlds::callsites::{bare, callsite};
+use crate::worlds::lanes::lane;
 use otel_base::memory::Memory;
 use span_registry::registry::Registry;
 use std::alloc::Global;

@@ -6,7 +6,7 @@ use trace_pipeline::Signal;
 use trace_stream::answers::{Stage, answer, open};
 use trace_stream::written::Written;
 
-/// Scripts, written as the runs are, but that `~` ends them. The request `?` asks how many spans are open.
+/// Scripts, each ended by `~`. The request `?` asks how many spans are open.
 pub const STEPS: &str = r#"
 # a child on the other lane, which holds its parent, and a guard, which holds its handle
 P

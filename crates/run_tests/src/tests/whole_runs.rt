@@ -9,8 +9,8 @@ use trace_pipeline::{
     reply_line,
 };
 
-/// Scripts, written as the runs are, but that `^` ends them. Replies come first, then records, and then the refusal of the
-/// first refused request or, where none is, the end line.
+/// Scripts, each ended by `^`. Replies come first, then records, and then the refusal of the first refused request or,
+/// where none is, the end line.
 pub const WHOLE_RUNS: &str = r#"
 # no request
 P

@@ -1,5 +1,5 @@
 //! Texts and lists give back what they were made of, and errors have texts.
-use crate::callsites::text;
+use crate::worlds::callsites::text;
 use otel_base::enter_error::EnterError;
 use otel_base::list::Items;
 use otel_base::memory::Memory;

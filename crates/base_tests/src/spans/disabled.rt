@@ -2,8 +2,8 @@
 ghost use Rattle.std.specs.Prelude.{◌≡◌, ◌<◌, length, [], None};
 ghost use Rattle.span_handles.specs.Handles.{no_handle};
 
-use crate::callsites::bare;
-use crate::lanes::lane;
+use crate::worlds::callsites::bare;
+use crate::worlds::lanes::lane;
 use otel_base::enter_error::EnterError;
 use otel_base::list::Items;
 use otel_base::memory::Memory;
@@ -141,6 +141,7 @@ fn entered(
         Ok(guard) => {
             let on = guard.lane();
             let inside = guard.id().is_none() && guard.span().is_disabled();
+            let inside = inside && Option::<Id>::from(&guard).is_none();
             let back = guard.exit(world, lane, 12);
             let same = inside && !back.is_none();
             back.discard();

@@ -3,7 +3,7 @@ use Rattle.std.proofs.Common.{refl}
 use Rattle.trace_base.specs.layers.Unseeing.{no_known_spans}
 use Rattle.span_registry.specs.Both.{InStep}
 use Rattle.span_registry.proofs.Sound.{sound_in_step}
-use Rattle.base_tests.proofs.hooks.whole.Goals as goal
+use Rattle.base_tests.proofs.spans.hooks.whole.Goals as goal
 
 pub returns : goal.returns
 returns c =

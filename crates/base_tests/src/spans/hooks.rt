@@ -4,8 +4,8 @@ ghost use Rattle.trace_base.specs.Calls.{with_span_entry};
 ghost use Rattle.trace_base.specs.Conditions.{HasFewHolds, IsLive};
 ghost use Rattle.span_registry.specs.Registering.{no_spans};
 
-use crate::asked::{Asked, Notes};
-use crate::registries::{Making, prepared};
+use crate::spans::registries::{Making, prepared};
+use crate::worlds::asked::{Asked, Notes};
 use otel_base::memory::Memory;
 use span_registry::layer::registry;
 use span_registry::layered::Layered;

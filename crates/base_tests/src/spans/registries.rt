@@ -5,8 +5,8 @@ ghost use Rattle.trace_base.specs.Calls.{with_new_span, with_span_entry};
 ghost use Rattle.trace_base.specs.Conditions.{AreFew, HasFewHolds, HasFewHoldsAbove, IsLive, IsLivePlace};
 ghost use Rattle.span_registry.specs.Registering.{no_spans};
 
-use crate::callsites::bare;
-use crate::lanes::lane;
+use crate::worlds::callsites::bare;
+use crate::worlds::lanes::lane;
 use otel_base::list::Items;
 use otel_base::memory::Memory;
 use span_registry::registry::Registry;

@@ -1,7 +1,7 @@
 //! Recorders give ids by number and records in order, and a tracer that keeps nothing gives the parent's ids.
 ghost use Rattle.std.specs.Prelude.{◌≡◌, OnOk};
 
-use crate::contexts::under;
+use crate::records::contexts::under;
 use otel_base::context::{Context, SpanContext};
 use otel_base::list::Items;
 use otel_base::memory::Memory;

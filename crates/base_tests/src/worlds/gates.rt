@@ -1,9 +1,9 @@
 //! The gate of a world over a layer that answers what it is told to.
 ghost use Rattle.std.specs.Prelude.{◌≡◌, ◌<◌, ◌≤◌, [], length, IfOk, None};
 
-use crate::asked::Asked;
-use crate::callsites::bare;
-use crate::lanes::lane;
+use crate::worlds::asked::Asked;
+use crate::worlds::callsites::bare;
+use crate::worlds::lanes::lane;
 use otel_base::memory::Memory;
 use span_registry::layered::Layered;
 use span_registry::registry::Registry;
