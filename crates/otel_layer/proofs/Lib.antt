@@ -1,6 +1,5 @@
 pub mod Common
 pub mod Applying
-pub mod Attaching
 pub mod Finding
 pub mod Gaps
 pub mod Hooking
