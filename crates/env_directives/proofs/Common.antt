@@ -1,4 +1,4 @@
--- The names that most proofs of the crate cite, passed on from one place. Declares nothing.
+-- Names of other modules that proofs of the crate import, passed on from one place. Declares nothing.
 pub use Rattle.regex.specs.Patterns.{Config, Re, default_config}
 unfoldable pub use Rattle.regex.specs.Patterns.{Reads, find_str}
 pub use Rattle.regex.specs.Strings.{IsReadFromSource, regex_config, regex_pattern, regex_source}

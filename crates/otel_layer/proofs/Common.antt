@@ -1,4 +1,4 @@
--- The names that most proofs of the crate cite, passed on from one place. Declares nothing.
+-- Names of other modules that proofs of the crate import, passed on from one place. Declares nothing.
 pub use Rattle.std.proofs.lemmas.Bool.{and_from, and_parts, cases_Bool, cases_eq, cond-false, cond-true, or_parts}
 pub use Rattle.std.specs.List.{list_any, position_or_len}
 pub use Rattle.std.specs.Map.{lookup, remove_entry}

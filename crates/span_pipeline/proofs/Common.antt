@@ -1,4 +1,4 @@
--- The names that most proofs of the crate cite, passed on from one place. Declares nothing.
+-- Names of other modules that proofs of the crate import, passed on from one place. Declares nothing.
 pub use Rattle.span_handles.specs.Handles.{HasOn, Held, place_under}
 pub use Rattle.env_filter.specs.Filtering.{plain}
 pub use Rattle.span_stack.specs.Reading.{StackWorlds, stack_interest}

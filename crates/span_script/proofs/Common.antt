@@ -1,4 +1,4 @@
--- The names that most proofs of the crate cite, passed on from one place. Declares nothing.
+-- Names of other modules that proofs of the crate import, passed on from one place. Declares nothing.
 pub use Rattle.std.proofs.Math.ListN.{get_or-map}
 pub use Rattle.std.proofs.lemmas.Bool.{and_from, and_parts, cases_Bool, cases_eq, cases_lt, cond-false, cond-true, or_cases, or_parts, or_right}
 pub use Rattle.std.proofs.lemmas.List.{get_or_append_left, get_or_past, get_or_push, length-map, length_push, map-append, map-set, map_push, set-append_left}

@@ -1,4 +1,4 @@
--- The names that most proofs of the crate cite, passed on from one place. Declares nothing.
+-- Names of other modules that proofs of the crate import, passed on from one place. Declares nothing.
 pub use Rattle.std.proofs.lemmas.Bool.{and_parts, cases_lt}
 pub use Rattle.std.proofs.lemmas.List.Sums.{fold_push}
 pub use Rattle.std.specs.List.{list_all, range_with_len}

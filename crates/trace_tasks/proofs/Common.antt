@@ -1,4 +1,4 @@
--- The names that most proofs of the crate cite, passed on from one place. Declares nothing.
+-- Names of other modules that proofs of the crate import, passed on from one place. Declares nothing.
 pub use Rattle.futures.specs.Task.{Keeps}
 unfoldable pub use Rattle.futures.specs.Task.{Holds}
 pub use Rattle.std.proofs.lemmas.Bool.{cond-true}

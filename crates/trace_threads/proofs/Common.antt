@@ -1,4 +1,4 @@
--- The names that most proofs of the crate cite, passed on from one place. Declares nothing.
+-- Names of other modules that proofs of the crate import, passed on from one place. Declares nothing.
 pub use lib.ListN.{get_elem?}
 pub use mathlib.Core.List.{IsPrefix}
 pub use mathlib.Core.Logic.{dite}
