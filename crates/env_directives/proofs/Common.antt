@@ -53,7 +53,7 @@ pub use Rattle.env_directives.specs.printed.Printed.{HasNoMinusZero, bracket_tex
 pub use Rattle.env_directives.specs.reading.Cuts.{Pieces, is_among, lacks, pieces_at}
 pub use Rattle.env_directives.specs.reading.Faults.{HasEmptyField, HasFault, HasNoLevel, HasNoPattern, IsEnd}
 pub use Rattle.env_directives.specs.reading.Forms.{DirectiveForm, Front, HasForm, IsDirective, IsDirectiveFront, IsField, IsForm, IsHead, IsLevelText, IsOpened, IsSpan, alone, bare, begins, directive_alone, directive_at, directive_of_form, each_with_comma, fielded, form_text, front_text, head_alone, head_comma, level_behind, level_or_target, leveled, leveled_comma, may_begin, spanned, target_at, text_up_to_fields, unless_empty}
-pub use Rattle.env_directives.specs.reading.Reading.{AnswersRead, FieldsRead, LeadsToNoPattern, Read, SpanLeadsToNoPattern, at_level, field_ends, more_fields, read_behind, read_fielded, read_head, read_leveled, read_span}
+pub use Rattle.env_directives.specs.reading.Reading.{AnswersRead, FieldsRead, LeadsToNoPattern, DirectiveRead, SpanLeadsToNoPattern, at_level, field_ends, more_fields, read_behind, read_fielded, read_head, read_leveled, read_span}
 unfoldable pub use Rattle.env_directives.specs.reading.Reading.{read_bracket, read_close, read_end, read_fields, read_last, read_level, reading}
 pub use Rattle.env_directives.specs.reading.Separators.{comma_pieces, cut_once, is_closers, nonempty, without_closers}
 pub use Rattle.env_directives.specs.reading.Values.{HavePatterns, IsNoPatternField, IsPatternIfAny, MayFail, fits_i64, truth_of, value_of}

@@ -143,7 +143,7 @@ fn bare(alloc: Global, text: &str) -> Result<StaticDirective, ParseError>
             level,
         }),
         Err(_) => Ok(StaticDirective {
-            target: Some(copied(alloc, text)?),
+            target: Some(copy_of(alloc, text)?),
             field_names: Items::new(alloc),
             level: LevelFilter::TRACE,
         }),
@@ -175,13 +175,13 @@ fn with_names(alloc: Global, target: &str, fields: &str) -> Result<(Text, Items<
     ensures { ReadsOrFails result (with_names target.now fields.now) }
 {
     let names = names_between(alloc, fields)?;
-    Ok((copied(alloc, target)?, names))
+    Ok((copy_of(alloc, target)?, names))
 }
 
 fn without_names(alloc: Global, target: &str) -> Result<(Text, Items<Text>), ParseError>
     ensures { ReadsOrFails result (Ok (target.now, [])) }
 {
-    Ok((copied(alloc, target)?, Items::new(alloc)))
+    Ok((copy_of(alloc, target)?, Items::new(alloc)))
 }
 
 fn names_between(alloc: Global, fields: &str) -> Result<Items<Text>, ParseError>
@@ -202,7 +202,7 @@ fn nonempty(alloc: Global, list: &str) -> Result<Items<Text>, ParseError>
     let mut names = Items::new(alloc);
     for name in list.split(',') {
         if !name.is_empty() {
-            names.push(copied(alloc, name)?)?;
+            names.push(copy_of(alloc, name)?)?;
         }
     }
     Ok(names)
@@ -217,7 +217,7 @@ fn level_filter(text: &str) -> Result<LevelFilter, ParseError>
     }
 }
 
-fn copied(alloc: Global, text: &str) -> Result<Text, ParseError>
+fn copy_of(alloc: Global, text: &str) -> Result<Text, ParseError>
     ensures { ReadsOrFails result (Ok text.now) }
 {
     Ok(text_of(alloc, text)?)

@@ -12,7 +12,7 @@ pub use Rattle.std.specs.Option.{option_cmp, option_or}
 pub use Rattle.std.specs.Ordering.{match_ordering, ordering_then}
 pub use Rattle.std.specs.Str.{drop_trailing_whitespace, skip_leading_whitespace, trim}
 unfoldable pub use Rattle.std.specs.Str.{trim_end, trim_start}
-pub use Rattle.trace_base.proofs.Caching.{fresh_admits}
+pub use Rattle.trace_base.proofs.InterestLemmas.{fresh_admits}
 pub use Rattle.trace_base.specs.Gate.{AdmitsFresh, Worlds, dispatch_on, gate}
 pub use Rattle.trace_base.specs.Spans.{Span, Spans, current_of, entries_on, held_by_child, is_in, less_hold, place_on, span_at, times_in, with_hold, without_hold, without_last}
 pub use Rattle.trace_base.specs.declared.callsite.Callsite.{Callsite}

@@ -1,2 +1,2 @@
-pub mod Changing
+pub mod ContextLeftLemmas
 pub mod Numbered

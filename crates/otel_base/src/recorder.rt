@@ -46,7 +46,7 @@ impl Recorder {
     }
 
     /// How many spans it has started.
-    pub fn started(&self) -> u64
+    pub fn spans_started(&self) -> u64
         ensures { result ≡ self.now.started }
     {
         self.started

@@ -35,7 +35,7 @@ impl Model for Text {
 
 impl Text {
     /// A fixed key or word. It takes no memory.
-    pub fn fixed(alloc: Global, word: Word) -> Text
+    pub fn from_word(alloc: Global, word: Word) -> Text
         ensures { result ≡ word_text word }
     {
         Text {

@@ -1,2 +1,2 @@
-mod Finding
+mod InstrumentsLemmas
 mod Fronts

@@ -46,7 +46,7 @@ impl Instruments {
 
     /// The place of a measure's instrument, from 0, which is made at its first use. `Memory` where there is none to make
     /// it; the instruments then stay as they are. It stands for `Instruments::update_metric`.
-    #[tactic(auto, using(crate::proofs::Finding::found_new))]
+    #[tactic(auto, using(crate::proofs::InstrumentsLemmas::found_new))]
     pub fn update_metric(&mut self, measure: &Measure) -> Result<u64, Memory>
         ensures place { IfOk result (λ place. place_of measure.now self.new ≡ Some place) }
         ensures known { OnOk result (self.new ≡ with_instrument measure.now self.old) }

@@ -9,14 +9,14 @@ use Rattle.otel_state.specs.Times.{open_after, open_by, gap, busy_of, exit_in, l
 use Rattle.otel_state.specs.Content.{Making, attributes_of, counted_of, closing_count, content}
 use Rattle.otel_state.specs.States.{SpanData, data_at_making, moment, after_stamped}
 use Rattle.otel_state.specs.Laws.{TellsTimes, was_entered}
-use Rattle.otel_state.proofs.Summing.{folded, constant, busy_all, left_all, first_within}
+use Rattle.otel_state.proofs.SumLemmas.{folded, constant, busy_all, left_all, first_within}
 
 -- how far busy time may reach: to the last moment where an entry is open, else to the last exit or the making
-record Bounded (busy entries made last : ℕ) (left : Option ℕ) : Type 0 where
+record Bounded (busy entries made_at last : ℕ) (left : Option ℕ) : Type 0 where
   pub is_moment : last ≤ GREATEST
-  pub while_open : 0 < entries → busy + made ≤ last
-  pub while_shut : entries ≡ 0 → busy + made ≤ unwrap_or left made
-  pub within : unwrap_or left made ≤ last
+  pub while_open : 0 < entries → busy + made_at ≤ last
+  pub while_shut : entries ≡ 0 → busy + made_at ≤ unwrap_or left made_at
+  pub within : unwrap_or left made_at ≤ last
 
 gap_shut : (entries last at : ℕ) → entries ≡ 0 → gap entries last at ≡ 0
 gap_shut entries last at is = ap (λ n. gap n last at) is
@@ -28,20 +28,20 @@ gap_open entries last at more = by_test (entries == 0) refl
     by_test true is = let none = eqb-true entries 0 is in absurd (omega (arith, none, more))
     by_test false is = refl
 
-grown : (busy entries made last at : ℕ) (left : Option ℕ) → last ≤ at → Bounded busy entries made last left → busy + gap entries last at + made ≤ at
-grown busy zero made last at left later bounded = let shut = bounded.while_shut refl in let within = bounded.within in omega (arith, shut, within, later)
-grown busy (suc n) made last at left later bounded = let more = bounded.while_open (omega arith) in let is = gap_open (suc n) last at (omega arith) in omega (arith, more, is, later)
+grown : (busy entries made_at last at : ℕ) (left : Option ℕ) → last ≤ at → Bounded busy entries made_at last left → busy + gap entries last at + made_at ≤ at
+grown busy zero made_at last at left later bounded = let shut = bounded.while_shut refl in let within = bounded.within in omega (arith, shut, within, later)
+grown busy (suc n) made_at last at left later bounded = let more = bounded.while_open (omega arith) in let is = gap_open (suc n) last at (omega arith) in omega (arith, more, is, later)
 
-one_bounded : (busy entries made last at : ℕ) (left : Option ℕ) (d : Deed) → last ≤ at → at ≤ GREATEST → Bounded busy entries made last left → (exits enters : Bool)
-    → Bounded (busy + gap entries last at) (if exits then entries - 1 else if enters then min (entries + 1) GREATEST else entries) made at (if exits then Some at else left)
-one_bounded busy entries made last at left d later most bounded true enters =
-    let reach = grown busy entries made last at left later bounded in
+one_bounded : (busy entries made_at last at : ℕ) (left : Option ℕ) (d : Deed) → last ≤ at → at ≤ GREATEST → Bounded busy entries made_at last left → (exits enters : Bool)
+    → Bounded (busy + gap entries last at) (if exits then entries - 1 else if enters then min (entries + 1) GREATEST else entries) made_at at (if exits then Some at else left)
+one_bounded busy entries made_at last at left d later most bounded true enters =
+    let reach = grown busy entries made_at last at left later bounded in
     record { is_moment = most; while_open = λ more. reach; while_shut = λ is. reach; within = omega (arith, later) }
-one_bounded busy entries made last at left d later most bounded false true =
-    let reach = grown busy entries made last at left later bounded in let within = bounded.within in
+one_bounded busy entries made_at last at left d later most bounded false true =
+    let reach = grown busy entries made_at last at left later bounded in let within = bounded.within in
     record { is_moment = most; while_open = λ more. reach; while_shut = λ is. absurd (omega (arith, is)); within = omega (arith, within, later) }
-one_bounded busy entries made last at left d later most bounded false false =
-    let reach = grown busy entries made last at left later bounded in let within = bounded.within in
+one_bounded busy entries made_at last at left d later most bounded false false =
+    let reach = grown busy entries made_at last at left later bounded in let within = bounded.within in
     record {
       is_moment = most;
       while_open = λ more. reach;
@@ -52,12 +52,12 @@ one_bounded busy entries made last at left d later most bounded false false =
 later_moment : (last at : ℕ) → last ≤ GREATEST → (last ≤ moment last at) × (moment last at ≤ GREATEST)
 later_moment last at most = (omega (arith, most), omega arith)
 
-all_bounded : (told : SpanData) (ops : List TimedOp) → Bounded told.busy told.entries told.made told.last told.left
-    → Bounded (fold after_stamped told ops).busy (fold after_stamped told ops).entries (fold after_stamped told ops).made (fold after_stamped told ops).last (fold after_stamped told ops).left
+all_bounded : (told : SpanData) (ops : List TimedOp) → Bounded told.busy told.entries told.made_at told.last told.left
+    → Bounded (fold after_stamped told ops).busy (fold after_stamped told ops).entries (fold after_stamped told ops).made_at (fold after_stamped told ops).last (fold after_stamped told ops).left
 all_bounded told [] bounded = bounded
 all_bounded told (op ∷ ops) bounded =
     let later = later_moment told.last op.at bounded.is_moment in
-    all_bounded (after_stamped told op) ops (one_bounded told.busy told.entries told.made told.last (moment told.last op.at) told.left (deed op.op) later.0 later.1 bounded (deed op.op).exits (deed op.op).enters)
+    all_bounded (after_stamped told op) ops (one_bounded told.busy told.entries told.made_at told.last (moment told.last op.at) told.left (deed op.op) later.0 later.1 bounded (deed op.op).exits (deed op.op).enters)
 
 -- ---- a span that was entered and has no open entry was left
 
@@ -93,43 +93,43 @@ some_unless : (left : Option ℕ) → (left ≡ None → ⊥) → is_some left �
 some_unless None never = absurd (never refl)
 some_unless (Some end) never = refl
 
-sum_is : (made busy closed : ℕ) (left : Option ℕ) → is_some left ≡ true → busy + made ≤ unwrap_or left made → made + busy + idle_of left made busy ≡ unwrap_or left closed
-sum_is made busy closed None has reach = cc
-sum_is made busy closed (Some end) has reach = omega (arith, reach)
+sum_is : (made_at busy closed : ℕ) (left : Option ℕ) → is_some left ≡ true → busy + made_at ≤ unwrap_or left made_at → made_at + busy + idle_of left made_at busy ≡ unwrap_or left closed
+sum_is made_at busy closed None has reach = cc
+sum_is made_at busy closed (Some end) has reach = omega (arith, reach)
 
-no_idle : (made busy : ℕ) (left : Option ℕ) → left ≡ None → idle_of left made busy ≡ 0
-no_idle made busy left is = ap (λ l. idle_of l made busy) is
+no_idle : (made_at busy : ℕ) (left : Option ℕ) → left ≡ None → idle_of left made_at busy ≡ 0
+no_idle made_at busy left is = ap (λ l. idle_of l made_at busy) is
 
-no_busy : (made busy : ℕ) (left : Option ℕ) → left ≡ None → busy + made ≤ unwrap_or left made → busy ≡ 0
-no_busy made busy left is reach = let none = ap (λ l. unwrap_or l made) is in omega (arith, none, reach)
+no_busy : (made_at busy : ℕ) (left : Option ℕ) → left ≡ None → busy + made_at ≤ unwrap_or left made_at → busy ≡ 0
+no_busy made_at busy left is reach = let none = ap (λ l. unwrap_or l made_at) is in omega (arith, none, reach)
 
-reached : (making : Making) (ops : List TimedOp) → MomentsRise making.made ops → open_by 0 ops ≡ 0 → busy_of making.made ops + making.made ≤ unwrap_or (last_exit ops) making.made
+reached : (making : Making) (ops : List TimedOp) → MomentsRise making.made_at ops → open_by 0 ops ≡ 0 → busy_of making.made_at ops + making.made_at ≤ unwrap_or (last_exit ops) making.made_at
 reached making ops order shut =
     let start = data_at_making making in
-    let made = first_within making.made ops order in
-    let within : min making.made GREATEST ≡ making.made = omega (arith, made) in
+    let made_at = first_within making.made_at ops order in
+    let within : min making.made_at GREATEST ≡ making.made_at = omega (arith, made_at) in
     let in_order = subst (λ n. MomentsRise n ops) (sym within) order in
     let bounded = all_bounded start ops (record { is_moment = omega arith; while_open = λ more. absurd (omega (arith, more)); while_shut = λ is. omega arith; within = omega (arith, within) }) in
     let entries = folded (λ t. t.entries) (λ n op. open_after n (deed op.op)) (λ t op. refl) start ops ∙ shut in
     let reach = bounded.while_shut entries in
     let busy = busy_all start ops in_order ∙ ap (λ n. 0 + busy_of n ops) within in
-    let left = ap (λ l. unwrap_or l making.made) (left_all start ops in_order) in
-    let kept = constant (λ t. t.made) (λ t op. refl) start ops in
+    let left = ap (λ l. unwrap_or l making.made_at) (left_all start ops in_order) in
+    let kept = constant (λ t. t.made_at) (λ t op. refl) start ops in
     let left_made = ap (λ n. unwrap_or (fold after_stamped start ops).left n) kept in
     omega (arith, reach, busy, left, kept, left_made)
 
-pub tells_times : (making : Making) (ops : List TimedOp) (closed : ℕ) → IsTrue making.inactivity → MomentsRise making.made ops → open_by 0 ops ≡ 0
+pub tells_times : (making : Making) (ops : List TimedOp) (closed : ℕ) → IsTrue making.inactivity → MomentsRise making.made_at ops → open_by 0 ops ≡ 0
     → TellsTimes (was_entered ops) (last_exit ops) (content making ops closed)
 tells_times making ops closed tracked order shut =
     let reach = reached making ops order shut in
-    let busy = busy_of making.made ops in
+    let busy = busy_of making.made_at ops in
     let counted = closing_count making.counting (counted_of ops) in
     record {
       others = making.first ++ attributes_of ops ++ counted;
       busy = busy;
-      idle = idle_of (last_exit ops) making.made busy;
+      idle = idle_of (last_exit ops) making.made_at busy;
       told = simp (tracked, append_assoc) refl;
       was_left = λ entered. some_unless (last_exit ops) (λ none. left_if_entered 0 ops None shut entered none);
-      add_up = λ has. sum_is making.made busy closed (last_exit ops) has reach;
-      are_none = λ none. (no_busy making.made busy (last_exit ops) none reach, no_idle making.made busy (last_exit ops) none);
+      add_up = λ has. sum_is making.made_at busy closed (last_exit ops) has reach;
+      are_none = λ none. (no_busy making.made_at busy (last_exit ops) none reach, no_idle making.made_at busy (last_exit ops) none);
     }

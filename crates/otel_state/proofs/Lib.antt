@@ -1,5 +1,5 @@
-pub mod Summing
+pub mod SumLemmas
 pub mod AddingUp
-pub mod Starting
-pub mod Ranking
-pub mod Popping
+pub mod StartLemmas
+pub mod StatusOrderLemmas
+pub mod LastItemLemmas

@@ -17,7 +17,7 @@ use Rattle.otel_state.specs.Times.{busy_of, last_exit, end_of, idle_of}
 pub record Making : Type 0 where
   pub name : List ℕ
   pub parent : Context
-  pub made : ℕ
+  pub made_at : ℕ
   pub first : List KeyValue
   pub counting : Bool
   pub inactivity : Bool
@@ -51,16 +51,16 @@ closing_times inactivity busy idle = if inactivity then number (codes "busy_ns")
 abbrev pub content : Making → List TimedOp → ℕ → Record
 content making ops closed =
     let left = last_exit ops in
-    let busy = busy_of making.made ops in
+    let busy = busy_of making.made_at ops in
     record {
       name = name_of making.name ops;
       kind = kind_of ops;
       context = ids_or_zeros (own_of ops);
       parent = parent_id (ids_of (parent_context_of making.parent ops));
-      start = making.made;
+      start = making.made_at;
       end = end_of left closed;
       attributes = making.first ++ attributes_of ops ++ closing_count making.counting (counted_of ops)
-          ++ closing_times making.inactivity busy (idle_of left making.made busy);
+          ++ closing_times making.inactivity busy (idle_of left making.made_at busy);
       events = events_of ops;
       links = links_of ops;
       status = status_of ops;

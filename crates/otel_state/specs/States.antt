@@ -28,7 +28,7 @@ pub record SpanData : Type 0 where
   pub name : List ℕ
   pub kind : SpanKind
   pub parent : Context
-  pub made : ℕ
+  pub made_at : ℕ
   pub counting : Bool
   pub inactivity : Bool
   pub own : Option SpanContext
@@ -60,7 +60,7 @@ data_at_making making = record {
   name = making.name;
   kind = Internal;
   parent = making.parent;
-  made = making.made;
+  made_at = making.made_at;
   counting = making.counting;
   inactivity = making.inactivity;
   own = None;
@@ -70,7 +70,7 @@ data_at_making making = record {
   status = Unset;
   counted = 0;
   entries = 0;
-  last = min making.made GREATEST;
+  last = min making.made_at GREATEST;
   busy = 0;
   left = None;
 }
@@ -144,15 +144,15 @@ IsReadOff read told value = (making : Making) (ops : List TimedOp) → Stands ma
 
 -- a state gets the parent and the moment of its making anew, and no time has passed since
 abbrev pub with_making : Context → ℕ → SpanData → SpanData
-with_making parent made told = record told { parent = parent; made = made; last = min made GREATEST; busy = 0; left = None }
+with_making parent made_at told = record told { parent = parent; made_at = made_at; last = min made_at GREATEST; busy = 0; left = None }
 
 -- a state that stood for a making and no ops stands for the same making with another parent and moment, and no ops
 abbrev pub BeginsAt : Context → ℕ → SpanData → SpanData → Type 0
-BeginsAt parent made before now = (making : Making) → Stands making [] before → Stands (record making { parent = parent; made = made }) [] now
+BeginsAt parent made_at before now = (making : Making) → Stands making [] before → Stands (record making { parent = parent; made_at = made_at }) [] now
 
 -- a record is the content of the making and the ops that a state stands for, where moments don't fall
 abbrev pub IsContent : ℕ → SpanData → Record → Type 0
-IsContent at told result = (making : Making) (ops : List TimedOp) → Stands making ops told → MomentsRise making.made ops → result ≡ content making ops at
+IsContent at told result = (making : Making) (ops : List TimedOp) → Stands making ops told → MomentsRise making.made_at ops → result ≡ content making ops at
 
 -- ---- answers
 
@@ -202,10 +202,10 @@ record_of told closed = record {
   kind = told.kind;
   context = ids_or_zeros told.own;
   parent = parent_id (ids_of told.parent);
-  start = told.made;
+  start = told.made_at;
   end = end_of told.left closed;
   attributes = told.attributes ++ closing_count told.counting told.counted
-      ++ closing_times told.inactivity told.busy (idle_of told.left told.made told.busy);
+      ++ closing_times told.inactivity told.busy (idle_of told.left told.made_at told.busy);
   events = told.events;
   links = told.links;
   status = told.status;

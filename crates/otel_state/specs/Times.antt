@@ -23,7 +23,7 @@ busy_from entries last (op ∷ ops) = gap entries last op.at + busy_from (open_a
 
 -- busy is the time in which some entry was open
 abbrev pub busy_of : ℕ → List TimedOp → ℕ
-busy_of made ops = busy_from 0 made ops
+busy_of made_at ops = busy_from 0 made_at ops
 
 -- the moment of an op that closes an entry
 abbrev pub exit_in : TimedOp → Option ℕ
@@ -39,7 +39,7 @@ end_of left closed = unwrap_or left closed
 
 -- idle is the rest from the making to the last exit, 0 where there is none
 abbrev pub idle_of : Option ℕ → ℕ → ℕ → ℕ
-idle_of left made busy = option_map_or (λ end. end - made - busy) left 0
+idle_of left made_at busy = option_map_or (λ end. end - made_at - busy) left 0
 
 -- moments don't fall, and are at most the greatest
 abbrev pub MomentsRise : ℕ → List TimedOp → Type 0

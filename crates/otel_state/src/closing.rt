@@ -50,7 +50,7 @@ fn add_number(alloc: Global, attributes: &mut Vec<KeyValue>, key: Word, told: u6
     ensures capacity { vec_capacity attributes.old ≤ vec_capacity attributes.new }
 {
     match attributes.push(KeyValue {
-        key: Text::fixed(alloc, key),
+        key: Text::from_word(alloc, key),
         value: OtelValue::I64(told as i64),
     }) {
         Ok(()) => {}

@@ -17,7 +17,7 @@ pub fn appends()
 /// Where inactivity is tracked, moments don't fall and no entry is left open: the record's busy and idle times add up to
 /// the time from its start to its end if the span was left, as each is that was entered; else both are 0.
 pub fn times()
-    ensures { (making : Making) (ops : List TimedOp) (closed : ℕ) → IsTrue making.inactivity → MomentsRise making.made ops
+    ensures { (making : Making) (ops : List TimedOp) (closed : ℕ) → IsTrue making.inactivity → MomentsRise making.made_at ops
         → open_by 0 ops ≡ 0 → TellsTimes (was_entered ops) (last_exit ops) (content making ops closed) }
 {}
 
@@ -34,8 +34,8 @@ pub fn late_writes()
 pub fn early_starts()
     ensures { (making : Making) (before between after : List TimedOp) (early late : ℕ) (own given : SpanContext)
         (closed : ℕ) → All SettlesNothing between → open_by 0 (before ++ between ++ after) ≡ 0
-        → MomentsRise making.made (with_early before (start_at early own) between after)
-        → MomentsRise making.made (with_late before between (start_at late given) after)
+        → MomentsRise making.made_at (with_early before (start_at early own) between after)
+        → MomentsRise making.made_at (with_late before between (start_at late given) after)
         → SameButIds (content making (with_early before (start_at early own) between after) closed)
         (content making (with_late before between (start_at late given) after) closed) }
 {}

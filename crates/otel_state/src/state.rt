@@ -31,7 +31,7 @@ const CLOSING: usize = 3;
 pub struct SpanState {
     alloc: Global,
     opening: Opening,
-    made: u64,
+    made_at: u64,
     counting: bool,
     inactivity: bool,
     own: Option<SpanContext>,
@@ -65,7 +65,7 @@ impl Model for SpanState {
         name = s.opening.name;
         kind = s.opening.kind;
         parent = s.opening.parent;
-        made = s.made;
+        made_at = s.made_at;
         counting = s.counting;
         inactivity = s.inactivity;
         own = s.own;
@@ -96,7 +96,7 @@ impl SpanState {
         alloc: Global,
         name: &str,
         parent: Context,
-        made: Moment,
+        made_at: Moment,
         first: Items<KeyValue>,
         counting: bool,
         inactivity: bool,
@@ -104,7 +104,7 @@ impl SpanState {
         ensures { IfOk result (λ state. Stands (record {
           name = name.now;
           parent = parent;
-          made = made;
+          made_at = made_at;
           first = first;
           counting = counting;
           inactivity = inactivity;
@@ -119,7 +119,7 @@ impl SpanState {
                 kind: SpanKind::Internal,
                 parent,
             },
-            made,
+            made_at,
             counting,
             inactivity,
             own: None,
@@ -129,15 +129,15 @@ impl SpanState {
             status: Status::Unset,
             counted: 0,
             entries: 0,
-            last: made.min(GREATEST),
+            last: made_at.min(GREATEST),
             busy: 0,
             left: None,
         })
     }
 
     /// Its ids, once it has started.
-    #[tactic(auto, using(crate::proofs::Summing::own_is))]
-    pub fn started(&self) -> Option<SpanContext>
+    #[tactic(auto, using(crate::proofs::SumLemmas::own_is))]
+    pub fn own_context(&self) -> Option<SpanContext>
         ensures value { result ≡ self.now.told.own }
         ensures listed { IsReadOff (λ _ ops. own_of ops) self.now.told result }
     {
@@ -145,7 +145,7 @@ impl SpanState {
     }
 
     /// The context of its parent.
-    #[tactic(auto, using(crate::proofs::Summing::parent_is))]
+    #[tactic(auto, using(crate::proofs::SumLemmas::parent_is))]
     pub fn parent(&self) -> Context
         ensures value { result ≡ self.now.told.parent }
         ensures listed { IsReadOff (λ making ops. parent_context_of making.parent ops) self.now.told result }
@@ -154,7 +154,7 @@ impl SpanState {
     }
 
     /// How many entries are open.
-    #[tactic(auto, using(crate::proofs::Summing::entries_is))]
+    #[tactic(auto, using(crate::proofs::SumLemmas::entries_is))]
     pub fn entries(&self) -> u64
         ensures value { result ≡ self.now.told.entries }
         ensures listed { IsReadOff (λ _ ops. open_by 0 ops) self.now.told result }
@@ -165,7 +165,7 @@ impl SpanState {
     /// Applies an op at a moment, and answers it; the room that the op doesn't fill stays. `Memory` comes only for the ops
     /// that may grow the state (`is_growing`) and where there wasn't the room; the state then tells the same, and no room is
     /// lost.
-    #[tactic(auto, using(crate::proofs::Summing::appended))]
+    #[tactic(auto, using(crate::proofs::SumLemmas::appended))]
     pub fn apply(&mut self, at: Moment, op: Op) -> Result<OpReply, Memory>
         ensures appends { OnOk result (AppendsOp at op self.old.told self.new.told) }
         ensures did { OnOk result (self.new.told ≡ after_op self.old.told at op) }
@@ -356,14 +356,14 @@ impl SpanState {
 
     /// Gives a state the parent and the moment of its making, where these weren't known when its room was taken. Its last
     /// moment, its busy time and its last exit start anew; all else stays.
-    pub fn begin(&mut self, parent: Context, made: Moment)
-        ensures told { self.new.told ≡ with_making parent made self.old.told }
-        ensures begins { BeginsAt parent made self.old.told self.new.told }
+    pub fn begin(&mut self, parent: Context, made_at: Moment)
+        ensures told { self.new.told ≡ with_making parent made_at self.old.told }
+        ensures begins { BeginsAt parent made_at self.old.told self.new.told }
         ensures room { self.new.room ≡ self.old.room }
     {
         self.opening.parent = parent;
-        self.made = made;
-        self.last = made.min(GREATEST);
+        self.made_at = made_at;
+        self.last = made_at.min(GREATEST);
         self.busy = 0;
         self.left = None;
     }
@@ -441,7 +441,7 @@ impl SpanState {
     fn into_record(self, at: Moment) -> Record
         ensures { result ≡ record_of self.told at }
     {
-        let idle = idle(self.left, self.made, self.busy);
+        let idle = idle(self.left, self.made_at, self.busy);
         let context = self.own.unwrap_or(SpanContext { trace: 0, span: 0 });
         let parent = self.opening.parent.span_context().parent_id();
         let end = self.left.unwrap_or(at);
@@ -459,7 +459,7 @@ impl SpanState {
             kind: self.opening.kind,
             context,
             parent,
-            start: self.made,
+            start: self.made_at,
             end,
             attributes: Items::from(attributes),
             events: Items::from(self.events),

@@ -24,11 +24,11 @@ pub(crate) fn one_more(count: u64) -> u64
 }
 
 // The idle time of a span that was left last at a moment, if it was.
-pub(crate) fn idle(left: Option<Moment>, made: Moment, busy: u64) -> u64
-    ensures { result ≡ idle_of left made busy }
+pub(crate) fn idle(left: Option<Moment>, made_at: Moment, busy: u64) -> u64
+    ensures { result ≡ idle_of left made_at busy }
 {
     match left {
-        Some(left) => left.saturating_sub(made).saturating_sub(busy),
+        Some(left) => left.saturating_sub(made_at).saturating_sub(busy),
         None => 0,
     }
 }

@@ -1,5 +1,5 @@
-pub mod Counting
+pub mod SpanCountLemmas
 pub mod Lanes
-pub mod Nesting
-pub mod Slotting
+pub mod LaneSpansLemmas
+pub mod SlotTableLemmas
 pub mod Sound

@@ -6,7 +6,7 @@ use Rattle.trace_base.specs.Spans.{Span, Spans, no_span, is_open_child, without_
 use Rattle.trace_base.specs.Calls.{with_new_span}
 use Rattle.trace_base.specs.Conditions.{HasOwnHold}
 use Rattle.trace_base.specs.Sound.{IsSound}
-use Rattle.trace_base.proofs.Entering.{count_push, no_entries}
+use Rattle.trace_base.proofs.EntryLemmas.{count_push, no_entries}
 use Rattle.trace_base.specs.layers.Hooks.{KnownSpans}
 use Rattle.span_registry.specs.Both.{InStep, KnowsNone}
 use Rattle.span_registry.specs.Stepping.{in_step_start}

@@ -11,7 +11,7 @@ use Rattle.trace_base.specs.Spans.{Span, Entries, Spans, span_at, entries_on, is
 use Rattle.trace_base.specs.Calls.{with_new_span, with_span_entry, with_span_exit}
 use Rattle.trace_base.specs.Conditions.{IsLive, MayExit, HasOwnHold}
 use Rattle.trace_base.specs.layers.Hooks.{Hook, OnNewSpan, OnRecord, OnFollows, OnEvent, OnEnter, OnExit, OnClose, KnownSpans, Sees, makes, closes, comes, goes, one_if}
-use Rattle.trace_base.proofs.Entering.{count_push, count_without_last, any_if_counted, with_same, with_other, made_if_held, length_held, no_entries}
+use Rattle.trace_base.proofs.EntryLemmas.{count_push, count_without_last, any_if_counted, with_same, with_other, made_if_held, length_held, no_entries}
 use Rattle.span_registry.specs.Both.{InStep, KnowsNone}
 
 -- what a call makes of the spans is what its hook tells

@@ -9,7 +9,6 @@ ghost use Rattle.std.specs.Borrow.{sem};
 ghost use Rattle.span_registry.specs.Lending.{LendsLayer, LendsInner};
 
 use crate::registry::Registry;
-use crate::table::again;
 use otel_base::enter_error::EnterError;
 use otel_base::memory::Memory;
 use trace_base::callsite::{Callsite, SiteId};
@@ -197,13 +196,14 @@ impl<L: Layer, S: Subscriber> Subscriber for Layered<L, S> {
         callsite: &Callsite,
         values: &ValueSet,
     ) -> Result<Id, Memory> {
+        let parent = &parent;
         let current = self.inner.current_span(lane.id).map(|current| current.0);
         let prepared = self.layer.prepare_new_span(lane, callsite, values)?;
         let id = self
             .inner
-            .new_span(lane, at, parent.same(), site, callsite, values)?;
+            .new_span(lane, at, *parent, site, callsite, values)?;
         self.layer
-            .on_new_span(prepared, id, lane, at, parent, current, callsite, values);
+            .on_new_span(prepared, id, lane, at, *parent, current, callsite, values);
         Ok(id)
     }
 
@@ -236,11 +236,12 @@ impl<L: Layer, S: Subscriber> Subscriber for Layered<L, S> {
         callsite: &Callsite,
         values: &ValueSet,
     ) -> Result<(), Memory> {
-        let reached = reached(&self.inner, lane.id, parent.same());
-        let prepared = self.layer.prepare_event(again(&reached), callsite, values)?;
-        self.inner.event(lane, at, parent, site, callsite, values)?;
+        let parent = &parent;
+        let reached = &reached_span(&self.inner, lane.id, *parent);
+        let prepared = self.layer.prepare_event(*reached, callsite, values)?;
+        self.inner.event(lane, at, *parent, site, callsite, values)?;
         self.layer
-            .on_event(prepared, reached, lane, at, callsite, values);
+            .on_event(prepared, *reached, lane, at, callsite, values);
         Ok(())
     }
 
@@ -306,7 +307,7 @@ fn greater_hint(layer: Option<LevelFilter>, inner: Option<LevelFilter>) -> Optio
 }
 
 // The span that an event at this place reaches.
-fn reached<S: Subscriber>(inner: &S, lane: u64, parent: Parent) -> Option<Id>
+fn reached_span<S: Subscriber>(inner: &S, lane: u64, parent: Parent) -> Option<Id>
     requires { S.is_whole inner.now }
     ensures { result ≡ place_on (entries_on lane (S.spans inner.now).lanes) parent }
 {

@@ -88,7 +88,7 @@ impl Table {
         ensures { result ≡ (span_at self.now.made id).parent }
     {
         match self.slot(id) {
-            Some(slot) => again(&slot.parent),
+            Some(slot) => slot.parent,
             None => None,
         }
     }
@@ -127,17 +127,17 @@ impl Table {
         ensures slots { OnOk result (self.new.slots ≡ max self.old.slots (live_spans self.new.made)) }
         ensures memory_leaves { OnErr result (self.new ≡ self.old) }
     {
-        let id = self.push(again(&above), site)?;
+        let id = self.push(&above, site)?;
         self.hold_parent(above);
         Ok(id)
     }
 
     // Adds a span without a hold of its parent.
-    fn push(&mut self, above: Option<Id>, site: SiteId) -> Result<Id, Memory>
+    fn push(&mut self, above: &Option<Id>, site: SiteId) -> Result<Id, Memory>
         requires { length self.old.made < 2 ^ 63 }
         ensures id { IfOk result (λ id. id ≡ length self.old.made) }
         ensures ok { OnOk result
-            (self.new.made ≡ self.old.made ++ record { holds = 1; parent = above; site = site } ∷ []) }
+            (self.new.made ≡ self.old.made ++ record { holds = 1; parent = above.now; site = site } ∷ []) }
         ensures slots { OnOk result (self.new.slots ≡ max self.old.slots (live_spans self.new.made)) }
         ensures memory_leaves { OnErr result (self.new ≡ self.old) }
     {
@@ -147,7 +147,7 @@ impl Table {
         let slot = Slot {
             id,
             holds: 1,
-            parent: above,
+            parent: *above,
             site,
         };
         fill(&mut self.slots, &mut self.free, slot);
@@ -198,7 +198,7 @@ impl Table {
                 next: None,
             };
         }
-        let next = again(&slot.parent);
+        let next = slot.parent;
         take_out(&mut self.places, id);
         let Ok(()) = self.free.push(place) else {
             unreachable!()
@@ -297,14 +297,4 @@ fn fill(slots: &mut Vec<Slot>, free: &mut Vec<usize>, slot: Slot)
     let Ok(()) = slots.push(slot) else {
         unreachable!()
     };
-}
-
-// The same id once more.
-pub(crate) fn again(id: &Option<Id>) -> Option<Id>
-    ensures { result ≡ id.now }
-{
-    match id {
-        Some(id) => Some(*id),
-        None => None,
-    }
 }

@@ -1,8 +1,8 @@
-pub mod Caching
-pub mod Entering
-pub mod Holding
+pub mod InterestLemmas
+pub mod EntryLemmas
+pub mod HoldLemmas
 pub mod LevelNumbers
-pub mod Moving
+pub mod HoldMoveLemmas
 pub mod Quotes
 pub mod Sound
-pub mod Unquoting
+pub mod QuotesApartLemmas

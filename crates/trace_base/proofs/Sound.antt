@@ -9,8 +9,8 @@ use Rattle.trace_base.specs.Spans.{Span, Entries, Spans, no_span, span_at, entri
 use Rattle.trace_base.specs.Calls.{SubscriberCall, NewSpan, Records, Follows, Event, Enter, Exit, CloneSpan, TryClose, spans_after_call, with_new_span, with_span_entry, with_span_exit}
 use Rattle.trace_base.specs.Conditions.{Allowed, IsLive, IsLivePlace, HasOwnHold, MayExit}
 use Rattle.trace_base.specs.Sound.{IsSound, OneEach, has_lane}
-use Rattle.trace_base.proofs.Entering.{count_push, counted_if_any, any_if_counted, made_if_held}
-use Rattle.trace_base.proofs.Holding.{children_set, same_child, keeps_children, less_last, less_more, less_holds, less_under, holds_set, holds_other, first_with, in_push_other, in_push_same, in_by_times, times_without, current_in, first_if_in}
+use Rattle.trace_base.proofs.EntryLemmas.{count_push, counted_if_any, any_if_counted, made_if_held}
+use Rattle.trace_base.proofs.HoldLemmas.{children_set, same_child, keeps_children, less_last, less_more, less_holds, less_under, holds_set, holds_other, first_with, in_push_other, in_push_same, in_by_times, times_without, current_in, first_if_in}
 
 -- each lane still has one row
 or_none : (a b : Bool) → a ≡ false → b ≡ false → (a || b) ≡ false

@@ -1,6 +1,6 @@
 //! The quoted form of a text.
 ghost use Rattle.std.specs.Prelude.{◌≡◌, ◌++◌, IfOk, OnOk, string_bytes, encode_utf8, flat_map};
-ghost use Rattle.trace_base.specs.words.Quote.{code_escape, escaped, in_quotes};
+ghost use Rattle.trace_base.specs.words.Quote.{code_escape, quoted_byte, in_quotes};
 
 use otel_base::memory::Memory;
 use std::alloc::Global;
@@ -18,9 +18,9 @@ pub fn quote(alloc: Global, text: &str) -> Result<String, Memory>
     Ok(out)
 }
 
-#[tactic(auto, unfolding(crate::specs::words::Quote::escaped), using(crate::proofs::Quotes::plain))]
+#[tactic(auto, unfolding(crate::specs::words::Quote::quoted_byte), using(crate::proofs::Quotes::plain))]
 fn push_escaped(alloc: Global, out: &mut String, c: char) -> Result<(), Memory>
-    ensures { OnOk result (string_bytes out.new ≡ string_bytes out.old ++ flat_map escaped (encode_utf8 c)) }
+    ensures { OnOk result (string_bytes out.new ≡ string_bytes out.old ++ flat_map quoted_byte (encode_utf8 c)) }
 {
     match c {
         '"' => out.push_str("\\\"")?,

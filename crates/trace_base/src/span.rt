@@ -79,19 +79,6 @@ pub enum Parent {
     Of(Id),
 }
 
-impl Parent {
-    /// The same place once more.
-    pub fn same(&self) -> Parent
-        ensures { result ≡ self.now }
-    {
-        match self {
-            Parent::Root => Parent::Root,
-            Parent::Current => Parent::Current,
-            Parent::Of(id) => Parent::Of(*id),
-        }
-    }
-}
-
 /// What the release of a hold answers.
 #[derive(Clone, Copy)]
 pub struct Closing {

@@ -1,11 +1,11 @@
 -- What is read of a directive behind its fields leaves their patterns as they are.
 use Rattle.std.proofs.Common.{◌≡◌, ℕ, Bool, true, false, List, [], ◌∷◌, ◌++◌, Some, None, Option, Ok, Err, refl, sym, subst, if◌then◌else◌, codes, ◌==◌, IfOk, IfSome, ℤ}
-use Rattle.env_directives.proofs.Common.{option_or, LevelFilter, level_filter_of, pieces_at, head_alone, level_behind, level_or_target, IsDirective, HasForm, AnswersRead, Read, at_level, read_last, read_leveled, read_level, read_end, read_close, HavePatterns, IsPatternIfAny, plain_value, truth_of, u64_of, i64_of, Shape, Directive, Match, ValueMatch, U64, I64}
+use Rattle.env_directives.proofs.Common.{option_or, LevelFilter, level_filter_of, pieces_at, head_alone, level_behind, level_or_target, IsDirective, HasForm, AnswersRead, DirectiveRead, at_level, read_last, read_leveled, read_level, read_end, read_close, HavePatterns, IsPatternIfAny, plain_value, truth_of, u64_of, i64_of, Shape, Directive, Match, ValueMatch, U64, I64}
 use Rattle.std.specs.Option.{option_map}
 use Rattle.env_directives.specs.declared.env.field.ValueMatch.TheVariants.{Bool as Truth}
 
 -- what was read has the fields of a directive
-abbrev Keeps : Directive → Read → Type 0
+abbrev Keeps : Directive → DirectiveRead → Type 0
 Keeps d read = IfOk read (λ (x : Directive). x.fields ≡ d.fields)
 
 keeps_last : (d : Directive) (rest : List ℕ) → Keeps d (read_last d rest)
@@ -41,20 +41,20 @@ keeps_close d (b ∷ rest) = by_byte (b == 93)
     by_byte false = tt
 
 -- so what is answered has patterns if the directive had
-answered : (d : Directive) (patterns : Bool) (P : Type 0) (r read : Read) → HavePatterns d.fields → Keeps d read → AnswersRead (λ x. x) patterns P r read → IfOk r (λ x. HavePatterns x.fields)
+answered : (d : Directive) (patterns : Bool) (P : Type 0) (r read : DirectiveRead) → HavePatterns d.fields → Keeps d read → AnswersRead (λ x. x) patterns P r read → IfOk r (λ x. HavePatterns x.fields)
 answered d patterns P (Ok x) read have keeps is = let same : x.fields ≡ d.fields = subst (Keeps d) is keeps in subst HavePatterns (sym same) have
 answered d patterns P (Err e) read have keeps is = tt
 
-pub last_patterned : (d : Directive) (rest : List ℕ) (r : Read) → HavePatterns d.fields → AnswersRead (λ x. x) false ⊥ r (read_last d rest) → IfOk r (λ x. HavePatterns x.fields)
+pub last_patterned : (d : Directive) (rest : List ℕ) (r : DirectiveRead) → HavePatterns d.fields → AnswersRead (λ x. x) false ⊥ r (read_last d rest) → IfOk r (λ x. HavePatterns x.fields)
 last_patterned d rest r have is = answered d false ⊥ r (read_last d rest) have (keeps_last d rest) is
 
-pub level_patterned : (d : Directive) (text : List ℕ) (r : Read) → HavePatterns d.fields → AnswersRead (λ x. x) false ⊥ r (read_level d text) → IfOk r (λ x. HavePatterns x.fields)
+pub level_patterned : (d : Directive) (text : List ℕ) (r : DirectiveRead) → HavePatterns d.fields → AnswersRead (λ x. x) false ⊥ r (read_level d text) → IfOk r (λ x. HavePatterns x.fields)
 level_patterned d text r have is = answered d false ⊥ r (read_level d text) have (keeps_level d text) is
 
-pub end_patterned : (d : Directive) (rest : List ℕ) (r : Read) → HavePatterns d.fields → AnswersRead (λ x. x) false ⊥ r (read_end d rest) → IfOk r (λ x. HavePatterns x.fields)
+pub end_patterned : (d : Directive) (rest : List ℕ) (r : DirectiveRead) → HavePatterns d.fields → AnswersRead (λ x. x) false ⊥ r (read_end d rest) → IfOk r (λ x. HavePatterns x.fields)
 end_patterned d rest r have is = answered d false ⊥ r (read_end d rest) have (keeps_end d rest) is
 
-pub close_patterned : (d : Directive) (rest : List ℕ) (r : Read) → HavePatterns d.fields → AnswersRead (λ x. x) false ⊥ r (read_close d rest) → IfOk r (λ x. HavePatterns x.fields)
+pub close_patterned : (d : Directive) (rest : List ℕ) (r : DirectiveRead) → HavePatterns d.fields → AnswersRead (λ x. x) false ⊥ r (read_close d rest) → IfOk r (λ x. HavePatterns x.fields)
 close_patterned d rest r have is = answered d false ⊥ r (read_close d rest) have (keeps_close d rest) is
 
 -- a head alone has no fields

@@ -11,38 +11,38 @@ use Rattle.env_directives.specs.declared.directive.ParseError.TheVariants.{Shape
 use Rattle.env_directives.specs.declared.env.directive.Directive.{Directive}
 use Rattle.env_directives.specs.declared.env.field.Match.{Match}
 
-abbrev pub Read : Type 0
-Read = Result Directive ParseError
+abbrev pub DirectiveRead : Type 0
+DirectiveRead = Result Directive ParseError
 
 -- the same directive at a level
 abbrev pub at_level : Directive → LevelFilter → Directive
 at_level d level = record d { level = level }
 
 -- nothing may stand behind a last comma
-unfoldable pub read_last : Directive → List ℕ → Read
+unfoldable pub read_last : Directive → List ℕ → DirectiveRead
 read_last d [] = Ok d
 read_last d (b ∷ bs) = Err Shape
 
 -- behind a level's text
-abbrev pub read_behind : Directive → Option ℕ → List ℕ → Read
+abbrev pub read_behind : Directive → Option ℕ → List ℕ → DirectiveRead
 read_behind d None rest = Ok d
 read_behind d (Some stop) rest = read_last d rest
 
-abbrev pub read_leveled : Directive → Option LevelFilter → Option ℕ → List ℕ → Read
+abbrev pub read_leveled : Directive → Option LevelFilter → Option ℕ → List ℕ → DirectiveRead
 read_leveled d None stop rest = Err Level
 read_leveled d (Some level) stop rest = read_behind (at_level d level) stop rest
 
 -- behind `=`
-unfoldable pub read_level : Directive → List ℕ → Read
+unfoldable pub read_level : Directive → List ℕ → DirectiveRead
 read_level d text = let pieces = pieces_at (codes ",") text in read_leveled d (level_behind pieces.front) pieces.stop pieces.rest
 
 -- behind a bracket
-unfoldable pub read_end : Directive → List ℕ → Read
+unfoldable pub read_end : Directive → List ℕ → DirectiveRead
 read_end d [] = Ok d
 read_end d (b ∷ rest) = if b == 61 then read_level d rest else Err Shape
 
 -- behind a closing brace
-unfoldable pub read_close : Directive → List ℕ → Read
+unfoldable pub read_close : Directive → List ℕ → DirectiveRead
 read_close d [] = Err Shape
 read_close d (b ∷ rest) = if b == 93 then read_end d rest else Err Shape
 
@@ -69,23 +69,23 @@ read_fields patterns begun (b ∷ bs) =
     else read_fields patterns (begun ++ b ∷ []) bs
 
 -- behind the fields
-abbrev pub read_fielded : Directive → FieldsRead → Read
+abbrev pub read_fielded : Directive → FieldsRead → DirectiveRead
 read_fielded d (Ok read) = read_close (record d { fields = read.0 }) read.1
 read_fielded d (Err e) = Err e
 
 -- behind a span's name
-abbrev pub read_span : Bool → Directive → List ℕ → Option ℕ → List ℕ → Read
+abbrev pub read_span : Bool → Directive → List ℕ → Option ℕ → List ℕ → DirectiveRead
 read_span patterns d span None rest = Err Shape
 read_span patterns d span (Some stop) rest =
     if stop == 93 then read_end (record d { in_span = Some span }) rest
     else read_fielded (record d { in_span = unless_empty span }) (read_fields patterns [] rest)
 
 -- behind an opening bracket
-unfoldable pub read_bracket : Bool → Directive → List ℕ → Read
+unfoldable pub read_bracket : Bool → Directive → List ℕ → DirectiveRead
 read_bracket patterns d text = let pieces = pieces_at (codes "]{") text in read_span patterns d pieces.front pieces.stop pieces.rest
 
 -- behind a head
-abbrev pub read_head : Bool → List ℕ → Option ℕ → List ℕ → Read
+abbrev pub read_head : Bool → List ℕ → Option ℕ → List ℕ → DirectiveRead
 read_head patterns head None rest = Ok (head_alone head)
 read_head patterns head (Some stop) rest =
     if stop == 44 then read_last (head_alone head) rest else
@@ -93,7 +93,7 @@ read_head patterns head (Some stop) rest =
     read_bracket patterns (target_at head TRACE) rest
 
 -- a text without white space at its ends
-unfoldable pub reading : Bool → List ℕ → Read
+unfoldable pub reading : Bool → List ℕ → DirectiveRead
 reading patterns text =
     let pieces = pieces_at (codes "=[,") text in
     if begins text then read_head patterns pieces.front pieces.stop pieces.rest else Err Shape

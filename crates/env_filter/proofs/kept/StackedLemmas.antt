@@ -7,12 +7,12 @@ use Rattle.std.proofs.lemmas.List.{length-set, append-nil}
 use Rattle.std.proofs.lemmas.List.Sums.{fold-append}
 use Rattle.trace_base.specs.Calls.{SubscriberCall, NewSpan, Records, Follows, Event, Enter, Exit, CloneSpan, TryClose, spans_after_call}
 use Rattle.trace_base.specs.Conditions.{Allowed}
-use Rattle.trace_base.proofs.Entering.{made_if_held, length_held}
+use Rattle.trace_base.proofs.EntryLemmas.{made_if_held, length_held}
 use Rattle.span_registry.specs.Layering.{both_allowed, both_shows}
 use Rattle.span_registry.specs.Hearing.{HearsCall, StaysTold, both_told}
 use Rattle.span_registry.specs.History.{Runs}
 use Rattle.env_filter.specs.Stacked.{Appends, AreHooksOf, HearsCalls}
-use Rattle.env_filter.proofs.kept.ToldLevelsLemmas.{level_is_told, levels_are_told}
+use Rattle.env_filter.proofs.kept.ToldLevelsLemmas.{level_is_by_calls, levels_are_told}
 
 -- the span that a hook makes, records on or closes was made before
 abbrev pub IsBefore : ℕ → Hook → Type 0
@@ -205,7 +205,7 @@ heard spans calls f g hooks alone of_calls order now =
       of_calls = of_calls;
       order = order;
       now = now;
-      level = λ id. level_is_told g hooks id order again ∙ ap (λ (ds : List Directive). level_by_calls ds id hooks) tables;
+      level = λ id. level_is_by_calls g hooks id order again ∙ ap (λ (ds : List Directive). level_by_calls ds id hooks) tables;
       levels = λ lane. levels_are_told g hooks lane order again ∙ ap (λ (ds : List Directive). levels_by_calls ds lane hooks) tables;
     }
 

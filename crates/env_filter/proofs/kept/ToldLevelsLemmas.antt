@@ -244,8 +244,8 @@ levels_all ds (call ∷ calls) past f lane s order =
 stands_fresh : (f : FilterState) → Stands f.dynamics.directives (fresh f) []
 stands_fresh f = record { dynamics = refl; spans = λ q. refl }
 
-pub level_is_told : (f : FilterState) (calls : List Hook) (q : ℕ) → AreInOrder [] calls → f ≡ fold after_hook (fresh f) calls → span_level f q ≡ level_by_calls f.dynamics.directives q calls
-level_is_told f calls q order is =
+pub level_is_by_calls : (f : FilterState) (calls : List Hook) (q : ℕ) → AreInOrder [] calls → f ≡ fold after_hook (fresh f) calls → span_level f q ≡ level_by_calls f.dynamics.directives q calls
+level_is_by_calls f calls q order is =
     ap (λ (g : FilterState). span_level g q) is ∙ told_level f.dynamics.directives (fold after_hook (fresh f) calls) calls q (stands_all f.dynamics.directives calls [] (fresh f) (stands_fresh f) order)
 
 pub levels_are_told : (f : FilterState) (calls : List Hook) (lane : ℕ) → AreInOrder [] calls → f ≡ fold after_hook (fresh f) calls → f.lanes lane ≡ levels_by_calls f.dynamics.directives lane calls

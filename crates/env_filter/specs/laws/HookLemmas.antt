@@ -12,7 +12,7 @@ use Rattle.trace_base.specs.words.Level.{greatest_verbosity}
 use Rattle.trace_base.specs.layers.Hooks.{Hook, OnNewSpan, OnRecord, OnFollows, OnEvent, OnEnter, OnExit, OnClose, Sees, HookLanes, comes, goes, one_if}
 use Rattle.trace_base.specs.lanes.Contexts.{attached_on, KeepsLane, KeepsAttached}
 use Rattle.trace_base.specs.Spans.{without_last}
-use Rattle.trace_base.proofs.Entering.{count_push, any_if_counted, count_without_last}
+use Rattle.trace_base.proofs.EntryLemmas.{count_push, any_if_counted, count_without_last}
 use Rattle.env_directives.specs.declared.env.directive.Directive.{Directive}
 use Rattle.env_directives.specs.Cares.{cares_for_span}
 use Rattle.env_directives.specs.orders.Table.{more_verbose}

@@ -247,10 +247,14 @@ fn tell_special(
         });
     }
     let key = if settings.error_events_to_exceptions {
-        event.name = Text::fixed(alloc, Word::Exception);
+        event.name = Text::from_word(alloc, Word::Exception);
         Word::ExceptionMessage
     } else {
         Word::Error
     };
-    add_text(&mut event.attributes, Text::fixed(alloc, key), description)
+    add_text(
+        &mut event.attributes,
+        Text::from_word(alloc, key),
+        description,
+    )
 }

@@ -43,7 +43,7 @@ fn add_lane(
 {
     if is_wanted {
         attributes.push(KeyValue {
-            key: Text::fixed(alloc, Word::ThreadId),
+            key: Text::from_word(alloc, Word::ThreadId),
             value: OtelValue::I64(lane.id.min(GREATEST) as i64),
         })?;
         add_known_text(alloc, attributes, Word::ThreadName, &lane.name)?;
@@ -61,8 +61,8 @@ pub(crate) fn add_level(
     ensures { OnOk result (attributes.new ≡ attributes.old ++ if_wanted is_wanted (level_attribute callsite.now)) }
 {
     if is_wanted {
-        let level = Text::fixed(alloc, callsite.level.word());
-        add_text(attributes, Text::fixed(alloc, Word::Level), level)?;
+        let level = Text::from_word(alloc, callsite.level.word());
+        add_text(attributes, Text::from_word(alloc, Word::Level), level)?;
     }
     Ok(())
 }
@@ -79,7 +79,7 @@ pub(crate) fn add_target(
     if is_wanted {
         add_text(
             attributes,
-            Text::fixed(alloc, Word::Target),
+            Text::from_word(alloc, Word::Target),
             callsite.target.clone()?,
         )?;
     }

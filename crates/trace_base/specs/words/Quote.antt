@@ -7,8 +7,8 @@ abbrev pub code_escape : ℕ → List ℕ
 code_escape b = codes "\\u{" ++ digits 16 false b ++ codes "}"
 
 -- what stands for a byte between the quotes: 34 is the double quote, 92 the backslash, 127 the control past printing ASCII
-unfoldable pub escaped : ℕ → List ℕ
-escaped b =
+unfoldable pub quoted_byte : ℕ → List ℕ
+quoted_byte b =
     if b == 34 then codes "\\\"" else
     if b == 92 then codes "\\\\" else
     if b == 10 then codes "\\n" else
@@ -20,4 +20,4 @@ escaped b =
 
 -- a text between double quotes
 abbrev pub in_quotes : List ℕ → List ℕ
-in_quotes text = 34 ∷ flat_map escaped text ++ 34 ∷ []
+in_quotes text = 34 ∷ flat_map quoted_byte text ++ 34 ∷ []

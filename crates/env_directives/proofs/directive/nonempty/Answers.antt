@@ -14,7 +14,7 @@ loop-name-init c =
 pub loop-name-preserved-in_ok-push : goal.loop-name-preserved-in_ok-push
 loop-name-preserved-in_ok-push c =
     let left = first_piece _ _ c.in-Some.name _ c.loop-name.invariant.1 c.in-Some.ensures.steps in
-    let same : c.in-Some.name.now ≡ c.in_ok-copied.field-0 = cc c.in_ok-copied.ensures in (
+    let same : c.in-Some.name.now ≡ c.in_ok-copy_of.field-0 = cc c.in_ok-copy_of.ensures in (
       left.0,
       left.2,
       c.loop-name.invariant.2 ∙ ap (λ ts. c.loop-name.names ++ nonempty ts) left.1 ∙ ap (λ ts. c.loop-name.names ++ ts) (kept_piece c.in-Some.name.now left.0 (sym c.is_empty.ensures ∙ c.if-not-is_empty.true))

@@ -1,4 +1,4 @@
-use Rattle.otel_base.proofs.Changing.{attaches_less_detaches}
+use Rattle.otel_base.proofs.ContextLeftLemmas.{attaches_less_detaches}
 use Rattle.otel_base.proofs.laws.stacks.Goals as goal
 
 pub returns : goal.returns

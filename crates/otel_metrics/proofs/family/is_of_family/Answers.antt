@@ -1,6 +1,6 @@
 use Rattle.std.specs.Prelude.{is_some}
 use Rattle.std.proofs.Common.{sym, ap, ◌∙◌}
-use Rattle.otel_metrics.proofs.Finding.{some_mapped}
+use Rattle.otel_metrics.proofs.InstrumentsLemmas.{some_mapped}
 use Rattle.otel_metrics.proofs.family.is_of_family.Goals as goal
 
 pub returns-in-Some : goal.returns-in-Some

@@ -1,5 +1,5 @@
 -- The lemma itself.
-use Rattle.otel_state.proofs.Starting.{early_is_late}
+use Rattle.otel_state.proofs.StartLemmas.{early_is_late}
 use Rattle.otel_state.proofs.laws.early_starts.Goals as goal
 
 pub returns : goal.returns

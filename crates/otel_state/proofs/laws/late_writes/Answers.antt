@@ -1,5 +1,5 @@
 -- The lemma itself.
-use Rattle.otel_state.proofs.Starting.{late_is_nothing}
+use Rattle.otel_state.proofs.StartLemmas.{late_is_nothing}
 use Rattle.otel_state.proofs.laws.late_writes.Goals as goal
 
 pub returns : goal.returns

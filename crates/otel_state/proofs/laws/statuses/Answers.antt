@@ -1,5 +1,5 @@
 -- The lemma itself.
-use Rattle.otel_state.proofs.Ranking.{never_falls}
+use Rattle.otel_state.proofs.StatusOrderLemmas.{never_falls}
 use Rattle.otel_state.proofs.laws.statuses.Goals as goal
 
 pub returns : goal.returns

@@ -1,6 +1,6 @@
 -- The item at the last place.
 use Rattle.std.proofs.Common.{sym, ap, ◌∙◌, arith, Some}
-use Rattle.span_registry.proofs.Nesting.{last_at}
+use Rattle.span_registry.proofs.LaneSpansLemmas.{last_at}
 use Rattle.span_registry.proofs.lane_entries.last.Goals as goal
 
 pub returns : goal.returns

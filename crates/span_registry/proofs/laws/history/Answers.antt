@@ -1,5 +1,5 @@
 -- By the trait's laws.
-use Rattle.span_registry.proofs.Counting.{history}
+use Rattle.span_registry.proofs.SpanCountLemmas.{history}
 use Rattle.span_registry.proofs.laws.history.Goals as goal
 
 pub returns : goal.returns

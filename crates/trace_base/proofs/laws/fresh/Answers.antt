@@ -1,5 +1,5 @@
 -- What is cached is what is registered.
-use Rattle.trace_base.proofs.Caching.{fresh_admits}
+use Rattle.trace_base.proofs.InterestLemmas.{fresh_admits}
 use Rattle.trace_base.proofs.laws.fresh.Goals as goal
 
 pub returns : goal.returns

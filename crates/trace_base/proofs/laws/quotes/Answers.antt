@@ -1,4 +1,4 @@
-use Rattle.trace_base.proofs.Unquoting.{quoted_apart}
+use Rattle.trace_base.proofs.QuotesApartLemmas.{quoted_apart}
 use Rattle.trace_base.proofs.laws.quotes.Goals as goal
 
 pub returns : goal.returns

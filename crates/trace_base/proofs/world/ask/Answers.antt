@@ -1,7 +1,7 @@
 -- One subscriber more has answered, and took room at most.
 use Rattle.std.proofs.Common.{◌<◌, List, length, arith, ◌∙◌}
 use Rattle.trace_base.specs.declared.subscriber.Interest.{Interest}
-use Rattle.trace_base.proofs.Caching.{same_one, asked_more, interests_same}
+use Rattle.trace_base.proofs.InterestLemmas.{same_one, asked_more, interests_same}
 use Rattle.trace_base.proofs.world.ask.Goals as goal
 
 pub returns-in_err-register_callsite-clause-same :

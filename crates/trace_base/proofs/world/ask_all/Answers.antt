@@ -1,6 +1,6 @@
 -- One callsite more has its row.
 use Rattle.std.proofs.Common.{◌∙◌, rules}
-use Rattle.trace_base.proofs.Caching.{same_both, interests_same, row_more}
+use Rattle.trace_base.proofs.InterestLemmas.{same_both, interests_same, row_more}
 use Rattle.trace_base.proofs.world.ask_all.Goals as goal
 
 pub returns-in_err-ask-clause-same : goal.returns-in_err-ask-clause-same

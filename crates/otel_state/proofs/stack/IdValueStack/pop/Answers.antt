@@ -1,7 +1,7 @@
 -- What is taken out stood at the last place of the span.
 use Rattle.std.proofs.Common.{rules, sym, ap, ◌∙◌, option_map}
 use Rattle.otel_state.specs.Stack.{is_pair_of}
-use Rattle.otel_state.proofs.Popping.{popped, none_taken}
+use Rattle.otel_state.proofs.LastItemLemmas.{popped, none_taken}
 use Rattle.otel_state.proofs.stack.IdValueStack.pop.Goals as goal
 
 pub returns-in_err-at-clause-latest : goal.returns-in_err-at-clause-latest

@@ -1,6 +1,6 @@
 -- The answer goes by the start alone.
 use Rattle.std.proofs.Common.{◌∙◌}
-use Rattle.otel_state.proofs.Summing.{reply_is}
+use Rattle.otel_state.proofs.SumLemmas.{reply_is}
 use Rattle.otel_state.proofs.state.SpanState.apply.Goals as goal
 
 pub returns-clause-listed : goal.returns-clause-listed

@@ -1,6 +1,6 @@
 -- What a state has come to gives the content of its ops.
 use Rattle.std.proofs.Common.{◌∙◌}
-use Rattle.otel_state.proofs.Summing.{content_is}
+use Rattle.otel_state.proofs.SumLemmas.{content_is}
 use Rattle.otel_state.proofs.state.SpanState.close.Goals as goal
 
 pub returns-clause-content : goal.returns-clause-content

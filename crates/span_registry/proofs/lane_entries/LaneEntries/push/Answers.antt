@@ -3,7 +3,7 @@ use Rattle.std.proofs.Common.{sym, ap, ◌∙◌, List, ℕ, [], ◌∷◌, ◌+
 use Rattle.std.specs.Prelude.{if◌then◌else◌}
 use Rattle.trace_base.specs.Spans.{is_in}
 use Rattle.span_registry.specs.Firsts.{firsts_of}
-use Rattle.span_registry.proofs.Nesting.{firsts_push}
+use Rattle.span_registry.proofs.LaneSpansLemmas.{firsts_push}
 use Rattle.span_registry.proofs.lane_entries.LaneEntries.push.Goals as goal
 
 pub invariant_of-self-2 : goal.invariant_of-self-2

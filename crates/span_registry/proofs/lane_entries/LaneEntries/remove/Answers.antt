@@ -3,8 +3,8 @@ use Rattle.std.proofs.Common.{sym, ap, subst, ◌∙◌, List, ℕ, [], refl, ar
 use Rattle.std.specs.Prelude.{◌==◌}
 use Rattle.std.proofs.lemmas.Bool.{eqb-true}
 use Rattle.trace_base.specs.Spans.{Entries, times_in}
-use Rattle.trace_base.proofs.Entering.{any_if_counted, counted_if_any}
-use Rattle.span_registry.proofs.Nesting.{kept_firsts, is_first}
+use Rattle.trace_base.proofs.EntryLemmas.{any_if_counted, counted_if_any}
+use Rattle.span_registry.proofs.LaneSpansLemmas.{kept_firsts, is_first}
 use Rattle.span_registry.proofs.lane_entries.LaneEntries.remove.Goals as goal
 
 pub remove_if-requires : goal.remove_if-requires

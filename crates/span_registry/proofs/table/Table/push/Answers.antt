@@ -1,7 +1,7 @@
 -- One span more has a slot, or nothing but room changed.
 use Rattle.std.proofs.Common.{◌∙◌, sym, arith, refl}
 use Rattle.span_registry.specs.Tabling.{place_in}
-use Rattle.span_registry.proofs.Slotting.{shown_count, tabled_same, filled, pushed}
+use Rattle.span_registry.proofs.SlotTableLemmas.{shown_count, tabled_same, filled, pushed}
 use Rattle.span_registry.proofs.table.Table.push.Goals as goal
 
 pub at-id-requires : goal.at-id-requires

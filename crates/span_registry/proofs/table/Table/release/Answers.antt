@@ -5,8 +5,8 @@ use Rattle.std.proofs.lemmas.Bool.{cond-true, cond-false, eq-eqb, ne_eqb}
 use Rattle.std.proofs.lemmas.List.{get_or_default}
 use Rattle.trace_base.specs.Spans.{Span, span_at}
 use Rattle.span_registry.specs.Tabling.{place_in, SlotValue, no_slot}
-use Rattle.trace_base.proofs.Holding.{less_last, less_more}
-use Rattle.span_registry.proofs.Slotting.{no_place, shown_some, shown_set, shown_gone, tabled_set, tabled_gone, tabled_same, some_room}
+use Rattle.trace_base.proofs.HoldLemmas.{less_last, less_more}
+use Rattle.span_registry.proofs.SlotTableLemmas.{no_place, shown_some, shown_set, shown_gone, tabled_set, tabled_gone, tabled_same, some_room}
 use Rattle.span_registry.proofs.table.Table.release.Goals as goal
 
 pub unreachable-requires : goal.unreachable-requires
@@ -116,5 +116,5 @@ returns-clause-next c =
     let read = shown_some c.self.inside.count (place_in c.self.inside.places.items) c.self.inside.slots.items c.self.inside.free.items _ c.self.invariant c.args.self.now c.self.view_is c.args.id c.in-Some.place is in
     let r = ap (λ (s : Span). s.holds) read in
     let one : (span_at c.args.self.now.made c.args.id).holds ≡ 1 = omega (arith, e, r, c.requires, c.if-slot-gt0.false) in
-    c.again-next.ensures ∙ ap (λ (y : SlotValue). y.span.parent) seen ∙ ap (λ (s : Span). s.parent) (sym read)
+    ap (λ (y : SlotValue). y.span.parent) seen ∙ ap (λ (s : Span). s.parent) (sym read)
     ∙ sym (cond-true {A = Option ℕ} ((span_at c.args.self.now.made c.args.id).holds == 1) (span_at c.args.self.now.made c.args.id).parent None (eq-eqb (span_at c.args.self.now.made c.args.id).holds 1 one))

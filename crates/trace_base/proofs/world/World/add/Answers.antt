@@ -1,7 +1,7 @@
 -- The new subscriber has answered with the others, or is the last one again.
 use Rattle.std.proofs.Common.{◌∙◌, ap, sym, rules}
 use Rattle.trace_base.specs.Gate.{interests_of_sites}
-use Rattle.trace_base.proofs.Caching.{all_asked, registered_same, same_last_of, within_more}
+use Rattle.trace_base.proofs.InterestLemmas.{all_asked, registered_same, same_last_of, within_more}
 use Rattle.trace_base.proofs.world.World.add.Goals as goal
 
 pub invariant_of-self-in-Ok : goal.invariant_of-self-in-Ok

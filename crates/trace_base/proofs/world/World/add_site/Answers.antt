@@ -1,5 +1,5 @@
 -- One callsite more has its row.
-use Rattle.trace_base.proofs.Caching.{asked_site}
+use Rattle.trace_base.proofs.InterestLemmas.{asked_site}
 use Rattle.trace_base.proofs.world.World.add_site.Goals as goal
 
 pub invariant_of-self-2 : goal.invariant_of-self-2

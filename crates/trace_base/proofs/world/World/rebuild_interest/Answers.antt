@@ -1,7 +1,7 @@
 -- All subscribers have answered.
 use Rattle.std.proofs.Common.{◌∙◌, ap, sym}
 use Rattle.trace_base.specs.Gate.{interests_of_sites}
-use Rattle.trace_base.proofs.Caching.{all_asked, registered_same}
+use Rattle.trace_base.proofs.InterestLemmas.{all_asked, registered_same}
 use Rattle.trace_base.proofs.world.World.rebuild_interest.Goals as goal
 
 pub returns-clause-fresh : goal.returns-clause-fresh

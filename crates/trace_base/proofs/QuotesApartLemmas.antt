@@ -5,7 +5,7 @@ use Rattle.std.proofs.lemmas.List.{append_cancel_left}
 use Rattle.std.proofs.lemmas.Bool.{cases_lt}
 use Rattle.std.proofs.lemmas.Fmt.{hex_one_digit, hex_two_digits}
 use Rattle.std.specs.Fmt.{digits, digit_glyph}
-use Rattle.trace_base.specs.words.Quote.{escaped, in_quotes}
+use Rattle.trace_base.specs.words.Quote.{quoted_byte, in_quotes}
 
 -- the value of a digit in lower-case hex
 abbrev unglyph : ℕ → ℕ
@@ -53,27 +53,27 @@ code_read b rest h = elim (cases_lt b 16) [
       rw (hex_two_digits false b two (omega arith), no_brace (b % 16) low, unglyph_glyph (b / 16) high, unglyph_glyph (b % 16) low) (omega arith)
 ]
 
-front : (b : ℕ) (rest : List ℕ) → first_byte (escaped b ++ rest) ≡ b
-unfolding escaped first_byte
+front : (b : ℕ) (rest : List ℕ) → first_byte (quoted_byte b ++ rest) ≡ b
+unfolding quoted_byte first_byte
 front b rest = grind (arith, common_steps, code_read b rest)
 
 -- no byte stands between the quotes as the quote that ends them
-no_end : (b : ℕ) (rest : List ℕ) → get_or (escaped b ++ rest) 0 0 ≢ 34
-unfolding escaped
+no_end : (b : ℕ) (rest : List ℕ) → get_or (quoted_byte b ++ rest) 0 0 ≢ 34
+unfolding quoted_byte
 no_end b rest = grind (arith, common_steps)
 
-apart : (x y : List ℕ) → flat_map escaped x ++ 34 ∷ [] ≡ flat_map escaped y ++ 34 ∷ [] → x ≡ y
+apart : (x y : List ℕ) → flat_map quoted_byte x ++ 34 ∷ [] ≡ flat_map quoted_byte y ++ 34 ∷ [] → x ≡ y
 apart [] [] e = refl
-apart [] (d ∷ ds) e = absurd (no_end d (flat_map escaped ds ++ 34 ∷ []) (ap (λ (l : List ℕ). get_or l 0 0) (sym (e ∙ append_assoc (escaped d) (flat_map escaped ds) (34 ∷ [])))))
-apart (b ∷ bs) [] e = absurd (no_end b (flat_map escaped bs ++ 34 ∷ []) (ap (λ (l : List ℕ). get_or l 0 0) (sym (append_assoc (escaped b) (flat_map escaped bs) (34 ∷ [])) ∙ e)))
+apart [] (d ∷ ds) e = absurd (no_end d (flat_map quoted_byte ds ++ 34 ∷ []) (ap (λ (l : List ℕ). get_or l 0 0) (sym (e ∙ append_assoc (quoted_byte d) (flat_map quoted_byte ds) (34 ∷ [])))))
+apart (b ∷ bs) [] e = absurd (no_end b (flat_map quoted_byte bs ++ 34 ∷ []) (ap (λ (l : List ℕ). get_or l 0 0) (sym (append_assoc (quoted_byte b) (flat_map quoted_byte bs) (34 ∷ [])) ∙ e)))
 apart (b ∷ bs) (d ∷ ds) e =
-    let left = flat_map escaped bs ++ 34 ∷ [] in
-    let right = flat_map escaped ds ++ 34 ∷ [] in
-    let both : escaped b ++ left ≡ escaped d ++ right =
-    sym (append_assoc (escaped b) (flat_map escaped bs) (34 ∷ [])) ∙ e ∙ append_assoc (escaped d) (flat_map escaped ds) (34 ∷ []) in
+    let left = flat_map quoted_byte bs ++ 34 ∷ [] in
+    let right = flat_map quoted_byte ds ++ 34 ∷ [] in
+    let both : quoted_byte b ++ left ≡ quoted_byte d ++ right =
+    sym (append_assoc (quoted_byte b) (flat_map quoted_byte bs) (34 ∷ [])) ∙ e ∙ append_assoc (quoted_byte d) (flat_map quoted_byte ds) (34 ∷ []) in
     let same : b ≡ d = sym (front b left) ∙ ap first_byte both ∙ front d right in
-    let rest : left ≡ right = append_cancel_left (escaped d) left right (subst (λ z. escaped z ++ left ≡ escaped d ++ right) same both) in
+    let rest : left ≡ right = append_cancel_left (quoted_byte d) left right (subst (λ z. quoted_byte z ++ left ≡ quoted_byte d ++ right) same both) in
     ap₂ (λ (z : ℕ) (zs : List ℕ). z ∷ zs) same (apart bs ds rest)
 
 pub quoted_apart : (x y : List ℕ) → in_quotes x ≡ in_quotes y → x ≡ y
-quoted_apart x y e = apart x y (append_cancel_left (34 ∷ []) (flat_map escaped x ++ 34 ∷ []) (flat_map escaped y ++ 34 ∷ []) e)
+quoted_apart x y e = apart x y (append_cancel_left (34 ∷ []) (flat_map quoted_byte x ++ 34 ∷ []) (flat_map quoted_byte y ++ 34 ∷ []) e)

@@ -157,14 +157,14 @@ busy_all told (op ∷ ops) order =
 
 -- ---- the record
 
-busy_is : (made within busy : ℕ) (ops : List TimedOp) → busy ≡ 0 + busy_from 0 within ops → within ≡ made → busy ≡ busy_of made ops
-busy_is made within busy ops is same = let here = ap (λ n. busy_from 0 n ops) same in omega (arith, is, here)
+busy_is : (made_at within busy : ℕ) (ops : List TimedOp) → busy ≡ 0 + busy_from 0 within ops → within ≡ made_at → busy ≡ busy_of made_at ops
+busy_is made_at within busy ops is same = let here = ap (λ n. busy_from 0 n ops) same in omega (arith, is, here)
 
-the_record : (told : SpanData) (making : Making) (ops : List TimedOp) (closed : ℕ) → told.name ≡ name_of making.name ops → told.kind ≡ kind_of ops → told.parent ≡ parent_context_of making.parent ops → told.made ≡ making.made
+the_record : (told : SpanData) (making : Making) (ops : List TimedOp) (closed : ℕ) → told.name ≡ name_of making.name ops → told.kind ≡ kind_of ops → told.parent ≡ parent_context_of making.parent ops → told.made_at ≡ making.made_at
     → told.counting ≡ making.counting → told.inactivity ≡ making.inactivity → told.own ≡ own_of ops → told.attributes ≡ making.first ++ attributes_of ops → told.events ≡ events_of ops → told.links ≡ links_of ops
-    → told.status ≡ status_of ops → told.counted ≡ counted_of ops → told.busy ≡ busy_of making.made ops → told.left ≡ last_exit ops → record_of told closed ≡ content making ops closed
-the_record told making ops closed name kind parent made counting inactivity own attributes events links status counted busy left =
-    simp (name, kind, parent, made, counting, inactivity, own, attributes, events, links, status, counted, busy, left, append_assoc) refl
+    → told.status ≡ status_of ops → told.counted ≡ counted_of ops → told.busy ≡ busy_of making.made_at ops → told.left ≡ last_exit ops → record_of told closed ≡ content making ops closed
+the_record told making ops closed name kind parent made_at counting inactivity own attributes events links status counted busy left =
+    simp (name, kind, parent, made_at, counting, inactivity, own, attributes, events, links, status, counted, busy, left, append_assoc) refl
 
 -- ---- what a state is asked
 
@@ -183,18 +183,18 @@ entries_is told making ops stands = ap (λ (t : SpanData). t.entries) stands ∙
 pub reply_is : (told : SpanData) (op : Op) → IsReadOff (λ _ ops. reply_after (own_of ops) op) told (reply told op)
 reply_is told op making ops stands = ap (λ (own : Option SpanContext). reply_after own op) (own_is told making ops stands)
 
-pub content_is : (making : Making) (ops : List TimedOp) (told : SpanData) (closed : ℕ) → Stands making ops told → MomentsRise making.made ops → record_of told closed ≡ content making ops closed
+pub content_is : (making : Making) (ops : List TimedOp) (told : SpanData) (closed : ℕ) → Stands making ops told → MomentsRise making.made_at ops → record_of told closed ≡ content making ops closed
 content_is making ops told closed stands order =
     let start = data_at_making making in
-    let made = first_within making.made ops order in
-    let within : min making.made GREATEST ≡ making.made = omega (arith, made) in
+    let made_at = first_within making.made_at ops order in
+    let within : min making.made_at GREATEST ≡ making.made_at = omega (arith, made_at) in
     let in_order = subst (λ n. MomentsRise n ops) (sym within) order in
-    let busy : (fold after_stamped start ops).busy ≡ busy_of making.made ops = busy_is making.made start.last (fold after_stamped start ops).busy ops (busy_all start ops in_order) within in
+    let busy : (fold after_stamped start ops).busy ≡ busy_of making.made_at ops = busy_is making.made_at start.last (fold after_stamped start ops).busy ops (busy_all start ops in_order) within in
     ap (λ t. record_of t closed) stands ∙ the_record (fold after_stamped start ops) making ops closed
     (waiting (λ t. t.name) (λ d. d.name) (λ t op. refl) start ops refl)
     (waiting (λ t. t.kind) (λ d. d.kind) (λ t op. refl) start ops refl)
     (waiting (λ t. t.parent) (λ d. d.parent) (λ t op. refl) start ops refl)
-    (constant (λ t. t.made) (λ t op. refl) start ops)
+    (constant (λ t. t.made_at) (λ t op. refl) start ops)
     (constant (λ t. t.counting) (λ t op. refl) start ops)
     (constant (λ t. t.inactivity) (λ t op. refl) start ops)
     (folded (λ t. t.own) (λ o op. first_start o (deed op.op).own) (λ t op. refl) start ops ∙ own_all ops)

@@ -5,8 +5,8 @@ use Rattle.std.proofs.lemmas.Bool.{eqb-true, eqb-false, eq-eqb, ne_eqb, cases_eq
 use Rattle.trace_base.specs.Spans.{Span, Spans, span_at, entries_on, is_in, times_in, first_entries, without_last, with_hold, less_hold, without_hold}
 use Rattle.trace_base.specs.Calls.{with_span_entry, with_span_exit}
 use Rattle.trace_base.specs.Conditions.{IsLive, MayExit}
-use Rattle.trace_base.proofs.Entering.{counted_if_any, any_if_counted, made_if_held}
-use Rattle.trace_base.proofs.Holding.{less_holds, holds_set, holds_other, first_with, in_push_other, in_push_same, in_by_times, times_without}
+use Rattle.trace_base.proofs.EntryLemmas.{counted_if_any, any_if_counted, made_if_held}
+use Rattle.trace_base.proofs.HoldLemmas.{less_holds, holds_set, holds_other, first_with, in_push_other, in_push_same, in_by_times, times_without}
 
 -- holds and first entries of a span move together at an entry and at an exit
 pub entry_moves : (x : Spans) (id lane q : ℕ) → IsLive x.made id → (span_at (with_span_entry x id lane).made q).holds + first_entries x.lanes q ≡ (span_at x.made q).holds + first_entries (with_span_entry x id lane).lanes q

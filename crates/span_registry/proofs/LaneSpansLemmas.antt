@@ -5,8 +5,8 @@ use Rattle.std.specs.List.{last_or}
 use Rattle.std.proofs.lemmas.Bool.{eqb-true, eqb-false, eq-eqb, ne_eqb, cases_eq, cases_Bool, cond-true, cond-false, or_right, or_parts, true≢false}
 use Rattle.std.proofs.lemmas.List.{append_assoc, append-nil}
 use Rattle.trace_base.specs.Spans.{is_in, times_in, without_last, current_from}
-use Rattle.trace_base.proofs.Entering.{count_cons, counted_if_any, any_if_counted}
-use Rattle.trace_base.proofs.Holding.{in_push_same, in_push_other}
+use Rattle.trace_base.proofs.EntryLemmas.{count_cons, counted_if_any, any_if_counted}
+use Rattle.trace_base.proofs.HoldLemmas.{in_push_same, in_push_other}
 use Rattle.span_registry.specs.Firsts.{firsts_from, firsts_of}
 
 -- the current span is the last of those

@@ -7,7 +7,7 @@ use Rattle.std.proofs.Math.Nat.{max-eq_left, max-eq_right}
 use Rattle.std.proofs.lemmas.List.Sums.{sum_by-set, get_or-le-sum_by}
 use Rattle.trace_base.specs.Spans.{Span, no_span, span_at, held_by_child}
 use Rattle.trace_base.specs.Conditions.{IsLive, HasFewHolds}
-use Rattle.trace_base.proofs.Entering.{count_push, made_if_held}
+use Rattle.trace_base.proofs.EntryLemmas.{count_push, made_if_held}
 use Rattle.span_registry.specs.Tabling.{SlotValue, no_slot, slot_value_at, span_of, span_in, spans_to, is_live, live_spans, SlotTableValue, slot_table_value, IsTabled}
 
 -- the spans of a table, one by one

@@ -6,7 +6,7 @@ use Rattle.std.proofs.lemmas.List.{get_or-set_same, get_or-set_other}
 use Rattle.std.proofs.lemmas.List.Folds.{list_any-append}
 use Rattle.std.proofs.lemmas.List.Sums.{sum_by-set}
 use Rattle.trace_base.specs.Spans.{Span, Entries, no_span, span_at, entries_on, with_entries, is_in, times_in, first_entries, has_entry, is_child_of, is_open_child, open_children, without_last, less_hold, current_from}
-use Rattle.trace_base.proofs.Entering.{count_cons, counted_if_any, any_if_counted, none_counted, count_without_last, sum_with}
+use Rattle.trace_base.proofs.EntryLemmas.{count_cons, counted_if_any, any_if_counted, none_counted, count_without_last, sum_with}
 
 -- a span written
 pub children_set : (made : List Span) (id : ℕ) (now : Span) (q : ℕ) → id < length made → open_children (set made id now) q + cond {A = ℕ} (is_open_child q (span_at made id)) 1 0 ≡ open_children made q + cond {A = ℕ} (is_open_child q now) 1 0

@@ -123,7 +123,7 @@ filter_moved g before between after x y is is_later =
 
 same_content : (making : Making) (xs ys : List TimedOp) (closed : ℕ) → name_of making.name xs ≡ name_of making.name ys → kind_of xs ≡ kind_of ys → parent_context_of making.parent xs ≡ parent_context_of making.parent ys
     → attributes_of xs ≡ attributes_of ys → events_of xs ≡ events_of ys → links_of xs ≡ links_of ys → status_of xs ≡ status_of ys → counted_of xs ≡ counted_of ys
-    → busy_of making.made xs ≡ busy_of making.made ys → last_exit xs ≡ last_exit ys → (own : SpanContext)
+    → busy_of making.made_at xs ≡ busy_of making.made_at ys → last_exit xs ≡ last_exit ys → (own : SpanContext)
     → record (content making xs closed) { context = own } ≡ record (content making ys closed) { context = own }
 same_content making xs ys closed name kind parent attributes events links status counted busy left own =
     simp (name, kind, parent, attributes, events, links, status, counted, busy, left) refl
@@ -146,13 +146,13 @@ late_is_nothing making before after at closed a b started same =
     (filter_swap (λ op. (deed op.op).link) before x y after (ap (λ (d : Deed). d.link) same))
     (ap (λ (w : List Status). greatest Unset w) (flat_swap (λ op. writes (deed op.op)) before x y after (ap (λ (d : Deed). writes d) same)))
     (ap (λ (n : ℕ). min n GREATEST) (count_swap (λ op. (deed op.op).counts) before x y after (ap (λ (d : Deed). d.counts) same)))
-    (busy_swap 0 making.made at before a b after same)
+    (busy_swap 0 making.made_at at before a b after same)
     (ap (λ (moments : List ℕ). fold (λ _ n. Some n) None moments) (filter_swap exit_in before x y after (ap (λ (d : Deed). if d.exits then Some at else None) same)))
     (content making xs closed).context
     ∙ ap (λ (c : SpanContext). record (content making ys closed) { context = c }) own
 
 pub early_is_late : (making : Making) (before between after : List TimedOp) (early late : ℕ) (own given : SpanContext) (closed : ℕ) → All SettlesNothing between → open_by 0 (before ++ between ++ after) ≡ 0
-    → MomentsRise making.made (with_early before (start_at early own) between after) → MomentsRise making.made (with_late before between (start_at late given) after)
+    → MomentsRise making.made_at (with_early before (start_at early own) between after) → MomentsRise making.made_at (with_late before between (start_at late given) after)
     → SameButIds (content making (with_early before (start_at early own) between after) closed) (content making (with_late before between (start_at late given) after) closed)
 early_is_late making before between after early late own given closed all shut order later =
     let x = start_at early own in
@@ -170,7 +170,7 @@ early_is_late making before between after early late own given closed all shut o
     (ap (λ (w : List Status). greatest Unset w) (flat_moved (λ op. writes (deed op.op)) before between after x y refl refl))
     (ap (λ (n : ℕ). min n GREATEST) (count_skip (λ op. (deed op.op).counts) before x (between ++ after) refl ∙ ap (λ (ops : List TimedOp). count_by (λ op. (deed op.op).counts) ops) (sym joined)
     ∙ sym (count_skip (λ op. (deed op.op).counts) (before ++ between) y after refl)))
-    (busy_skip 0 making.made early own before (between ++ after) order (ap (λ (ops : List TimedOp). open_by 0 ops) (sym joined) ∙ shut) ∙ ap (λ (ops : List TimedOp). busy_from 0 making.made ops) (sym joined)
-    ∙ sym (busy_skip 0 making.made late given (before ++ between) after later shut))
+    (busy_skip 0 making.made_at early own before (between ++ after) order (ap (λ (ops : List TimedOp). open_by 0 ops) (sym joined) ∙ shut) ∙ ap (λ (ops : List TimedOp). busy_from 0 making.made_at ops) (sym joined)
+    ∙ sym (busy_skip 0 making.made_at late given (before ++ between) after later shut))
     (ap (λ (moments : List ℕ). fold (λ _ n. Some n) None moments) (filter_moved exit_in before between after x y refl refl))
     (content making xs closed).context

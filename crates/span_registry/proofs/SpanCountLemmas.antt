@@ -12,9 +12,9 @@ use Rattle.trace_base.specs.Spans.{Span, Entries, Spans, no_span, span_at, entri
 use Rattle.trace_base.specs.Calls.{SubscriberCall, NewSpan, Records, Follows, Event, Enter, Exit, CloneSpan, TryClose, spans_after_call, with_new_span, with_span_entry, with_span_exit}
 use Rattle.trace_base.specs.Conditions.{Allowed, IsLive}
 use Rattle.trace_base.specs.layers.Hooks.{one_if}
-use Rattle.trace_base.proofs.Entering.{count_push, made_if_held, length_held, with_same, with_other}
-use Rattle.trace_base.proofs.Holding.{less_last, less_more, less_holds, holds_set, holds_other}
-use Rattle.trace_base.proofs.Moving.{entry_moves, exit_moves}
+use Rattle.trace_base.proofs.EntryLemmas.{count_push, made_if_held, length_held, with_same, with_other}
+use Rattle.trace_base.proofs.HoldLemmas.{less_last, less_more, less_holds, holds_set, holds_other}
+use Rattle.trace_base.proofs.HoldMoveLemmas.{entry_moves, exit_moves}
 use Rattle.trace_base.specs.Sound.{IsSound, OneEach}
 use Rattle.trace_base.proofs.Sound.{place_live, exit_live, sound_entered, sound_exited, sound_call}
 use Rattle.span_registry.specs.Registering.{no_spans}
