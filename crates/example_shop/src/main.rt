@@ -49,7 +49,7 @@ fn run(alloc: Global, cx: &mut task::Context<'_>) -> Result<String, Fault> {
 }
 
 // Two orders, another filter, and a third one.
-#[tactic(auto, using(traced::proofs::Keeping::alone_there))]
+#[tactic(auto, using(traced::proofs::KeptLemmas::alone_there))]
 fn serve(
     alloc: Global,
     desk: &mut Desk<Stack>,

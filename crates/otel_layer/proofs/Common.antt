@@ -15,7 +15,7 @@ pub use Rattle.trace_base.specs.declared.lane.Lane.{Lane}
 pub use Rattle.trace_base.specs.lanes.Contexts.{AreAttached, attached_as}
 pub use Rattle.trace_base.specs.layers.Hooks.{ForEvent, ForRecord, Hook, KnownSpans, OnClose, OnEnter, OnEvent, OnExit, OnFollows, OnNewSpan, OnRecord}
 pub use Rattle.span_registry.specs.Both.{DoesBoth, InStep}
-pub use Rattle.span_handles.proofs.Showing.{alike, seen_before, seen_later}
+pub use Rattle.span_handles.proofs.ChangedSubscriberLemmas.{alike, seen_before, seen_later}
 pub use Rattle.otel_state.specs.Stack.{last_passing}
 pub use Rattle.otel_state.specs.States.{HasRoom, Room, SpanData, StateValue, after_op, data_at_making, is_growing, record_of, reply}
 pub use Rattle.otel_state.specs.declared.op.Op.{Op}

@@ -15,7 +15,7 @@ pub record Core (T : Type 0) : Type 0 where
   pub tokens : List Token
   pub tracer : T
   pub reserved : ℕ
-  pub made : ℕ
+  pub span_count : ℕ
   pub settings : LayerSettings
   pub counting : Bool
 
@@ -35,11 +35,11 @@ set_in f c = record c { settings = f c.settings }
 
 -- a layer that knows no span
 abbrev pub new_core : {T : Type 0} → T → LayerSettings → Core T
-new_core tracer settings = record { spans = []; tokens = []; tracer = tracer; reserved = 0; made = 0; settings = settings; counting = false }
+new_core tracer settings = record { spans = []; tokens = []; tracer = tracer; reserved = 0; span_count = 0; settings = settings; counting = false }
 
 -- the same layer over another tracer, with which nothing is reserved
 abbrev pub with_other : {T U : Type 0} → Core T → U → Core U
-with_other c tracer = record { spans = c.spans; tokens = c.tokens; tracer = tracer; reserved = 0; made = c.made; settings = c.settings; counting = c.counting }
+with_other c tracer = record { spans = c.spans; tokens = c.tokens; tracer = tracer; reserved = 0; span_count = c.span_count; settings = c.settings; counting = c.counting }
 
 -- the entry is of the span on the lane
 abbrev pub is_token : ℕ → ℕ → Token → Bool
@@ -76,8 +76,8 @@ seen_in c = seen_by (keys_of c.spans) c.tokens
 pub record IsWholeCore {T : Type 0} (spare started : T → ℕ) (c : Core T) : Type 0 where
   pub spares : c.reserved ≤ spare c.tracer
   pub rooms : length c.spans ≤ c.reserved
-  pub budget : started c.tracer + waiting_in c.spans ≤ 2 ^ 62 + c.made
-  pub few : c.made < 2 ^ 62
+  pub budget : started c.tracer + waiting_in c.spans ≤ 2 ^ 62 + c.span_count
+  pub few : c.span_count < 2 ^ 62
 
 -- what was whole is whole
 abbrev pub StaysWhole : {T : Type 0} → (T → ℕ) → (T → ℕ) → Core T → Core T → Type 0

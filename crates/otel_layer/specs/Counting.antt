@@ -1,6 +1,6 @@
--- A layer that counts the events of each span, and tells it those that a filter takes.
+-- A layer that may count the events of each span, and tell it those that a filter takes.
 use Rattle.std.proofs.Common.{◌≡◌, ℕ, Bool, true, false, refl, subst, sym, ap, ◌∙◌}
-use Rattle.std.specs.Prelude.{if◌then◌else◌}
+use Rattle.std.specs.Prelude.{if◌then◌else◌, Option, Some, None}
 use Rattle.otel_base.specs.Tracer.{TracerCall}
 use Rattle.trace_base.specs.declared.callsite.Callsite.{Callsite}
 use Rattle.trace_base.specs.declared.field.ValueSet.{ValueSet}
@@ -11,9 +11,9 @@ use Rattle.otel_state.specs.declared.settings.LayerSettings.{LayerSettings}
 use Rattle.otel_state.specs.fields.EventFields.{event_of}
 use Rattle.otel_state.specs.States.{SpanData, after_op}
 use Rattle.otel_layer.specs.Core.{Core}
-use Rattle.otel_layer.specs.laws.HookLemmas.{KeepsOwn}
+use Rattle.otel_layer.specs.laws.HookLemmas.{KeepsOwn, all_keep_own}
 use Rattle.otel_layer.specs.Rooming.{same_core_does}
-use Rattle.otel_layer.specs.Steps.{Events, SameCore, Step, DoesHook}
+use Rattle.otel_layer.specs.Steps.{Events, SameCore, Step, DoesHook, all_events}
 
 -- an event is counted, and applied after that if it is taken
 abbrev pub after_counted : Bool → ℕ → Op → SpanData → SpanData
@@ -23,9 +23,14 @@ after_counted is_taken at op told = if is_taken then after_op (after_op told at 
 abbrev pub counted_events : (ℕ → Callsite → Bool) → Events
 counted_events enables settings lane at callsite values told = after_counted (enables lane callsite) at (event_of callsite values settings at) told
 
--- the same layer, which counts
-abbrev pub counting_core : {T : Type 0} → Core T → Core T
-counting_core c = record c { counting = true }
+-- the same where a filter may be given: without one each event is applied, and none is counted
+abbrev pub events_by : {F : Type 0} → (F → ℕ → Callsite → Bool) → Option F → Events
+events_by enables None = all_events
+events_by enables (Some filter) = counted_events (enables filter)
+
+-- the same layer, which counts or doesn't
+abbrev pub counting_core : {T : Type 0} → Bool → Core T → Core T
+counting_core counting c = record c { counting = counting }
 
 -- ---- laws
 
@@ -33,18 +38,19 @@ counted_own : (is_taken : Bool) (settings : LayerSettings) (at : ℕ) (callsite 
 counted_own true settings at callsite values told = refl
 counted_own false settings at callsite values told = refl
 
-pub counted_keep_own : (enables : ℕ → Callsite → Bool) → KeepsOwn (counted_events enables)
-counted_keep_own enables settings lane at callsite values told = counted_own (enables lane callsite) settings at callsite values told
+pub events_keep_own : {F : Type 0} (enables : F → ℕ → Callsite → Bool) (filter : Option F) → KeepsOwn (events_by enables filter)
+events_keep_own enables None = all_keep_own
+events_keep_own enables (Some filter) = λ settings lane at callsite values told. counted_own (enables filter lane callsite) settings at callsite values told
 
-pub counted_does : {T F : Type 0} (does : T → TracerCall → T → Type 0) (enables : F → ℕ → Callsite → Bool) (c d : Core T) (hook : Hook) (e : Core T) (f g h : F) → SameCore does c d × (g ≡ f)
-    → DoesHook does (counted_events (enables g)) d hook e × (h ≡ g) → DoesHook does (counted_events (enables f)) c hook e × (h ≡ f)
-counted_does does enables c d hook e f g h same did =
-    (subst (λ x. DoesHook does (counted_events (enables x)) c hook e) same.1 (same_core_does does (counted_events (enables g)) c d hook e same.0 did.0), did.1 ∙ same.1)
+pub counted_does : {T F : Type 0} (does : T → TracerCall → T → Type 0) (events : F → Events) (c d : Core T) (hook : Hook) (e : Core T) (f g h : F) → SameCore does c d × (g ≡ f)
+    → DoesHook does (events g) d hook e × (h ≡ g) → DoesHook does (events f) c hook e × (h ≡ f)
+counted_does does events c d hook e f g h same did =
+    (subst (λ x. DoesHook does (events x) c hook e) same.1 (same_core_does does (events g) c d hook e same.0 did.0), did.1 ∙ same.1)
 
--- but for events it does what a layer does that counts none
+-- but for events a layer does alike whatever it counts
 abbrev pub IsNoEvent : Hook → Type 0
 IsNoEvent (OnEvent reached lane at callsite values) = ⊥
-IsNoEvent (OnNewSpan id lane at place current callsite values) = Unit {0}
+IsNoEvent (OnNewSpan id lane at parent current callsite values) = Unit {0}
 IsNoEvent (OnRecord id at callsite values) = Unit {0}
 IsNoEvent (OnFollows id from at) = Unit {0}
 IsNoEvent (OnEnter id at before later) = Unit {0}
@@ -53,7 +59,7 @@ IsNoEvent (OnClose id at) = Unit {0}
 
 step_any : {T : Type 0} (does : T → TracerCall → T → Type 0) (events others : Events) (c : Core T) (hook : Hook) (d : Core T) → IsNoEvent hook → Step does events c hook d → Step does others c hook d
 step_any does events others c (OnEvent reached lane at callsite values) d no_event h = absurd no_event
-step_any does events others c (OnNewSpan id lane at place current callsite values) d no_event h = h
+step_any does events others c (OnNewSpan id lane at parent current callsite values) d no_event h = h
 step_any does events others c (OnRecord id at callsite values) d no_event h = h
 step_any does events others c (OnFollows id from at) d no_event h = h
 step_any does events others c (OnEnter id at before later) d no_event h = h

@@ -22,11 +22,11 @@ use Rattle.otel_layer.specs.Core.{Core, CoreWithRoom, entries_by, kept_in}
 pub record IsReadySpan {T : Type 0} (s : CoreWithRoom T) : Type 0 where
   pub place : 0 < s.room
   pub spare : length s.core.spans < s.core.reserved
-  pub few : s.core.made + 1 < 2 ^ 62
+  pub few : s.core.span_count + 1 < 2 ^ 62
 
 -- what a new span has come to that doesn't know its parent and its moment yet
 abbrev pub fresh_data : {T : Type 0} → Core T → Lane → Callsite → SpanData
-fresh_data c lane callsite = data_at_making (record { name = callsite.name; parent = empty_context; made = 0; first = first_attributes callsite lane c.settings; counting = c.counting; inactivity = c.settings.inactivity })
+fresh_data c lane callsite = data_at_making (record { name = callsite.name; parent = empty_context; made_at = 0; first = first_attributes callsite lane c.settings; counting = c.counting; inactivity = c.settings.inactivity })
 
 -- its state, and what its fields write
 pub record IsReadyState {T : Type 0} (s : CoreWithRoom T) (lane : Lane) (callsite : Callsite) (values : ValueSet) (state : StateValue) (update : Update) : Type 0 where
@@ -42,16 +42,17 @@ with_moment at op = op
 
 -- a state with room for what fields write
 abbrev pub HasRoomForUpdate : SpanData → Update → Ready → Type 0
-HasRoomForUpdate told update (ready.Made state written) = (state.told ≡ told) × (written ≡ update) × (length written.attributes ≤ state.room.attributes)
+HasRoomForUpdate told update (ready.Made made) = (made.value.state.told ≡ told) × (made.value.update ≡ update)
+    × (length made.value.update.attributes ≤ made.value.state.room.attributes)
 HasRoomForUpdate told update _ = ⊥
 
 -- an op, with the room that it needs
 abbrev pub IsReadyOp : {T : Type 0} → CoreWithRoom T → ℕ → Op → Ready → Type 0
-IsReadyOp s id wanted (ready.Happened op) = (op ≡ wanted) × RoomFor id op s.rooms
+IsReadyOp s id wanted (ready.Happened op) = (op.value ≡ wanted) × RoomFor id op.value s.rooms
 IsReadyOp s id wanted _ = ⊥
 
 abbrev pub IsReadyOtel : {T : Type 0} → CoreWithRoom T → Preparation → Ready → Type 0
-IsReadyOtel s (ForNewSpan lane callsite values) (ready.Made state update) = IsReadyState s lane callsite values state update
+IsReadyOtel s (ForNewSpan lane callsite values) (ready.Made made) = IsReadyState s lane callsite values made.value.state made.value.update
 IsReadyOtel s (ForNewSpan lane callsite values) _ = ⊥
 IsReadyOtel s (ForRecord id callsite values) r = IsReadyOp s id (ops.Update (span_update callsite values s.core.settings)) r
 IsReadyOtel s (ForFollows id from) r = RoomForLink id s.rooms

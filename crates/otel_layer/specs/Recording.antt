@@ -84,15 +84,15 @@ source_of on id = if on then Some id else None
 
 -- a span is made, after the one started that gives its parent's context
 abbrev pub made_under : Option ℕ → ℕ → Lane → ℕ → Parent → Callsite → ValueSet → LayerSettings → Bool → Recording → Recording
-made_under source id lane at place callsite values settings counting r = record r {
-  spans = with_span_data id (new_span_data callsite lane values (context_from r.spans (around lane place) source) at settings counting) r.spans;
+made_under source id lane at parent callsite values settings counting r = record r {
+  spans = with_span_data id (new_span_data callsite lane values (context_from r.spans (around lane parent) source) at settings counting) r.spans;
 }
 
 -- and where spans start early it starts at once
 abbrev pub with_new_recorded : ℕ → Lane → ℕ → Parent → Option ℕ → Callsite → ValueSet → Recording → Recording
-with_new_recorded id lane at place current callsite values r =
-    let source = parent_source r.settings.activation place current in
-    with_starts (source_of r.settings.eager id) at (made_under source id lane at place callsite values r.settings r.counting (with_starts source at r))
+with_new_recorded id lane at parent current callsite values r =
+    let source = parent_source r.settings.activation parent current in
+    with_starts (source_of r.settings.eager id) at (made_under source id lane at parent callsite values r.settings r.counting (with_starts source at r))
 
 -- a span is linked to another, which is started
 abbrev pub with_started_link : ℕ → ℕ → ℕ → Recording → Recording
@@ -172,7 +172,7 @@ Stays r before later t = (t ≡ r) × (later.contexts.live ≡ before.contexts.l
 -- ---- all hooks and all calls
 
 abbrev pub RecordsHook : Recording → Hook → Recording → Type 0
-RecordsHook r (OnNewSpan id lane at place current callsite values) t = t ≡ with_new_recorded id lane at place current callsite values r
+RecordsHook r (OnNewSpan id lane at parent current callsite values) t = t ≡ with_new_recorded id lane at parent current callsite values r
 RecordsHook r (OnRecord id at callsite values) t = t ≡ with_applied id at (ops.Update (span_update callsite values r.settings)) r
 RecordsHook r (OnFollows id from at) t = t ≡ with_follow id from at r
 RecordsHook r (OnEvent reached lane at callsite values) t = t ≡ with_event reached at callsite values r
@@ -182,10 +182,10 @@ RecordsHook r (OnClose id at) t = t ≡ with_close id at r
 
 -- a call is its hook; a release is one where the span closes
 abbrev pub RecordsCall : Spans → Recording → SubscriberCall → Recording → Type 0
-RecordsCall spans r (NewSpan lane at place site callsite values) t = RecordsHook r (OnNewSpan (length spans.made) lane at place (current_of (entries_on lane.id spans.lanes)) callsite values) t
+RecordsCall spans r (NewSpan lane at parent site callsite values) t = RecordsHook r (OnNewSpan (length spans.made) lane at parent (current_of (entries_on lane.id spans.lanes)) callsite values) t
 RecordsCall spans r (Records id at callsite values) t = RecordsHook r (OnRecord id at callsite values) t
 RecordsCall spans r (Follows id from at) t = RecordsHook r (OnFollows id from at) t
-RecordsCall spans r (Event lane at place site callsite values) t = RecordsHook r (OnEvent (place_on (entries_on lane.id spans.lanes) place) lane at callsite values) t
+RecordsCall spans r (Event lane at parent site callsite values) t = RecordsHook r (OnEvent (place_on (entries_on lane.id spans.lanes) parent) lane at callsite values) t
 RecordsCall spans r (Enter id at before later) t = RecordsHook r (OnEnter id at before later) t
 RecordsCall spans r (Exit id at before later) t = RecordsHook r (OnExit id at before later) t
 RecordsCall spans r (CloneSpan id) t = t ≡ r

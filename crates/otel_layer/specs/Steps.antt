@@ -77,27 +77,27 @@ context_from spans other (Some id) = own_or other (data_at id spans)
 
 -- a making whose context and moment come later, with what its fields write
 abbrev pub begun_under : Making → Context → ℕ → Update → SpanData
-begun_under making context at update = after_op (data_at_making (record making { parent = context; made = at })) at (ops.Update update)
+begun_under making context at update = after_op (data_at_making (record making { parent = context; made_at = at })) at (ops.Update update)
 
 -- a span that was just made: its first attributes, then what its fields write
 abbrev pub new_span_data : Callsite → Lane → ValueSet → Context → ℕ → LayerSettings → Bool → SpanData
 new_span_data callsite lane values context at settings counting = after_op
-    (data_at_making (record { name = callsite.name; parent = context; made = at; first = first_attributes callsite lane settings; counting = counting; inactivity = settings.inactivity }))
+    (data_at_making (record { name = callsite.name; parent = context; made_at = at; first = first_attributes callsite lane settings; counting = counting; inactivity = settings.inactivity }))
     at
     (ops.Update (span_update callsite values settings))
 
 -- a span that was made is added
 abbrev pub with_added_span : {T : Type 0} → ℕ → SpanData → Core T → Core T
-with_added_span id told c = record c { spans = with_span_data id told c.spans; made = c.made + 1 }
+with_added_span id told c = record c { spans = with_span_data id told c.spans; span_count = c.span_count + 1 }
 
 -- the span that gives the parent's context starts, the new one is added, and it starts if spans start early
-pub record MakesSpan {T : Type 0} (does : T → TracerCall → T → Type 0) (c : Core T) (id : ℕ) (lane : Lane) (at : ℕ) (place : Parent) (current : Option ℕ) (callsite : Callsite) (values : ValueSet) (d : Core T) : Type 0 where
+pub record MakesSpan {T : Type 0} (does : T → TracerCall → T → Type 0) (c : Core T) (id : ℕ) (lane : Lane) (at : ℕ) (parent : Parent) (current : Option ℕ) (callsite : Callsite) (values : ValueSet) (d : Core T) : Type 0 where
   pub between : Core T
   pub spare : length c.spans < c.reserved
-  pub few : c.made + 1 < 2 ^ 62
-  pub starts : StartsAny does (parent_source c.settings.activation place current) at c between
+  pub few : c.span_count + 1 < 2 ^ 62
+  pub starts : StartsAny does (parent_source c.settings.activation parent current) at c between
   pub added : Core T
-  pub rest : added ≡ with_added_span id (new_span_data callsite lane values (context_from between.spans (around lane place) (parent_source c.settings.activation place current)) at c.settings c.counting) between
+  pub rest : added ≡ with_added_span id (new_span_data callsite lane values (context_from between.spans (around lane parent) (parent_source c.settings.activation parent current)) at c.settings c.counting) between
   pub begins : StartsAny does (if c.settings.eager then Some id else None) at added d
 
 -- ---- follows
@@ -209,7 +209,7 @@ abbrev pub ClosesIfKnown : {T : Type 0} → (T → TracerCall → T → Type 0) 
 ClosesIfKnown does c id at d = IfKnown (knows_span id c.spans) (ClosesSpan does c id at d) (d ≡ c)
 
 abbrev pub Step : {T : Type 0} → (T → TracerCall → T → Type 0) → Events → Core T → Hook → Core T → Type 0
-Step does events c (OnNewSpan id lane at place current callsite values) d = MakesSpan does c id lane at place current callsite values d
+Step does events c (OnNewSpan id lane at parent current callsite values) d = MakesSpan does c id lane at parent current callsite values d
 Step does events c (OnRecord id at callsite values) d = d ≡ on_spans (with_op id at (ops.Update (span_update callsite values c.settings))) c
 Step does events c (OnFollows id from at) d = FollowsSpan does c id from at d
 Step does events c (OnEvent None lane at callsite values) d = d ≡ c

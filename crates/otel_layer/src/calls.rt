@@ -40,7 +40,7 @@ impl<T: Tracer> OpenTelemetryLayer<T> {
         ensures rooms { self.new.rooms ≡ self.old.rooms }
         ensures room { self.new.room ≡ self.old.room }
         ensures token_room { self.new.token_room ≡ self.old.token_room }
-        ensures made { self.new.core.made ≡ self.old.core.made }
+        ensures span_count { self.new.core.span_count ≡ self.old.core.span_count }
         ensures settings { self.new.core.settings ≡ self.old.core.settings }
         ensures few { T.started self.new.core.tracer ≤ T.started self.old.core.tracer + 1 }
     {
@@ -51,19 +51,19 @@ impl<T: Tracer> OpenTelemetryLayer<T> {
     }
 
     // Starts the span that is named, if one is.
-    fn start_any(&mut self, id: Option<Id>, at: u64)
+    fn start_any(&mut self, id: &Option<Id>, at: u64)
         requires { T.started self.old.core.tracer < 2 ^ 63 }
 
-        ensures starts { StartsAny T.does id at self.old.core self.new.core }
+        ensures starts { StartsAny T.does id.now at self.old.core self.new.core }
         ensures rooms { self.new.rooms ≡ self.old.rooms }
         ensures room { self.new.room ≡ self.old.room }
         ensures token_room { self.new.token_room ≡ self.old.token_room }
-        ensures made { self.new.core.made ≡ self.old.core.made }
+        ensures span_count { self.new.core.span_count ≡ self.old.core.span_count }
         ensures settings { self.new.core.settings ≡ self.old.core.settings }
         ensures few { T.started self.new.core.tracer ≤ T.started self.old.core.tracer + 1 }
     {
         match id {
-            Some(id) => self.start(id, at),
+            Some(id) => self.start(*id, at),
             None => {}
         }
     }
@@ -99,21 +99,21 @@ impl<T: Tracer> OpenTelemetryLayer<T> {
         id: Id,
         lane: &Lane,
         at: u64,
-        place: Parent,
+        parent: Parent,
         current: Option<Id>,
         callsite: &Callsite,
         _values: &ValueSet,
     )
         requires few { T.started self.old.core.tracer + 1 < 2 ^ 63 }
         requires ready { IsReadyState self.old lane.now callsite.now _values.now state update }
-        ensures { MakesSpan T.does self.old.core id lane.now at place current callsite.now _values.now
+        ensures { MakesSpan T.does self.old.core id lane.now at parent current callsite.now _values.now
             self.new.core }
     {
-        let source = above(self.settings.activation, place.same(), current);
-        self.start_any(again(&source), at);
-        let context = self.context_from(source, around(lane, place));
+        let source = above(self.settings.activation, &parent, current);
+        self.start_any(&source, at);
+        let context = self.context_from(source, around(lane, &parent));
         self.add(id, begun_state(state, update, context, at));
-        self.start_any(if_on(self.settings.eager, id), at);
+        self.start_any(&if_on(self.settings.eager, id), at);
     }
 
     // The own context of the span that is named, else the other one.
@@ -129,11 +129,11 @@ impl<T: Tracer> OpenTelemetryLayer<T> {
     // Adds a span.
     fn add(&mut self, id: Id, state: SpanState)
         requires room { 0 < self.old.room }
-        requires few { self.old.core.made + 1 < 2 ^ 62 }
+        requires few { self.old.core.span_count + 1 < 2 ^ 62 }
         ensures { self.new.core ≡ with_added_span id state.told self.old.core }
     {
         self.table.add(id, state);
-        self.made += 1;
+        self.span_count += 1;
     }
 
     // Starts a span, and links another to it.
@@ -183,7 +183,7 @@ impl<T: Tracer> OpenTelemetryLayer<T> {
         ensures { EntersSpan T.does self.old.core id at lane.old lane.new self.new.core }
     {
         let source = if_on(self.settings.activation, id);
-        self.start_any(source, at);
+        self.start_any(&source, at);
         let attached = self.attach(id, lane);
         self.put_op(id, at, Op::Enter);
         self.add_token(lane.id, id, attached);
@@ -307,32 +307,22 @@ fn if_on(on: bool, id: Id) -> Option<Id>
     if on { Some(id) } else { None }
 }
 
-// The same id once more.
-fn again(id: &Option<Id>) -> Option<Id>
-    ensures { result ≡ id.now }
-{
-    match id {
-        Some(id) => Some(*id),
-        None => None,
-    }
-}
-
 // The span that a new one gets its parent's context from.
-fn above(activation: bool, place: Parent, current: Option<Id>) -> Option<Id>
-    ensures { result ≡ parent_source activation place current }
+fn above(activation: bool, parent: &Parent, current: Option<Id>) -> Option<Id>
+    ensures { result ≡ parent_source activation parent.now current }
 {
-    match place {
+    match parent {
         Parent::Root => None,
-        Parent::Of(id) => Some(id),
+        Parent::Of(id) => Some(*id),
         Parent::Current => { if activation { None } else { current } }
     }
 }
 
 // The context where there is no such span.
-fn around(lane: &Lane, place: Parent) -> Context
-    ensures { result ≡ around lane.now place }
+fn around(lane: &Lane, parent: &Parent) -> Context
+    ensures { result ≡ around lane.now parent.now }
 {
-    match place {
+    match parent {
         Parent::Root | Parent::Of(_) => Context::empty(),
         Parent::Current => lane.contexts.current(),
     }

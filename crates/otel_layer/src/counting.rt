@@ -1,5 +1,5 @@
-//! The layer that counts events.
-ghost use Rattle.std.specs.Prelude.{◌≡◌, ◌^◌, ◌<◌, true, None, Some};
+//! The layer that may count events.
+ghost use Rattle.std.specs.Prelude.{◌≡◌, ◌^◌, ◌<◌, true, None, Some, is_some};
 ghost use Rattle.std.proofs.Common.{refl};
 ghost use Rattle.std.proofs.lemmas.Bool.{true≢false};
 ghost use Rattle.std.specs.Borrow.{sem};
@@ -19,11 +19,12 @@ use trace_base::discard::Discard;
 use trace_base::filter::Filter;
 use trace_base::span::Id;
 
-/// A layer that counts each event that reaches it with a span, and tells its span those that its filter takes;
-/// `tracing_opentelemetry::FilteredOpenTelemetryLayer`. Records tell the count.
+/// A layer that may count events; `tracing_opentelemetry::FilteredOpenTelemetryLayer`. With a filter, as there, it counts
+/// each event that reaches it with a span, and tells its span those that the filter takes; records tell the count.
+/// Without one it does what the layer inside does.
 pub struct FilteredOpenTelemetryLayer<T, F> {
     pub(crate) inner: OpenTelemetryLayer<T>,
-    pub(crate) filter: F,
+    pub(crate) filter: Option<F>,
 }
 
 impl<T: Tracer> OpenTelemetryLayer<T> {
@@ -33,12 +34,21 @@ impl<T: Tracer> OpenTelemetryLayer<T> {
         self,
         filter: F,
     ) -> FilteredOpenTelemetryLayer<T, F>
-        ensures core { result.inner.core ≡ counting_core self.core }
+        ensures core { result.inner.core ≡ counting_core true self.core }
+        ensures filter { result.filter ≡ Some filter }
+        ensures whole { StaysWhole T.spare T.started self.core result.inner.core }
+    {
+        self.counting_by(Some(filter))
+    }
+
+    /// The same layer, counting events if a filter is given for that.
+    pub fn counting_by<F: Filter>(self, filter: Option<F>) -> FilteredOpenTelemetryLayer<T, F>
+        ensures inner { result.inner ≡ record self { core = counting_core (is_some filter) self.core } }
         ensures filter { result.filter ≡ filter }
         ensures whole { StaysWhole T.spare T.started self.core result.inner.core }
     {
         FilteredOpenTelemetryLayer {
-            inner: self.counting(),
+            inner: self.counting(filter.is_some()),
             filter,
         }
     }
@@ -52,12 +62,12 @@ impl<T: Tracer, F: Filter> FilteredOpenTelemetryLayer<T, F> {
     ) -> FilteredOpenTelemetryLayer<U, F>
         requires { M.pre map self.inner }
         ensures core { (inner : CoreWithRoom U) × M.post map self.inner inner
-            × (result.inner.core ≡ counting_core inner.core) }
+            × (result.inner.core ≡ counting_core (is_some self.filter) inner.core) }
         ensures filter { result.filter ≡ self.filter }
     {
         let FilteredOpenTelemetryLayer { inner, filter } = self;
         FilteredOpenTelemetryLayer {
-            inner: map(inner).counting(),
+            inner: map(inner).counting(filter.is_some()),
             filter,
         }
     }
@@ -72,16 +82,16 @@ impl<T: Tracer, F: Filter> FilteredOpenTelemetryLayer<T, F> {
 }
 
 impl<T: Tracer, F: Filter + Drop> FilteredOpenTelemetryLayer<T, F> {
-    /// The same layer with another filter; `FilteredOpenTelemetryLayer::with_counting_event_filter`.
+    /// The same layer, counting with another filter; `FilteredOpenTelemetryLayer::with_counting_event_filter`.
     pub fn with_counting_event_filter<G: Filter>(
         self,
         filter: G,
     ) -> FilteredOpenTelemetryLayer<T, G>
-        ensures inner { result.inner ≡ self.inner }
-        ensures filter { result.filter ≡ filter }
+        ensures inner { result.inner ≡ record self.inner { core = counting_core true self.inner.core } }
+        ensures filter { result.filter ≡ Some filter }
     {
         let FilteredOpenTelemetryLayer { inner, filter: _ } = self;
-        FilteredOpenTelemetryLayer { inner, filter }
+        inner.counting_by(Some(filter))
     }
 }
 

@@ -1,9 +1,9 @@
-//! The layer that counts events, as it is told of spans and events.
+//! The layer that may count events, as it is told of spans and events.
 ghost use Rattle.std.specs.Prelude.{◌≡◌, ◌==◌, true, None};
 ghost use Rattle.std.proofs.Common.{refl, ap, ◌∙◌};
 ghost use Rattle.trace_base.specs.declared.subscriber.Interest.TheVariants as interests;
 ghost use Rattle.otel_layer.specs.Core.{seen_in, kept_in, IsWholeCore};
-ghost use Rattle.otel_layer.specs.Counting.{counted_events, counted_keep_own, counted_does};
+ghost use Rattle.otel_layer.specs.Counting.{events_by, events_keep_own, counted_does};
 ghost use Rattle.otel_layer.specs.Steps.{SameCore, DoesHook};
 ghost use Rattle.otel_layer.specs.Ready.{IsReadyOtel};
 ghost use Rattle.otel_layer.specs.laws.HookLemmas.{does_whole, same_whole_core};
@@ -25,7 +25,7 @@ use trace_base::level::LevelFilter;
 use trace_base::span::{Id, Parent};
 use trace_base::subscriber::Interest;
 
-/// It takes all that callsites make, and has no hint. Its filter is asked of events alone, and is told of nothing.
+/// It takes all that callsites make, and has no hint. A filter is asked of events alone, and is told of nothing.
 impl<T: Tracer, F: Filter> Layer for FilteredOpenTelemetryLayer<T, F> {
     type Ready = Ready;
 
@@ -45,7 +45,7 @@ impl<T: Tracer, F: Filter> Layer for FilteredOpenTelemetryLayer<T, F> {
 
     ghost same = { λ s t. SameCore T.does s.inner.core t.inner.core × (t.filter ≡ s.filter) };
 
-    ghost does = { λ s hook t. DoesHook T.does (counted_events (F.enables s.filter)) s.inner.core hook t.inner.core × (t.filter ≡ s.filter) };
+    ghost does = { λ s hook t. DoesHook T.does (events_by F.enables s.filter) s.inner.core hook t.inner.core × (t.filter ≡ s.filter) };
 
     ghost ready = { λ s preparation r. IsReadyOtel s.inner preparation r };
 
@@ -65,19 +65,19 @@ impl<T: Tracer, F: Filter> Layer for FilteredOpenTelemetryLayer<T, F> {
 
     ghost same_whole = { λ s t h w. same_whole_core T.does T.spare T.started T.counts s.inner.core t.inner.core h.0 w };
 
-    ghost same_does = { λ s t hook u h d. counted_does T.does F.enables s.inner.core t.inner.core hook u.inner.core s.filter t.filter u.filter h d };
+    ghost same_does = { λ s t hook u h d. counted_does T.does (events_by F.enables) s.inner.core t.inner.core hook u.inner.core s.filter t.filter u.filter h d };
 
-    ghost sees = { λ s hook t d. does_sees T.does (counted_events (F.enables s.filter)) s.inner.core hook t.inner.core d.0 };
+    ghost sees = { λ s hook t d. does_sees T.does (events_by F.enables s.filter) s.inner.core hook t.inner.core d.0 };
 
-    ghost lanes = { λ s hook t d. does_lanes T.does (counted_events (F.enables s.filter)) s.inner.core hook t.inner.core d.0 };
+    ghost lanes = { λ s hook t d. does_lanes T.does (events_by F.enables s.filter) s.inner.core hook t.inner.core d.0 };
 
-    ghost passive = { λ s id at before later t d unknown. does_passive T.does (counted_events (F.enables s.filter)) s.inner.core id at before later t.inner.core d.0 unknown };
+    ghost passive = { λ s id at before later t d unknown. does_passive T.does (events_by F.enables s.filter) s.inner.core id at before later t.inner.core d.0 unknown };
 
-    ghost keeps_attaches = { λ s hook t d. ap (λ x. x.activation) (does_settings T.does (counted_events (F.enables s.filter)) s.inner.core hook t.inner.core d.0) };
+    ghost keeps_attaches = { λ s hook t d. ap (λ x. x.activation) (does_settings T.does (events_by F.enables s.filter) s.inner.core hook t.inner.core d.0) };
 
     ghost keeps_gate = { λ s hook t d. (refl, refl) };
 
-    ghost keeps_whole = { λ s hook t d w. does_whole T.does T.spare T.started T.counts (counted_events (F.enables s.filter)) (counted_keep_own (F.enables s.filter)) s.inner.core hook t.inner.core d.0 w };
+    ghost keeps_whole = { λ s hook t d w. does_whole T.does T.spare T.started T.counts (events_by F.enables s.filter) (events_keep_own F.enables s.filter) s.inner.core hook t.inner.core d.0 w };
 
     fn register_callsite(&self, _callsite: &Callsite) -> Interest {
         Interest::Always
@@ -159,13 +159,19 @@ impl<T: Tracer, F: Filter> Layer for FilteredOpenTelemetryLayer<T, F> {
         lane: &Lane,
         at: u64,
         callsite: &Callsite,
-        _values: &ValueSet,
+        values: &ValueSet,
     ) {
+        let Some(filter) = &self.filter else {
+            self.inner
+                .on_event(prepared, reached, lane, at, callsite, values);
+            return;
+        };
         match reached {
             Some(id) => match prepared {
                 Ready::Happened { op } => {
-                    let is_taken = self.filter.enabled(lane.id, callsite);
-                    self.inner.count_op(id, at, at_moment(op, at), is_taken);
+                    let is_taken = filter.enabled(lane.id, callsite);
+                    let op = at_moment(Box::into_inner(op), at);
+                    self.inner.count_op(id, at, op, is_taken);
                 }
                 _ => unreachable!(),
             },

@@ -11,7 +11,7 @@ ghost use Rattle.otel_layer.specs.laws.LaneLemmas.{does_lanes, does_passive, doe
 ghost use Rattle.otel_layer.specs.Rooming.{same_core_refl, same_core_trans, same_core_does};
 
 use crate::layer::OpenTelemetryLayer;
-use crate::ready::{Ready, at_moment};
+use crate::ready::{Made, Ready, at_moment};
 use otel_base::enter_error::EnterError;
 use otel_base::memory::Memory;
 use otel_base::tracer::Tracer;
@@ -110,9 +110,12 @@ impl<T: Tracer> Layer for OpenTelemetryLayer<T> {
         values: &ValueSet,
     ) {
         match prepared {
-            Ready::Made { state, update } => self.make(
-                state, update, id, lane, at, parent, current, callsite, values,
-            ),
+            Ready::Made { made } => {
+                let Made { state, update } = Box::into_inner(made);
+                self.make(
+                    state, update, id, lane, at, parent, current, callsite, values,
+                )
+            }
             _ => unreachable!(),
         }
     }
@@ -135,7 +138,7 @@ impl<T: Tracer> Layer for OpenTelemetryLayer<T> {
         _values: &ValueSet,
     ) {
         match prepared {
-            Ready::Happened { op } => self.put_op(id, at, op),
+            Ready::Happened { op } => self.put_op(id, at, Box::into_inner(op)),
             _ => unreachable!(),
         }
     }
@@ -169,7 +172,7 @@ impl<T: Tracer> Layer for OpenTelemetryLayer<T> {
     ) {
         match reached {
             Some(id) => match prepared {
-                Ready::Happened { op } => self.put_op(id, at, at_moment(op, at)),
+                Ready::Happened { op } => self.put_op(id, at, at_moment(Box::into_inner(op), at)),
                 _ => unreachable!(),
             },
             None => drop(prepared),

@@ -24,7 +24,7 @@ pub struct OpenTelemetryLayer<T> {
     pub(crate) tracer: T,
     // For how many finishes room was reserved with the tracer.
     pub(crate) reserved: u64,
-    pub(crate) made: u64,
+    pub(crate) span_count: u64,
     pub(crate) settings: LayerSettings,
     // Whether a close tells how many events were counted.
     pub(crate) counting: bool,
@@ -42,7 +42,7 @@ impl<T> Model for OpenTelemetryLayer<T> {
         tokens = l.tokens.items;
         tracer = l.tracer;
         reserved = l.reserved;
-        made = l.made;
+        span_count = l.span_count;
         settings = l.settings;
         counting = l.counting;
       };
@@ -74,7 +74,7 @@ impl<T: Tracer> OpenTelemetryLayer<T> {
             tokens: Vec::new(alloc),
             tracer,
             reserved: 0,
-            made: 0,
+            span_count: 0,
             settings: LayerSettings::default(),
             counting: false,
         }
@@ -96,7 +96,7 @@ impl<T: Tracer + Drop> OpenTelemetryLayer<T> {
             tokens,
             tracer: _,
             reserved: _,
-            made,
+            span_count,
             settings,
             counting,
         } = self;
@@ -106,7 +106,7 @@ impl<T: Tracer + Drop> OpenTelemetryLayer<T> {
             tokens,
             tracer,
             reserved: 0,
-            made,
+            span_count,
             settings,
             counting,
         }
@@ -124,9 +124,9 @@ impl<T: Tracer> OpenTelemetryLayer<T> {
 }
 
 impl<T: Tracer> OpenTelemetryLayer<T> {
-    // The same layer, counting events.
-    pub(crate) fn counting(self) -> OpenTelemetryLayer<T>
-        ensures core { result.core ≡ counting_core self.core }
+    // The same layer, which counts events or doesn't.
+    pub(crate) fn counting(self, counting: bool) -> OpenTelemetryLayer<T>
+        ensures value { result ≡ record self { core = counting_core counting self.core } }
         ensures whole { StaysWhole T.spare T.started self.core result.core }
     {
         let OpenTelemetryLayer {
@@ -135,7 +135,7 @@ impl<T: Tracer> OpenTelemetryLayer<T> {
             tokens,
             tracer,
             reserved,
-            made,
+            span_count,
             settings,
             counting: _,
         } = self;
@@ -145,9 +145,9 @@ impl<T: Tracer> OpenTelemetryLayer<T> {
             tokens,
             tracer,
             reserved,
-            made,
+            span_count,
             settings,
-            counting: true,
+            counting,
         }
     }
 }
@@ -165,7 +165,7 @@ impl<T: Tracer> OpenTelemetryLayer<T> {
             tokens,
             tracer,
             reserved,
-            made,
+            span_count,
             settings: _,
             counting,
         } = self;
@@ -175,7 +175,7 @@ impl<T: Tracer> OpenTelemetryLayer<T> {
             tokens,
             tracer,
             reserved,
-            made,
+            span_count,
             settings,
             counting,
         }
@@ -328,7 +328,7 @@ impl<T: Drop> Discard for OpenTelemetryLayer<T> {
             tokens,
             tracer: _,
             reserved: _,
-            made: _,
+            span_count: _,
             settings: _,
             counting: _,
         } = self;

@@ -7,13 +7,20 @@ use otel_state::op::Op;
 use otel_state::state::SpanState;
 use otel_state::update::Update;
 
-/// What a prepare of the layer made for its hook.
+/// The state of a new span, and what its fields write.
+#[derive(Drop)]
+pub struct Made {
+    pub state: SpanState,
+    pub update: Update,
+}
+
+/// What a prepare of the layer made for its hook. What is large is in a box, since each layer above hands it on.
 #[derive(Drop)]
 pub enum Ready {
-    /// The state of a new span, and what its fields write.
-    Made { state: SpanState, update: Update },
+    /// What a new span was made of.
+    Made { made: Box<Made> },
     /// The op of fields, or that of an event without its moment.
-    Happened { op: Op },
+    Happened { op: Box<Op> },
     /// All room is in the layer.
     Light,
 }

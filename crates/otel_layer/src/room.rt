@@ -7,7 +7,7 @@ ghost use Rattle.otel_layer.specs.Steps.{SameCore};
 ghost use Rattle.otel_layer.specs.Ready.{IsReadySpan, IsReadyOtel, IsReadyOp, IsReadyLane, MeetsFull, fresh_data, HasRoomForUpdate};
 
 use crate::layer::OpenTelemetryLayer;
-use crate::ready::Ready;
+use crate::ready::{Made, Ready};
 use otel_base::context::Context;
 use otel_base::enter_error::EnterError;
 use otel_base::memory::Memory;
@@ -18,6 +18,7 @@ use otel_state::fields::span::span_update;
 use otel_state::op::Op;
 use otel_state::state::SpanState;
 use otel_state::update::Update;
+use std::alloc::Global;
 use trace_base::callsite::Callsite;
 use trace_base::field::ValueSet;
 use trace_base::lane::Lane;
@@ -40,7 +41,7 @@ impl<T: Tracer> OpenTelemetryLayer<T> {
         self.reserve_span()?;
         let state = self.new_state(lane, callsite)?;
         match span_update(self.alloc, callsite, values, &self.settings) {
-            Ok(update) => with_room(state, update),
+            Ok(update) => with_room(self.alloc, state, update),
             Err(memory) => {
                 drop(state);
                 Err(memory)
@@ -112,7 +113,10 @@ impl<T: Tracer> OpenTelemetryLayer<T> {
         ensures ready { IfOk result (IsReadyOp self.new id op) }
     {
         match self.table.reserve_op(id, &op) {
-            Ok(()) => Ok(Ready::Happened { op }),
+            Ok(()) => {
+                let op = Box::new(self.alloc, op)?;
+                Ok(Ready::Happened { op })
+            }
             Err(memory) => {
                 drop(op);
                 Err(memory)
@@ -147,7 +151,7 @@ impl<T: Tracer> OpenTelemetryLayer<T> {
         ensures same { SameCore T.does self.old.core self.new.core }
         ensures ok { OnOk result (IsReadySpan self.new) }
     {
-        if self.made >= MAX_SPANS {
+        if self.span_count >= MAX_SPANS {
             return Err(Memory);
         }
         self.table.reserve()?;
@@ -175,11 +179,14 @@ impl<T: Tracer> OpenTelemetryLayer<T> {
 }
 
 // The state of a new span, with room for what its fields write.
-fn with_room(mut state: SpanState, update: Update) -> Result<Ready, Memory>
+fn with_room(alloc: Global, mut state: SpanState, update: Update) -> Result<Ready, Memory>
     ensures { IfOk result (HasRoomForUpdate state.told update) }
 {
     match state.reserve_room(update.attributes.as_slice().len(), 0, 0) {
-        Ok(()) => Ok(Ready::Made { state, update }),
+        Ok(()) => {
+            let made = Box::new(alloc, Made { state, update })?;
+            Ok(Ready::Made { made })
+        }
         Err(memory) => {
             drop(state);
             drop(update);

@@ -323,7 +323,7 @@ fn waiting_context(entries: &[Entry], places: &Vec<u32>, rising: bool, id: Id) -
     ensures { result ≡ waits (data_at id (all_data entries.now)) }
 {
     let state = state_of(entries, places, rising, id)?;
-    match state.started() {
+    match state.own_context() {
         Some(_) => None,
         None => Some(state.parent()),
     }
@@ -341,7 +341,7 @@ fn own_context(
 {
     match state_of(entries, places, rising, id) {
         Some(state) => Context {
-            span: state.started(),
+            span: state.own_context(),
         },
         None => other,
     }
@@ -353,7 +353,7 @@ fn own_ids(entries: &[Entry], places: &Vec<u32>, rising: bool, id: Id) -> Option
 {
     match state_of(entries, places, rising, id) {
         Some(state) => Some(Context {
-            span: state.started(),
+            span: state.own_context(),
         }
         .span_context()),
         None => None,
@@ -366,7 +366,7 @@ fn shown_context(entries: &[Entry], places: &Vec<u32>, rising: bool, id: Id) -> 
 {
     match state_of(entries, places, rising, id) {
         Some(state) => Some(Context {
-            span: state.started(),
+            span: state.own_context(),
         }),
         None => None,
     }

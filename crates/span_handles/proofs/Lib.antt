@@ -1,8 +1,8 @@
-pub mod Chaining
-pub mod Knowing
+pub mod ChainLemmas
+pub mod KnownHandlesLemmas
 pub mod Makers
-pub mod Owning
-pub mod Scoping
-pub mod Showing
-pub mod Telling
+pub mod OwnHoldsLemmas
+pub mod ScopeLemmas
+pub mod ChangedSubscriberLemmas
+pub mod ToldClosesLemmas
 pub mod Untouched

@@ -81,29 +81,29 @@ ReplacedIf R old new None = new ≡ old
 ReplacedIf R old new (Some dispatch) = Replaced R old new dispatch
 
 -- a subscriber may be asked for a new span at a place on a lane
-pub record MayMake {S : Type 0} (spans : S → Spans) (is_whole : S → Type 0) (world : Worlds S) (lane : ℕ) (place : Parent) (dispatch : ℕ) : Type 0 where
+pub record MayMake {S : Type 0} (spans : S → Spans) (is_whole : S → Type 0) (world : Worlds S) (lane : ℕ) (parent : Parent) (dispatch : ℕ) : Type 0 where
   pub there : dispatch < length world.subscribers
   pub whole : Has is_whole world dispatch
-  pub live : Has (λ s. IsLivePlace (spans s).made place) world dispatch
+  pub live : Has (λ s. IsLivePlace (spans s).made parent) world dispatch
   pub few : Has (λ s. AreFew (spans s)) world dispatch
-  pub few_holds : Has (λ s. HasFewHoldsAbove (spans s) lane place) world dispatch
+  pub few_holds : Has (λ s. HasFewHoldsAbove (spans s) lane parent) world dispatch
 
 abbrev pub MayMakeIf : {S : Type 0} → (S → Spans) → (S → Type 0) → Worlds S → ℕ → Parent → Option ℕ → Type 0
-MayMakeIf spans is_whole world lane place None = Unit {0}
-MayMakeIf spans is_whole world lane place (Some dispatch) = MayMake spans is_whole world lane place dispatch
+MayMakeIf spans is_whole world lane parent None = Unit {0}
+MayMakeIf spans is_whole world lane parent (Some dispatch) = MayMake spans is_whole world lane parent dispatch
 
 -- a span was made by one call, and a handle of it
-pub record Makes {S : Type 0} (spans : S → Spans) (does : S → SubscriberCall → S → Type 0) (old new : Worlds S) (lane : Lane) (at : ℕ) (place : Parent) (site : ℕ) (values : ValueSet) (dispatch : ℕ) (handle : Handle) : Type 0 where
+pub record Makes {S : Type 0} (spans : S → Spans) (does : S → SubscriberCall → S → Type 0) (old new : Worlds S) (lane : Lane) (at : ℕ) (parent : Parent) (site : ℕ) (values : ValueSet) (dispatch : ℕ) (handle : Handle) : Type 0 where
   pub callsite : Callsite
   pub is : slice_get old.sites site ≡ Some callsite
   pub id : ℕ
   pub handle_is : handle ≡ handle_of dispatch id site
-  pub made : Replaced (λ s t. (id ≡ length (spans s).made) × does s (NewSpan lane at place site callsite values) t) old new dispatch
+  pub made : Replaced (λ s t. (id ≡ length (spans s).made) × does s (NewSpan lane at parent site callsite values) t) old new dispatch
 
 -- the same by the subscriber that serves a lane; without one nothing happens
 abbrev pub MakesIf : {S : Type 0} → (S → Spans) → (S → SubscriberCall → S → Type 0) → Worlds S → Worlds S → Lane → ℕ → Parent → ℕ → ValueSet → Option ℕ → Handle → Type 0
-MakesIf spans does old new lane at place site values None handle = (handle ≡ no_handle) × (new ≡ old)
-MakesIf spans does old new lane at place site values (Some dispatch) handle = Makes spans does old new lane at place site values dispatch handle
+MakesIf spans does old new lane at parent site values None handle = (handle ≡ no_handle) × (new ≡ old)
+MakesIf spans does old new lane at parent site values (Some dispatch) handle = Makes spans does old new lane at parent site values dispatch handle
 
 -- the place under a handle: a disabled one makes a root
 abbrev pub place_under : Held → Parent

@@ -31,11 +31,11 @@ pub record LosesOne {S : Type 0} (spans : S → Spans) (old new : Worlds S) (hel
 
 -- a call that isn't a close
 abbrev pub IsNoClose : SubscriberCall → Type 0
-IsNoClose (NewSpan lane at place site callsite values) = Unit {0}
+IsNoClose (NewSpan lane at parent site callsite values) = Unit {0}
 IsNoClose (TryClose id at) = ⊥
 IsNoClose (Records id at callsite values) = Unit {0}
 IsNoClose (Follows id from at) = Unit {0}
-IsNoClose (Event lane at place site callsite values) = Unit {0}
+IsNoClose (Event lane at parent site callsite values) = Unit {0}
 IsNoClose (Enter id at before later) = Unit {0}
 IsNoClose (Exit id at before later) = Unit {0}
 IsNoClose (CloneSpan id) = Unit {0}

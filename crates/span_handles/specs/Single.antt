@@ -27,15 +27,15 @@ pub record BecomesSpans (old new : Worlds RegistryValue) (spans : Spans) : Type 
   pub spans_are : spans_of new ≡ spans
 
 -- a span may be made at a place on a lane
-pub record MayStand (world : Worlds RegistryValue) (lane : Lane) (place : Parent) : Type 0 where
+pub record MayStand (world : Worlds RegistryValue) (lane : Lane) (parent : Parent) : Type 0 where
   pub own : lane.default ≡ None
-  pub live : IsLivePlace (spans_of world).made place
+  pub live : IsLivePlace (spans_of world).made parent
   pub few : AreFew (spans_of world)
-  pub few_holds : HasFewHoldsAbove (spans_of world) lane.id place
+  pub few_holds : HasFewHoldsAbove (spans_of world) lane.id parent
 
 -- the spans with one more at a place on a lane
 abbrev pub with_span_at : Worlds RegistryValue → ℕ → Parent → ℕ → Spans
-with_span_at world lane place site = with_new_span (spans_of world) (place_on (entries_on lane (spans_of world).lanes) place) site
+with_span_at world lane parent site = with_new_span (spans_of world) (place_on (entries_on lane (spans_of world).lanes) parent) site
 
 -- A first span was made, a root, and nothing else happened; a lane of number 1 has no subscriber of its own.
 pub record IsFirst (world : Worlds RegistryValue) (lane : Lane) (site registry : ℕ) (first : Handle) : Type 0 where

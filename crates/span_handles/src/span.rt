@@ -98,6 +98,26 @@ impl Span {
         make_if(world, dispatch, lane, at, parent.as_parent(), site, values)
     }
 
+    /// As these three, under a parent that is told at run time.
+    pub fn make<S: Subscriber>(
+        world: &mut World<S>,
+        lane: &Lane,
+        at: u64,
+        parent: Parent,
+        site: SiteId,
+        values: &ValueSet,
+    ) -> Result<Span, Memory>
+        requires own { IsOwn world.old lane.now.default }
+        requires site { site < length world.old.sites }
+        requires may { MayMakeIf S.spans S.is_whole world.old lane.now.id parent
+            (dispatch_on lane.now.default world.old.global) }
+        ensures makes { MakesHandle S.spans S.does S.same world.old world.new lane.now at parent site
+            values.now (dispatch_on lane.now.default world.old.global) result }
+    {
+        let dispatch = get_default(world, lane);
+        make_if(world, dispatch, lane, at, parent, site, values)
+    }
+
     /// As `new`, by this subscriber; `Span::new_with`.
     pub fn new_with<S: Subscriber>(
         world: &mut World<S>,
@@ -150,24 +170,6 @@ impl Span {
             values.now (Some dispatch) result }
     {
         make(world, dispatch, lane, at, parent.as_parent(), site, values)
-    }
-
-    /// As these three, under a parent that is told at run time.
-    pub fn make_with<S: Subscriber>(
-        world: &mut World<S>,
-        lane: &Lane,
-        at: u64,
-        parent: Parent,
-        site: SiteId,
-        values: &ValueSet,
-        dispatch: Dispatch,
-    ) -> Result<Span, Memory>
-        requires site { site < length world.old.sites }
-        requires may { MayMake S.spans S.is_whole world.old lane.now.id parent dispatch }
-        ensures makes { MakesHandle S.spans S.does S.same world.old world.new lane.now at parent site
-            values.now (Some dispatch) result }
-    {
-        make(world, dispatch, lane, at, parent, site, values)
     }
 
     /// A disabled handle with a callsite; `Span::new_disabled`.

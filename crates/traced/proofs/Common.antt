@@ -3,8 +3,8 @@ pub use Rattle.std.proofs.lemmas.Bool.{cases_Bool, cases_eq, cases_lt, cases_ord
 pub use Rattle.std.proofs.lemmas.List.{get_or_append_left, get_or_past, get_or_push, length_push}
 pub use Rattle.std.specs.Option.{option_map_or}
 pub use Rattle.otel_base.specs.declared.memory.Memory.{Memory}
-pub use Rattle.trace_base.proofs.Entering.{any_if_counted, count_push, counted_if_any, length_held, made_if_held, none_counted, with_other, with_same}
-pub use Rattle.trace_base.proofs.Holding.{first_if_in, holds_other, holds_set, less_holds, less_last, less_more}
+pub use Rattle.trace_base.proofs.EntryLemmas.{any_if_counted, count_push, counted_if_any, length_held, made_if_held, none_counted, with_other, with_same}
+pub use Rattle.trace_base.proofs.HoldLemmas.{first_if_in, holds_other, holds_set, less_holds, less_last, less_more}
 pub use Rattle.trace_base.specs.Calls.{Enter, Event, Exit, NewSpan, SubscriberCall, TryClose, spans_after_call, with_new_span, with_span_entry, with_span_exit}
 pub use Rattle.trace_base.specs.Conditions.{AreFew, HasFewHolds, HasFewHoldsAbove, IsLive, IsLivePlace, MayExit}
 pub use Rattle.trace_base.specs.Gate.{Admits, AreSame, IsOwn, Worlds, dispatch_on}
@@ -15,7 +15,7 @@ pub use Rattle.trace_base.specs.declared.lane.Lane.{Lane}
 pub use Rattle.trace_base.specs.declared.span.Parent.{Parent}
 pub use Rattle.trace_base.specs.declared.subscriber.Subscriber.{Ghosts}
 pub use Rattle.trace_base.specs.lanes.Contexts.{AreAttached, KeepsAttached, attached_as}
-pub use Rattle.span_handles.proofs.Showing.{alike, as_many, chain_shown, shown}
+pub use Rattle.span_handles.proofs.ChangedSubscriberLemmas.{alike, as_many, chain_shown, shown}
 pub use Rattle.span_handles.specs.Entries.{EntryGuard, IsStillOn, IsThere, LeavesLane}
 pub use Rattle.span_handles.specs.Handles.{Handle, HasIf, HasOn, Held, IsKnown, IsOf, Makes, MakesIf, MayMakeIf, ReplacedIf, ReplacedOn, no_handle, place_under}
 pub use Rattle.span_handles.specs.Knowing.{KeepsHandles, KeepsKnown, KeepsOthers}

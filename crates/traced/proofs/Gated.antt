@@ -14,40 +14,40 @@ one_answer hint enables world lane site (Some d) a b own there first second =
     let c = get_there world.sites site there in
     first s.0 c.0 s.1 c.1 ∙ sym (second s.0 c.0 s.1 c.1)
 
-own_if : {S : Type 0} (sub : Ghosts S) (world : Worlds S) (lane : ℕ) (place : Parent) (o : Option ℕ) → MayMakeIf sub.spans sub.is_whole world lane place o → IsOwn world o
-own_if sub world lane place None may = tt
-own_if sub world lane place (Some d) may = may.there
+own_if : {S : Type 0} (sub : Ghosts S) (world : Worlds S) (lane : ℕ) (parent : Parent) (o : Option ℕ) → MayMakeIf sub.spans sub.is_whole world lane parent o → IsOwn world o
+own_if sub world lane parent None may = tt
+own_if sub world lane parent (Some d) may = may.there
 
-module _ {S : Type 0} (sub : Ghosts S) (old new : Worlds S) (lane : Lane) (at : ℕ) (place : Parent) (site : ℕ) (values : ValueSet) where
-  not_both : (answer : Bool) → CanMake sub old lane place site → AnswersGate sub old lane site answer → (other : Bool) → AnswersGate sub old lane site other → answer ≡ other
+module _ {S : Type 0} (sub : Ghosts S) (old new : Worlds S) (lane : Lane) (at : ℕ) (parent : Parent) (site : ℕ) (values : ValueSet) where
+  not_both : (answer : Bool) → CanMake sub old lane parent site → AnswersGate sub old lane site answer → (other : Bool) → AnswersGate sub old lane site other → answer ≡ other
   not_both answer can first other second =
       let o = dispatch_on lane.default old.global in
-      one_answer sub.hint sub.enables old lane.id site o answer other (own_if sub old lane.id place o can.may) can.site_there first second
+      one_answer sub.hint sub.enables old lane.id site o answer other (own_if sub old lane.id parent o can.may) can.site_there first second
 
-  makes_at : (o : Option ℕ) (result : Result Handle Memory) → dispatch_on lane.default old.global ≡ o → Admits sub.hint sub.enables old lane.id site o true → IfOk result (MakesIf sub.spans sub.does old new lane at place site values o) → IfOk result (MakesOne sub old new lane at place site values)
+  makes_at : (o : Option ℕ) (result : Result Handle Memory) → dispatch_on lane.default old.global ≡ o → Admits sub.hint sub.enables old lane.id site o true → IfOk result (MakesIf sub.spans sub.does old new lane at parent site values o) → IfOk result (MakesOne sub old new lane at parent site values)
   makes_at None result serves answer did = absurd (true≢false answer)
   makes_at (Some d) (Ok handle) serves answer did = record { dispatch = d; serves = serves; made = did }
   makes_at (Some d) (Err memory) serves answer did = tt
 
   -- it lets the callsite through, and a span is made
-  pub makes : (law : IsLawful sub) (result : Result Handle Memory) → CanMake sub old lane place site → AnswersGate sub old lane site true → IfOk result (MakesIf sub.spans sub.does old new lane at place site values (dispatch_on lane.default old.global))
-      → IfOk result (λ handle. IsKnown sub.spans new handle.held) → KeepsHandles sub.spans old new → OnErr result (ReplacedIf sub.same old new (dispatch_on lane.default old.global)) → MakesIfAnswered sub old new lane at place site values result
+  pub makes : (law : IsLawful sub) (result : Result Handle Memory) → CanMake sub old lane parent site → AnswersGate sub old lane site true → IfOk result (MakesIf sub.spans sub.does old new lane at parent site values (dispatch_on lane.default old.global))
+      → IfOk result (λ handle. IsKnown sub.spans new handle.held) → KeepsHandles sub.spans old new → OnErr result (ReplacedIf sub.same old new (dispatch_on lane.default old.global)) → MakesIfAnswered sub old new lane at parent site values result
   makes law result can answer did known keeps left =
       let o = dispatch_on lane.default old.global in
       record {
         made = λ through. makes_at o result refl answer did;
         refused = λ back. absurd (true≢false (not_both true can answer false back));
-        stands = λ most dispatch sites lanes stands. made sub law most dispatch sites old new lanes lane at place site values o result did left stands;
-        global = made_global sub law old new lane at place site values o result did left;
-        count = made_count sub law old new lane at place site values o result did left;
-        closes = made_can_close sub law old new lane at place site values o result did known can.may;
-        newest = λ dispatch serves. made_one sub law dispatch old new lane at place site values o result did known keeps serves;
+        stands = λ most dispatch sites lanes stands. made sub law most dispatch sites old new lanes lane at parent site values o result did left stands;
+        global = made_global sub law old new lane at parent site values o result did left;
+        count = made_count sub law old new lane at parent site values o result did left;
+        closes = made_can_close sub law old new lane at parent site values o result did known can.may;
+        newest = λ dispatch serves. made_one sub law dispatch old new lane at parent site values o result did known keeps serves;
         memory_leaves = left;
         memory_restores = none_made sub law old new o result left;
       }
 
   -- it doesn't, and nothing happens
-  pub makes_none : CanMake sub old lane place site → AnswersGate sub old lane site false → MakesIfAnswered sub old old lane at place site values (Ok no_handle)
+  pub makes_none : CanMake sub old lane parent site → AnswersGate sub old lane site false → MakesIfAnswered sub old old lane at parent site values (Ok no_handle)
   makes_none can answer = record {
     made = λ through. absurd (true≢false (sym (not_both false can answer true through)));
     refused = λ back. (refl, refl);
@@ -66,13 +66,13 @@ module _ {S : Type 0} (sub : Ghosts S) (old new : Worlds S) (lane : Lane) (at : 
   }
 
 -- an event that the lane's subscriber is told
-module _ {S : Type 0} (sub : Ghosts S) (old new : Worlds S) (lane : Lane) (at : ℕ) (place : Parent) (site : ℕ) (values : ValueSet) where
-  told_at : (o : Option ℕ) (result : Result (Unit {0}) Memory) → dispatch_on lane.default old.global ≡ o → Admits sub.hint sub.enables old lane.id site o true → OnOk result (TellsEventIf sub old new lane at place site values o) → OnOk result (TellsOne sub old new lane at place site values)
+module _ {S : Type 0} (sub : Ghosts S) (old new : Worlds S) (lane : Lane) (at : ℕ) (parent : Parent) (site : ℕ) (values : ValueSet) where
+  told_at : (o : Option ℕ) (result : Result (Unit {0}) Memory) → dispatch_on lane.default old.global ≡ o → Admits sub.hint sub.enables old lane.id site o true → OnOk result (TellsEventIf sub old new lane at parent site values o) → OnOk result (TellsOne sub old new lane at parent site values)
   told_at None result serves answer did = absurd (true≢false answer)
   told_at (Some d) (Ok done) serves answer did = record { dispatch = d; serves = serves; told = did }
   told_at (Some d) (Err memory) serves answer did = tt
 
-  pub tells_one : (result : Result (Unit {0}) Memory) → AnswersGate sub old lane site true → OnOk result (TellsEventIf sub old new lane at place site values (dispatch_on lane.default old.global)) → OnOk result (TellsOne sub old new lane at place site values)
+  pub tells_one : (result : Result (Unit {0}) Memory) → AnswersGate sub old lane site true → OnOk result (TellsEventIf sub old new lane at parent site values (dispatch_on lane.default old.global)) → OnOk result (TellsOne sub old new lane at parent site values)
   tells_one result answer did = told_at (dispatch_on lane.default old.global) result refl answer did
 
 -- the gate doesn't both let it through and hold it back

@@ -1,9 +1,9 @@
 pub mod Common
-pub mod Asking
+pub mod AsksLemmas
 pub mod Elsewhere
 pub mod Gated
 pub mod Inside
-pub mod Keeping
+pub mod KeptLemmas
 pub mod Moves
 pub mod Programs
 pub mod Rules

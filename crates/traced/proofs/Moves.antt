@@ -4,7 +4,7 @@ use Rattle.traced.proofs.Common.{option_map_or, cases_eq, get_or_past, Memory, V
 use Rattle.otel_base.specs.declared.enter_error.EnterError.{EnterError}
 use Rattle.trace_base.specs.Sound.{IsSound}
 use Rattle.trace_base.proofs.Sound.{place_live}
-use Rattle.span_handles.proofs.Knowing.{handles_same}
+use Rattle.span_handles.proofs.KnownHandlesLemmas.{handles_same}
 use Rattle.traced.proofs.changes.Counts.{more, with_new, with_entry, with_exit, with_closes}
 use Rattle.traced.proofs.changes.Restored.{unchanged, closes, exits, IsReleasedOn, IsExitedOn}
 use Rattle.traced.proofs.Elsewhere.{beside, same_sites, same_global, alike_there, count_on, others_served, still_apart, attached_on_lane, stands_after}
@@ -82,15 +82,15 @@ module _ {S : Type 0} (sub : Ghosts S) (law : IsLawful sub) where
   room_stays_on old new (Some h) r = room_stays old new h.0 r
 
   -- an event
-  pub told : (old new : Worlds S) (dispatch : ℕ) (lane : Lane) (at : ℕ) (place : Parent) (site : ℕ) (callsite : Callsite) (values : ValueSet) → Replaced (λ s t. sub.does s (Event lane at place site callsite values) t) old new dispatch → Stays sub old new
-  told old new dispatch lane at place site callsite values r =
-      let call : SubscriberCall = Event lane at place site callsite values in
+  pub told : (old new : Worlds S) (dispatch : ℕ) (lane : Lane) (at : ℕ) (parent : Parent) (site : ℕ) (callsite : Callsite) (values : ValueSet) → Replaced (λ s t. sub.does s (Event lane at parent site callsite values) t) old new dispatch → Stays sub old new
+  told old new dispatch lane at parent site callsite values r =
+      let call : SubscriberCall = Event lane at parent site callsite values in
       stays_step sub (λ s t. sub.does s call t) (λ s t e. law.shows s call t e) (λ s t e. law.keeps_attaches s call t e) (λ s t e. law.lanes s call t e) (λ s t e. law.keeps_whole s call t e) old new dispatch r
 
-  pub told_if : (old new : Worlds S) (lane : Lane) (at : ℕ) (place : Parent) (site : ℕ) (values : ValueSet) (o : Option ℕ) (result : Result (Unit {0}) Memory) → OnOk result (TellsEventIf sub old new lane at place site values o) → OnErr result (ReplacedIf sub.same old new o) → Stays sub old new
-  told_if old new lane at place site values None (Ok done) did left = stays_same sub old new did
-  told_if old new lane at place site values (Some d) (Ok done) did left = told old new d lane at place site did.callsite values did.did
-  told_if old new lane at place site values o (Err memory) did left = room_stays_if old new o left
+  pub told_if : (old new : Worlds S) (lane : Lane) (at : ℕ) (parent : Parent) (site : ℕ) (values : ValueSet) (o : Option ℕ) (result : Result (Unit {0}) Memory) → OnOk result (TellsEventIf sub old new lane at parent site values o) → OnErr result (ReplacedIf sub.same old new o) → Stays sub old new
+  told_if old new lane at parent site values None (Ok done) did left = stays_same sub old new did
+  told_if old new lane at parent site values (Some d) (Ok done) did left = told old new d lane at parent site did.callsite values did.did
+  told_if old new lane at parent site values o (Err memory) did left = room_stays_if old new o left
 
   -- the same lanes are served by a subscriber that a call leaves as it is
   stands_beside : (n m dispatch sites : ℕ) (R : S → S → Type 0) (old new : Worlds S) (e : ℕ) (lanes : List Lane) → n ≤ m → Replaced R old new e → (dispatch ≡ e → ⊥) → StandsReady sub n dispatch sites old lanes → StandsReady sub m dispatch sites new lanes
@@ -100,36 +100,36 @@ module _ {S : Type 0} (sub : Ghosts S) (law : IsLawful sub) where
       (λ few. subst (AreAtMost m) (sym a.spans_same) (more n m (spans_in sub.spans old dispatch) within few)) a.kept_same stands
 
   -- a span
-  pub made : (n dispatch sites : ℕ) (old new : Worlds S) (lanes : List Lane) (lane : Lane) (at : ℕ) (place : Parent) (site : ℕ) (values : ValueSet) (o : Option ℕ) (result : Result Handle Memory)
-      → IfOk result (MakesIf sub.spans sub.does old new lane at place site values o) → OnErr result (ReplacedIf sub.same old new o) → StandsReady sub n dispatch sites old lanes → StandsReady sub (n + 1) dispatch sites new lanes
-  made n dispatch sites old new lanes lane at place site values None (Ok handle) did left stands =
+  pub made : (n dispatch sites : ℕ) (old new : Worlds S) (lanes : List Lane) (lane : Lane) (at : ℕ) (parent : Parent) (site : ℕ) (values : ValueSet) (o : Option ℕ) (result : Result Handle Memory)
+      → IfOk result (MakesIf sub.spans sub.does old new lane at parent site values o) → OnErr result (ReplacedIf sub.same old new o) → StandsReady sub n dispatch sites old lanes → StandsReady sub (n + 1) dispatch sites new lanes
+  made n dispatch sites old new lanes lane at parent site values None (Ok handle) did left stands =
       later sub n (n + 1) dispatch sites new lanes (omega arith) (subst (λ (w : Worlds S). StandsReady sub n dispatch sites w lanes) (sym did.1) stands)
-  made n dispatch sites old new lanes lane at place site values (Some e) (Ok handle) did left stands =
-      let call : SubscriberCall = NewSpan lane at place site did.callsite values in
+  made n dispatch sites old new lanes lane at parent site values (Some e) (Ok handle) did left stands =
+      let call : SubscriberCall = NewSpan lane at parent site did.callsite values in
       let r : Replaced (λ s t. sub.does s call t) old new e = record { before = did.made.before; later = did.made.later; there = did.made.there; did = did.made.did.1; others = did.made.others } in
       elim (cases_eq dispatch e) [
         | inl here ↦ (
             let sh : Shown sub.spans sub.attaches sub.kept sub.is_whole old new dispatch call = subst (λ (d : ℕ). Shown sub.spans sub.attaches sub.kept sub.is_whole old new d call) (sym here) (by_call old new e call r) in
             let x = spans_in sub.spans old dispatch in
             stands_after sub n (n + 1) dispatch sites old new lanes sh.count (same_sites _ old new e r) (same_global _ old new e r) sh.whole
-            (λ few. subst (AreAtMost (n + 1)) (sym sh.spans_after) (with_new n x (place_on (entries_on lane.id x.lanes) place) site few)) sh.lanes stands)
+            (λ few. subst (AreAtMost (n + 1)) (sym sh.spans_after) (with_new n x (place_on (entries_on lane.id x.lanes) parent) site few)) sh.lanes stands)
         | inr other ↦ stands_beside n (n + 1) dispatch sites _ old new e lanes (omega arith) r other stands
       ]
-  made n dispatch sites old new lanes lane at place site values o (Err memory) did left stands =
+  made n dispatch sites old new lanes lane at parent site values o (Err memory) did left stands =
       later sub n (n + 1) dispatch sites new lanes (omega arith) (stays_stands sub n dispatch sites old new lanes (room_stays_if old new o left) stands)
 
-  pub made_one : (dispatch : ℕ) (old new : Worlds S) (lane : Lane) (at : ℕ) (place : Parent) (site : ℕ) (values : ValueSet) (o : Option ℕ) (result : Result Handle Memory)
-      → IfOk result (MakesIf sub.spans sub.does old new lane at place site values o) → IfOk result (λ handle. IsKnown sub.spans new handle.held) → KeepsHandles sub.spans old new → o ≡ Some dispatch → IfOk result (HasMade sub dispatch old new)
-  made_one dispatch old new lane at place site values o (Err memory) did known keeps serves = tt
-  made_one dispatch old new lane at place site values o (Ok handle) did known keeps serves =
-      let makes : Makes sub.spans sub.does old new lane at place site values dispatch handle = subst (λ (p : Option ℕ). MakesIf sub.spans sub.does old new lane at place site values p handle) serves did in
-      let call : SubscriberCall = NewSpan lane at place site makes.callsite values in
+  pub made_one : (dispatch : ℕ) (old new : Worlds S) (lane : Lane) (at : ℕ) (parent : Parent) (site : ℕ) (values : ValueSet) (o : Option ℕ) (result : Result Handle Memory)
+      → IfOk result (MakesIf sub.spans sub.does old new lane at parent site values o) → IfOk result (λ handle. IsKnown sub.spans new handle.held) → KeepsHandles sub.spans old new → o ≡ Some dispatch → IfOk result (HasMade sub dispatch old new)
+  made_one dispatch old new lane at parent site values o (Err memory) did known keeps serves = tt
+  made_one dispatch old new lane at parent site values o (Ok handle) did known keeps serves =
+      let makes : Makes sub.spans sub.does old new lane at parent site values dispatch handle = subst (λ (p : Option ℕ). MakesIf sub.spans sub.does old new lane at parent site values p handle) serves did in
+      let call : SubscriberCall = NewSpan lane at parent site makes.callsite values in
       let r : Replaced (λ s t. sub.does s call t) old new dispatch = record { before = makes.made.before; later = makes.made.later; there = makes.made.there; did = makes.made.did.1; others = makes.made.others } in
       let sh = by_call old new dispatch call r in
       let x = spans_in sub.spans old dispatch in
       let read : x ≡ sub.spans r.before = read_there sub old dispatch r.before r.there in
       let is_sound : IsSound x = subst IsSound (sym read) (law.sound r.before call r.later r.did) in
-      let may : IsLivePlace x.made place = subst (λ (v : Spans). IsLivePlace v.made place) (sym read) (law.allowed r.before call r.later r.did) in
+      let may : IsLivePlace x.made parent = subst (λ (v : Spans). IsLivePlace v.made parent) (sym read) (law.allowed r.before call r.later r.did) in
       let of_it : handle.held ≡ Some (dispatch, makes.id) = ap (λ (h : Handle). h.held) makes.handle_is in
       record {
         known = keeps.known;
@@ -139,10 +139,10 @@ module _ {S : Type 0} (sub : Ghosts S) (law : IsLawful sub) where
             let past = ap (λ (s : Span). s.holds) (get_or_past (sub.spans r.before).made makes.id no_span (let e = makes.made.did.0 in omega (arith, e))) in
             omega (arith, holds, past)));
         newest = subst (λ (h : Held). IsOfNewest x (spans_in sub.spans new dispatch) h) (sym of_it) (record {
-          above = place_on (entries_on lane.id x.lanes) place;
+          above = place_on (entries_on lane.id x.lanes) parent;
           site = site;
           is = makes.made.did.0 ∙ sym (ap (λ (v : Spans). length v.made) read);
-          live = λ p is. live_above (place_on (entries_on lane.id x.lanes) place) p x (place_live x lane.id place is_sound may) is;
+          live = λ p is. live_above (place_on (entries_on lane.id x.lanes) parent) p x (place_live x lane.id parent is_sound may) is;
           made = unchanged _ (spans_in sub.spans new dispatch) sh.spans_after;
         });
       }
@@ -151,26 +151,26 @@ module _ {S : Type 0} (sub : Ghosts S) (law : IsLawful sub) where
       live_above None p x live is = absurd (cc is)
       live_above (Some q) p x live is = (let e : q ≡ p = cc is in subst (λ (k : ℕ). IsLive x.made k) e live)
 
-  pub made_global : (old new : Worlds S) (lane : Lane) (at : ℕ) (place : Parent) (site : ℕ) (values : ValueSet) (o : Option ℕ) (result : Result Handle Memory) → IfOk result (MakesIf sub.spans sub.does old new lane at place site values o) → OnErr result (ReplacedIf sub.same old new o) → new.global ≡ old.global
-  made_global old new lane at place site values None (Ok handle) did left = ap (λ (w : Worlds S). w.global) did.1
-  made_global old new lane at place site values (Some e) (Ok handle) did left = ap (λ (w : Worlds S). w.global) did.made.others
-  made_global old new lane at place site values o (Err memory) did left = (room_stays_if old new o left).global
+  pub made_global : (old new : Worlds S) (lane : Lane) (at : ℕ) (parent : Parent) (site : ℕ) (values : ValueSet) (o : Option ℕ) (result : Result Handle Memory) → IfOk result (MakesIf sub.spans sub.does old new lane at parent site values o) → OnErr result (ReplacedIf sub.same old new o) → new.global ≡ old.global
+  made_global old new lane at parent site values None (Ok handle) did left = ap (λ (w : Worlds S). w.global) did.1
+  made_global old new lane at parent site values (Some e) (Ok handle) did left = ap (λ (w : Worlds S). w.global) did.made.others
+  made_global old new lane at parent site values o (Err memory) did left = (room_stays_if old new o left).global
 
-  pub made_count : (old new : Worlds S) (lane : Lane) (at : ℕ) (place : Parent) (site : ℕ) (values : ValueSet) (o : Option ℕ) (result : Result Handle Memory) → IfOk result (MakesIf sub.spans sub.does old new lane at place site values o) → OnErr result (ReplacedIf sub.same old new o) → length new.subscribers ≡ length old.subscribers
-  made_count old new lane at place site values None (Ok handle) did left = ap (λ (w : Worlds S). length w.subscribers) did.1
-  made_count old new lane at place site values (Some e) (Ok handle) did left = as_many _ old new e did.made
-  made_count old new lane at place site values o (Err memory) did left = ((room_stays_if old new o left).alike 0).count
+  pub made_count : (old new : Worlds S) (lane : Lane) (at : ℕ) (parent : Parent) (site : ℕ) (values : ValueSet) (o : Option ℕ) (result : Result Handle Memory) → IfOk result (MakesIf sub.spans sub.does old new lane at parent site values o) → OnErr result (ReplacedIf sub.same old new o) → length new.subscribers ≡ length old.subscribers
+  made_count old new lane at parent site values None (Ok handle) did left = ap (λ (w : Worlds S). length w.subscribers) did.1
+  made_count old new lane at parent site values (Some e) (Ok handle) did left = as_many _ old new e did.made
+  made_count old new lane at parent site values o (Err memory) did left = ((room_stays_if old new o left).alike 0).count
 
   -- its handle can be closed
-  pub made_can_close : (old new : Worlds S) (lane : Lane) (at : ℕ) (place : Parent) (site : ℕ) (values : ValueSet) (o : Option ℕ) (result : Result Handle Memory) → IfOk result (MakesIf sub.spans sub.does old new lane at place site values o)
-      → IfOk result (λ handle. IsKnown sub.spans new handle.held) → MayMakeIf sub.spans sub.is_whole old lane.id place o → IfOk result (CanClose sub new)
-  made_can_close old new lane at place site values o (Err memory) did known may = tt
-  made_can_close old new lane at place site values None (Ok handle) did known may = record {
+  pub made_can_close : (old new : Worlds S) (lane : Lane) (at : ℕ) (parent : Parent) (site : ℕ) (values : ValueSet) (o : Option ℕ) (result : Result Handle Memory) → IfOk result (MakesIf sub.spans sub.does old new lane at parent site values o)
+      → IfOk result (λ handle. IsKnown sub.spans new handle.held) → MayMakeIf sub.spans sub.is_whole old lane.id parent o → IfOk result (CanClose sub new)
+  made_can_close old new lane at parent site values o (Err memory) did known may = tt
+  made_can_close old new lane at parent site values None (Ok handle) did known may = record {
     known = known;
     whole = subst (λ (h : Handle). HasOn (λ s id. sub.is_whole s) new h.held) (sym did.0) tt;
   }
-  made_can_close old new lane at place site values (Some e) (Ok handle) did known may =
-      let call : SubscriberCall = NewSpan lane at place site did.callsite values in
+  made_can_close old new lane at parent site values (Some e) (Ok handle) did known may =
+      let call : SubscriberCall = NewSpan lane at parent site did.callsite values in
       let r : Replaced (λ s t. sub.does s call t) old new e = record { before = did.made.before; later = did.made.later; there = did.made.there; did = did.made.did.1; others = did.made.others } in
       record {
         known = known;

@@ -23,20 +23,20 @@ few_above n x None early few = tt
 few_above n x (Some p) early few = (let h = few.holds p in omega (arith, h, early))
 
 -- the subscriber of a lane may be asked for a span
-make_at : {S : Type 0} (sub : Ghosts S) (n dispatch sites : ℕ) (world : Worlds S) (lane : Lane) (others : List Lane) (place : Parent) (site : ℕ) → n < 2 ^ 63 → site < sites → IsLivePlace (spans_in sub.spans world dispatch).made place → StandsReady sub n dispatch sites world (lane ∷ others) → CanMake sub world lane place site
-make_at {S} sub n dispatch sites world lane others place site early within live stands =
+make_at : {S : Type 0} (sub : Ghosts S) (n dispatch sites : ℕ) (world : Worlds S) (lane : Lane) (others : List Lane) (parent : Parent) (site : ℕ) → n < 2 ^ 63 → site < sites → IsLivePlace (spans_in sub.spans world dispatch).made parent → StandsReady sub n dispatch sites world (lane ∷ others) → CanMake sub world lane parent site
+make_at {S} sub n dispatch sites world lane others parent site early within live stands =
     let served = stands.served.0.serves in
     let x = spans_in sub.spans world dispatch in
     let few = stands.few in
     record {
       own = own_there world dispatch lane.default world.global stands.there served;
       site_there = (let d = stands.declared in omega (arith, within, d));
-      may = subst (λ (o : Option ℕ). MayMakeIf sub.spans sub.is_whole world lane.id place o) (sym served) (record {
+      may = subst (λ (o : Option ℕ). MayMakeIf sub.spans sub.is_whole world lane.id parent o) (sym served) (record {
         there = stands.there;
         whole = stands.whole;
-        live = has_spans sub world dispatch (λ v. IsLivePlace v.made place) live;
+        live = has_spans sub world dispatch (λ v. IsLivePlace v.made parent) live;
         few = has_spans sub world dispatch AreFew (let f = few.spans in omega (arith, f, early));
-        few_holds = has_spans sub world dispatch (λ v. HasFewHoldsAbove v lane.id place) (few_above n x (place_on (entries_on lane.id x.lanes) place) early few);
+        few_holds = has_spans sub world dispatch (λ v. HasFewHoldsAbove v lane.id parent) (few_above n x (place_on (entries_on lane.id x.lanes) parent) early few);
       });
     }
 

@@ -11,11 +11,11 @@ use Rattle.span_handles.specs.Handles.{Handle, ReplacedOn}
 use Rattle.traced.specs.Making.{MakesIfAnswered}
 
 -- a span is made at a place and a moment, if the gate lets its callsite through, and its handle is closed at another
-pub record MakesAndCloses {S : Type 0} (sub : Ghosts S) (lane : Lane) (place : Parent) (site : ℕ) (values : ValueSet) (begins ends : ℕ) (between : Handle → Worlds S → Worlds S → Type 0) (old new : Worlds S) : Type 0 where
+pub record MakesAndCloses {S : Type 0} (sub : Ghosts S) (lane : Lane) (parent : Parent) (site : ℕ) (values : ValueSet) (begins ends : ℕ) (between : Handle → Worlds S → Worlds S → Type 0) (old new : Worlds S) : Type 0 where
   pub handle : Handle
   pub begun : Worlds S
   pub ended : Worlds S
-  pub makes : MakesIfAnswered sub old begun lane begins place site values (Ok handle)
+  pub makes : MakesIfAnswered sub old begun lane begins parent site values (Ok handle)
   pub meanwhile : between handle begun ended
   pub closes : ReplacedOn (λ id s t. Chain sub.spans sub.does ends (Some id) s t) ended new handle.held
 

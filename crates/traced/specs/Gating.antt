@@ -15,34 +15,34 @@ abbrev pub AnswersGate : {S : Type 0} → Ghosts S → Worlds S → Lane → ℕ
 AnswersGate sub world lane site answer = Admits sub.hint sub.enables world lane.id site (dispatch_on lane.default world.global) answer
 
 -- that subscriber made one span at a place, of which there is this handle
-pub record MakesOne {S : Type 0} (sub : Ghosts S) (old new : Worlds S) (lane : Lane) (at : ℕ) (place : Parent) (site : ℕ) (values : ValueSet) (handle : Handle) : Type 0 where
+pub record MakesOne {S : Type 0} (sub : Ghosts S) (old new : Worlds S) (lane : Lane) (at : ℕ) (parent : Parent) (site : ℕ) (values : ValueSet) (handle : Handle) : Type 0 where
   pub dispatch : ℕ
   pub serves : dispatch_on lane.default old.global ≡ Some dispatch
-  pub made : Makes sub.spans sub.does old new lane at place site values dispatch handle
+  pub made : Makes sub.spans sub.does old new lane at parent site values dispatch handle
 
 -- a subscriber was told an event at a place
-pub record TellsEvent {S : Type 0} (sub : Ghosts S) (old new : Worlds S) (lane : Lane) (at : ℕ) (place : Parent) (site : ℕ) (values : ValueSet) (dispatch : ℕ) : Type 0 where
+pub record TellsEvent {S : Type 0} (sub : Ghosts S) (old new : Worlds S) (lane : Lane) (at : ℕ) (parent : Parent) (site : ℕ) (values : ValueSet) (dispatch : ℕ) : Type 0 where
   pub callsite : Callsite
   pub is : slice_get old.sites site ≡ Some callsite
-  pub did : Replaced (λ s t. sub.does s (Event lane at place site callsite values) t) old new dispatch
+  pub did : Replaced (λ s t. sub.does s (Event lane at parent site callsite values) t) old new dispatch
 
 -- the same of the subscriber that serves a lane; without one nothing happens
 abbrev pub TellsEventIf : {S : Type 0} → Ghosts S → Worlds S → Worlds S → Lane → ℕ → Parent → ℕ → ValueSet → Option ℕ → Type 0
-TellsEventIf sub old new lane at place site values None = new ≡ old
-TellsEventIf sub old new lane at place site values (Some dispatch) = TellsEvent sub old new lane at place site values dispatch
+TellsEventIf sub old new lane at parent site values None = new ≡ old
+TellsEventIf sub old new lane at parent site values (Some dispatch) = TellsEvent sub old new lane at parent site values dispatch
 
 -- that subscriber was told one event at a place
-pub record TellsOne {S : Type 0} (sub : Ghosts S) (old new : Worlds S) (lane : Lane) (at : ℕ) (place : Parent) (site : ℕ) (values : ValueSet) : Type 0 where
+pub record TellsOne {S : Type 0} (sub : Ghosts S) (old new : Worlds S) (lane : Lane) (at : ℕ) (parent : Parent) (site : ℕ) (values : ValueSet) : Type 0 where
   pub dispatch : ℕ
   pub serves : dispatch_on lane.default old.global ≡ Some dispatch
-  pub told : TellsEvent sub old new lane at place site values dispatch
+  pub told : TellsEvent sub old new lane at parent site values dispatch
 
 -- the same where the gate lets the callsite through, and else nothing
-pub record TellsIfAnswered {S : Type 0} (sub : Ghosts S) (old new : Worlds S) (lane : Lane) (at : ℕ) (place : Parent) (site : ℕ) (values : ValueSet) : Type 0 where
-  pub told : AnswersGate sub old lane site true → TellsOne sub old new lane at place site values
+pub record TellsIfAnswered {S : Type 0} (sub : Ghosts S) (old new : Worlds S) (lane : Lane) (at : ℕ) (parent : Parent) (site : ℕ) (values : ValueSet) : Type 0 where
+  pub told : AnswersGate sub old lane site true → TellsOne sub old new lane at parent site values
   pub refused : AnswersGate sub old lane site false → new ≡ old
 
 -- the same where something was so, and else nothing
 abbrev pub TellsWhen : {S : Type 0} → Bool → Ghosts S → Worlds S → Worlds S → Lane → ℕ → Parent → ℕ → ValueSet → Type 0
-TellsWhen true sub old new lane at place site values = TellsIfAnswered sub old new lane at place site values
-TellsWhen false sub old new lane at place site values = new ≡ old
+TellsWhen true sub old new lane at parent site values = TellsIfAnswered sub old new lane at parent site values
+TellsWhen false sub old new lane at parent site values = new ≡ old

@@ -13,8 +13,8 @@ use Rattle.traced.specs.Gating.{AnswersGate, MakesOne}
 
 -- A span is made at a place where the gate lets its callsite through, else nothing happens. The world stands with a span
 -- more, and the handle can be closed. Without memory nothing changes but room.
-pub record MakesIfAnswered {S : Type 0} (sub : Ghosts S) (old new : Worlds S) (lane : Lane) (at : ℕ) (place : Parent) (site : ℕ) (values : ValueSet) (result : Result Handle Memory) : Type 0 where
-  pub made : AnswersGate sub old lane site true → IfOk result (MakesOne sub old new lane at place site values)
+pub record MakesIfAnswered {S : Type 0} (sub : Ghosts S) (old new : Worlds S) (lane : Lane) (at : ℕ) (parent : Parent) (site : ℕ) (values : ValueSet) (result : Result Handle Memory) : Type 0 where
+  pub made : AnswersGate sub old lane site true → IfOk result (MakesOne sub old new lane at parent site values)
   pub refused : AnswersGate sub old lane site false → (result ≡ Ok no_handle) × (new ≡ old)
   pub stands : (most dispatch sites : ℕ) (lanes : List Lane) → StandsReady sub most dispatch sites old lanes → StandsReady sub (most + 1) dispatch sites new lanes
   pub global : new.global ≡ old.global

@@ -51,10 +51,10 @@ pub record IsHeld {S : Type 0} (sub : Ghosts S) (dispatch : ℕ) (world : Worlds
   pub own : IsOf handle.held dispatch
 
 -- the subscriber of a lane may be asked for a span at a place
-pub record CanMake {S : Type 0} (sub : Ghosts S) (world : Worlds S) (lane : Lane) (place : Parent) (site : ℕ) : Type 0 where
+pub record CanMake {S : Type 0} (sub : Ghosts S) (world : Worlds S) (lane : Lane) (parent : Parent) (site : ℕ) : Type 0 where
   pub own : IsOwn world lane.default
   pub site_there : site < length world.sites
-  pub may : MayMakeIf sub.spans sub.is_whole world lane.id place (dispatch_on lane.default world.global)
+  pub may : MayMakeIf sub.spans sub.is_whole world lane.id parent (dispatch_on lane.default world.global)
 
 -- the subscriber of a handle, if it is enabled, may be asked to close it, and to enter its span
 pub record CanClose {S : Type 0} (sub : Ghosts S) (world : Worlds S) (handle : Handle) : Type 0 where

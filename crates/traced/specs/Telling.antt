@@ -12,8 +12,8 @@ use Rattle.traced.specs.Staying.{Stays}
 
 -- An event is told at a place where the gate lets its callsite through, else nothing happens. Nothing that is read changes,
 -- and without memory nothing but room.
-pub record Tells {S : Type 0} (sub : Ghosts S) (old new : Worlds S) (lane : Lane) (at : ℕ) (place : Parent) (site : ℕ) (values : ValueSet) (result : Result (Unit {0}) Memory) : Type 0 where
-  pub told : AnswersGate sub old lane site true → OnOk result (TellsOne sub old new lane at place site values)
+pub record Tells {S : Type 0} (sub : Ghosts S) (old new : Worlds S) (lane : Lane) (at : ℕ) (parent : Parent) (site : ℕ) (values : ValueSet) (result : Result (Unit {0}) Memory) : Type 0 where
+  pub told : AnswersGate sub old lane site true → OnOk result (TellsOne sub old new lane at parent site values)
   pub refused : AnswersGate sub old lane site false → IsOk result × (new ≡ old)
   pub memory_leaves : OnErr result (ReplacedIf sub.same old new (dispatch_on lane.default old.global))
   pub stays : Stays sub old new

@@ -14,8 +14,8 @@ use Rattle.traced.specs.Standing.{IsHeld}
 use Rattle.traced.specs.Keeping.{StandsAlone, StandsWith, Keeps}
 use Rattle.traced.specs.Making.{MakesIfAnswered}
 use Rattle.traced.specs.Moving.{Closes}
-use Rattle.traced.proofs.Asking.{asking}
-use Rattle.traced.proofs.Keeping.{same_ids, held_made, ready_made, ready_late, keeps_late, keeps_again, keeps_closed}
+use Rattle.traced.proofs.AsksLemmas.{asking}
+use Rattle.traced.proofs.KeptLemmas.{same_ids, held_made, ready_made, ready_late, keeps_late, keeps_again, keeps_closed}
 use Rattle.traced.proofs.Moves.{later}
 use Rattle.traced.proofs.Rules.{own_there}
 use Rattle.traced.proofs.changes.Between.{makes_and_closes}
@@ -81,7 +81,7 @@ module _ {T S : Type 0} {sub : Ghosts S} {n sites : ℕ} where
   with_future keeps within = record { ready = ready_late keeps.keeps.ready within; held = keeps.held }
 
   -- a future that is put under a span
-  module _ {old begun : Worlds S} {lane : Lane} {others : List Lane} {at site : ℕ} {place : Parent} {values : ValueSet} {handle : Handle} {inner : T} {future : Instrumented T} (ready : StandsAlone sub n sites old (lane ∷ others)) (makes : MakesIfAnswered sub old begun lane at place site values (Ok handle)) (is : future ≡ record { inner = inner; span = handle }) where
+  module _ {old begun : Worlds S} {lane : Lane} {others : List Lane} {at site : ℕ} {parent : Parent} {values : ValueSet} {handle : Handle} {inner : T} {future : Instrumented T} (ready : StandsAlone sub n sites old (lane ∷ others)) (makes : MakesIfAnswered sub old begun lane at parent site values (Ok handle)) (is : future ≡ record { inner = inner; span = handle }) where
     pub with_instrumented : {m : ℕ} → n + 1 ≤ m → StandsWith sub m sites begun (lane ∷ others) future.span
     with_instrumented within = record { ready = ready_made ready makes within; held = subst (IsHeld sub 0 begun) (sym (one_span is)) (held_made ready makes) }
 
@@ -93,7 +93,7 @@ module _ {T S : Type 0} {sub : Ghosts S} {n sites : ℕ} where
       pub keeps_under : Keeps sub m sites old (lane ∷ others) new left
       keeps_under = keeps_closed ready makes keeps.keeps closes
 
-      pub runs_under : {between : Instrumented T → Worlds S → Instrumented T → Worlds S → Type 0} → between future begun later ended → RunsUnder sub lane place site values at ends inner between old new
+      pub runs_under : {between : Instrumented T → Worlds S → Instrumented T → Worlds S → Type 0} → between future begun later ended → RunsUnder sub lane parent site values at ends inner between old new
       runs_under {between} meanwhile = record { runs = makes_and_closes makes (later, subst (λ (f : Instrumented T). between f begun later ended) is meanwhile) closes }
 
 pub ruleset polling = (asking, may_lend, keeps_polled, held_polled, future_polled, future_late, future_again, with_future, with_instrumented)

@@ -57,5 +57,5 @@ pub record KeepsFuture {T S : Type 0} (sub : Ghosts S) (most sites : ℕ) (futur
   pub held : IsHeld sub 0 new later.span
 
 -- a span is made at a place and a moment, a future is put under it, and it is closed at another behind what is done with that
-pub record RunsUnder {T S : Type 0} (sub : Ghosts S) (lane : Lane) (place : Parent) (site : ℕ) (values : ValueSet) (begins ends : ℕ) (inner : T) (between : Instrumented T → Worlds S → Instrumented T → Worlds S → Type 0) (old new : Worlds S) : Type 0 where
-  pub runs : MakesAndCloses sub lane place site values begins ends (λ span begun ended. (later : Instrumented T) × between (record { inner = inner; span = span }) begun later ended) old new
+pub record RunsUnder {T S : Type 0} (sub : Ghosts S) (lane : Lane) (parent : Parent) (site : ℕ) (values : ValueSet) (begins ends : ℕ) (inner : T) (between : Instrumented T → Worlds S → Instrumented T → Worlds S → Type 0) (old new : Worlds S) : Type 0 where
+  pub runs : MakesAndCloses sub lane parent site values begins ends (λ span begun ended. (later : Instrumented T) × between (record { inner = inner; span = span }) begun later ended) old new

@@ -70,7 +70,7 @@ module _ {T : Type 0} (does : T → TracerCall → T → Type 0) (spare started 
           keys = same.0;
           settings = ap (λ x. x.settings) h.2;
           reserved = ap (λ x. x.reserved) h.2;
-          made = ap (λ x. x.made) h.2;
+          span_count = ap (λ x. x.span_count) h.2;
           spares = (let s = ap spare tracer in omega (arith, s));
           budget = (let s = ap started tracer in let w = same.1 in omega (arith, s, w));
         },

@@ -7,7 +7,7 @@ use Rattle.otel_base.specs.declared.context.Context.{Context}
 use Rattle.otel_base.specs.Stack.{has_number, without_number}
 use Rattle.trace_base.specs.Spans.{without_last}
 use Rattle.trace_base.specs.layers.Hooks.{one_if}
-use Rattle.trace_base.proofs.Entering.{count_cons}
+use Rattle.trace_base.proofs.EntryLemmas.{count_cons}
 use Rattle.otel_state.specs.Stack.{last_passing}
 
 none_isnt : {X : Type 0} (x : X) → (let o : Option X = None in o) ≡ Some x → ⊥

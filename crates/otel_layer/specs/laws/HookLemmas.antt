@@ -130,7 +130,7 @@ pub record Kin {T : Type 0} (spare started : T → ℕ) (c d : Core T) : Type 0 
   pub keys : keys_of d.spans ≡ keys_of c.spans
   pub settings : d.settings ≡ c.settings
   pub reserved : d.reserved ≡ c.reserved
-  pub made : d.made ≡ c.made
+  pub span_count : d.span_count ≡ c.span_count
   pub spares : spare c.tracer ≤ spare d.tracer
   pub budget : started d.tracer + waiting_in d.spans ≤ started c.tracer + waiting_in c.spans
 
@@ -142,7 +142,7 @@ kin_same spare started c d e = record {
   keys = ap (λ x. keys_of x.spans) e;
   settings = ap (λ x. x.settings) e;
   reserved = ap (λ x. x.reserved) e;
-  made = ap (λ x. x.made) e;
+  span_count = ap (λ x. x.span_count) e;
   spares = (let h = ap (λ x. spare x.tracer) e in omega (arith, h));
   budget = (let h = ap (λ x. started x.tracer + waiting_in x.spans) e in omega (arith, h));
 }
@@ -152,18 +152,18 @@ kin_trans spare started c d e a b = record {
   keys = b.keys ∙ a.keys;
   settings = b.settings ∙ a.settings;
   reserved = b.reserved ∙ a.reserved;
-  made = b.made ∙ a.made;
+  span_count = b.span_count ∙ a.span_count;
   spares = (let x = a.spares in let y = b.spares in omega (arith, x, y));
   budget = (let x = a.budget in let y = b.budget in omega (arith, x, y));
 }
 
 op_kin : {T : Type 0} (spare started : T → ℕ) (c d : Core T) (id at : ℕ) (op : Op) → ((told : SpanData) → (after_op told at op).own ≡ told.own)
-    → d.spans ≡ with_op id at op c.spans → d.tracer ≡ c.tracer → d.settings ≡ c.settings → d.reserved ≡ c.reserved → d.made ≡ c.made → Kin spare started c d
-op_kin spare started c d id at op keeps spans tracer settings reserved made = record {
+    → d.spans ≡ with_op id at op c.spans → d.tracer ≡ c.tracer → d.settings ≡ c.settings → d.reserved ≡ c.reserved → d.span_count ≡ c.span_count → Kin spare started c d
+op_kin spare started c d id at op keeps spans tracer settings reserved span_count = record {
   keys = ap (λ (xs : List (ℕ × SpanData)). keys_of xs) spans ∙ update_keys id (λ t. after_op t at op) c.spans;
   settings = settings;
   reserved = reserved;
-  made = made;
+  span_count = span_count;
   spares = (let h = ap spare tracer in omega (arith, h));
   budget = (let h = ap started tracer in let w = ap waiting_in spans ∙ update_waiting_same id (λ t. after_op t at op) c.spans keeps in omega (arith, h, w));
 }
@@ -189,7 +189,7 @@ module _ {T : Type 0} (does : T → TracerCall → T → Type 0) (spare started 
         keys = ap (λ x. keys_of x.spans) h.2 ∙ update_keys id (λ t. after_op t at (ops.Start h.0)) c.spans;
         settings = ap (λ x. x.settings) h.2;
         reserved = ap (λ x. x.reserved) h.2;
-        made = ap (λ x. x.made) h.2;
+        span_count = ap (λ x. x.span_count) h.2;
         spares = n.0;
         budget = (let now = ap (λ x. waiting_in x.spans) h.2 in let m = n.1 in omega (arith, less, none, some, now, m));
       }
@@ -211,24 +211,24 @@ module _ {T : Type 0} (does : T → TracerCall → T → Type 0) (spare started 
       let budget = w.budget in
       let less = k.budget in
       let few = w.few in
-      let m = k.made in
+      let m = k.span_count in
       record { spares = omega (arith, a, b, r); rooms = omega (arith, l, rooms, r); budget = omega (arith, budget, less, m); few = omega (arith, few, m) }
 
   link_kin : (o : Option SpanContext) (id at : ℕ) (c d : Core T) → d ≡ record c { spans = with_link id at o c.spans } → Kin spare started c d
   link_kin None id at c d e = kin_same spare started c d e
   link_kin (Some context) id at c d e =
-      op_kin spare started c d id at (ops.Link (record { context = context; attributes = [] })) (λ t. refl) (ap (λ x. x.spans) e) (ap (λ x. x.tracer) e) (ap (λ x. x.settings) e) (ap (λ x. x.reserved) e) (ap (λ x. x.made) e)
+      op_kin spare started c d id at (ops.Link (record { context = context; attributes = [] })) (λ t. refl) (ap (λ x. x.spans) e) (ap (λ x. x.tracer) e) (ap (λ x. x.settings) e) (ap (λ x. x.reserved) e) (ap (λ x. x.span_count) e)
 
   one_op_kin : (c d : Core T) (id at : ℕ) (op : Op) → ((told : SpanData) → (after_op told at op).own ≡ told.own) → d ≡ record c { spans = with_op id at op c.spans } → Kin spare started c d
   one_op_kin c d id at op keeps e =
-      op_kin spare started c d id at op keeps (ap (λ x. x.spans) e) (ap (λ x. x.tracer) e) (ap (λ x. x.settings) e) (ap (λ x. x.reserved) e) (ap (λ x. x.made) e)
+      op_kin spare started c d id at op keeps (ap (λ x. x.spans) e) (ap (λ x. x.tracer) e) (ap (λ x. x.settings) e) (ap (λ x. x.reserved) e) (ap (λ x. x.span_count) e)
 
   event_kin : (c d : Core T) (id : ℕ) (f : SpanData → SpanData) → ((told : SpanData) → (f told).own ≡ told.own) → d ≡ record c { spans = update id f c.spans } → Kin spare started c d
   event_kin c d id f keeps e = record {
     keys = ap (λ x. keys_of x.spans) e ∙ update_keys id f c.spans;
     settings = ap (λ x. x.settings) e;
     reserved = ap (λ x. x.reserved) e;
-    made = ap (λ x. x.made) e;
+    span_count = ap (λ x. x.span_count) e;
     spares = (let h = ap (λ x. spare x.tracer) e in omega (arith, h));
     budget = (let h = ap (λ x. started x.tracer) e in let w = ap (λ x. waiting_in x.spans) e ∙ update_waiting_same id f c.spans keeps in omega (arith, h, w));
   }
@@ -236,28 +236,28 @@ module _ {T : Type 0} (does : T → TracerCall → T → Type 0) (spare started 
   pub enters_kin : (c d : Core T) (id at : ℕ) (before later : Lane) → EntersSpan does c id at before later d → Kin spare started c d
   enters_kin c d id at before later h =
       kin_trans spare started c h.between d (any_kin (if c.settings.activation then Some id else None) at c h.between h.starts)
-      (op_kin spare started h.between d id at ops.Enter (λ t. refl) (ap (λ x. x.spans) h.rest) (ap (λ x. x.tracer) h.rest) (ap (λ x. x.settings) h.rest) (ap (λ x. x.reserved) h.rest) (ap (λ x. x.made) h.rest))
+      (op_kin spare started h.between d id at ops.Enter (λ t. refl) (ap (λ x. x.spans) h.rest) (ap (λ x. x.tracer) h.rest) (ap (λ x. x.settings) h.rest) (ap (λ x. x.reserved) h.rest) (ap (λ x. x.span_count) h.rest))
 
   pub exits_kin : (c d : Core T) (id at : ℕ) (before later : Lane) → ExitsSpan c id at before later d → Kin spare started c d
   exits_kin c d id at before later h =
-      op_kin spare started c d id at ops.Exit (λ t. refl) (ap (λ x. x.spans) h.rest) (ap (λ x. x.tracer) h.rest) (ap (λ x. x.settings) h.rest) (ap (λ x. x.reserved) h.rest) (ap (λ x. x.made) h.rest)
+      op_kin spare started c d id at ops.Exit (λ t. refl) (ap (λ x. x.spans) h.rest) (ap (λ x. x.tracer) h.rest) (ap (λ x. x.settings) h.rest) (ap (λ x. x.reserved) h.rest) (ap (λ x. x.span_count) h.rest)
 
   -- what is whole stays whole
   waiting_push : (spans : List (ℕ × SpanData)) (e : ℕ × SpanData) → waiting_in (spans ++ e ∷ []) ≡ waiting_in spans + one_waiting e.1.own
   waiting_push [] e = omega arith
   waiting_push (x ∷ spans) e = (let rest = waiting_push spans e in omega (arith, rest))
 
-  makes_whole : (c d : Core T) (id : ℕ) (lane : Lane) (at : ℕ) (place : Parent) (current : Option ℕ) (callsite : Callsite) (values : ValueSet) → MakesSpan does c id lane at place current callsite values d → IsWholeCore spare started c → IsWholeCore spare started d
-  makes_whole c d id lane at place current callsite values h w =
-      let k = any_kin (parent_source c.settings.activation place current) at c h.between h.starts in
+  makes_whole : (c d : Core T) (id : ℕ) (lane : Lane) (at : ℕ) (parent : Parent) (current : Option ℕ) (callsite : Callsite) (values : ValueSet) → MakesSpan does c id lane at parent current callsite values d → IsWholeCore spare started c → IsWholeCore spare started d
+  makes_whole c d id lane at parent current callsite values h w =
+      let k = any_kin (parent_source c.settings.activation parent current) at c h.between h.starts in
       let v = whole_kin c h.between k w in
       let b = h.between in
-      let new : ℕ × SpanData = (id, new_span_data callsite lane values (context_from b.spans (around lane place) (parent_source c.settings.activation place current)) at c.settings c.counting) in
+      let new : ℕ × SpanData = (id, new_span_data callsite lane values (context_from b.spans (around lane parent) (parent_source c.settings.activation parent current)) at c.settings c.counting) in
       let spans = ap (λ x. x.spans) h.rest in
       let tracer = ap (λ x. spare x.tracer) h.rest in
       let begins = ap (λ x. started x.tracer) h.rest in
       let r = ap (λ x. x.reserved) h.rest in
-      let m = ap (λ x. x.made) h.rest in
+      let m = ap (λ x. x.span_count) h.rest in
       let len = ap (λ (xs : List (ℕ × SpanData)). length xs) spans ∙ length-append b.spans (new ∷ []) in
       let lenb = sym (length-keys_of b.spans) ∙ ap (λ (xs : List ℕ). length xs) k.keys ∙ length-keys_of c.spans in
       let one = ap waiting_in spans ∙ waiting_push b.spans new in
@@ -266,7 +266,7 @@ module _ {T : Type 0} (does : T → TracerCall → T → Type 0) (spare started 
       let room = h.spare in
       let few = h.few in
       let kr = k.reserved in
-      let km = k.made in
+      let km = k.span_count in
       whole_kin h.added d (any_kin (if c.settings.eager then Some id else None) at h.added d h.begins)
       (record { spares = omega (arith, spares, tracer, r); rooms = omega (arith, len, lenb, room, r, kr); budget = omega (arith, budget, begins, one, m); few = omega (arith, few, m, km) })
 
@@ -277,7 +277,7 @@ module _ {T : Type 0} (does : T → TracerCall → T → Type 0) (spare started 
       let n = counts b.tracer (Finish (record_of h.told at)) d.tracer h.finishes in
       let spans = ap (λ x. x.spans) h.rest in
       let r = ap (λ x. x.reserved) h.rest in
-      let m = ap (λ x. x.made) h.rest in
+      let m = ap (λ x. x.span_count) h.rest in
       let len = ap (λ (xs : List (ℕ × SpanData)). length xs) spans in
       let less = removed_length id b.spans h.told h.is in
       let wait = ap waiting_in spans in
@@ -308,7 +308,7 @@ module _ {T : Type 0} (does : T → TracerCall → T → Type 0) (spare started 
       let x = n.0 in
       let y = n.1 in
       let r = ap (λ e. e.reserved) h.rest in
-      let m = ap (λ e. e.made) h.rest in
+      let m = ap (λ e. e.span_count) h.rest in
       let l = ap (λ e. length e.spans) h.rest in
       let u = ap (λ e. waiting_in e.spans) h.rest in
       let spares = w.spares in
@@ -320,7 +320,7 @@ module _ {T : Type 0} (does : T → TracerCall → T → Type 0) (spare started 
   -- all hooks, where events start nothing
   module _ (events : Events) (keeps : KeepsOwn events) where
     pub step_whole : (c : Core T) (hook : Hook) (d : Core T) → Step does events c hook d → IsWholeCore spare started c → IsWholeCore spare started d
-    step_whole c (OnNewSpan id lane at place current callsite values) d h w = makes_whole c d id lane at place current callsite values h w
+    step_whole c (OnNewSpan id lane at parent current callsite values) d h w = makes_whole c d id lane at parent current callsite values h w
     step_whole c (OnRecord id at callsite values) d h w = whole_kin c d (one_op_kin c d id at (ops.Update (span_update callsite values c.settings)) (λ t. refl) h) w
     step_whole c (OnFollows id from at) d h w = whole_kin c d (kin_trans spare started c h.between d (starts_kin from at c h.between h.starts) (link_kin (ids_at (data_at from h.between.spans)) id at h.between d h.rest)) w
     step_whole c (OnEvent None lane at callsite values) d h w = whole_kin c d (kin_same spare started c d h) w

@@ -13,7 +13,7 @@ use Rattle.trace_base.specs.declared.callsite.Callsite.{Callsite}
 use Rattle.trace_base.specs.declared.lane.Lane.{Lane}
 use Rattle.trace_base.specs.declared.span.Parent.{Parent}
 use Rattle.trace_base.specs.layers.Hooks.{Hook, OnNewSpan, OnRecord, OnFollows, OnEvent, OnEnter, OnExit, OnClose, KnownSpans, Sees, comes, goes, one_if}
-use Rattle.trace_base.proofs.Entering.{count_push}
+use Rattle.trace_base.proofs.EntryLemmas.{count_push}
 use Rattle.trace_base.specs.Spans.{without_last}
 use Rattle.otel_state.specs.Stack.{last_passing}
 use Rattle.otel_state.specs.declared.op.Op.{Op}
@@ -98,9 +98,9 @@ quiet_sees c d hook q none =
     omega (arith, e, x, y)))
     (λ lane id not. ap (λ (ts : List Token). entries_by ts lane id) q.tokens)
 
-makes_sees : (ids now : List ℕ) (tokens left : List Token) (id : ℕ) (lane : Lane) (at : ℕ) (place : Parent) (current : Option ℕ) (callsite : Callsite) (values : _) → now ≡ ids ++ id ∷ [] → left ≡ tokens
-    → Sees (seen_by ids tokens) (OnNewSpan id lane at place current callsite values) (seen_by now left)
-makes_sees ids now tokens left id lane at place current callsite values more same = record {
+makes_sees : (ids now : List ℕ) (tokens left : List Token) (id : ℕ) (lane : Lane) (at : ℕ) (parent : Parent) (current : Option ℕ) (callsite : Callsite) (values : _) → now ≡ ids ++ id ∷ [] → left ≡ tokens
+    → Sees (seen_by ids tokens) (OnNewSpan id lane at parent current callsite values) (seen_by now left)
+makes_sees ids now tokens left id lane at parent current callsite values more same = record {
   gains = λ other knows not. elim (or_cases (list_any (is_id other) ids) (list_any (is_id other) (id ∷ [])) (sym (list_any-append (is_id other) ids (id ∷ [])) ∙ sym (ap (λ (xs : List ℕ). list_any (is_id other) xs) more) ∙ knows)) [
     | inl old ↦ absurd (true≢false (sym old ∙ not))
     | inr new_one ↦ elim (or_cases (id == other) false new_one) [ inl is ↦ is | inr none ↦ absurd (true≢false (sym none)) ]
@@ -190,12 +190,12 @@ nothing_sees_exit c d id at before later not h =
     (λ lane other n. ap (λ x. entries_by x.tokens lane other) h)
 
 step_sees : {T : Type 0} (does : T → TracerCall → T → Type 0) (events : Events) (c : Core T) (hook : Hook) (d : Core T) → Step does events c hook d → Sees (seen_in c) hook (seen_in d)
-step_sees does events c (OnNewSpan id lane at place current callsite values) d h =
+step_sees does events c (OnNewSpan id lane at parent current callsite values) d h =
     let b = h.between in
-    let q = any_quiet does (parent_source c.settings.activation place current) at c b h.starts in
+    let q = any_quiet does (parent_source c.settings.activation parent current) at c b h.starts in
     let r = any_quiet does (if c.settings.eager then Some id else None) at h.added d h.begins in
-    let new : ℕ × SpanData = (id, new_span_data callsite lane values (context_from b.spans (around lane place) (parent_source c.settings.activation place current)) at c.settings c.counting) in
-    makes_sees (keys_of c.spans) (keys_of d.spans) c.tokens d.tokens id lane at place current callsite values
+    let new : ℕ × SpanData = (id, new_span_data callsite lane values (context_from b.spans (around lane parent) (parent_source c.settings.activation parent current)) at c.settings c.counting) in
+    makes_sees (keys_of c.spans) (keys_of d.spans) c.tokens d.tokens id lane at parent current callsite values
     (r.keys ∙ ap (λ x. keys_of x.spans) h.rest ∙ map-append (λ (e : ℕ × SpanData). e.0) b.spans (new ∷ []) ∙ ap (λ (ks : List ℕ). ks ++ id ∷ []) q.keys) (r.tokens ∙ ap (λ x. x.tokens) h.rest ∙ q.tokens)
 step_sees does events c (OnRecord id at callsite values) d h = quiet_sees c d (OnRecord id at callsite values) (op_quiet c d id at (ops.Update (span_update callsite values c.settings)) h) (λ lane other. (refl, refl))
 step_sees does events c (OnFollows id from at) d h = quiet_sees c d (OnFollows id from at) (follows_quiet does c d id from at h) (λ lane other. (refl, refl))

@@ -7,7 +7,7 @@ use Rattle.otel_base.specs.Tracer.{TracerCall}
 use Rattle.trace_base.specs.declared.lane.Lane.{Lane}
 use Rattle.trace_base.specs.lanes.Contexts.{attached_as, attached_on, KeepsAttached, KeepsLane}
 use Rattle.trace_base.specs.layers.Hooks.{Hook, OnNewSpan, OnRecord, OnFollows, OnEvent, OnEnter, OnExit, OnClose, HookLanes}
-use Rattle.trace_base.proofs.Entering.{count_push}
+use Rattle.trace_base.proofs.EntryLemmas.{count_push}
 use Rattle.trace_base.specs.Spans.{without_last}
 use Rattle.otel_state.specs.Stack.{last_passing}
 use Rattle.otel_state.specs.declared.op.Op.TheVariants as ops
@@ -113,8 +113,8 @@ nothing_lanes c d before later e f = (
 )
 
 step_lanes : {T : Type 0} (does : T → TracerCall → T → Type 0) (events : Events) (c : Core T) (hook : Hook) (d : Core T) → Step does events c hook d → HookLanes c.settings.activation (kept_in c) hook (kept_in d)
-step_lanes does events c (OnNewSpan id lane at place current callsite values) d h =
-    let q = any_quiet does (parent_source c.settings.activation place current) at c h.between h.starts in
+step_lanes does events c (OnNewSpan id lane at parent current callsite values) d h =
+    let q = any_quiet does (parent_source c.settings.activation parent current) at c h.between h.starts in
     kept_is h.added d (any_quiet does (if c.settings.eager then Some id else None) at h.added d h.begins) ∙ ap (λ x. kept_in x) h.rest ∙ kept_is c h.between q
 step_lanes does events c (OnRecord id at callsite values) d h = kept_is c d (op_quiet c d id at (ops.Update (span_update callsite values c.settings)) h)
 step_lanes does events c (OnFollows id from at) d h = kept_is c d (follows_quiet does c d id from at h)
@@ -157,8 +157,8 @@ does_passive does events c id at before later d h unknown = ap (λ (l : Lane). l
 
 -- settings stay
 step_settings : {T : Type 0} (does : T → TracerCall → T → Type 0) (events : Events) (c : Core T) (hook : Hook) (d : Core T) → Step does events c hook d → d.settings ≡ c.settings
-step_settings does events c (OnNewSpan id lane at place current callsite values) d h =
-    (any_quiet does (if c.settings.eager then Some id else None) at h.added d h.begins).settings ∙ ap (λ x. x.settings) h.rest ∙ (any_quiet does (parent_source c.settings.activation place current) at c h.between h.starts).settings
+step_settings does events c (OnNewSpan id lane at parent current callsite values) d h =
+    (any_quiet does (if c.settings.eager then Some id else None) at h.added d h.begins).settings ∙ ap (λ x. x.settings) h.rest ∙ (any_quiet does (parent_source c.settings.activation parent current) at c h.between h.starts).settings
 step_settings does events c (OnRecord id at callsite values) d h = ap (λ x. x.settings) h
 step_settings does events c (OnFollows id from at) d h = (follows_quiet does c d id from at h).settings
 step_settings does events c (OnEvent None lane at callsite values) d h = ap (λ x. x.settings) h

@@ -3,8 +3,8 @@ use Rattle.std.proofs.Common.{◌≡◌, ℕ, true, Result, Ok, OnOk, ap, ◌∙
 use Rattle.traced.proofs.Common.{Memory, ValueSet, Lane, Parent, Ghosts, Worlds, Exit, Handle, ReplacedOn, EntryGuard, TellsOne, TellsIfAnswered, MakesIfAnswered, Closes, Enters, Exits, MakesAndCloses, EntersAndExits, Tells}
 
 module _ {S : Type 0} {sub : Ghosts S} {old new : Worlds S} where
-  pub makes_and_closes : {begun ended : Worlds S} {lane : Lane} {place : Parent} {site begins ends : ℕ} {values : ValueSet} {handle : Handle} {between : Handle → Worlds S → Worlds S → Type 0}
-      → MakesIfAnswered sub old begun lane begins place site values (Ok handle) → between handle begun ended → Closes sub ended new ends handle → MakesAndCloses sub lane place site values begins ends between old new
+  pub makes_and_closes : {begun ended : Worlds S} {lane : Lane} {parent : Parent} {site begins ends : ℕ} {values : ValueSet} {handle : Handle} {between : Handle → Worlds S → Worlds S → Type 0}
+      → MakesIfAnswered sub old begun lane begins parent site values (Ok handle) → between handle begun ended → Closes sub ended new ends handle → MakesAndCloses sub lane parent site values begins ends between old new
   makes_and_closes {begun} {ended} {handle = handle} makes meanwhile closes = record {
     handle = handle;
     begun = begun;
@@ -30,9 +30,9 @@ module _ {S : Type 0} {sub : Ghosts S} {old new : Worlds S} where
   }
 
   -- an event that is told, if the gate lets its callsite through
-  pub tells_if_answered : {lane : Lane} {at site : ℕ} {place : Parent} {values : ValueSet} {result : Result (Unit {0}) Memory}
-      → Tells sub old new lane at place site values result → result ≡ Ok tt → TellsIfAnswered sub old new lane at place site values
-  tells_if_answered {lane} {at} {site} {place} {values} tells done = record {
-    told = λ through. subst (λ (r : Result (Unit {0}) Memory). OnOk r (TellsOne sub old new lane at place site values)) done (tells.told through);
+  pub tells_if_answered : {lane : Lane} {at site : ℕ} {parent : Parent} {values : ValueSet} {result : Result (Unit {0}) Memory}
+      → Tells sub old new lane at parent site values result → result ≡ Ok tt → TellsIfAnswered sub old new lane at parent site values
+  tells_if_answered {lane} {at} {site} {parent} {values} tells done = record {
+    told = λ through. subst (λ (r : Result (Unit {0}) Memory). OnOk r (TellsOne sub old new lane at parent site values)) done (tells.told through);
     refused = λ back. (tells.refused back).1;
   }

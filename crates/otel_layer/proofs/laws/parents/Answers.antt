@@ -1,5 +1,5 @@
 -- What is told of the op says what it answered.
-use Rattle.otel_layer.proofs.Setting.{sets_told}
+use Rattle.otel_layer.proofs.ParentSetLemmas.{sets_told}
 use Rattle.otel_layer.proofs.laws.parents.Goals as goal
 
 pub returns : goal.returns

@@ -1,5 +1,5 @@
 -- The layer is the outer part, and is asked first.
-use Rattle.otel_layer.proofs.Replaying.{asks_recording}
+use Rattle.otel_layer.proofs.RecordingCallsLemmas.{asks_recording}
 use Rattle.otel_layer.proofs.recording.asks.Goals as goal
 
 pub returns : goal.returns

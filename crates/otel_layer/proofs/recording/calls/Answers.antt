@@ -1,5 +1,5 @@
 -- By what a call makes of the stack.
-use Rattle.otel_layer.proofs.Replaying.{call_recording, layered_recording}
+use Rattle.otel_layer.proofs.RecordingCallsLemmas.{call_recording, layered_recording}
 use Rattle.otel_layer.proofs.Common.{layer_recording}
 use Rattle.otel_layer.proofs.recording.calls.Goals as goal
 

@@ -1,5 +1,5 @@
 -- By what a close makes of the stack.
-use Rattle.otel_layer.proofs.Replaying.{stack_chain}
+use Rattle.otel_layer.proofs.RecordingCallsLemmas.{stack_chain}
 use Rattle.otel_layer.proofs.recording.chains.Goals as goal
 
 pub returns : goal.returns

@@ -1,5 +1,5 @@
 -- What a layer knows was made before.
-use Rattle.otel_layer.proofs.Replaying.{next_untold}
+use Rattle.otel_layer.proofs.RecordingCallsLemmas.{next_untold}
 use Rattle.otel_layer.proofs.recording.next.Goals as goal
 
 pub returns : goal.returns

@@ -1,5 +1,5 @@
 -- By what room leaves.
-use Rattle.otel_layer.proofs.Replaying.{same_recording}
+use Rattle.otel_layer.proofs.RecordingCallsLemmas.{same_recording}
 use Rattle.otel_layer.proofs.recording.same.Goals as goal
 
 pub returns : goal.returns

@@ -1,6 +1,6 @@
 -- The handle is enabled.
 use Rattle.std.proofs.Common.{sym, ◌∙◌}
-use Rattle.otel_layer.proofs.Setting.{set_by_handle}
+use Rattle.otel_layer.proofs.ParentSetLemmas.{set_by_handle}
 use Rattle.otel_layer.proofs.span_ext.parent_answer.Goals as goal
 
 pub returns-in-Some : goal.returns-in-Some

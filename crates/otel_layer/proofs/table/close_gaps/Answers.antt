@@ -3,7 +3,7 @@ use Rattle.std.proofs.Common.{rules, List, sym, ap, subst, ◌∙◌, true}
 use Rattle.std.proofs.lemmas.Fn.{filter_same}
 use Rattle.otel_layer.proofs.Common.{Entry, all_data, MayRise}
 use Rattle.otel_layer.proofs.Gaps.{is_kept, closed_read}
-use Rattle.otel_layer.proofs.Rising.{filtered_rise}
+use Rattle.otel_layer.proofs.RisingIdsLemmas.{filtered_rise}
 use Rattle.otel_layer.proofs.table.close_gaps.Goals as goal
 
 pub returns-then-known-len-clause-told : goal.returns-then-known-len-clause-told

@@ -1,7 +1,7 @@
 -- The entry with the id is the one that is searched for, unless it is a gap.
 use Rattle.std.proofs.Common.{◌<◌, length, ap, ◌∙◌, arith}
 use Rattle.otel_layer.proofs.Common.{Entry}
-use Rattle.otel_layer.proofs.Rising.{same_at, found_or_gap, if_found}
+use Rattle.otel_layer.proofs.RisingIdsLemmas.{same_at, found_or_gap, if_found}
 use Rattle.otel_layer.proofs.table.guess.Goals as goal
 
 pub returns-then-there-wanted : goal.returns-then-there-wanted

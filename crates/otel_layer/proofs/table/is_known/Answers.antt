@@ -1,6 +1,6 @@
 -- A span is known where its entry is found.
 use Rattle.std.proofs.Common.{◌∙◌}
-use Rattle.otel_layer.proofs.Placing.{found_known}
+use Rattle.otel_layer.proofs.TableLemmas.{found_known}
 use Rattle.otel_layer.proofs.table.is_known.Goals as goal
 
 pub returns : goal.returns

@@ -2,7 +2,7 @@
 use Rattle.std.proofs.Common.{◌-◌, ◌≡◌, suc, length, ap, arith}
 use Rattle.std.proofs.lemmas.Bool.{ltb-true}
 use Rattle.otel_layer.proofs.Common.{Entry}
-use Rattle.otel_layer.proofs.Rising.{rise_last}
+use Rattle.otel_layer.proofs.RisingIdsLemmas.{rise_last}
 use Rattle.otel_layer.proofs.table.is_youngest.Goals as goal
 
 pub returns : goal.returns

@@ -1,7 +1,7 @@
 -- The span is found, or isn't known.
 use Rattle.std.proofs.Common.{◌≡◌, Some, None, get_or, sym, refl, ◌∙◌}
 use Rattle.otel_layer.proofs.Common.{after_op}
-use Rattle.otel_layer.proofs.Placing.{no_gap, found_read, found_update, found_same, found_ids, not_updated}
+use Rattle.otel_layer.proofs.TableLemmas.{no_gap, found_read, found_update, found_same, found_ids, not_updated}
 use Rattle.otel_layer.proofs.table.put.Goals as goal
 
 pub put-requires : goal.put-requires

@@ -1,7 +1,7 @@
 -- The span is found, or isn't known.
 use Rattle.std.proofs.Common.{◌≡◌, ◌≤◌, Some, None, get_or, sym, subst, refl, arith, ◌∙◌}
 use Rattle.otel_layer.proofs.Common.{Room}
-use Rattle.otel_layer.proofs.Placing.{no_gap, found_same, found_ids, read_set, nothing_read, on_ok}
+use Rattle.otel_layer.proofs.TableLemmas.{no_gap, found_same, found_ids, read_set, nothing_read, on_ok}
 use Rattle.otel_layer.proofs.table.reserve_link.Goals as goal
 
 pub returns-in-Some-state-clause-told : goal.returns-in-Some-state-clause-told

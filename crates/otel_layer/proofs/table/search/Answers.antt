@@ -1,7 +1,7 @@
 -- The entry in the middle says which half falls away.
 use Rattle.std.proofs.Common.{◌<◌, ◌+◌, ◌-◌, ◌/◌, length, ap, ◌∙◌, arith}
 use Rattle.otel_layer.proofs.Common.{Entry}
-use Rattle.otel_layer.proofs.Rising.{older_to, younger_from, same_at, found_or_gap, nowhere}
+use Rattle.otel_layer.proofs.RisingIdsLemmas.{older_to, younger_from, same_at, found_or_gap, nowhere}
 use Rattle.otel_layer.proofs.table.search.Goals as goal
 
 pub returns-then-there-wanted : goal.returns-then-there-wanted

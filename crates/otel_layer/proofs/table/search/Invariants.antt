@@ -1,6 +1,6 @@
 -- What is left lies between older and younger spans.
 use Rattle.std.proofs.Common.{◌≡◌, ◌≤◌, ◌-◌, length}
-use Rattle.otel_layer.proofs.Rising.{AreOlder, AreYounger}
+use Rattle.otel_layer.proofs.RisingIdsLemmas.{AreOlder, AreYounger}
 use Rattle.otel_layer.proofs.table.search.Given as goal
 
 abbrev pub invariant-loop-low : goal.invariant-loop-low

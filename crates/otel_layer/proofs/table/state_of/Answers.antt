@@ -1,6 +1,6 @@
 -- The span is found, or isn't known.
 use Rattle.std.proofs.Common.{◌≡◌, Some, None, get_or, sym, ◌∙◌}
-use Rattle.otel_layer.proofs.Placing.{no_gap, found_read, not_read}
+use Rattle.otel_layer.proofs.TableLemmas.{no_gap, found_read, not_read}
 use Rattle.otel_layer.proofs.table.state_of.Goals as goal
 
 pub returns-in-Some-state : goal.returns-in-Some-state

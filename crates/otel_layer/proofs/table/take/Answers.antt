@@ -1,6 +1,6 @@
 -- The span is found, and its entry left as a gap.
 use Rattle.std.proofs.Common.{sym, refl, ◌∙◌}
-use Rattle.otel_layer.proofs.Placing.{no_gap, found_read, found_removed, found_ids, not_known}
+use Rattle.otel_layer.proofs.TableLemmas.{no_gap, found_read, found_removed, found_ids, not_known}
 use Rattle.otel_layer.proofs.table.take.Goals as goal
 
 pub unreachable-requires : goal.unreachable-requires

@@ -1,7 +1,7 @@
 -- Past the loop no entry is of the span on the lane, and one has to be.
 use Rattle.std.proofs.Common.{◌≡◌, ℕ, false, drop, subst, arith}
 use Rattle.otel_layer.proofs.Common.{list_any, is_token}
-use Rattle.trace_base.proofs.Entering.{none_counted}
+use Rattle.trace_base.proofs.EntryLemmas.{none_counted}
 use Rattle.otel_layer.proofs.tokens.last_place.Goals as goal
 
 pub returns : goal.returns

@@ -1,7 +1,7 @@
 -- What is taken out stood at the last place of the span on the lane.
 use Rattle.std.proofs.Common.{refl, sym}
 use Rattle.otel_layer.proofs.Common.{is_token}
-use Rattle.otel_state.proofs.Popping.{popped}
+use Rattle.otel_state.proofs.LastItemLemmas.{popped}
 use Rattle.otel_layer.proofs.tokens.take_last.Goals as goal
 
 pub returns-clause-last : goal.returns-clause-last

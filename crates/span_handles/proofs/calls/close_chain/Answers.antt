@@ -1,5 +1,5 @@
 -- Each release leads on to the next.
-use Rattle.span_handles.proofs.Chaining.{releases_first, releases_more, released_all}
+use Rattle.span_handles.proofs.ChainLemmas.{releases_first, releases_more, released_all}
 use Rattle.span_handles.proofs.calls.close_chain.Goals as goal
 
 pub loop-next-init : goal.loop-next-init

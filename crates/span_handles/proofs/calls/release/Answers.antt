@@ -1,7 +1,7 @@
 -- A chain of closes takes one hold of the span that it begins with.
 use Rattle.std.proofs.Common.{refl, slice_set}
 use Rattle.trace_base.specs.Gate.{Worlds}
-use Rattle.span_handles.proofs.Knowing.{others_chain, loses_chain}
+use Rattle.span_handles.proofs.KnownHandlesLemmas.{others_chain, loses_chain}
 use Rattle.span_handles.proofs.calls.release.Goals as goal
 
 pub returns-clause-keeps : goal.returns-clause-keeps

@@ -1,5 +1,5 @@
 -- An entry releases nothing, and a refused one nothing either.
-use Rattle.span_handles.proofs.Knowing.{handles_result}
+use Rattle.span_handles.proofs.KnownHandlesLemmas.{handles_result}
 use Rattle.span_handles.proofs.entry.enter.Goals as goal
 
 pub returns-clause-keeps : goal.returns-clause-keeps

@@ -1,7 +1,7 @@
 -- An exit takes no hold of a handle.
 use Rattle.std.proofs.Common.{refl, slice_set}
 use Rattle.trace_base.specs.Gate.{Worlds}
-use Rattle.span_handles.proofs.Knowing.{handles_call}
+use Rattle.span_handles.proofs.KnownHandlesLemmas.{handles_call}
 use Rattle.span_handles.proofs.entry.exit.Goals as goal
 
 pub returns-clause-keeps : goal.returns-clause-keeps

@@ -1,5 +1,5 @@
 -- By the trait's laws.
-use Rattle.span_handles.proofs.Showing.{shown}
+use Rattle.span_handles.proofs.ChangedSubscriberLemmas.{shown}
 use Rattle.span_handles.proofs.laws.calls.Goals as goal
 
 pub returns : goal.returns

@@ -1,5 +1,5 @@
 -- By the trait's laws.
-use Rattle.span_handles.proofs.Showing.{chain_shown}
+use Rattle.span_handles.proofs.ChangedSubscriberLemmas.{chain_shown}
 use Rattle.span_handles.proofs.laws.chains.Goals as goal
 
 pub returns : goal.returns

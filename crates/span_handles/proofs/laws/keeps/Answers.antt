@@ -1,5 +1,5 @@
 -- By the trait's laws.
-use Rattle.span_handles.proofs.Knowing.{handles_call, handles_same, gains_call, others_chain, loses_chain}
+use Rattle.span_handles.proofs.KnownHandlesLemmas.{handles_call, handles_same, gains_call, others_chain, loses_chain}
 use Rattle.span_handles.proofs.laws.keeps.Goals as goal
 
 pub returns-clause-call : goal.returns-clause-call

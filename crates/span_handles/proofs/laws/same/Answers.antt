@@ -1,5 +1,5 @@
 -- By the trait's laws.
-use Rattle.span_handles.proofs.Showing.{alike}
+use Rattle.span_handles.proofs.ChangedSubscriberLemmas.{alike}
 use Rattle.span_handles.proofs.laws.same.Goals as goal
 
 pub returns : goal.returns

@@ -1,5 +1,5 @@
 -- By the trait's laws.
-use Rattle.span_handles.proofs.Telling.{told_world}
+use Rattle.span_handles.proofs.ToldClosesLemmas.{told_world}
 use Rattle.span_handles.proofs.laws.told.Goals as goal
 
 pub returns : goal.returns

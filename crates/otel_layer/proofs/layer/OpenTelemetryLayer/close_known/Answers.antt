@@ -2,7 +2,7 @@
 use Rattle.std.proofs.Common.{sym, ap, ◌∙◌, subst, ◌<◌}
 use Rattle.otel_layer.proofs.Common.{list_any, is_id}
 use Rattle.otel_layer.specs.laws.KnownSpansLemmas.{starts_quiet}
-use Rattle.otel_layer.proofs.Hooking.{close_spare, closes}
+use Rattle.otel_layer.proofs.HookStepsLemmas.{close_spare, closes}
 use Rattle.otel_layer.proofs.layer.OpenTelemetryLayer.close_known.Goals as goal
 
 pub remove-state-requires : goal.remove-state-requires

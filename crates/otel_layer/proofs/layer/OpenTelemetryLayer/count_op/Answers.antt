@@ -1,5 +1,5 @@
 -- Two ops of one span.
-use Rattle.otel_layer.proofs.Tallying.{counts_taken}
+use Rattle.otel_layer.proofs.CountedEventsLemmas.{counts_taken}
 use Rattle.otel_layer.proofs.layer.OpenTelemetryLayer.count_op.Goals as goal
 
 pub returns-then-is_taken : goal.returns-then-is_taken

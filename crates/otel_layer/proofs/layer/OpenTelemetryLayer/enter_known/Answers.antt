@@ -1,6 +1,6 @@
 -- An entry, step by step.
 use Rattle.std.proofs.Common.{ap}
-use Rattle.otel_layer.proofs.Hooking.{enters}
+use Rattle.otel_layer.proofs.HookStepsLemmas.{enters}
 use Rattle.otel_layer.proofs.layer.OpenTelemetryLayer.enter_known.Goals as goal
 
 pub returns : goal.returns

@@ -1,6 +1,6 @@
 -- What is detached was attached by the entry.
 use Rattle.std.proofs.Common.{sym, ap, ◌∙◌}
-use Rattle.otel_layer.proofs.Hooking.{leaves_still}
+use Rattle.otel_layer.proofs.HookStepsLemmas.{leaves_still}
 use Rattle.otel_layer.proofs.layer.OpenTelemetryLayer.exit_known.Goals as goal
 
 pub leave-requires : goal.leave-requires

@@ -3,7 +3,7 @@ use Rattle.std.proofs.Common.{◌<◌, ◌^◌, List, true, arith, refl, sym, ap
 use Rattle.std.proofs.lemmas.Bool.{true≢false}
 use Rattle.otel_layer.proofs.Common.{Entry, all_data, with_span_data, MayRise, RisesTo}
 use Rattle.otel_layer.proofs.Gaps.{within, read_added}
-use Rattle.otel_layer.proofs.Rising.{added_kept}
+use Rattle.otel_layer.proofs.RisingIdsLemmas.{added_kept}
 use Rattle.otel_layer.proofs.table.Table.add.Goals as goal
 use Rattle.otel_layer.proofs.table.Table.add.Goals.{then-self, else-self}
 

@@ -2,7 +2,7 @@
 use Rattle.std.proofs.Common.{rules, ◌≡◌, List, length, ap, subst, ◌∙◌}
 use Rattle.otel_layer.proofs.Common.{Entry, AppliesIn, entry_ids, all_data, data_at}
 use Rattle.otel_layer.proofs.Gaps.{applied_count}
-use Rattle.otel_layer.proofs.Rising.{kept_whole}
+use Rattle.otel_layer.proofs.RisingIdsLemmas.{kept_whole}
 use Rattle.otel_layer.proofs.table.Table.apply.Goals as goal
 
 pub invariant_of-self : goal.invariant_of-self

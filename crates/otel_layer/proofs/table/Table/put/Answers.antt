@@ -2,7 +2,7 @@
 use Rattle.std.proofs.Common.{rules, ◌≡◌, List, length, ap, ◌∙◌, ℕ}
 use Rattle.otel_layer.proofs.Common.{SpanData, after_op, Entry, entry_ids, all_data, with_op}
 use Rattle.otel_layer.proofs.Gaps.{updated_count}
-use Rattle.otel_layer.proofs.Rising.{kept_whole}
+use Rattle.otel_layer.proofs.RisingIdsLemmas.{kept_whole}
 use Rattle.otel_layer.proofs.table.Table.put.Goals as goal
 
 pub invariant_of-self : goal.invariant_of-self

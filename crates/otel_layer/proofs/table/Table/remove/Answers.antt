@@ -1,7 +1,7 @@
 -- One state fewer, and the ids rise where they rose.
 use Rattle.std.proofs.Common.{rules, ◌≡◌, List, length, ap, ◌∙◌}
 use Rattle.otel_layer.proofs.Common.{remove_entry, Entry, entry_ids, all_data, is_id, knows_span}
-use Rattle.otel_layer.proofs.Rising.{removed_kept}
+use Rattle.otel_layer.proofs.RisingIdsLemmas.{removed_kept}
 use Rattle.otel_layer.proofs.table.Table.remove.Goals as goal
 
 pub invariant_of-self : goal.invariant_of-self

@@ -1,7 +1,7 @@
 -- Room leaves the ids, and as many states.
 use Rattle.std.proofs.Common.{rules, ◌≡◌, List, length, ap, ◌∙◌, ℕ}
 use Rattle.otel_layer.proofs.Common.{SpanData, Entry, entry_ids, all_data}
-use Rattle.otel_layer.proofs.Rising.{kept_whole}
+use Rattle.otel_layer.proofs.RisingIdsLemmas.{kept_whole}
 use Rattle.otel_layer.proofs.table.Table.reserve_link.Goals as goal
 
 pub invariant_of-self : goal.invariant_of-self

@@ -1,6 +1,6 @@
 -- What the closure keeps is what the exit needs.
-use Rattle.span_handles.proofs.Knowing.{handles_trans}
-use Rattle.span_handles.proofs.Scoping.{may_end}
+use Rattle.span_handles.proofs.KnownHandlesLemmas.{handles_trans}
+use Rattle.span_handles.proofs.ScopeLemmas.{may_end}
 use Rattle.span_handles.proofs.span.Span.in_scope.Goals as goal
 
 pub close_entry-requires-clause-there : goal.close_entry-requires-clause-there

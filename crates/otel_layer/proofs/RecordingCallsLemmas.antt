@@ -11,8 +11,8 @@ use Rattle.span_registry.specs.declared.layered.Layered.{Layered}
 use Rattle.span_registry.specs.Layering.{both_allowed, both_shows}
 use Rattle.span_registry.specs.Registering.{RegistryValue, DoesRegistry}
 use Rattle.span_handles.specs.Worlds.{Replaced, member_of, Chain, ended, closes, all_released, releases, closed_in, no_spans}
-use Rattle.otel_layer.proofs.Finding.{told_at_next}
-use Rattle.otel_layer.proofs.Recalling.{room_recording, start_recording, hook_recording}
+use Rattle.otel_layer.proofs.FoundSpanLemmas.{told_at_next}
+use Rattle.otel_layer.proofs.RecordingHooksLemmas.{room_recording, start_recording, hook_recording}
 
 -- ---- a lane with the same id and contexts
 
@@ -62,10 +62,10 @@ abbrev Does : RegistryValue → CoreWithRoom RecorderValue → SubscriberCall �
 Does s l call t m = DoesBoth spans_of DoesRegistry outer same_layer active s l call t m
 
 both_recording : (s : RegistryValue) (l : CoreWithRoom RecorderValue) (call : SubscriberCall) (t : RegistryValue) (m : CoreWithRoom RecorderValue) → Does s l call t m → RecordsCall s.spans (recording_of l.core) call (recording_of m.core)
-both_recording s l (NewSpan lane at place site callsite values) t m d = hook_recording _ _ _ d.1
+both_recording s l (NewSpan lane at parent site callsite values) t m d = hook_recording _ _ _ d.1
 both_recording s l (Records id at callsite values) t m d = hook_recording _ _ _ d.1
 both_recording s l (Follows id from at) t m d = hook_recording _ _ _ d.1
-both_recording s l (Event lane at place site callsite values) t m d = hook_recording _ _ _ d.1
+both_recording s l (Event lane at parent site callsite values) t m d = hook_recording _ _ _ d.1
 both_recording s l (Enter id at before later) t m d =
     let h = hook_recording _ _ _ d.second in
     let i = ap (λ (x : Lane). x.id) d.first.lane ∙ d.room.keeps.id in

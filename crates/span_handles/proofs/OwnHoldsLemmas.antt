@@ -8,9 +8,9 @@ use Rattle.trace_base.specs.Calls.{SubscriberCall, NewSpan, Records, Follows, Ev
 use Rattle.trace_base.specs.Conditions.{Allowed, IsLive, HasOwnHold, MayExit}
 use Rattle.trace_base.specs.Sound.{IsSound}
 use Rattle.trace_base.proofs.Sound.{place_live, exit_live}
-use Rattle.trace_base.proofs.Entering.{count_push, made_if_held}
-use Rattle.trace_base.proofs.Holding.{children_set, same_child, keeps_children, less_last, less_more, less_holds, holds_set, holds_other}
-use Rattle.trace_base.proofs.Moving.{entry_moves, exit_moves}
+use Rattle.trace_base.proofs.EntryLemmas.{count_push, made_if_held}
+use Rattle.trace_base.proofs.HoldLemmas.{children_set, same_child, keeps_children, less_last, less_more, less_holds, holds_set, holds_other}
+use Rattle.trace_base.proofs.HoldMoveLemmas.{entry_moves, exit_moves}
 use Rattle.span_handles.specs.Worlds.{Chain, ended, closes}
 use Rattle.span_handles.specs.Knowing.{IsNoClose}
 
@@ -93,10 +93,10 @@ new_keeps n x (Some p) site q live own =
 
 -- a call that isn't a close
 pub call_own : (n : ℕ) (x : Spans) (call : SubscriberCall) (q : ℕ) → IsSound x → Allowed x call → IsNoClose call → OwnBeside n x q → OwnBeside n (spans_after_call x call) q
-call_own n x (NewSpan lane at place site callsite values) q sound allowed kind own = new_keeps n x (place_on (entries_on lane.id x.lanes) place) site q (place_live x lane.id place sound allowed) own
+call_own n x (NewSpan lane at parent site callsite values) q sound allowed kind own = new_keeps n x (place_on (entries_on lane.id x.lanes) parent) site q (place_live x lane.id parent sound allowed) own
 call_own n x (Records id at callsite values) q sound allowed kind own = own
 call_own n x (Follows id from at) q sound allowed kind own = own
-call_own n x (Event lane at place site callsite values) q sound allowed kind own = own
+call_own n x (Event lane at parent site callsite values) q sound allowed kind own = own
 call_own n x (Enter id at before later) q sound allowed kind own = (let m = entry_moves x id before.id q allowed in let c = entered_children x id before.id q allowed in omega (arith, m, c, own))
 call_own n x (Exit id at before later) q sound allowed kind own = (let m = exit_moves x id before.id q (exit_live x id before.id sound allowed) allowed in let c = exited_children x id before.id q allowed in omega (arith, m, c, own))
 call_own n x (CloneSpan id) q sound allowed kind own = held_own n x id q allowed own

@@ -15,8 +15,8 @@ use Rattle.trace_base.proofs.Sound.{place_live, new_own, clone_own}
 use Rattle.span_handles.specs.Worlds.{Has, Replaced, Chain}
 use Rattle.span_handles.specs.Handles.{Held, IsKnown, IsKnownBeside}
 use Rattle.span_handles.specs.Knowing.{KeepsKnown, KeepsHandles, KeepsOthers, GainsOne, LosesOne, IsNoClose}
-use Rattle.span_handles.proofs.Owning.{OwnBeside, held_more, call_own, chain_own}
-use Rattle.span_handles.proofs.Showing.{as_many, now_there}
+use Rattle.span_handles.proofs.OwnHoldsLemmas.{OwnBeside, held_more, call_own, chain_own}
+use Rattle.span_handles.proofs.ChangedSubscriberLemmas.{as_many, now_there}
 
 -- what is read of a subscriber that nothing was called of
 get_other : {X : Type 0} (xs : List X) (n k : ℕ) (y : X) → (k ≡ n → ⊥) → slice_get (slice_set xs n y) k ≡ slice_get xs k
@@ -138,15 +138,15 @@ module _ {S : Type 0} (spans : S → Spans) (does : S → SubscriberCall → S �
 module _ {S : Type 0} (spans : S → Spans) (does : S → SubscriberCall → S → Type 0) (sound : (s : S) (call : SubscriberCall) (t : S) → does s call t → IsSound (spans s))
     (allowed : (s : S) (call : SubscriberCall) (t : S) → does s call t → Allowed (spans s) call) (shows : (s : S) (call : SubscriberCall) (t : S) → does s call t → spans t ≡ spans_after_call (spans s) call)
     (old new : Worlds S) (dispatch id : ℕ) (there : dispatch < length old.subscribers) where
-  pub made_known : (lane : Lane) (at : ℕ) (place : Parent) (site : ℕ) (callsite : Callsite) (values : ValueSet)
-      → Replaced (λ s t. (id ≡ length (spans s).made) × does s (NewSpan lane at place site callsite values) t) old new dispatch → IsKnown spans new (Some (dispatch, id))
-  made_known lane at place site callsite values r =
-      let call : SubscriberCall = NewSpan lane at place site callsite values in
+  pub made_known : (lane : Lane) (at : ℕ) (parent : Parent) (site : ℕ) (callsite : Callsite) (values : ValueSet)
+      → Replaced (λ s t. (id ≡ length (spans s).made) × does s (NewSpan lane at parent site callsite values) t) old new dispatch → IsKnown spans new (Some (dispatch, id))
+  made_known lane at parent site callsite values r =
+      let call : SubscriberCall = NewSpan lane at parent site callsite values in
       let R : S → S → Type 0 = λ s t. (id ≡ length (spans s).made) × does s call t in
       let x = spans r.before in
-      let above = place_on (entries_on lane.id x.lanes) place in
+      let above = place_on (entries_on lane.id x.lanes) parent in
       let fine = sound r.before call r.later r.did.1 in
-      let own = new_own x above site fine (place_live x lane.id place fine (allowed r.before call r.later r.did.1)) in
+      let own = new_own x above site fine (place_live x lane.id parent fine (allowed r.before call r.later r.did.1)) in
       let own_id = subst (λ (k : ℕ). HasOwnHold (with_new_span x above site) k) (sym r.did.0) own in (
         (let n = as_many R old new dispatch r in omega (arith, n, there)),
         λ s here. subst (λ (t : S). HasOwnHold (spans t) id) (the_later spans R old new dispatch r s here) (subst (λ (y : Spans). HasOwnHold y id) (sym (shows r.before call r.later r.did.1)) own_id),

@@ -12,28 +12,28 @@ use Rattle.otel_state.specs.declared.update.Update.{Update}
 use Rattle.otel_layer.specs.declared.tokens.Token.{Token}
 use Rattle.otel_layer.specs.laws.HookLemmas.{whole_kin, starts_kin, removed_length}
 
-pub makes : {T : Type 0} (does : T → TracerCall → T → Type 0) (c between added d : Core T) (id : ℕ) (lane : Lane) (at : ℕ) (place : Parent) (current : Option ℕ) (callsite : Callsite) (values : ValueSet) (source again first : Option ℕ) (active eager : Bool) (put : Parent) (context : Context) (told : SpanData)
-    → active ≡ c.settings.activation → put ≡ place → source ≡ parent_source active put current → again ≡ source → StartsAny does again at c between → context ≡ context_from between.spans (around lane place) source
-    → told ≡ new_span_data callsite lane values context at c.settings c.counting → length c.spans < c.reserved → c.made + 1 < 2 ^ 62
-    → added ≡ record between { spans = with_span_data id told between.spans; made = between.made + 1 } → eager ≡ c.settings.eager → first ≡ (if eager then Some id else None) → StartsAny does first at added d
-    → MakesSpan does c id lane at place current callsite values d
-makes {T} does c between added d id lane at place current callsite values source again first active eager put context told is_active is_put is_source is_again starts is_context is_told spare few rest is_eager is_first begins =
-    let from = is_source ∙ ap (λ (p : Parent). parent_source active p current) is_put ∙ ap (λ (b : Bool). parent_source b place current) is_active in
+pub makes : {T : Type 0} (does : T → TracerCall → T → Type 0) (c between added d : Core T) (id : ℕ) (lane : Lane) (at : ℕ) (parent : Parent) (current : Option ℕ) (callsite : Callsite) (values : ValueSet) (source first : Option ℕ) (active eager : Bool) (context : Context) (told : SpanData)
+    → active ≡ c.settings.activation → source ≡ parent_source active parent current → StartsAny does source at c between → context ≡ context_from between.spans (around lane parent) source
+    → told ≡ new_span_data callsite lane values context at c.settings c.counting → length c.spans < c.reserved → c.span_count + 1 < 2 ^ 62
+    → added ≡ record between { spans = with_span_data id told between.spans; span_count = between.span_count + 1 } → eager ≡ c.settings.eager → first ≡ (if eager then Some id else None) → StartsAny does first at added d
+    → MakesSpan does c id lane at parent current callsite values d
+makes {T} does c between added d id lane at parent current callsite values source first active eager context told is_active is_source starts is_context is_told spare few rest is_eager is_first begins =
+    let from = is_source ∙ ap (λ (b : Bool). parent_source b parent current) is_active in
     record {
       between = between;
       spare = spare;
       few = few;
-      starts = subst (λ (o : Option ℕ). StartsAny does o at c between) (is_again ∙ from) starts;
+      starts = subst (λ (o : Option ℕ). StartsAny does o at c between) from starts;
       added = added;
-      rest = rest ∙ ap (λ (t : SpanData). let x : Core T = record between { spans = with_span_data id t between.spans; made = between.made + 1 } in x)
-          (is_told ∙ ap (λ (x : Context). new_span_data callsite lane values x at c.settings c.counting) (is_context ∙ ap (λ (o : Option ℕ). context_from between.spans (around lane place) o) from));
+      rest = rest ∙ ap (λ (t : SpanData). let x : Core T = record between { spans = with_span_data id t between.spans; span_count = between.span_count + 1 } in x)
+          (is_told ∙ ap (λ (x : Context). new_span_data callsite lane values x at c.settings c.counting) (is_context ∙ ap (λ (o : Option ℕ). context_from between.spans (around lane parent) o) from));
       begins = subst (λ (o : Option ℕ). StartsAny does o at added d) (is_first ∙ ap (λ (b : Bool). if b then Some id else None) is_eager) begins;
     }
 
 -- a span that was just made, by what its fields write
 abbrev pub told_by : Callsite → Lane → Context → ℕ → LayerSettings → Bool → Update → SpanData
 told_by callsite lane context at settings counting update = after_op
-    (data_at_making (record { name = callsite.name; parent = context; made = at; first = first_attributes callsite lane settings; counting = counting; inactivity = settings.inactivity }))
+    (data_at_making (record { name = callsite.name; parent = context; made_at = at; first = first_attributes callsite lane settings; counting = counting; inactivity = settings.inactivity }))
     at
     (ops.Update update)
 

@@ -7,7 +7,7 @@ use Rattle.trace_base.specs.Spans.{Spans, next_of, span_at}
 use Rattle.trace_base.specs.Calls.{SubscriberCall, TryClose, spans_after_call}
 use Rattle.trace_base.specs.Conditions.{Allowed}
 use Rattle.span_handles.specs.Worlds.{Replaced, member_of, Chain, ended, closes, all_released, releases, closed_in, no_spans, ToldChain, ChangesByCloses}
-use Rattle.span_handles.proofs.Showing.{seen_before, seen_later}
+use Rattle.span_handles.proofs.ChangedSubscriberLemmas.{seen_before, seen_later}
 
 module _ {S A : Type 0} (spans : S → Spans) (does : S → SubscriberCall → S → Type 0)
     (allowed : (s : S) (call : SubscriberCall) (t : S) → does s call t → Allowed (spans s) call) (shows : (s : S) (call : SubscriberCall) (t : S) → does s call t → spans t ≡ spans_after_call (spans s) call)

@@ -94,10 +94,10 @@ closes_unknown o r id at is none =
 -- ---- all hooks
 
 step_recording : (c : Core RecorderValue) (hook : Hook) (d : Core RecorderValue) → Step RecordsBy all_events c hook d → RecordsHook (recording_of c) hook (recording_of d)
-step_recording c (OnNewSpan id lane at place current callsite values) d h =
-    let source = parent_source c.settings.activation place current in
+step_recording c (OnNewSpan id lane at parent current callsite values) d h =
+    let source = parent_source c.settings.activation parent current in
     starts_recording (source_of c.settings.eager id) at h.added d h.begins
-    ∙ ap (with_starts (source_of c.settings.eager id) at) (ap recording_of h.rest ∙ ap (made_under source id lane at place callsite values c.settings c.counting) (starts_recording source at c h.between h.starts))
+    ∙ ap (with_starts (source_of c.settings.eager id) at) (ap recording_of h.rest ∙ ap (made_under source id lane at parent callsite values c.settings c.counting) (starts_recording source at c h.between h.starts))
 step_recording c (OnRecord id at callsite values) d h = ap recording_of h
 step_recording c (OnFollows id from at) d h = ap recording_of h.rest ∙ ap (with_started_link id from at) (start_recording from at c h.between h.starts)
 step_recording c (OnEvent None lane at callsite values) d h = ap recording_of h

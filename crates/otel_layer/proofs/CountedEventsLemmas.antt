@@ -3,13 +3,6 @@ use Rattle.std.proofs.Common.{◌≡◌, ℕ, ◌≤◌, List, [], ◌∷◌, Bo
 use Rattle.otel_layer.proofs.Common.{cases_Bool, cond-true, cond-false, Op, SpanData, Room, HasRoom, after_op, Core, after_counted, update, with_op, RoomFor}
 use Rattle.otel_state.specs.declared.op.Op.TheVariants as ops
 
-pub counted_room : (id : ℕ) (rooms : List (ℕ × Room)) → RoomFor id ops.Counted rooms
-counted_room id rooms = λ room found. (
-    let a = room.attributes in
-    let e = room.events in
-    let l = room.links in
-    record { attributes = omega arith; events = omega arith; links = omega arith })
-
 update_twice : (id : ℕ) (f g : SpanData → SpanData) (spans : List (ℕ × SpanData)) → update id g (update id f spans) ≡ update id (λ told. g (f told)) spans
 update_twice id f g [] = refl
 update_twice id f g (e ∷ es) =
@@ -33,10 +26,6 @@ counts_taken {T} c between d id at op is_taken taken first second =
     second ∙ ap (λ (x : Core T). let y : Core T = record x { spans = with_op id at op x.spans } in y) first
     ∙ ap (λ (xs : List (ℕ × SpanData)). let y : Core T = record c { spans = xs } in y) (update_twice id (λ told. after_op told at ops.Counted) (λ told. after_op told at op) c.spans)
     ∙ ap (λ (b : Bool). let y : Core T = record c { spans = update id (after_counted b at op) c.spans } in y) (sym taken)
-
-pub counts_refused : {T : Type 0} (c d : Core T) (id at : ℕ) (op : Op) (is_taken : Bool) → is_taken ≡ false → d ≡ record c { spans = with_op id at ops.Counted c.spans } → d ≡ record c { spans = update id (after_counted is_taken at op) c.spans }
-counts_refused {T} c d id at op is_taken refused first =
-    first ∙ ap (λ (b : Bool). let y : Core T = record c { spans = update id (after_counted b at op) c.spans } in y) (sym refused)
 
 pub counted_is : {T : Type 0} (c d : Core T) (id at : ℕ) (op wanted : Op) (is_taken takes : Bool) → op ≡ wanted → is_taken ≡ takes → d ≡ record c { spans = update id (after_counted is_taken at op) c.spans }
     → d ≡ record c { spans = update id (after_counted takes at wanted) c.spans }

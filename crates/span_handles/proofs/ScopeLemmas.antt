@@ -8,12 +8,12 @@ use Rattle.trace_base.specs.Spans.{Span, Spans, span_at, entries_on, is_in, time
 use Rattle.trace_base.specs.Calls.{SubscriberCall, Enter, with_span_entry, spans_after_call}
 use Rattle.trace_base.specs.Conditions.{HasOwnHold, MayExit}
 use Rattle.trace_base.specs.lanes.Contexts.{AreAttached, KeepsAttached, Lanes, attached_as}
-use Rattle.trace_base.proofs.Entering.{count_push, any_if_counted, with_same, made_if_held}
-use Rattle.trace_base.proofs.Holding.{first_if_in, first_with, in_push_same, keeps_children, holds_set}
+use Rattle.trace_base.proofs.EntryLemmas.{count_push, any_if_counted, with_same, made_if_held}
+use Rattle.trace_base.proofs.HoldLemmas.{first_if_in, first_with, in_push_same, keeps_children, holds_set}
 use Rattle.span_handles.specs.Worlds.{Has, Replaced}
 use Rattle.span_handles.specs.Handles.{Held, IsKnown, HasOn}
 use Rattle.span_handles.specs.Entries.{IsThere, IsOpenOn, IsStillOn, BeginsInside, Keeps}
-use Rattle.span_handles.proofs.Showing.{now_there, as_many}
+use Rattle.span_handles.proofs.ChangedSubscriberLemmas.{now_there, as_many}
 
 -- a span that is entered keeps its own holds
 own_entered : (x : Spans) (id lane : ℕ) → HasOwnHold x id → HasOwnHold (with_span_entry x id lane) id

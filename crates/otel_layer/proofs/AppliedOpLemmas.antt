@@ -17,6 +17,3 @@ applies_found (Some u) told spans now id at op (Err x) is did answer leaves grow
 pub applies_none : (o : Option SpanData) (spans : List (ℕ × SpanData)) (id at : ℕ) (op : Op) → o ≡ None → AppliesTo o spans id at op None spans
 applies_none None spans id at op h = (refl, refl)
 applies_none (Some told) spans id at op h = absurd (some_isnt told h)
-
-pub shown_is : (o : Option SpanData) (told : SpanData) (s : Option SpanContext) → o ≡ Some told → s ≡ told.own → (let x : Option Context = Some (record { span = s }) in x) ≡ context_at o
-shown_is o told s is same = ap (λ (y : Option SpanContext). let x : Option Context = Some (record { span = y }) in x) same ∙ sym (ap context_at is)

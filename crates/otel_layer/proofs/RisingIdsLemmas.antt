@@ -44,10 +44,6 @@ added_kept rising rises known old new e state is there young h =
       counts = omega (arith, long, counts, sum);
     }
 
-pub rise_none : (xs : List Entry) (id : ℕ) → length xs ≡ 0 → RisesTo id xs
-rise_none [] id none = (omega arith, tt)
-rise_none (x ∷ xs) id none = absurd (omega (arith, none))
-
 at_least : (least : ℕ) (xs : List Entry) (k : ℕ) (d : Entry) → k < length xs → IdsRise least (entry_ids xs) → least ≤ (get_or xs k d).id
 at_least least [] k d within h = absurd (omega (arith, within))
 at_least least (x ∷ xs) zero d within h = h.0
@@ -77,12 +73,6 @@ AreOlder xs id low = (k : ℕ) (d : Entry) → k < low → k < length xs → (ge
 
 abbrev pub AreYounger : List Entry → ℕ → ℕ → Type 0
 AreYounger xs id high = (k : ℕ) (d : Entry) → high ≤ k → k < length xs → id < (get_or xs k d).id
-
-pub older_none : (xs : List Entry) (id : ℕ) → AreOlder xs id 0
-older_none xs id = λ k d less within. absurd (omega (arith, less))
-
-pub younger_none : (xs : List Entry) (id high : ℕ) → high ≡ length xs → AreYounger xs id high
-younger_none xs id high is = λ k d from within. absurd (omega (arith, is, from, within))
 
 pub same_at : (xs : List Entry) (k : ℕ) (d e : Entry) → k < length xs → get_or xs k d ≡ get_or xs k e
 same_at [] k d e within = absurd (omega (arith, within))

@@ -7,9 +7,9 @@ use Rattle.trace_base.specs.Gate.{Worlds}
 use Rattle.trace_base.specs.Calls.{SubscriberCall, Enter, Exit}
 use Rattle.span_handles.specs.Worlds.{Replaced}
 use Rattle.span_handles.specs.Handles.{Held, ReplacedOn}
-use Rattle.span_handles.proofs.Showing.{now_there}
+use Rattle.span_handles.proofs.ChangedSubscriberLemmas.{now_there}
 use Rattle.span_futures.specs.Calling.{WorldChange, Calls, IsCallBy, IsBy, DoesChange, DoesAll, IsCalledBy, CallsBy}
-use Rattle.span_futures.proofs.Keeping.{others_same}
+use Rattle.span_futures.proofs.KeptLemmas.{others_same}
 
 module _ {S : Type 0} (does : S → SubscriberCall → S → Type 0) (besides : ℕ → S → S → Type 0) (same : S → S → Type 0) (same_refl : (s : S) → same s s) (same_trans : (s t u : S) → same s t → same t u → same s u) (last : ℕ) where
   -- room that was taken before some changes

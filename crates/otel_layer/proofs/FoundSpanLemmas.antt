@@ -3,7 +3,7 @@ use Rattle.std.proofs.Common.{◌≡◌, ◌≢◌, ◌<◌, ℕ, suc, zero, ◌
 use Rattle.otel_layer.proofs.Common.{remove_entry, cases_Bool, cond-true, cond-false, Context, SpanContext, ids_of, recorder_ids, Spans, KnownSpans, InStep, Op, SpanData, after_op, record_of, data_at, knows_span, with_span_data, with_op, waits, waits_by, is_id, Recording, started_under, with_start, without_closed, closed_started, with_close, data_after, data_started, started_by, count_after, Closes}
 use Rattle.std.proofs.lemmas.Bool.{true≢false, eq-eqb, ne_eqb, eqb-true}
 use Rattle.otel_state.specs.declared.op.Op.TheVariants as ops
-use Rattle.otel_layer.proofs.Recalling.{untold}
+use Rattle.otel_layer.proofs.RecordingHooksLemmas.{untold}
 
 -- ---- an op
 

@@ -3,11 +3,11 @@
 use Rattle.std.proofs.Common.{ℕ, ◌+◌, ◌≤◌, ◌<◌, List, ◌∷◌, Ok}
 use Rattle.traced.proofs.Common.{ValueSet, Lane, Parent, Ghosts, Worlds, Handle, EntryGuard, IsHeld, CanTell, CanAsk, CanClose, CanExit, StandsAlone, StandsWith, Keeps, MakesIfAnswered, Closes, Enters, Stays}
 use Rattle.traced.proofs.Rules.{can_tell, can_close}
-use Rattle.traced.proofs.Keeping.{turned_ready, turned_ends, may_make, may_make_under, may_tell, may_enter, is_of_lane, may_close, may_ask, held_kept, ready_stays, keeps_late, keeps_both, keeps_quiet, held_stays, next_made, next_entered, keeps_unmade, keeps_refused, ready_late, ready_made, held_made, ready_entered, held_entered, may_exit_kept, ends_unmade, ends_refused, ends_first, ends_closed, ends_exited}
+use Rattle.traced.proofs.KeptLemmas.{turned_ready, turned_ends, may_make, may_make_under, may_tell, may_enter, is_of_lane, may_close, may_ask, held_kept, ready_stays, keeps_late, keeps_both, keeps_quiet, held_stays, next_made, next_entered, keeps_unmade, keeps_refused, ready_late, ready_made, held_made, ready_entered, held_entered, may_exit_kept, ends_unmade, ends_refused, ends_first, ends_closed, ends_exited}
 
 module _ {S : Type 0} {sub : Ghosts S} {sites n : ℕ} where
   -- behind a span that was made
-  module _ {old begun : Worlds S} {lane : Lane} {others : List Lane} {at site : ℕ} {place : Parent} {values : ValueSet} {handle : Handle} (ready : StandsAlone sub n sites old (lane ∷ others)) (makes : MakesIfAnswered sub old begun lane at place site values (Ok handle)) where
+  module _ {old begun : Worlds S} {lane : Lane} {others : List Lane} {at site : ℕ} {parent : Parent} {values : ValueSet} {handle : Handle} (ready : StandsAlone sub n sites old (lane ∷ others)) (makes : MakesIfAnswered sub old begun lane at parent site values (Ok handle)) where
     pub ask_made : CanAsk begun handle
     ask_made = may_ask (held_made ready makes)
 

@@ -206,20 +206,6 @@ found_known id xs o is = found_any id xs o is ∙ sym (knows_is id xs)
 pub not_known : (id : ℕ) (xs : List Entry) → knows_span id (all_data xs) ≡ true → position (is_of_id id) xs ≡ None → ⊥
 not_known id xs known h = true≢false (sym known ∙ knows_is id xs ∙ none_found id xs h)
 
--- ---- what is read off a state that was found
-
-pub waits_started : (o : Option SpanData) (told : SpanData) (s : Option SpanContext) (own : SpanContext) → o ≡ Some told → s ≡ told.own → s ≡ Some own → (let n : Option Context = None in n) ≡ waits o
-waits_started o told s own h k is = sym (ap waits h ∙ ap (λ (x : Option SpanContext). waits_by x told.parent) (sym k ∙ is))
-
-pub waits_waiting : (o : Option SpanData) (told : SpanData) (s : Option SpanContext) (p : Context) → o ≡ Some told → s ≡ told.own → s ≡ None → p ≡ told.parent → Some p ≡ waits o
-waits_waiting o told s p h k is same = ap (λ (x : Context). let y : Option Context = Some x in y) same ∙ sym (ap waits h ∙ ap (λ (x : Option SpanContext). waits_by x told.parent) (sym k ∙ is))
-
-pub own_known : (o : Option SpanData) (told : SpanData) (s : Option SpanContext) (other : Context) → o ≡ Some told → s ≡ told.own → (let x : Context = record { span = s } in x) ≡ own_or other o
-own_known o told s other h k = ap (λ (y : Option SpanContext). let x : Context = record { span = y } in x) k ∙ sym (ap (own_or other) h)
-
-pub ids_known : (o : Option SpanData) (told : SpanData) (s : Option SpanContext) → o ≡ Some told → s ≡ told.own → Some (ids_of (record { span = s })) ≡ ids_at o
-ids_known o told s h k = ap (λ (y : Option SpanContext). Some (ids_of (record { span = y }))) k ∙ sym (ap ids_at h)
-
 pub on_ok : {A B : Type 0} (r : Result A B) (P Q : Type 0) → (P → Q) → OnOk r P → OnOk r Q
 on_ok (Ok a) P Q f h = f h
 on_ok (Err b) P Q f h = h
