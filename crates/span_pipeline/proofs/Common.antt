@@ -14,9 +14,10 @@ pub use Rattle.span_script.proofs.runs.RefusalsLemmas.{effect_is, refuses_unknow
 pub use Rattle.span_script.proofs.runs.RunLemmas.{Reached, opened_outcome, opened_replies, outcome_is, reached_next}
 pub use Rattle.span_script.proofs.runs.TakeLemmas.{kept_taken, oldest_by, state_taken}
 pub use Rattle.span_script.proofs.spans.CurrentsLemmas.{keeps_current, keeps_exchanged, refuses_in_use, serves_current, serves_exchanged}
-pub use Rattle.span_script.proofs.spans.MakingsLemmas.{keeps_new, made_alike, make_may, serves_new, tell_live}
+pub use Rattle.span_script.proofs.spans.MakingsLemmas.{keeps_new, made_alike, made_alike_own, make_may, make_may_own, serves_new, tell_live}
 pub use Rattle.span_script.proofs.spans.OpenCountLemmas.{counts_held, counts_none, open_counted}
-pub use Rattle.span_script.proofs.steps.LanesLemmas.{on_err, refused_kept, refused_state, same_kept, same_state, within_view}
+pub use Rattle.span_script.proofs.steps.BalanceLemmas.{set_none}
+pub use Rattle.span_script.proofs.steps.LanesLemmas.{has_own, on_err, own_has, own_lane, own_there, refused_kept, refused_state, same_kept, same_state, within_view}
 pub use Rattle.span_script.proofs.steps.RequiresLemmas.{exit_may, exit_still, guard_entry, guard_named, needs_few, needs_known, needs_there, needs_whole}
 pub use Rattle.span_script.proofs.steps.ServesLemmas.{by_view, by_view_refused, serves_refusal}
 pub use Rattle.span_script.proofs.steps.SlotsLemmas.{found_parent}

@@ -1,2 +1,3 @@
 mod Common
-mod Placing
+mod NamedHandlesLemmas
+mod PlacesLemmas

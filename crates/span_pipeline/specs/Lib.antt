@@ -1,4 +1,3 @@
-pub mod Asked
 pub mod Contexts
 pub mod Guards
 pub mod Parts

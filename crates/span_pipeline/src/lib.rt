@@ -4,7 +4,6 @@
 //! of `Call`, in every place, on every lane and with any number of open guards. The bodies stand in `calls`, by subject.
 #![tactic(auto)]
 
-mod asked;
 mod calls;
 mod contexts;
 mod fields;

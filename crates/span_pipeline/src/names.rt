@@ -1,10 +1,13 @@
-//! Callsites, handles and contexts by their numbers. What is generic in the subscriber is read at the stack once, for all
+//! Callsites, handles and contexts by their numbers, and how many of these there may be. What is generic in the subscriber is read at the stack once, for all
 //! that ask.
-ghost use Rattle.std.specs.Prelude.{◌≡◌, ◌<◌, ◌≤◌, length, None, Some, IfSome, map, ◌++◌, ◌∷◌, [], slice_get, vec_len, vec_capacity};
+ghost use Rattle.std.specs.Prelude.{◌≡◌, ◌<◌, ◌≤◌, length, None, Some, IfSome, OnOk, map, ◌++◌, ◌∷◌, [], slice_get, vec_len, vec_capacity};
 ghost use Rattle.span_script.specs.Fits.{held_by};
 ghost use Rattle.span_script.specs.Slots.{parent_for};
+ghost use Rattle.span_pipeline.specs.declared.names.TheConstants.{MAX_NAMES};
 
+use crate::guards::Guards;
 use otel_base::context::Context;
+use otel_base::memory::Memory;
 use span_handles::span::Span;
 use span_script::request::Place;
 use span_stack::Stack;
@@ -12,6 +15,20 @@ use sparse_slots::Slots;
 use trace_base::callsite::{Callsite, SiteId};
 use trace_base::span::Parent;
 use trace_base::world::World;
+
+// So many handles and guards are never exceeded.
+const MAX_NAMES: usize = 1_000_000_000_000;
+
+/// Whether there are so few handles and guards that either may be one more: else `Memory`.
+pub fn check_few_names(handles: &Slots<Span>, guards: &Guards) -> Result<(), Memory>
+    ensures handles { OnOk result (length handles.now.items < MAX_NAMES) }
+    ensures guards { OnOk result (length guards.now.items < MAX_NAMES) }
+{
+    if handles.len() >= MAX_NAMES || guards.len() >= MAX_NAMES {
+        return Err(Memory);
+    }
+    Ok(())
+}
 
 /// The callsite of a number, if there is one.
 pub fn site_at(world: &World<Stack>, site: u64) -> Option<SiteId>

@@ -1,5 +1,5 @@
 //! What a pipeline begins with.
-ghost use Rattle.std.specs.Prelude.{◌≡◌, ◌++◌, ◌<◌, [], ◌∷◌, length, map, IfOk, OnOk};
+ghost use Rattle.std.specs.Prelude.{◌≡◌, ◌++◌, ◌<◌, [], ◌∷◌, length, map, Some, IfOk, OnOk};
 ghost use Rattle.trace_base.specs.Gate.{AreSame, IsFresh};
 
 use otel_base::list::Items;
@@ -14,18 +14,23 @@ use trace_base::lane::Lane;
 use trace_base::subscriber::Subscriber;
 use trace_base::world::World;
 
-/// Lanes without contexts, which the world's subscriber serves.
-pub fn lanes(alloc: Global, named: Items<(u64, Option<Text>)>) -> Result<Vec<Lane>, Memory>
+/// Lanes without contexts, whose own subscriber this is.
+pub fn lanes(
+    alloc: Global,
+    named: Items<(u64, Option<Text>)>,
+    dispatch: Dispatch,
+) -> Result<Vec<Lane>, Memory>
     ensures ids { IfOk result (λ lanes. map (λ l. l.id) lanes.items ≡ map (λ n. n.0) named) }
     ensures names { IfOk result (λ lanes. map (λ l. l.name) lanes.items ≡ map (λ n. n.1) named) }
     ensures contexts { IfOk result (λ lanes. map (λ l. l.contexts.live) lanes.items ≡ map (λ l. []) lanes.items) }
+    ensures served { IfOk result (λ lanes. map (λ l. l.default) lanes.items ≡ map (λ l. Some dispatch) lanes.items) }
 {
     let mut lanes = Vec::new(alloc);
     for (id, name) in named.into_vec() {
         lanes.push(Lane {
             id,
             name,
-            default: None,
+            default: Some(dispatch),
             contexts: ContextStack::new(alloc),
         })?;
     }

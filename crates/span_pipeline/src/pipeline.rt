@@ -74,9 +74,6 @@ impl Discard for Pipeline {
     }
 }
 
-// So many handles and guards are never exceeded.
-pub(crate) const MAX_NAMES: usize = 1_000_000_000_000;
-
 fn is_bad_moment(before: Moment, given: Moment) -> bool
     ensures { result ≡ is_bad_moment before given }
 {
@@ -137,9 +134,12 @@ impl Pipeline {
             callsites,
             layer,
         } = settings;
-        let lanes = opening::lanes(alloc, lanes)?;
         let stack = new_stack(alloc, layer, gate, counter);
         let (world, dispatch) = opening::world_of(alloc, callsites.into_vec(), stack)?;
+        let Ok(lanes) = opening::lanes(alloc, lanes, dispatch) else {
+            world.discard();
+            return Err(Memory);
+        };
         Ok(Pipeline {
             world,
             dispatch,

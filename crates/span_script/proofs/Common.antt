@@ -13,8 +13,8 @@ pub use Rattle.otel_base.specs.declared.enter_error.EnterError.{EnterError}
 pub use Rattle.otel_base.specs.declared.record.Record.{Record}
 pub use Rattle.otel_base.specs.declared.stack.TheConstants.{MAX_CONTEXTS}
 pub use Rattle.otel_base.specs.declared.value.KeyValue.{KeyValue}
-pub use Rattle.trace_base.proofs.Entering.{any_if_counted, count_cons, count_push, counted_if_any, length_held, made_if_held, with_other, with_same}
-pub use Rattle.trace_base.proofs.Holding.{children_set, current_in, first_if_in, holds_other, holds_set, keeps_children, less_holds, less_last, less_more, times_without}
+pub use Rattle.trace_base.proofs.EntryLemmas.{any_if_counted, count_cons, count_push, counted_if_any, length_held, made_if_held, with_other, with_same}
+pub use Rattle.trace_base.proofs.HoldLemmas.{children_set, current_in, first_if_in, holds_other, holds_set, keeps_children, less_holds, less_last, less_more, times_without}
 pub use Rattle.trace_base.specs.Calls.{CloneSpan, Enter, Exit, NewSpan, SubscriberCall, with_new_span, with_span_entry, with_span_exit}
 pub use Rattle.trace_base.specs.Conditions.{AreFew, HasFewHolds, HasFewHoldsAbove, HasOwnHold, IsLive, IsLivePlace, MayExit}
 pub use Rattle.trace_base.specs.Gate.{AreSame, IsFresh, Worlds, interests_of_sites}

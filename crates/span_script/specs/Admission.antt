@@ -1,7 +1,7 @@
 -- What the texts of filters are read as. That this is what the forms of directives say, piece by piece, says `texts` of span_laws.
 use Rattle.std.specs.Prelude.{◌≡◌, ℕ, ◌+◌, List, [], ◌∷◌, if◌then◌else◌, Bool, true, false, Option, None, Some, Result, Ok, Err, IfSome, option_map}
 use Rattle.std.specs.Str.{trim}
-use Rattle.env_directives.specs.reading.Reading.{Read, reading}
+use Rattle.env_directives.specs.reading.Reading.{DirectiveRead, reading}
 use Rattle.env_directives.specs.reading.Separators.{comma_pieces}
 use Rattle.env_directives.specs.orders.Table.{empty_table}
 use Rattle.env_directives.specs.declared.env.directive.Directive.{Directive}
@@ -17,7 +17,7 @@ abbrev pub TextRead : Type 0
 TextRead = Result (List Directive) ℕ
 
 -- what a piece of a number is read as, before what those behind it are
-abbrev pub with_piece_read : ℕ → Read → TextRead → TextRead
+abbrev pub with_piece_read : ℕ → DirectiveRead → TextRead → TextRead
 with_piece_read number (Err fault) behind = Err number
 with_piece_read number (Ok d) (Err later) = Err later
 with_piece_read number (Ok d) (Ok ds) = Ok (d ∷ ds)

@@ -39,16 +39,17 @@ use Rattle.span_script.specs.Effects.{effect_of_call}
 use Rattle.span_script.specs.calls.Filter.{filter_at}
 use Rattle.span_script.specs.calls.Refusals.{takes_no_memory}
 
--- a lane, without its room
+-- a lane, without its room: its id, the subscriber of its own, and the contexts that are live
 pub record LaneValue : Type 0 where
   pub id : ℕ
+  pub default : Option ℕ
   pub live : List (ℕ × Context)
 
 abbrev pub lane_value : Lane → LaneValue
-lane_value lane = record { id = lane.id; live = lane.contexts.live }
+lane_value lane = record { id = lane.id; default = lane.default; live = lane.contexts.live }
 
 abbrev pub no_lane_value : LaneValue
-no_lane_value = record { id = 0; live = [] }
+no_lane_value = record { id = 0; default = None; live = [] }
 
 abbrev pub lane_at : List LaneValue → ℕ → LaneValue
 lane_at lanes n = slice_index_or lanes n no_lane_value
@@ -173,11 +174,12 @@ pub record MadeFit (spans : List Span) (made : List MadeSpan) : Type 0 where
   pub parent : (s : ℕ) → 0 < (span_at spans s).holds → (span_at spans s).parent ≡ parent_in (made_of made s).scope
   pub site : (s : ℕ) → 0 < (span_at spans s).holds → (span_at spans s).site ≡ (made_of made s).site
 
--- what is kept attached is live on its lane, and lanes have ids of their own
-pub record LanesFit (kept : ℕ → ℕ → ℕ) (lanes : List LaneValue) : Type 0 where
+-- what is kept attached is live on its lane, lanes have ids of their own, and one subscriber serves all
+pub record LanesFit (dispatch : ℕ) (kept : ℕ → ℕ → ℕ) (lanes : List LaneValue) : Type 0 where
   pub differ : (n m : ℕ) → n < length lanes → m < length lanes → (lane_at lanes n).id ≡ (lane_at lanes m).id → n ≡ m
   pub attached : (n number : ℕ) → n < length lanes
       → kept (lane_at lanes n).id number ≤ count_by (λ item. item.0 == number) (lane_at lanes n).live
+  pub served : (n : ℕ) → n < length lanes → (lane_at lanes n).default ≡ Some dispatch
 
 -- ---- what was recorded, and the contexts of lanes
 
@@ -274,7 +276,7 @@ pub record IsKept {S : Type 0} (spans : S → Spans) (views : Views S) (kept : S
   pub there : parts.dispatch < length parts.world.subscribers
   pub alone : length parts.world.subscribers ≡ 1
   pub whole : Has is_whole parts.world parts.dispatch
-  pub lanes : LanesFit (kept_in kept parts.world parts.dispatch) (map lane_value parts.lanes)
+  pub lanes : LanesFit parts.dispatch (kept_in kept parts.world parts.dispatch) (map lane_value parts.lanes)
   pub tables : Tables
   pub stands : StandsFor (state_of spans views parts) tables
 

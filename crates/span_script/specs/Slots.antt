@@ -11,7 +11,7 @@ use Rattle.trace_base.specs.Gate.{Worlds}
 use Rattle.trace_base.specs.Spans.{Spans}
 use Rattle.trace_base.specs.declared.span.Parent.{Parent}
 use Rattle.trace_base.specs.declared.span.Parent.TheVariants as parent
-use Rattle.span_handles.specs.Handles.{Handle, Held, Makes, no_handle, place_under}
+use Rattle.span_handles.specs.Handles.{Handle, Held, MakesIf, no_handle, place_under}
 use Rattle.span_script.specs.declared.request.Place.{Place}
 use Rattle.span_script.specs.declared.request.Place.TheVariants as place
 use Rattle.span_script.specs.declared.slots.Guard.{Guard}
@@ -34,8 +34,8 @@ abbrev pub is_named : List (Option Guard) → ℕ → Bool
 is_named guards handle = list_any (names_handle handle) guards
 
 -- a span was made by one call and a handle of it, or nothing and a disabled handle
-abbrev pub MakesOnly : {S : Type 0} → (S → Spans) → (S → SubscriberCall → S → Type 0) → Bool → Worlds S → Worlds S → Lane → ℕ → Parent → ℕ → ValueSet → ℕ → Handle → Type 0
-MakesOnly spans does true old new lane at parent site values dispatch handle = Makes spans does old new lane at parent site values dispatch handle
+abbrev pub MakesOnly : {S : Type 0} → (S → Spans) → (S → SubscriberCall → S → Type 0) → Bool → Worlds S → Worlds S → Lane → ℕ → Parent → ℕ → ValueSet → Option ℕ → Handle → Type 0
+MakesOnly spans does true old new lane at parent site values dispatch handle = MakesIf spans does old new lane at parent site values dispatch handle
 MakesOnly spans does false old new lane at parent site values dispatch handle = (handle ≡ no_handle) × (new ≡ old)
 
 -- an event was told to a subscriber with its parent, or nothing happened

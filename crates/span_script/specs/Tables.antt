@@ -24,7 +24,7 @@ pub record MadeSpan : Type 0 where
   pub made_with : SpanData
 
 abbrev pub no_span_data : SpanData
-no_span_data = data_at_making (record { name = []; parent = record { span = None }; made = 0; first = []; counting = false; inactivity = false })
+no_span_data = data_at_making (record { name = []; parent = record { span = None }; made_at = 0; first = []; counting = false; inactivity = false })
 
 abbrev pub no_made_span : MadeSpan
 no_made_span = record { site = 0; scope = []; made_with = no_span_data }

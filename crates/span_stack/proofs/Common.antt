@@ -3,7 +3,7 @@ pub use Rattle.std.proofs.lemmas.Bool.{cases_Bool, cases_eq, cond-false, cond-tr
 pub use Rattle.std.proofs.lemmas.Option.{slice_get-get_or, slice_get-map, slice_get_within}
 pub use Rattle.std.specs.Option.{option_map_or}
 pub use Rattle.otel_base.specs.Recorder.{RecorderValue}
-pub use Rattle.trace_base.proofs.Caching.{fresh_admits, registered_same}
+pub use Rattle.trace_base.proofs.InterestLemmas.{fresh_admits, registered_same}
 pub use Rattle.trace_base.specs.Calls.{CloneSpan, Enter, Event, Exit, Follows, NewSpan, Records, SubscriberCall, TryClose, spans_after_call}
 pub use Rattle.trace_base.specs.Conditions.{Allowed}
 pub use Rattle.trace_base.specs.Gate.{Admits, AreSame, IsFresh, Worlds, interests_in, interests_of_sites}
@@ -19,21 +19,21 @@ pub use Rattle.span_registry.specs.Both.{DoesBoth, InStep, IsWholeBoth, KnowsNon
 pub use Rattle.span_registry.specs.Hearing.{HearsCall}
 pub use Rattle.span_registry.specs.Layering.{both_allowed, both_shows}
 pub use Rattle.span_registry.specs.declared.layered.Layered.{Layered}
-pub use Rattle.span_handles.proofs.Showing.{alike, as_many, now_there, seen_before, seen_later}
+pub use Rattle.span_handles.proofs.ChangedSubscriberLemmas.{alike, as_many, now_there, seen_before, seen_later}
 pub use Rattle.span_handles.specs.Worlds.{Alike, Chain, Has, Replaced, closed_in, closes, ended, member_of, no_spans}
 pub use Rattle.env_filter.proofs.kept.StackedLemmas.{Steps, does_in_place, over_hears, same_in_place, step_in_place}
 pub use Rattle.env_filter.specs.Filtering.{AreWhole, DoesFilter, Each, FilterState, FilterWithRoom, IsAtMostLevel, IsNewFilter, enables_in, has_dynamics, hint_in, interest_in, is_admitted, levels_admit, plain, span_level}
 pub use Rattle.env_filter.specs.Reloading.{Both, HoldsIfThere, Swaps, both_alike, both_refl, layer_or, never_enabled, none_kept, sometimes}
 pub use Rattle.env_filter.specs.declared.reload.Layer.{Layer}
 pub use Rattle.otel_layer.specs.Core.{Core, CoreWithRoom, IsWholeCore, kept_by, kept_in, seen_in}
+pub use Rattle.otel_layer.specs.Counting.{events_by}
 pub use Rattle.otel_layer.specs.Parts.{Applies, PartCall, Shows, StaysStack, Touches, TouchesFirst}
 pub use Rattle.otel_layer.specs.Recording.{Recording, RecordsCall, RecordsChain, RecordsPart, no_recording, recording_of}
 pub use Rattle.otel_layer.specs.Table.{data_at, update}
+pub use Rattle.otel_layer.specs.declared.counting.FilteredOpenTelemetryLayer.{FilteredOpenTelemetryLayer}
 pub use Rattle.otel_metrics.specs.declared.measure.Measure.{Measure}
-pub use Rattle.span_stack.specs.Counters.{core_of, core_with_room_of, counter_of, events_by, taken_from}
 pub use Rattle.span_stack.specs.Counting.{RecordsCallBy, with_counted, with_event_by}
 pub use Rattle.span_stack.specs.Measured.{measured_by, waiting_measures}
-pub use Rattle.span_stack.specs.Reading.{HasCurrentInterests, StackWorlds, Stacks, counts_by, in_place, interest_over, stack_interest, stack_measures, stack_recording, without_first}
+pub use Rattle.span_stack.specs.Reading.{HasCurrentInterests, StackWorlds, Stacks, counts_by, in_place, interest_over, stack_interest, stack_measures, stack_recording, without_first, without_record}
 pub use Rattle.span_stack.specs.Through.{below, inner_of}
 pub use Rattle.span_stack.specs.declared.measuring.Measuring.{Measuring}
-pub use Rattle.span_stack.specs.declared.telemetry.Telemetry.{Telemetry}

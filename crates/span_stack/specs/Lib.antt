@@ -1,4 +1,3 @@
-pub mod Counters
 pub mod Counting
 pub mod Filtered
 pub mod Measured

@@ -11,15 +11,14 @@ use Rattle.span_registry.specs.Both.{joint_interest}
 use Rattle.span_handles.specs.Worlds.{member_of}
 use Rattle.otel_base.specs.Recorder.{RecorderValue}
 use Rattle.otel_layer.specs.Recording.{Recording, no_recording, recording_of}
+use Rattle.otel_layer.specs.declared.counting.FilteredOpenTelemetryLayer.{FilteredOpenTelemetryLayer}
 use Rattle.env_filter.specs.declared.reload.Layer.{Layer}
 use Rattle.env_filter.specs.Filtering.{FilterState, FilterWithRoom, plain, interest_in}
 use Rattle.env_filter.specs.Reloading.{layer_or, sometimes}
 use Rattle.otel_metrics.specs.declared.measure.Measure.{Measure}
 use Rattle.otel_state.specs.declared.settings.LayerSettings.{LayerSettings}
 use Rattle.span_stack.specs.declared.measuring.Measuring.{Measuring}
-use Rattle.span_stack.specs.declared.telemetry.Telemetry.{Telemetry}
 use Rattle.span_stack.specs.Measured.{waiting_measures}
-use Rattle.span_stack.specs.Counters.{core_of, counter_of, taken_from}
 
 -- over any subscriber, the layer of metrics and the filter that is in place
 abbrev pub StackOver : Type 0 → Type 0
@@ -27,14 +26,14 @@ StackOver S = Layered (Layer FilterWithRoom) (Layered Measuring S)
 
 -- a stack: these, over the OpenTelemetry layer that may count events, and the registry
 abbrev pub Stacks : Type 0
-Stacks = StackOver (Layered (Telemetry RecorderValue FilterWithRoom) RegistryValue)
+Stacks = StackOver (Layered (FilteredOpenTelemetryLayer RecorderValue FilterWithRoom) RegistryValue)
 
 abbrev pub StackWorlds : Type 0
 StackWorlds = Worlds Stacks
 
 -- what the OpenTelemetry layer keeps
 abbrev pub stack_recording : Stacks → Recording
-stack_recording s = recording_of (core_of s.inner.inner.layer)
+stack_recording s = recording_of s.inner.inner.layer.inner.core
 
 abbrev pub recording_in : StackWorlds → ℕ → Recording
 recording_in world dispatch = member_of stack_recording no_recording world dispatch
@@ -58,7 +57,7 @@ HasCurrentInterests world = IsFresh stack_interest world
 
 -- the filter that counts events, if they are counted
 abbrev pub counts_by : Stacks → Option FilterState
-counts_by s = option_map plain (counter_of s.inner.inner.layer)
+counts_by s = option_map plain s.inner.inner.layer.filter
 
 abbrev pub counter_in : StackWorlds → ℕ → Option FilterState
 counter_in world dispatch = member_of counts_by None world dispatch
@@ -74,9 +73,12 @@ measures_in world dispatch = member_of stack_measures [] world dispatch
 abbrev pub new_recording : LayerSettings → Bool → Recording
 new_recording settings counting = record { spans = []; tokens = []; started = 0; finished = []; settings = settings; counting = counting }
 
--- the same stack without the oldest record
+-- the same layer, and the same stack, without the oldest record
+abbrev pub without_record : {F : Type 0} → FilteredOpenTelemetryLayer RecorderValue F → FilteredOpenTelemetryLayer RecorderValue F
+without_record l = record l { inner = record l.inner { core = record l.inner.core { tracer = record l.inner.core.tracer { finished = drop 1 l.inner.core.tracer.finished } } } }
+
 abbrev pub without_first : Stacks → Stacks
-without_first s = record s { inner = record s.inner { inner = record s.inner.inner { layer = taken_from s.inner.inner.layer } } }
+without_first s = record s { inner = record s.inner { inner = record s.inner.inner { layer = without_record s.inner.inner.layer } } }
 
 -- the same but for the oldest measure
 pub record WithoutMeasure (s t : Stacks) : Type 0 where

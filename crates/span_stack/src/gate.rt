@@ -1,7 +1,7 @@
 //! The gate of a stack, and the exchange of its filter.
 ghost use Rattle.std.specs.Prelude.{◌≡◌, ◌≢◌, ◌<◌, ℕ, true, None, Some, length, is_some, slice_get, OnOk, OnErr};
 ghost use Rattle.trace_base.specs.declared.callsite.Callsite.{Callsite};
-ghost use Rattle.trace_base.specs.Gate.{AreSame, Admits};
+ghost use Rattle.trace_base.specs.Gate.{AreSame, IsOwn};
 ghost use Rattle.span_handles.specs.Worlds.{Has, Replaced, Alike};
 ghost use Rattle.otel_layer.specs.Parts.{StaysStack};
 ghost use Rattle.env_filter.specs.Filtering.{FilterState, plain, is_admitted, IsNewFilter};
@@ -11,39 +11,25 @@ ghost use Rattle.span_stack.specs.Reading.{recording_in, filter_in, counter_in, 
 use crate::stack::Stack;
 use env_filter::filter::EnvFilter;
 use otel_base::memory::Memory;
-use otel_base::stack::ContextStack;
 use trace_base::callsite::SiteId;
 use trace_base::dispatcher::Dispatch;
 use trace_base::lane::Lane;
 use trace_base::subscriber::Subscriber;
 use trace_base::world::World;
 
-// The gate of a lane that a subscriber serves.
-fn admits_by<S: Subscriber>(world: &World<S>, dispatch: Dispatch, lane: &Lane, site: SiteId) -> bool
+/// Whether what a callsite makes is let through on a lane of its own stack, by the interest that was cached: what the
+/// macros of `tracing` ask.
+pub fn admits(world: &World<Stack>, lane: &Lane, site: SiteId) -> bool
     requires site { site < length world.now.sites }
-    requires there { dispatch < length world.now.subscribers }
-    ensures { Admits S.hint S.enables world.now lane.now.id site (Some dispatch) result }
-{
-    let served = Lane {
-        id: lane.id,
-        name: None,
-        default: Some(dispatch),
-        contexts: ContextStack::new(world.allocator()),
-    };
-    world.admits(&served, site)
-}
-
-/// Whether what a callsite makes is let through on a lane that a stack serves, by the interest that was cached: what
-/// the macros of `tracing` ask.
-pub fn admits(world: &World<Stack>, dispatch: Dispatch, lane: &Lane, site: SiteId) -> bool
-    requires site { site < length world.now.sites }
-    requires there { dispatch < length world.now.subscribers }
-    requires whole { Has ⟦<Stack as Subscriber>⟧.is_whole world.now dispatch }
+    requires own { IsOwn world.now lane.now.default }
+    requires whole { (dispatch : ℕ) → lane.now.default ≡ Some dispatch
+        → Has ⟦<Stack as Subscriber>⟧.is_whole world.now dispatch }
     requires current { HasCurrentInterests world.now }
-    ensures { (f : FilterState) (c : Callsite) → filter_in world.now dispatch ≡ Some f
-        → slice_get world.now.sites site ≡ Some c → result ≡ is_admitted f lane.now.id c }
+    ensures { (dispatch : ℕ) (f : FilterState) (c : Callsite) → lane.now.default ≡ Some dispatch
+        → filter_in world.now dispatch ≡ Some f → slice_get world.now.sites site ≡ Some c
+        → result ≡ is_admitted f lane.now.id c }
 {
-    admits_by(world, dispatch, lane, site)
+    world.admits(lane, site)
 }
 
 // Room leaves the plain data as they are.

@@ -10,8 +10,6 @@ pub mod measured;
 pub mod measuring;
 mod over;
 pub mod stack;
-pub mod telemetry;
-mod telemetry_hooks;
 pub mod through;
 
 pub use gate::{admits, put_in_force};

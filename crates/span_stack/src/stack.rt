@@ -8,11 +8,11 @@ ghost use Rattle.span_handles.specs.Worlds.{Replaced, spans_in};
 ghost use Rattle.span_stack.specs.Reading.{stack_recording, counts_by, stack_measures, in_place, recording_in, measures_in, new_recording, without_first, WithoutMeasure};
 
 use crate::measuring::Measuring;
-use crate::telemetry::Telemetry;
 use env_filter::filter::EnvFilter;
 use env_filter::reload;
 use otel_base::record::Record;
 use otel_base::recorder::Recorder;
+use otel_layer::counting::FilteredOpenTelemetryLayer;
 use otel_layer::layer::OpenTelemetryLayer;
 use otel_metrics::measure::Measure;
 use otel_state::settings::LayerSettings;
@@ -25,7 +25,7 @@ use trace_base::subscriber::Subscriber;
 use trace_base::world::World;
 
 /// A registry under the OpenTelemetry layer, which may count events, and whose spans a recorder gets.
-pub type RecordedStack = Layered<Telemetry<Recorder, EnvFilter>, Registry>;
+pub type RecordedStack = Layered<FilteredOpenTelemetryLayer<Recorder, EnvFilter>, Registry>;
 
 /// The same under a layer of metrics.
 pub type MeasuredStack = Layered<Measuring, RecordedStack>;
@@ -70,13 +70,8 @@ pub fn new_stack(
     ensures filter { in_place result ≡ Some (plain filter) }
     ensures whole { ⟦<Stack as Subscriber>⟧.is_whole result }
 {
-    let plain = new_layer(alloc, settings);
-    let layer = match counting {
-        Some(counter) => Telemetry::Counting(plain.with_counting_event_filter(counter)),
-        None => Telemetry::Plain(plain),
-    };
     Registry::new(alloc)
-        .with(layer)
+        .with(new_layer(alloc, settings).counting_by(counting))
         .with(Measuring::new(alloc))
         .with(reload::Layer::new(filter))
 }
@@ -103,7 +98,8 @@ pub fn take_record(world: &mut World<Stack>, dispatch: Dispatch) -> Option<Recor
         .inner_mut()
         .inner_mut()
         .layer_mut()
-        .take_record()
+        .tracer_mut()
+        .take()
 }
 
 /// The oldest measure that hasn't been taken from a stack, if there is one.

@@ -3,24 +3,33 @@ ghost use Rattle.std.specs.Prelude.{◌≡◌, ◌↔◌, ◌<◌, ◌++◌, [],
 ghost use Rattle.otel_base.specs.Stack.{has_number, without_number};
 ghost use Rattle.otel_base.specs.declared.stack.TheConstants.{MAX_CONTEXTS};
 ghost use Rattle.otel_base.specs.declared.enter_error.EnterError.TheVariants.{Full};
+ghost use Rattle.span_handles.specs.Entries.{IsThere};
+ghost use Rattle.span_handles.specs.Handles.{HasOn};
+ghost use Rattle.otel_layer.specs.Asking.{AsksContext};
 ghost use Rattle.span_script.specs.declared.request.Call.{Call};
 
-use crate::asked::context_of;
 use crate::laws;
-use crate::names::{add, context_at};
-use crate::pipeline::{MAX_NAMES, Pipeline};
+use crate::names::{add, check_few_names, context_at};
+use crate::pipeline::Pipeline;
 use otel_base::context::{Context, SpanContext};
 use otel_base::enter_error::EnterError;
 use otel_base::record::Moment;
 use otel_base::stack::Attached;
+use otel_layer::part::{OtelPart, OtelSubscriber};
+use otel_layer::span_ext::OpenTelemetrySpanExt;
+use span_handles::span::Span;
 use span_script::contexts::Attach;
 use span_script::reply::{Refusal, Reply, What};
+use span_stack::Stack;
 use trace_base::lane::Lane;
+use trace_base::subscriber::Subscriber;
+use trace_base::world::World;
 
 // Attaches a context to a lane above all others.
 fn attach_to(lane: &mut Lane, context: Context) -> Result<Attached, EnterError>
     ensures id { lane.new.id ≡ lane.old.id }
     ensures name { lane.new.name ≡ lane.old.name }
+    ensures own { lane.new.default ≡ lane.old.default }
     ensures live { IfOk result (λ number. lane.new.contexts.live ≡ lane.old.contexts.live ++ (number, context) ∷ []) }
     ensures number { IfOk result (λ number. has_number number lane.old.contexts.live ≡ false) }
     ensures full { (result ≡ Err Full) ↔ (length lane.old.contexts.live ≡ MAX_CONTEXTS) }
@@ -34,9 +43,28 @@ fn detach_from(lane: &mut Lane, attached: Attached)
     requires { has_number attached lane.old.contexts.live ≡ true }
     ensures id { lane.new.id ≡ lane.old.id }
     ensures name { lane.new.name ≡ lane.old.name }
+    ensures own { lane.new.default ≡ lane.old.default }
     ensures live { lane.new.contexts.live ≡ without_number attached lane.old.contexts.live }
 {
     lane.contexts.detach(attached);
+}
+
+// Starts a span of any whole subscriber, and answers its context.
+fn context_any<S: OtelSubscriber>(span: &Span, world: &mut World<S>, at: Moment) -> Context
+    requires there { IsThere world.old span.now.held }
+    requires whole { HasOn (λ s id. S.is_whole s) world.old span.now.held }
+    ensures { AsksContext S.touches world.old world.new at span.now.held result }
+{
+    span.context(world, at)
+}
+
+// Starts a span of the stack, and answers its context.
+fn context_of(span: &Span, world: &mut World<Stack>, at: Moment) -> Context
+    requires there { IsThere world.old span.now.held }
+    requires whole { HasOn (λ s id. ⟦<Stack as Subscriber>⟧.is_whole s) world.old span.now.held }
+    ensures { AsksContext ⟦<Stack as OtelPart>⟧.touches world.old world.new at span.now.held result }
+{
+    context_any(span, world, at)
 }
 
 impl Pipeline {
@@ -78,9 +106,7 @@ impl Pipeline {
         requires { place < length self.old.lanes }
         ensures { Serves self.old at place (Call.Attach context) result self.new }
     {
-        if self.guards.len() >= MAX_NAMES {
-            return Err(Refusal::Memory);
-        }
+        check_few_names(&self.handles, &self.guards)?;
         let guard = self.guards.len() as u64;
         let Some(given) = context_at(&self.contexts.made, context) else {
             return Err(Refusal::UnknownName {

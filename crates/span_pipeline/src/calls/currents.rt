@@ -3,7 +3,8 @@ ghost use Rattle.std.specs.Prelude.{◌<◌, length};
 ghost use Rattle.span_script.specs.declared.request.Call.TheVariants as request;
 
 use crate::laws;
-use crate::pipeline::{MAX_NAMES, Pipeline};
+use crate::names::check_few_names;
+use crate::pipeline::Pipeline;
 use otel_base::record::Moment;
 use span_handles::span::Span;
 use span_script::reply::{Refusal, Reply, What};
@@ -16,14 +17,10 @@ impl Pipeline {
         ensures { Serves self.old at place request.Current result self.new }
     {
         laws::calls();
-        if self.handles.len() >= MAX_NAMES || self.guards.len() >= MAX_NAMES {
-            return Err(Refusal::Memory);
-        }
+        check_few_names(&self.handles, &self.guards)?;
         let number = self.handles.len() as u64;
         self.handles.reserve()?;
-        let on = &mut self.lanes[place as usize];
-        // The lane uses the pipeline's stack.
-        on.default = Some(self.dispatch);
+        let on = &self.lanes[place as usize];
         let span = Span::current(&mut self.world, on);
         let enabled = span.id().is_some();
         self.handles.keep(span);
@@ -44,23 +41,16 @@ impl Pipeline {
         ensures { Serves self.old at place (request.OrCurrent handle) result self.new }
     {
         laws::calls();
-        if self.handles.len() >= MAX_NAMES || self.guards.len() >= MAX_NAMES {
-            return Err(Refusal::Memory);
-        }
-        let Some(_named) = self.handles.get(handle) else {
-            return Err(Refusal::UnknownName { what: What::Handle });
-        };
+        check_few_names(&self.handles, &self.guards)?;
         if self.guards.is_borrowed(handle) {
             return Err(Refusal::InUse);
         }
         let number = self.handles.len() as u64;
         self.handles.reserve()?;
         let Some(span) = self.handles.take(handle) else {
-            unreachable!()
+            return Err(Refusal::UnknownName { what: What::Handle });
         };
-        let on = &mut self.lanes[place as usize];
-        // The lane uses the pipeline's stack.
-        on.default = Some(self.dispatch);
+        let on = &self.lanes[place as usize];
         let span = span.or_current(&mut self.world, on);
         let enabled = span.id().is_some();
         self.handles.keep(span);

@@ -3,7 +3,8 @@ ghost use Rattle.std.specs.Prelude.{◌<◌, length, false};
 ghost use Rattle.span_script.specs.declared.request.Call.{Call};
 
 use crate::laws;
-use crate::pipeline::{MAX_NAMES, Pipeline};
+use crate::names::check_few_names;
+use crate::pipeline::Pipeline;
 use otel_base::record::Moment;
 use span_script::reply::{Refusal, Reply, What};
 use span_script::slots::Guard;
@@ -26,9 +27,7 @@ impl Pipeline {
     {
         laws::calls();
         laws::same();
-        if self.handles.len() >= MAX_NAMES || self.guards.len() >= MAX_NAMES {
-            return Err(Refusal::Memory);
-        }
+        check_few_names(&self.handles, &self.guards)?;
         let guard = self.guards.len() as u64;
         let Some(span) = self.handles.get(handle) else {
             return Err(Refusal::UnknownName { what: What::Handle });
@@ -54,9 +53,6 @@ impl Pipeline {
         requires { place < length self.old.lanes }
         ensures { Serves self.old at place (Call.Entered handle) result self.new }
     {
-        let Some(_named) = self.handles.get(handle) else {
-            return Err(Refusal::UnknownName { what: What::Handle });
-        };
         if self.guards.is_borrowed(handle) {
             return Err(Refusal::InUse);
         }

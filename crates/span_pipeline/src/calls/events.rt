@@ -92,7 +92,7 @@ impl Pipeline {
             return Err(Refusal::UnknownName { what: What::Field });
         };
         let on = &self.lanes[place as usize];
-        let enabled = admits(&self.world, self.dispatch, on, found);
+        let enabled = admits(&self.world, on, found);
         tell_if(
             enabled,
             &mut self.world,

@@ -3,7 +3,6 @@ ghost use Rattle.std.specs.Prelude.{◌≡◌};
 ghost use Rattle.span_script.specs.declared.request.Call.{Call};
 ghost use Rattle.span_script.specs.calls.Links.{happens_at};
 
-use crate::asked::{Asked, ask};
 use crate::laws;
 use crate::names::context_at;
 use crate::pipeline::Pipeline;
@@ -65,7 +64,7 @@ impl Pipeline {
         let Some(span) = self.handles.get(handle) else {
             return Err(Refusal::UnknownName { what: What::Handle });
         };
-        ask(span, &mut self.world, at, Asked::Attribute { key, value })?;
+        span.set_attribute(&mut self.world, at, key, value)?;
         self.moment = at;
         Ok(Reply::Done)
     }
@@ -83,8 +82,7 @@ impl Pipeline {
         let Some(span) = self.handles.get(handle) else {
             return Err(Refusal::UnknownName { what: What::Handle });
         };
-        // No memory is wanted for a status.
-        let _ = ask(span, &mut self.world, at, Asked::Status { status });
+        span.set_status(&mut self.world, at, status);
         self.moment = at;
         Ok(Reply::Done)
     }
@@ -105,12 +103,7 @@ impl Pipeline {
             return Err(Refusal::UnknownName { what: What::Handle });
         };
         let time = happens_at(at, time);
-        let event = Asked::Event {
-            name,
-            time,
-            attributes,
-        };
-        ask(span, &mut self.world, at, event)?;
+        span.add_event_with_timestamp(&mut self.world, at, name, time, attributes)?;
         self.moment = at;
         Ok(Reply::Done)
     }

@@ -21,12 +21,7 @@ impl Pipeline {
         let Some(found) = site_at(&self.world, site) else {
             return Err(Refusal::UnknownName { what: What::Site });
         };
-        let enabled = admits(
-            &self.world,
-            self.dispatch,
-            &self.lanes[place as usize],
-            found,
-        );
+        let enabled = admits(&self.world, &self.lanes[place as usize], found);
         self.moment = at;
         Ok(Reply::Enabled { enabled })
     }

@@ -1,13 +1,13 @@
 //! Links: to a span that is followed, and to what a context shows.
 ghost use Rattle.span_script.specs.declared.request.Call.{Call};
 
-use crate::asked::{Asked, ask};
 use crate::laws;
 use crate::names::context_at;
 use crate::pipeline::Pipeline;
 use otel_base::list::Items;
 use otel_base::record::Moment;
 use otel_base::value::KeyValue;
+use otel_layer::span_ext::OpenTelemetrySpanExt;
 use span_script::reply::{Refusal, Reply, What};
 
 impl Pipeline {
@@ -54,11 +54,8 @@ impl Pipeline {
                 what: What::Context,
             });
         };
-        let link = Asked::Link {
-            ids: given.span_context(),
-            attributes,
-        };
-        ask(span, &mut self.world, at, link)?;
+        let ids = given.span_context();
+        span.add_link_with_attributes(&mut self.world, at, ids, attributes)?;
         self.moment = at;
         Ok(Reply::Done)
     }

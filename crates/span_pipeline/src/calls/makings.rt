@@ -1,15 +1,15 @@
 //! Making spans.
 ghost use Rattle.std.specs.Prelude.{◌≡◌, ◌<◌, length, true, is_some, None, IfSome, IfOk, OnErr};
-ghost use Rattle.span_handles.specs.Worlds.{Replaced};
-ghost use Rattle.span_handles.specs.Handles.{MayMake};
+ghost use Rattle.trace_base.specs.Gate.{IsOwn, dispatch_on};
+ghost use Rattle.span_handles.specs.Handles.{MayMakeIf, ReplacedIf};
 ghost use Rattle.span_script.specs.declared.request.Call.{Call};
 ghost use Rattle.span_script.specs.Setups.{span_site};
 ghost use Rattle.span_script.specs.Slots.{MakesOnly};
 
 use crate::fields::all_values;
 use crate::laws;
-use crate::names::{callsite_at, parent_for, site_at};
-use crate::pipeline::{MAX_NAMES, Pipeline};
+use crate::names::{callsite_at, check_few_names, parent_for, site_at};
+use crate::pipeline::Pipeline;
 use otel_base::list::Items;
 use otel_base::memory::Memory;
 use otel_base::record::Moment;
@@ -19,7 +19,6 @@ use span_script::reply::{Refusal, Reply, What};
 use span_script::request::Place;
 use span_stack::{Stack, admits};
 use trace_base::callsite::{Kind, SiteId};
-use trace_base::dispatcher::Dispatch;
 use trace_base::field::{Value, ValueSet};
 use trace_base::lane::Lane;
 use trace_base::span::Parent;
@@ -43,21 +42,23 @@ fn span_site(world: &World<Stack>, site: u64) -> Option<SiteId>
 fn make_if<S: Subscriber>(
     enabled: bool,
     world: &mut World<S>,
-    dispatch: Dispatch,
     lane: &Lane,
     at: Moment,
     parent: Parent,
     site: SiteId,
     values: &ValueSet,
 ) -> Result<Span, Memory>
+    requires own { IsOwn world.old lane.now.default }
     requires site { site < length world.old.sites }
-    requires may { MayMake S.spans S.is_whole world.old lane.now.id parent dispatch }
-    ensures ok { IfOk result
-        (MakesOnly S.spans S.does enabled world.old world.new lane.now at parent site values.now dispatch) }
-    ensures memory_leaves { OnErr result (Replaced S.same world.old world.new dispatch) }
+    requires may { MayMakeIf S.spans S.is_whole world.old lane.now.id parent
+        (dispatch_on lane.now.default world.old.global) }
+    ensures ok { IfOk result (MakesOnly S.spans S.does enabled world.old world.new lane.now at parent site
+        values.now (dispatch_on lane.now.default world.old.global)) }
+    ensures memory_leaves { OnErr result
+        (ReplacedIf S.same world.old world.new (dispatch_on lane.now.default world.old.global)) }
 {
     if enabled {
-        Span::make_with(world, lane, at, parent, site, values, dispatch)
+        Span::make(world, lane, at, parent, site, values)
     } else {
         Ok(Span::none())
     }
@@ -79,9 +80,7 @@ impl Pipeline {
     {
         laws::calls();
         laws::same();
-        if self.handles.len() >= MAX_NAMES || self.guards.len() >= MAX_NAMES {
-            return Err(Refusal::Memory);
-        }
+        check_few_names(&self.handles, &self.guards)?;
         let number = self.handles.len() as u64;
         let Some(found) = span_site(&self.world, site) else {
             return Err(Refusal::UnknownName { what: What::Site });
@@ -95,17 +94,8 @@ impl Pipeline {
             return Err(Refusal::UnknownName { what: What::Field });
         };
         let on = &self.lanes[place as usize];
-        let enabled = admits(&self.world, self.dispatch, on, found);
-        let span = make_if(
-            enabled,
-            &mut self.world,
-            self.dispatch,
-            on,
-            at,
-            parent,
-            found,
-            &values,
-        )?;
+        let enabled = admits(&self.world, on, found);
+        let span = make_if(enabled, &mut self.world, on, at, parent, found, &values)?;
         self.handles.keep(span);
         self.moment = at;
         Ok(Reply::Made {

@@ -2,7 +2,8 @@
 ghost use Rattle.span_script.specs.declared.request.Call.{Call};
 
 use crate::laws;
-use crate::pipeline::{MAX_NAMES, Pipeline};
+use crate::names::check_few_names;
+use crate::pipeline::Pipeline;
 use otel_base::record::Moment;
 use span_script::reply::{Refusal, Reply, What};
 
@@ -18,9 +19,7 @@ impl Pipeline {
         ensures { Serves self.old at place (Call.Clone handle) result self.new }
     {
         laws::calls();
-        if self.handles.len() >= MAX_NAMES || self.guards.len() >= MAX_NAMES {
-            return Err(Refusal::Memory);
-        }
+        check_few_names(&self.handles, &self.guards)?;
         let number = self.handles.len() as u64;
         self.handles.reserve()?;
         let Some(span) = self.handles.get(handle) else {
@@ -45,14 +44,11 @@ impl Pipeline {
         ensures { Serves self.old at place (Call.Drop handle) result self.new }
     {
         laws::chains();
-        let Some(_named) = self.handles.get(handle) else {
-            return Err(Refusal::UnknownName { what: What::Handle });
-        };
         if self.guards.is_borrowed(handle) {
             return Err(Refusal::InUse);
         }
         let Some(span) = self.handles.take(handle) else {
-            unreachable!()
+            return Err(Refusal::UnknownName { what: What::Handle });
         };
         span.close(&mut self.world, at);
         self.moment = at;

@@ -3,7 +3,7 @@ use Rattle.std.proofs.Common.{◌≡◌, ℕ, ◌+◌, ◌<◌, List, [], ◌∷
 use Rattle.span_script.proofs.Common.{cases_eq, cases_Bool, cases_lt, cond-true, cond-false, and_from, length_push, get_or_past, get_or_push, get_or_append_left, sum_by-set, get_or-le-sum_by, Span, Entries, Spans, span_at, entries_on, with_entries, is_in, times_in, open_children, without_last, with_hold, less_hold, without_hold, with_span_entry, with_span_exit, HasOwnHold, IsLive, MayExit, count_push, any_if_counted, made_if_held, with_same, with_other, keeps_children, less_more, less_holds, times_without, first_if_in, slot_at, lanes_with, OpenGuard, names_span, guards, Balanced}
 use Rattle.std.proofs.lemmas.Bool.{eq-eqb, eqb-true, ne_eqb}
 use Rattle.std.proofs.lemmas.List.{get_or-set_same, get_or-set_other}
-use Rattle.trace_base.proofs.Moving.{entry_moves, exit_moves}
+use Rattle.trace_base.proofs.HoldMoveLemmas.{entry_moves, exit_moves}
 
 -- open children stay
 enter_children : (x : Spans) (id lane q : ℕ) → IsLive x.made id → open_children (with_span_entry x id lane).made q ≡ open_children x.made q

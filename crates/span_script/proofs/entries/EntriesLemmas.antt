@@ -287,7 +287,7 @@ module _ {S : Type 0} (spans : S → Spans) (views : Views S) (attaches : S → 
           let is : h.held ≡ held_of parts.dispatch x.scope = sym entry_is ∙ ap (λ (x : Guard). x.entry) open_one.is in
           let shown = shown_on spans views attaches kept is_whole does law parts.world new parts.dispatch x.scope h.held is (λ id. Exit id at before later) did in
           let none_at : x.scope ≡ [] → later ≡ before = λ e. none (is ∙ ap (held_of parts.dispatch) e) in
-          let moved = call_lanes spans views attaches kept is_whole parts new x.scope (λ id. Exit id at before later) before later (λ s b f g l. (l.0.id, l.0.name, l.1)) none_at shown in
+          let moved = call_lanes spans views attaches kept is_whole parts new x.scope (λ id. Exit id at before later) before later (λ s b f g l. (l.0.id, l.0.name, l.0.default, l.1)) none_at shown in
           let sites = call_sites spans views attaches kept is_whole parts new x.scope (λ id. Exit id at before later) shown in
           let lane_is : place_id ≡ id_at now.setup.ids x.place = ap (id_at now.setup.ids) (sym mine) in
           let e : Effect = exit_effect (here_at now.setup t at place) guard x.scope in
@@ -311,9 +311,9 @@ module _ {S : Type 0} (spans : S → Spans) (views : Views S) (attaches : S → 
           let x = open_one.at in
           let is : h.held ≡ held_of parts.dispatch x.scope = sym entry_is ∙ ap (λ (x : Guard). x.entry) open_one.is in
           let shown = shown_on spans views attaches kept is_whole does law parts.world new parts.dispatch x.scope h.held is (λ id. Exit id at before later) did in
-          let moved = call_lanes spans views attaches kept is_whole parts new x.scope (λ id. Exit id at before later) before later (λ s b f g l. (l.0.id, l.0.name, l.1)) (λ e. none (is ∙ ap (held_of parts.dispatch) e)) shown in
+          let moved = call_lanes spans views attaches kept is_whole parts new x.scope (λ id. Exit id at before later) before later (λ s b f g l. (l.0.id, l.0.name, l.0.default, l.1)) (λ e. none (is ∙ ap (held_of parts.dispatch) e)) shown in
           kept_served spans views kept is_whole parts exited_then_parts inv _ _ (serves_exited inv.tables inv.stands) refl (call_count spans views attaches kept is_whole parts new x.scope (λ id. Exit id at before later) shown) (call_whole spans views attaches kept is_whole parts new x.scope (λ id. Exit id at before later) shown)
-          (lanes_step _ _ parts.lanes place before later within here inv.lanes moved.0 moved.2)
+          (lanes_step _ _ _ parts.lanes place before later within here inv.lanes moved.0 moved.2 moved.3)
 
     module _ (handle number : ℕ) (owns : Bool) (h : Handle) (entry : Held) (gs' : List (Option Guard)) (found : slot_at parts.handles handle ≡ Some h) (is : entry ≡ h.held) (many : number ≡ length parts.guards) (one : gs' ≡ parts.guards ++ Some (record { handle = handle; place = place; owns = owns; entry = entry }) ∷ [])
         (cs' : ContextSlots) (named_same : cs'.contexts ≡ parts.contexts.contexts) (skip : cs'.attaches ≡ parts.contexts.attaches ++ None ∷ [])
@@ -331,7 +331,7 @@ module _ {S : Type 0} (spans : S → Spans) (views : Views S) (attaches : S → 
           let line = find (held_of parts.dispatch) (map held_by parts.handles) t.handles handle h.held fits.handle_slots (held_slot parts.handles handle h found) in
           let shown = shown_on spans views attaches kept is_whole does law parts.world new parts.dispatch line.at h.held line.is (λ id. Enter id at before later) did in
           let none_at : line.at ≡ [] → later ≡ before = λ e. none (line.is ∙ ap (held_of parts.dispatch) e) in
-          let moved = call_lanes spans views attaches kept is_whole parts new line.at (λ id. Enter id at before later) before later (λ s b f g l. (l.0.id, l.0.name, l.1)) none_at shown in
+          let moved = call_lanes spans views attaches kept is_whole parts new line.at (λ id. Enter id at before later) before later (λ s b f g l. (l.0.id, l.0.name, l.0.default, l.1)) none_at shown in
           let sites = call_sites spans views attaches kept is_whole parts new line.at (λ id. Enter id at before later) shown in
           let guards_are : gs' ≡ parts.guards ++ Some (guard_of parts.dispatch (record { handle = handle; place = place; owns = owns; scope = line.at })) ∷ [] = one ∙ ap (λ (h : Held). parts.guards ++ Some (record { handle = handle; place = place; owns = owns; entry = h }) ∷ []) (is ∙ line.is) in
           let e : Effect = enter_effect (here_at now.setup t at place) handle owns line.at in
@@ -353,9 +353,9 @@ module _ {S : Type 0} (spans : S → Spans) (views : Views S) (attaches : S → 
       keeps_entered =
           let line = find (held_of parts.dispatch) (map held_by parts.handles) inv.tables.handles handle h.held inv.stands.fits.handle_slots (held_slot parts.handles handle h found) in
           let shown = shown_on spans views attaches kept is_whole does law parts.world new parts.dispatch line.at h.held line.is (λ id. Enter id at before later) did in
-          let moved = call_lanes spans views attaches kept is_whole parts new line.at (λ id. Enter id at before later) before later (λ s b f g l. (l.0.id, l.0.name, l.1)) (λ e. none (line.is ∙ ap (held_of parts.dispatch) e)) shown in
+          let moved = call_lanes spans views attaches kept is_whole parts new line.at (λ id. Enter id at before later) before later (λ s b f g l. (l.0.id, l.0.name, l.0.default, l.1)) (λ e. none (line.is ∙ ap (held_of parts.dispatch) e)) shown in
           kept_served spans views kept is_whole parts entered_then_parts inv _ _ (serves_entered inv.tables inv.stands) refl (call_count spans views attaches kept is_whole parts new line.at (λ id. Enter id at before later) shown) (call_whole spans views attaches kept is_whole parts new line.at (λ id. Enter id at before later) shown)
-          (lanes_step _ _ parts.lanes place before later within here inv.lanes moved.0 moved.2)
+          (lanes_step _ _ _ parts.lanes place before later within here inv.lanes moved.0 moved.2 moved.3)
 
 -- an exit of a guard that owns its handle, which has another open guard
 pub refuses_shared : (k : State) (guard : ℕ) (g : Guard) → slot_at k.guards guard ≡ Some g → is_shared_by k.guards g ≡ true → (at place : ℕ) (t : Tables) → StandsFor k t → effect_of_call k.setup t at place (call.Exit guard) ≡ Err refusal.InUse

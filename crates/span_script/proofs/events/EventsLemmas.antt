@@ -169,7 +169,7 @@ module _ {S : Type 0} (spans : S → Spans) (views : Views S) (attaches : S → 
     pub keeps_measures : (inv : IsKept spans views kept is_whole parts) (ss : List ℕ) (o : List SpanOp) (heard : List FilterHook) (added : List Measure) (known : AreKnown (length inv.tables.spans) heard (length inv.tables.spans)) (answer : Reply) (resolved : Resolved) → Starts at ss o heard added → resolved ≡ Ok (measures_then ss o heard added answer) → IsKept spans views kept is_whole then_parts
     keeps_measures inv ss o heard added known answer resolved did is =
         kept_served spans views kept is_whole parts then_parts inv resolved answer (serves_measures inv.tables inv.stands ss o heard added known answer resolved did is) refl did.count did.whole
-        (subst (λ (f : ℕ → ℕ → ℕ). LanesFit f (map lane_value parts.lanes)) (sym did.kept_same) inv.lanes)
+        (subst (λ (f : ℕ → ℕ → ℕ). LanesFit parts.dispatch f (map lane_value parts.lanes)) (sym did.kept_same) inv.lanes)
 
     -- the same without measures
     pub serves_starts : (t : Tables) → StandsFor now t → (ss : List ℕ) (o : List SpanOp) (heard : List FilterHook) (known : AreKnown (length t.spans) heard (length t.spans)) (answer : Reply) (resolved : Resolved) → Starts at ss o heard [] → resolved ≡ Ok (starts_then ss o heard answer) → Served resolved t now then answer

@@ -96,4 +96,4 @@ module _ {S : Type 0} (spans : S → Spans) (views : Views S) (attaches : S → 
 
       pub keeps_reloaded : IsKept spans views kept is_whole then_parts
       keeps_reloaded = kept_served spans views kept is_whole parts then_parts inv _ _ (serves_reloaded inv.tables inv.stands) refl alike.count alike.whole
-          (subst (λ (f : ℕ → ℕ → ℕ). LanesFit f (map lane_value parts.lanes)) (sym alike.kept_same) inv.lanes)
+          (subst (λ (f : ℕ → ℕ → ℕ). LanesFit parts.dispatch f (map lane_value parts.lanes)) (sym alike.kept_same) inv.lanes)

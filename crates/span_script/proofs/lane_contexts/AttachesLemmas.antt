@@ -50,19 +50,19 @@ module _ {S : Type 0} (spans : S → Spans) (views : Views S) (kept : S → ℕ 
   named_is t stands = ap (λ (xs : List Context). slice_get xs context) (sym stands.fits.named_contexts) ∙ found
 
   -- after a refusal what is kept is as it was
-  module _ (later : Lane) (same_id : later.id ≡ before.id) (same_name : later.name ≡ before.name) (live : later.contexts.live ≡ before.contexts.live) (gs' : List (Option Guard)) (guards_same : gs' ≡ parts.guards) (ks' : List (Option Attach)) (attaches_same : ks' ≡ parts.contexts.attaches) where
+  module _ (later : Lane) (same_id : later.id ≡ before.id) (same_name : later.name ≡ before.name) (same_own : later.default ≡ before.default) (live : later.contexts.live ≡ before.contexts.live) (gs' : List (Option Guard)) (guards_same : gs' ≡ parts.guards) (ks' : List (Option Attach)) (attaches_same : ks' ≡ parts.contexts.attaches) where
     abbrev left_parts : Parts S
     left_parts = record parts { lanes = set parts.lanes place later; guards = gs'; contexts = record parts.contexts { attaches = ks' } }
 
     pub left_state : state_of spans views left_parts ≡ now
-    left_state = rw (lanes_same parts.lanes place before later within here (same_lane before later same_id live), ids_same parts.lanes place before later within here same_id, names_same parts.lanes place before later within here same_name, guards_same, attaches_same) refl
+    left_state = rw (lanes_same parts.lanes place before later within here (same_lane before later same_id same_own live), ids_same parts.lanes place before later within here same_id, names_same parts.lanes place before later within here same_name, guards_same, attaches_same) refl
 
     pub left_kept : IsKept spans views kept is_whole left_parts
     left_kept = record {
       there = inv.there;
       alone = inv.alone;
       whole = inv.whole;
-      lanes = subst (λ (ls : List LaneValue). LanesFit (kept_in kept parts.world parts.dispatch) ls) (sym (ap (λ (k : State). k.lanes) left_state)) inv.lanes;
+      lanes = subst (λ (ls : List LaneValue). LanesFit parts.dispatch (kept_in kept parts.world parts.dispatch) ls) (sym (ap (λ (k : State). k.lanes) left_state)) inv.lanes;
       tables = inv.tables;
       stands = subst (λ (k : State). StandsFor k inv.tables) (sym left_state) inv.stands;
     }
@@ -75,7 +75,7 @@ module _ {S : Type 0} (spans : S → Spans) (views : Views S) (kept : S → ℕ 
       ap (λ o. need what.Context o >>= (λ c. refuse_if (is_full (t.contexts place_id)) (refusal.Full place) (Ok (attach_effect (here_at now.setup t at place) c)))) (named_is t stands)
       ∙ cond-true {A = Resolved} (is_full (t.contexts place_id)) _ _ (eq-eqb (length (t.contexts place_id)) MAX_CONTEXTS (sym (lives t stands) ∙ full refl)) ∙ ap (λ (x : Refusal). Err x) (sym is)
 
-  module _ (later : Lane) (same_id : later.id ≡ before.id) (same_name : later.name ≡ before.name) (number guard : ℕ) (many : guard ≡ length parts.guards) (fresh : has_number number before.contexts.live ≡ false) (live : later.contexts.live ≡ before.contexts.live ++ (number, given) ∷ [])
+  module _ (later : Lane) (same_id : later.id ≡ before.id) (same_name : later.name ≡ before.name) (same_own : later.default ≡ before.default) (number guard : ℕ) (many : guard ≡ length parts.guards) (fresh : has_number number before.contexts.live ≡ false) (live : later.contexts.live ≡ before.contexts.live ++ (number, given) ∷ [])
       (room : length before.contexts.live ≡ MAX_CONTEXTS → ⊥) (gs' : List (Option Guard)) (skip : gs' ≡ parts.guards ++ None ∷ []) (cs' : ContextSlots) (made_same : cs'.contexts ≡ parts.contexts.contexts) (one : cs'.attaches ≡ parts.contexts.attaches ++ Some (record { place = place; attached = number }) ∷ []) where
     abbrev then_parts : Parts S
     then_parts = record parts { lanes = set parts.lanes place later; guards = gs'; contexts = cs'; moment = at }
@@ -129,9 +129,9 @@ module _ {S : Type 0} (spans : S → Spans) (views : Views S) (kept : S → ℕ 
     pub keeps_attached : IsKept spans views kept is_whole then_parts
     keeps_attached =
         kept_served spans views kept is_whole parts then_parts inv _ _ (serves_attached inv.tables inv.stands) refl refl (λ has. has)
-        (lanes_after (kept_in kept parts.world parts.dispatch) (kept_in kept parts.world parts.dispatch) parts.lanes place before later within here inv.lanes same_id
+        (lanes_after parts.dispatch (kept_in kept parts.world parts.dispatch) (kept_in kept parts.world parts.dispatch) parts.lanes place before later within here inv.lanes same_id same_own
         (λ n. (
-        let still = are_attached (kept_in kept parts.world parts.dispatch) parts.lanes place before within here inv.lanes n in
+        let still = are_attached parts.dispatch (kept_in kept parts.world parts.dispatch) parts.lanes place before within here inv.lanes n in
         let more = ap (λ (xs : List (ℕ × Context)). count_by (λ item. item.0 == n) xs) live in
         let push = count_push (λ (item : ℕ × Context). item.0 == n) before.contexts.live (number, given) in
         omega (arith, still, more, push)))

@@ -100,7 +100,7 @@ module _ {S : Type 0} (spans : S → Spans) (views : Views S) (attaches : S → 
 
   given_kept : (cs' : ContextSlots) (o : Option ℕ) → Starts o → (resolved : Resolved) (answer : _) → Served resolved inv.tables now (then_with cs') answer → IsKept spans views kept is_whole (parts_with cs')
   given_kept cs' o did resolved answer served =
-      kept_served spans views kept is_whole parts (parts_with cs') inv _ _ served refl did.count did.whole (subst (λ (f : ℕ → ℕ → ℕ). LanesFit f (map lane_value parts.lanes)) (sym did.kept_same) inv.lanes)
+      kept_served spans views kept is_whole parts (parts_with cs') inv _ _ served refl did.count did.whole (subst (λ (f : ℕ → ℕ → ℕ). LanesFit parts.dispatch f (map lane_value parts.lanes)) (sym did.kept_same) inv.lanes)
 
   -- a context of ids that are given
   module _ (same : new ≡ parts.world) (ids : SpanContext) (cs' : ContextSlots) (made_is : cs'.contexts ≡ parts.contexts.contexts ++ record { span = Some ids } ∷ []) (attaches_are : cs'.attaches ≡ parts.contexts.attaches) where

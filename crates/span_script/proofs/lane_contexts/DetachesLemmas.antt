@@ -68,7 +68,7 @@ module _ {S : Type 0} (spans : S → Spans) (views : Views S) (kept : S → ℕ 
   pub still_live : has_number a.attached before.contexts.live ≡ true
   still_live = owned_has (GuardOf guard) before.contexts.live (inv.tables.contexts before.id) a.attached _ its_fit (guard_keeps r.settings.activation place before.id r.tokens parts.contexts.attaches guard a found on)
 
-  module _ (later : Lane) (same_id : later.id ≡ before.id) (same_name : later.name ≡ before.name) (live : later.contexts.live ≡ without_number a.attached before.contexts.live)
+  module _ (later : Lane) (same_id : later.id ≡ before.id) (same_name : later.name ≡ before.name) (same_own : later.default ≡ before.default) (live : later.contexts.live ≡ without_number a.attached before.contexts.live)
       (cs' : ContextSlots) (made_same : cs'.contexts ≡ parts.contexts.contexts) (one : cs'.attaches ≡ slice_set parts.contexts.attaches guard None) where
     abbrev then_parts : Parts S
     then_parts = record parts { lanes = set parts.lanes place later; contexts = cs'; moment = at }
@@ -118,7 +118,7 @@ module _ {S : Type 0} (spans : S → Spans) (views : Views S) (kept : S → ℕ 
     pub keeps_detached : ((place number : ℕ) → kept_in kept parts.world parts.dispatch place number ≡ kept_by r.settings.activation r.tokens place number) → IsKept spans views kept is_whole then_parts
     keeps_detached keeps =
         kept_served spans views kept is_whole parts then_parts inv _ _ (serves_detached inv.tables inv.stands) refl refl (λ has. has)
-        (lanes_after (kept_in kept parts.world parts.dispatch) (kept_in kept parts.world parts.dispatch) parts.lanes place before later within here inv.lanes same_id
+        (lanes_after parts.dispatch (kept_in kept parts.world parts.dispatch) (kept_in kept parts.world parts.dispatch) parts.lanes place before later within here inv.lanes same_id same_own
         (λ n. (
         let less = ap (λ (xs : List (ℕ × Context)). count_by (λ item. item.0 == n) xs) live in
         elim (cases_eq a.attached n) [
@@ -127,7 +127,7 @@ module _ {S : Type 0} (spans : S → Spans) (views : Views S) (kept : S → ℕ 
               let zero_kept : kept_in kept parts.world parts.dispatch before.id n ≡ 0 = keeps before.id n ∙ ap (λ (k : ℕ). kept_by r.settings.activation r.tokens before.id k) (sym this) ∙ none in
               omega (arith, zero_kept))
           | inr other ↦ (
-              let still = are_attached (kept_in kept parts.world parts.dispatch) parts.lanes place before within here inv.lanes n in
+              let still = are_attached parts.dispatch (kept_in kept parts.world parts.dispatch) parts.lanes place before within here inv.lanes n in
               let same = count_without a.attached n before.contexts.live other in
               omega (arith, still, less, same))
         ]))

@@ -35,14 +35,20 @@ id_of_lane [] n within = absurd (omega (arith, within))
 id_of_lane (l ∷ ls) zero within = refl
 id_of_lane (l ∷ ls) (suc n) within = id_of_lane ls n (omega (arith, within))
 
-pub new_lanes : (lanes : List Lane) (ids : List ℕ) → map (λ (l : Lane). l.id) lanes ≡ ids → HasOwnIds ids → (kept : ℕ → ℕ → ℕ) → ((lane number : ℕ) → kept lane number ≡ 0) → LanesFit kept (map lane_value lanes)
-new_lanes lanes ids are own kept none =
+own_of_lane : (dispatch : ℕ) (lanes : List Lane) → map (λ (l : Lane). l.default) lanes ≡ map (λ (l : Lane). Some dispatch) lanes → (n : ℕ) → n < length lanes → (lane_at (map lane_value lanes) n).default ≡ Some dispatch
+own_of_lane dispatch [] served n within = absurd (omega (arith, within))
+own_of_lane dispatch (l ∷ ls) served zero within = cc served
+own_of_lane dispatch (l ∷ ls) served (suc n) within = own_of_lane dispatch ls (cc served) n (omega (arith, within))
+
+pub new_lanes : (dispatch : ℕ) (lanes : List Lane) (ids : List ℕ) → map (λ (l : Lane). l.id) lanes ≡ ids → HasOwnIds ids → map (λ (l : Lane). l.default) lanes ≡ map (λ (l : Lane). Some dispatch) lanes → (kept : ℕ → ℕ → ℕ) → ((lane number : ℕ) → kept lane number ≡ 0) → LanesFit dispatch kept (map lane_value lanes)
+new_lanes dispatch lanes ids are own served kept none =
     let many : length (map lane_value lanes) ≡ length ids = length-map lanes lane_value ∙ sym (length-map lanes (λ (l : Lane). l.id)) ∙ ap length are in
     let few : length (map lane_value lanes) ≡ length lanes = length-map lanes lane_value in
     let at : (n : ℕ) → n < length (map lane_value lanes) → (lane_at (map lane_value lanes) n).id ≡ id_at ids n = λ n within. id_of_lane lanes n (omega (arith, within, few)) ∙ ap (λ (is : List ℕ). id_at is n) are in
     record {
       differ = λ n m in_n in_m e. own n m (omega (arith, in_n, many)) (omega (arith, in_m, many)) (sym (at n in_n) ∙ e ∙ at m in_m);
       attached = λ n number within. (let z = none (lane_at (map lane_value lanes) n).id number in omega (arith, z));
+      served = λ n within. own_of_lane dispatch lanes served n (omega (arith, within, few));
     }
 
 no_items : {A : Type 0} (xs : List A) → length xs ≡ 0 → xs ≡ []
@@ -155,12 +161,12 @@ module _ {S : Type 0} (same : S → S → Type 0) (spans : S → Spans) (views :
       → begun_state.setup ≡ record { sites = sites; ids = ids; names = names; filter = force.filter; counting = force.counting; layer = base.layer }
   begun_setup sites names force sites_are ids_are names_are is_force = rw (sites_are, ids_are, names_are, is_force, ap (λ (r : Recording). r.settings) recorded_nothing) refl
 
-  pub keeps_begun : is_whole first → map (λ (l : Lane). l.id) lanes ≡ ids → HasOwnIds ids → ((lane number : ℕ) → kept first lane number ≡ 0) → IsKept spans views kept is_whole (begun_parts hs gs cs)
-  keeps_begun whole ids_are own free = record {
+  pub keeps_begun : is_whole first → map (λ (l : Lane). l.id) lanes ≡ ids → HasOwnIds ids → map (λ (l : Lane). l.default) lanes ≡ map (λ (l : Lane). Some dispatch) lanes → ((lane number : ℕ) → kept first lane number ≡ 0) → IsKept spans views kept is_whole (begun_parts hs gs cs)
+  keeps_begun whole ids_are own served free = record {
     there = its_only.there;
     alone = its_only.alone;
     whole = its_only.whole whole;
-    lanes = new_lanes lanes ids ids_are own _ (λ lane number. ap (λ (f : ℕ → ℕ → ℕ). f lane number) its_only.kept_is ∙ free lane number);
+    lanes = new_lanes dispatch lanes ids ids_are own served _ (λ lane number. ap (λ (f : ℕ → ℕ → ℕ). f lane number) its_only.kept_is ∙ free lane number);
     tables = no_tables base;
     stands = begins;
   }

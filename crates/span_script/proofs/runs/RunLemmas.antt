@@ -63,18 +63,6 @@ reached_next setup requests left rest request old new replies later answer rest_
     subst (λ (s : Setup). Reached s requests left new later) reached.setup_is
     (subst (λ (rs : List Reply). Reached old.setup requests left new rs) (sym later_is) (served_own requests left request old new replies answer r (steps r.history r.stands)))
 
--- what a script gives whose history is the one so far
-ran_by : (setup : Setup) (requests left : List Request) (now : State) (replies : List Reply) (refused : Option (ℕ × Refusal))
-    → (r : Reached setup requests left now replies) → history_of setup requests ≡ r.history → refused ≡ refused_behind setup requests r.history
-    → Ran setup requests now replies refused
-ran_by setup requests left now replies refused r is refused_is = record {
-  setup_is = r.setup_is;
-  stands = subst (λ (h : History). StandsFor now (tables setup h)) (sym is) r.stands;
-  replies_are = r.replies_are ∙ ap (map (λ (e : Effect). e.reply)) (sym is);
-  records_are = r.records_are ∙ ap (records_of_history setup) (sym is);
-  refused_is = refused_is ∙ ap (refused_behind setup requests) (sym is);
-}
-
 -- the request behind the history
 behind : (setup : Setup) (requests left : List Request) (now : State) (replies : List Reply) (r : Reached setup requests left now replies) → slice_get requests (length r.history) ≡ slice_get left 0
 behind setup requests left now replies r = ap (slice_get requests) (sym (add-zero (length r.history))) ∙ r.places 0

@@ -50,7 +50,7 @@ module _ {S : Type 0} (spans : S → Spans) (views : Views S) (attaches : S → 
     there = (let c = alike.count in let b = inv.there in omega (arith, c, b));
     alone = alike.count ∙ inv.alone;
     whole = alike.whole inv.whole;
-    lanes = subst (λ (f : ℕ → ℕ → ℕ). LanesFit f (map lane_value parts.lanes)) (sym alike.kept_same) inv.lanes;
+    lanes = subst (λ (f : ℕ → ℕ → ℕ). LanesFit parts.dispatch f (map lane_value parts.lanes)) (sym alike.kept_same) inv.lanes;
     tables = inv.tables;
     stands = subst (λ (k : State). StandsFor k inv.tables) (sym state_taken) (stands_taken _ inv.tables records measures inv.stands);
   }

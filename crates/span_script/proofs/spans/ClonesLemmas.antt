@@ -125,4 +125,4 @@ module _ {S : Type 0} (spans : S → Spans) (views : Views S) (attaches : S → 
           let line = find (held_of parts.dispatch) (map held_by parts.handles) inv.tables.handles handle h.held inv.stands.fits.handle_slots (held_slot parts.handles handle h found) in
           let shown = shown_on spans views attaches kept is_whole does law parts.world new parts.dispatch line.at h.held line.is (λ id. CloneSpan id) did in
           kept_served spans views kept is_whole parts then_parts inv _ _ (serves_cloned inv.tables inv.stands) refl (call_count spans views attaches kept is_whole parts new line.at (λ id. CloneSpan id) shown) (call_whole spans views attaches kept is_whole parts new line.at (λ id. CloneSpan id) shown)
-          (subst (λ (f : ℕ → ℕ → ℕ). LanesFit f (map lane_value parts.lanes)) (sym (clone_kept line.at shown)) inv.lanes)
+          (subst (λ (f : ℕ → ℕ → ℕ). LanesFit parts.dispatch f (map lane_value parts.lanes)) (sym (clone_kept line.at shown)) inv.lanes)

@@ -15,7 +15,8 @@ use Rattle.span_script.proofs.spans.SitesLemmas.{site_slot, site_found, copied_s
 use Rattle.span_script.proofs.steps.StepLemmas.{fits_step}
 use Rattle.span_script.proofs.steps.BalanceLemmas.{named_slot, set_none}
 use Rattle.span_script.proofs.steps.CallsLemmas.{shown_on}
-use Rattle.span_script.proofs.steps.LanesLemmas.{id_seen, ids_same, names_same, lanes_same}
+use Rattle.trace_base.specs.Gate.{dispatch_on}
+use Rattle.span_script.proofs.steps.LanesLemmas.{id_seen, own_lane}
 use Rattle.span_script.proofs.runs.RefusalsLemmas.{within_get}
 use Rattle.span_script.proofs.steps.ServesLemmas.{serve, known_still, all_same, kept_served, call_count, call_sites, call_cached, call_aside, call_whole}
 use Rattle.span_script.proofs.filter.FilterLemmas.{heard_none}
@@ -120,10 +121,6 @@ refuses_in_use k hs are handle h found used at place t stands =
 
 -- ---- a handle more, and perhaps one less
 
--- a lane that uses a dispatch
-abbrev pub using : Lane → ℕ → Lane
-using lane dispatch = record lane { default = Some dispatch }
-
 abbrev hands : Here → Scope → Option ℕ → Effect
 hands here line spent = record (clone_effect here line) { spent_handle = spent }
 
@@ -190,7 +187,7 @@ module _ {S : Type 0} (spans : S → Spans) (views : Views S) (attaches : S → 
     now = state_of spans views parts
 
     abbrev then_parts : Parts S
-    then_parts = record parts { world = new; lanes = set parts.lanes place (using before parts.dispatch); handles = hs'; moment = at }
+    then_parts = record parts { world = new; handles = hs'; moment = at }
 
     abbrev then : State
     then = state_of spans views then_parts
@@ -201,9 +198,6 @@ module _ {S : Type 0} (spans : S → Spans) (views : Views S) (attaches : S → 
     next_number : (t : Tables) → Fits now t → number ≡ length t.handles
     next_number t fits = many ∙ sym (length-map parts.handles held_by) ∙ ap length fits.handle_slots ∙ length-map t.handles (option_map (held_of parts.dispatch))
 
-    lanes_are : map lane_value (set parts.lanes place (using before parts.dispatch)) ≡ map lane_value parts.lanes
-    lanes_are = lanes_same parts.lanes place before (using before parts.dispatch) within here refl
-
     on_id : (t : Tables) → Fits now t → current_of (entries_on before.id now.spans.lanes) ≡ own_span (current_scope t place_id)
     on_id t fits = ap (λ (l : ℕ). current_of (entries_on l now.spans.lanes)) (id_seen parts.lanes place before within here) ∙ (is_on now t fits place_id).on
 
@@ -212,7 +206,7 @@ module _ {S : Type 0} (spans : S → Spans) (views : Views S) (attaches : S → 
         → Served resolved t now then (reply.Made enabled number)
     serves_handed t stands resolved line spent enabled is shows sites same filters cached aside handles handle_sites handed =
         let fits = stands.fits in
-        let setup : then.setup ≡ now.setup = rw (sites, ids_same parts.lanes place before (using before parts.dispatch) within here refl, names_same parts.lanes place before (using before parts.dispatch) within here refl, same) refl in
+        let setup : then.setup ≡ now.setup = rw (sites, same) refl in
         let e : Effect = hands (here_at now.setup t at place) line spent in
         let more = one_more t.handles line spent in
         serve now then t e resolved (reply.Made enabled number) stands is
@@ -238,39 +232,43 @@ module _ {S : Type 0} (spans : S → Spans) (views : Views S) (attaches : S → 
           one = handed.one;
         }))
         (λ s some. known_still now then t e (member_of views.recorded no_recording parts.world parts.dispatch).tokens same stands.recording s refl (handed.live s some))
-        (all_same now then t.contexts setup refl lanes_are (ap (λ (r : Recording). r.tokens) same) stands.recording.attached)
+        (all_same now then t.contexts setup refl refl (ap (λ (r : Recording). r.tokens) same) stands.recording.attached)
         (record { quiet = refl; before = member_of views.filtered None parts.world parts.dispatch; later = member_of views.filtered None new parts.dispatch; shown_before = refl; shown_later = refl; told = filters ∙ heard_none (member_of views.filtered None parts.world parts.dispatch); known = refl; cached = cached; aside = record { before = aside_in views parts.world parts.dispatch; later = aside_in views new parts.dispatch; shown_before = refl; shown_later = refl; waits_before = refl; waits_later = refl; adds = aside } })
 
     keeps_handed : (resolved : Resolved) (enabled : Bool) → Served resolved inv.tables now then (reply.Made enabled number) → length new.subscribers ≡ length parts.world.subscribers → (Has is_whole parts.world parts.dispatch → Has is_whole new parts.dispatch) → kept_in kept new parts.dispatch ≡ kept_in kept parts.world parts.dispatch → IsKept spans views kept is_whole then_parts
     keeps_handed resolved enabled served count whole same = kept_served spans views kept is_whole parts then_parts inv resolved _ served refl count whole
-        (subst (λ (ls : List LaneValue). LanesFit (kept_in kept new parts.dispatch) ls) (sym lanes_are) (subst (λ (f : ℕ → ℕ → ℕ). LanesFit f (map lane_value parts.lanes)) (sym same) inv.lanes))
+        (subst (λ (f : ℕ → ℕ → ℕ). LanesFit parts.dispatch f (map lane_value parts.lanes)) (sym same) inv.lanes)
+
+    -- what is done by the lane's own subscriber is done by the pipeline's
+    by_own : (h : Handle) → IsCurrent spans does parts.world new before.id (dispatch_on before.default parts.world.global) h → IsCurrent spans does parts.world new before.id (Some parts.dispatch) h
+    by_own h did = subst (λ (o : Option ℕ). IsCurrent spans does parts.world new before.id (dispatch_on o parts.world.global) h) (own_lane spans views kept is_whole parts inv place before within here) did
 
     -- a handle of the lane's current span
-    module _ (h : Handle) (enabled : Bool) (shows : enabled ≡ is_some (id_of h.held)) (one : hs' ≡ parts.handles ++ Some h ∷ []) (did : IsCurrent spans does parts.world new before.id (Some parts.dispatch) h) where
+    module _ (h : Handle) (enabled : Bool) (shows : enabled ≡ is_some (id_of h.held)) (one : hs' ≡ parts.handles ++ Some h ∷ []) (did : IsCurrent spans does parts.world new before.id (dispatch_on before.default parts.world.global) h) where
       pub serves_current : (t : Tables) → StandsFor now t → Served (effect_of_call now.setup t at place call.Current) t now then (reply.Made enabled number)
       serves_current t stands =
           let fits = stands.fits in
           let line = current_scope t place_id in
           let on = is_on now t fits place_id in
-          let copy = current_copied spans does parts.world new parts.dispatch before.id line h inv.there (on_id t fits) did in
+          let copy = current_copied spans does parts.world new parts.dispatch before.id line h inv.there (on_id t fits) (by_own h did) in
           let shown = shown_on spans views attaches kept is_whole does law parts.world new parts.dispatch line h.held copy.0 (λ id. CloneSpan id) copy.1 in
           serves_handed t stands _ line None enabled refl (shows ∙ enabled_is parts.dispatch line h.held copy.0) (call_sites spans views attaches kept is_whole parts new line (λ id. CloneSpan id) shown)
           (clone_recorded spans views attaches kept is_whole parts new line shown) (clone_filter spans views attaches kept is_whole parts new line shown) (call_cached spans views attaches kept is_whole parts new line (λ id. CloneSpan id) shown) (call_aside spans views attaches kept is_whole parts new line (λ id. CloneSpan id) (λ s. refl) shown)
           (ap (map held_by) one ∙ map_push held_by parts.handles (Some h) ∙ ap (λ (x : Held). map held_by parts.handles ++ Some x ∷ []) copy.0)
-          (ap (map site_by) one ∙ map_push site_by parts.handles (Some h) ∙ ap (λ (o : Option ℕ). map site_by parts.handles ++ Some o ∷ []) (current_site spans does parts.world new parts.dispatch before.id line h inv.there (on_id t fits) did t.spans fits.made on.live))
+          (ap (map site_by) one ∙ map_push site_by parts.handles (Some h) ∙ ap (λ (o : Option ℕ). map site_by parts.handles ++ Some o ∷ []) (current_site spans does parts.world new parts.dispatch before.id line h inv.there (on_id t fits) (by_own h did) t.spans fits.made on.live))
           (subst (λ (x : Spans). Handed now t x line None) (sym (held_spans spans views attaches kept is_whole parts new line shown)) (handed_more now t fits line on.scope on.live))
 
       pub keeps_current : IsKept spans views kept is_whole then_parts
       keeps_current =
           let line = current_scope inv.tables place_id in
-          let copy = current_copied spans does parts.world new parts.dispatch before.id line h inv.there (on_id inv.tables inv.stands.fits) did in
+          let copy = current_copied spans does parts.world new parts.dispatch before.id line h inv.there (on_id inv.tables inv.stands.fits) (by_own h did) in
           let shown = shown_on spans views attaches kept is_whole does law parts.world new parts.dispatch line h.held copy.0 (λ id. CloneSpan id) copy.1 in
           keeps_handed _ _ (serves_current inv.tables inv.stands) (call_count spans views attaches kept is_whole parts new line (λ id. CloneSpan id) shown)
           (call_whole spans views attaches kept is_whole parts new line (λ id. CloneSpan id) shown) (clone_kept spans views attaches kept is_whole parts new line shown)
 
     -- a handle that is exchanged
     module _ (handle : ℕ) (h next : Handle) (found : slot_at parts.handles handle ≡ Some h) (free : is_named parts.guards handle ≡ false) (enabled : Bool) (shows : enabled ≡ is_some (id_of next.held)) (one : hs' ≡ slice_set parts.handles handle None ++ Some next ∷ [])
-        (stays : IfSome h.held (λ held. (next ≡ h) × (new ≡ parts.world))) (takes : h.held ≡ None → IsCurrent spans does parts.world new before.id (Some parts.dispatch) next) where
+        (stays : IfSome h.held (λ held. (next ≡ h) × (new ≡ parts.world))) (takes : h.held ≡ None → IsCurrent spans does parts.world new before.id (dispatch_on before.default parts.world.global) next) where
       slots_are : (line : Scope) → next.held ≡ held_of parts.dispatch line → then.handles ≡ slots_after now.handles (Some (held_of parts.dispatch line)) (Some handle)
       slots_are line is =
           let xs : List (Option Held) = map held_by parts.handles in
@@ -306,11 +304,11 @@ module _ {S : Type 0} (spans : S → Spans) (views : Views S) (attaches : S → 
           let fits = stands.fits in
           let line = current_scope t place_id in
           let on = is_on now t fits place_id in
-          let copy = current_copied spans does parts.world new parts.dispatch before.id line next inv.there (on_id t fits) (takes is) in
+          let copy = current_copied spans does parts.world new parts.dispatch before.id line next inv.there (on_id t fits) (by_own next (takes is)) in
           let shown = shown_on spans views attaches kept is_whole does law parts.world new parts.dispatch line next.held copy.0 (λ id. CloneSpan id) copy.1 in
           record {
             served = serves_handed t stands _ line (Some handle) enabled (its_effect t fits [] there) (shows ∙ enabled_is parts.dispatch line next.held copy.0) (call_sites spans views attaches kept is_whole parts new line (λ id. CloneSpan id) shown)
-                (clone_recorded spans views attaches kept is_whole parts new line shown) (clone_filter spans views attaches kept is_whole parts new line shown) (call_cached spans views attaches kept is_whole parts new line (λ id. CloneSpan id) shown) (call_aside spans views attaches kept is_whole parts new line (λ id. CloneSpan id) (λ s. refl) shown) (slots_are line copy.0) (sites_are t.spans line (current_site spans does parts.world new parts.dispatch before.id line next inv.there (on_id t fits) (takes is) t.spans fits.made on.live))
+                (clone_recorded spans views attaches kept is_whole parts new line shown) (clone_filter spans views attaches kept is_whole parts new line shown) (call_cached spans views attaches kept is_whole parts new line (λ id. CloneSpan id) shown) (call_aside spans views attaches kept is_whole parts new line (λ id. CloneSpan id) (λ s. refl) shown) (slots_are line copy.0) (sites_are t.spans line (current_site spans does parts.world new parts.dispatch before.id line next inv.there (on_id t fits) (by_own next (takes is)) t.spans fits.made on.live))
                 (subst (λ (x : Spans). Handed now t x line (Some handle)) (sym (held_spans spans views attaches kept is_whole parts new line shown)) (handed_instead now t fits line on.scope on.live handle there (not_used t fits)));
             count = call_count spans views attaches kept is_whole parts new line (λ id. CloneSpan id) shown;
             whole = call_whole spans views attaches kept is_whole parts new line (λ id. CloneSpan id) shown;

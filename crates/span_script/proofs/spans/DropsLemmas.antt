@@ -143,4 +143,4 @@ module _ {S : Type 0} (spans : S → Spans) (views : Views S) (attaches : S → 
       keeps_dropped =
           let line = find (held_of parts.dispatch) (map held_by parts.handles) inv.tables.handles handle h.held inv.stands.fits.handle_slots (held_slot parts.handles handle h found) in
           let rest = chain_kept at line.at (chain_on at law line.at h.held line.is did) in
-          kept_served spans views kept is_whole parts then_parts inv _ _ (serves_dropped inv.tables inv.stands) refl rest.count rest.whole (subst (λ (f : ℕ → ℕ → ℕ). LanesFit f (map lane_value parts.lanes)) (sym rest.kept_same) inv.lanes)
+          kept_served spans views kept is_whole parts then_parts inv _ _ (serves_dropped inv.tables inv.stands) refl rest.count rest.whole (subst (λ (f : ℕ → ℕ → ℕ). LanesFit parts.dispatch f (map lane_value parts.lanes)) (sym rest.kept_same) inv.lanes)

@@ -1,7 +1,7 @@
 -- Makings, served.
 use Rattle.std.proofs.Common.{◌≡◌, ℕ, ◌+◌, ◌<◌, ◌≤◌, ◌^◌, List, [], ◌∷◌, ◌++◌, length, Bool, true, false, fold, get_or, Option, Some, None, Ok, option_map, map, refl, sym, ap, subst, ◌∙◌, arith, inl, inr, IfSome, slice_get, is_some, ◌≢◌, option_and_then}
 use Rattle.span_script.proofs.Common.{cases_eq, cases_lt, cond-true, cond-false, length-map, length_push, map_push, get_or_past, get_or_push, get_or_append_left, Lane, Parent, Callsite, ValueSet, Worlds, FilterState, Span, Spans, no_span, span_at, held_by_child, entries_on, place_on, current_of, SubscriberCall, NewSpan, with_new_span, IsLivePlace, HasFewHolds, AreFew, HasFewHoldsAbove, OneEach, Shown, Replaced, member_of, spans_in, kept_in, no_spans, Has, Handle, Makes, MayMake, no_handle, Place, Setup, id_at, name_at, if_span, span_site, Context, KeyValue, empty_context, LayerSettings, SpanData, data_at_making, after_op, Token, parent_source, around, context_from, new_span_data, data_at, with_span_data, Recording, source_of, no_recording, with_start, with_starts, Kind, length_held, holds_other, Scope, MadeSpan, Attached, no_made_span, HookNew, Effect, Tables, recorded_by, open_part, slot_at, own_span, made_of, here_at, ◌>>=◌, need, effect_of_call, after_filter_hook, admits_at, lane_in, new_span_data_at, context_around, parent_at, new_effect, span_effect, disabled_effect, scope_at, Fields, all_values, parent_for, MakesOnly, LetsThrough, Balanced, named_by, opened_by, Views, State, state_of, lane_value, StandsFor, MadeFit, LanesFit, IsKept, Served, IsScope, held_of, guard_of, held_by, site_by, Parts, parent_in, CallsLaw, SameLaw, aside_in}
-use Rattle.span_handles.proofs.Showing.{seen_before}
+use Rattle.span_handles.proofs.ChangedSubscriberLemmas.{seen_before}
 use Rattle.span_script.specs.declared.reply.Reply.TheVariants as reply
 use Rattle.span_script.specs.declared.request.Call.TheVariants as call
 use Rattle.span_script.specs.declared.reply.What.TheVariants as what
@@ -24,7 +24,9 @@ use Rattle.span_script.proofs.steps.CallsLemmas.{has_by}
 use Rattle.span_script.proofs.steps.BalanceLemmas.{held_most}
 use Rattle.span_script.proofs.filter.FilterLemmas.{heard_none}
 use Rattle.span_script.proofs.filter.GateLemmas.{answered}
-use Rattle.span_script.proofs.steps.LanesLemmas.{id_seen, name_seen, kept_alike}
+use Rattle.trace_base.specs.Gate.{dispatch_on}
+use Rattle.span_handles.specs.Handles.{MayMakeIf, ReplacedIf}
+use Rattle.span_script.proofs.steps.LanesLemmas.{id_seen, name_seen, kept_alike, own_lane}
 use Rattle.span_script.proofs.spans.MadeSpansLemmas.{made_held}
 use Rattle.span_script.proofs.steps.ServesLemmas.{serve, known_still, all_same, kept_served}
 use Rattle.span_script.proofs.spans.ClonesLemmas.{the_scope, still_named_more}
@@ -139,7 +141,7 @@ made_is setup t at place callsite c values p q before r current recorded layer c
     ∙ ap (λ (o : Option ℕ). new_span_data callsite before values (context_from (with_starts (source q o) at r).spans (around before q) (source q o)) at r.settings r.counting) current_is
     ∙ ap (λ (xs : List (ℕ × SpanData)). new_span_data callsite before values (context_from xs (around before q) (source q (current_of (t.entries (here_at setup t at place).lane)))) at r.settings r.counting) (starts_open (source q (current_of (t.entries (here_at setup t at place).lane))) at r t.recording recorded)
     ∙ ap (λ (x : Context). new_span_data callsite before values (context_from (with_starts (source q (current_of (t.entries (here_at setup t at place).lane))) at t.recording).spans x (source q (current_of (t.entries (here_at setup t at place).lane)))) at r.settings r.counting) (around_is q before (t.contexts (here_at setup t at place).lane) contexts)
-    ∙ ap (λ (first : List KeyValue). after_op (data_at_making (record { name = callsite.name; parent = context_from (with_starts (source q (current_of (t.entries (here_at setup t at place).lane))) at t.recording).spans (context_around (t.contexts (here_at setup t at place).lane) q) (source q (current_of (t.entries (here_at setup t at place).lane))); made = at; first = first; counting = r.counting; inactivity = r.settings.inactivity })) at (ops.Update (span_update callsite values r.settings))) (first_same callsite before (lane_in (here_at setup t at place)) r.settings id name)
+    ∙ ap (λ (first : List KeyValue). after_op (data_at_making (record { name = callsite.name; parent = context_from (with_starts (source q (current_of (t.entries (here_at setup t at place).lane))) at t.recording).spans (context_around (t.contexts (here_at setup t at place).lane) q) (source q (current_of (t.entries (here_at setup t at place).lane))); made_at = at; first = first; counting = r.counting; inactivity = r.settings.inactivity })) at (ops.Update (span_update callsite values r.settings))) (first_same callsite before (lane_in (here_at setup t at place)) r.settings id name)
 
 module _ {S : Type 0} (spans : S → Spans) (views : Views S) (attaches : S → Bool) (kept : S → ℕ → ℕ → ℕ) (is_whole : S → Type 0) (parts : Parts S) (new : Worlds S) where
   module _ (does : S → SubscriberCall → S → Type 0) (law : CallsLaw spans views attaches kept is_whole does)
@@ -256,7 +258,7 @@ module _ {S : Type 0} (spans : S → Spans) (views : Views S) (attaches : S → 
 
         pub keeps_made : IsKept spans views kept is_whole then_parts
         keeps_made = kept_served spans views kept is_whole parts then_parts inv _ _ (serves_made inv.tables inv.stands) refl made_shown.count made_shown.whole
-            (subst (λ (f : ℕ → ℕ → ℕ). LanesFit f (map lane_value parts.lanes)) (sym made_shown.lanes) inv.lanes)
+            (subst (λ (f : ℕ → ℕ → ℕ). LanesFit parts.dispatch f (map lane_value parts.lanes)) (sym made_shown.lanes) inv.lanes)
 
       -- one that isn't
       module _ (fields : Fields) (values : ValueSet) (valued : all_values callsite fields ≡ Some values) (through : (t : Tables) → StandsFor now t → admits_at now.setup t place_id callsite ≡ false) (one : hs' ≡ parts.handles ++ Some no_handle ∷ []) (same : new ≡ parts.world) where
@@ -302,7 +304,7 @@ module _ {S : Type 0} (spans : S → Spans) (views : Views S) (attaches : S → 
 
         pub keeps_declined : IsKept spans views kept is_whole then_parts
         keeps_declined = kept_served spans views kept is_whole parts then_parts inv _ _ (serves_declined inv.tables inv.stands) refl (ap (λ (w : Worlds S). length w.subscribers) same) (λ has. subst (λ (w : Worlds S). Has is_whole w parts.dispatch) (sym same) has)
-            (subst (λ (w : Worlds S). LanesFit (kept_in kept w parts.dispatch) (map lane_value parts.lanes)) (sym same) inv.lanes)
+            (subst (λ (w : Worlds S). LanesFit parts.dispatch (kept_in kept w parts.dispatch) (map lane_value parts.lanes)) (sym same) inv.lanes)
 
     -- let through or not
     module _ (under : Place) (p : Parent) (found_site site : ℕ) (sited_is : found_site ≡ site) (spanned : is_some (span_site parts.world.sites site) ≡ true) (found : parent_for (map held_by parts.handles) under ≡ Some p)
@@ -319,14 +321,28 @@ module _ {S : Type 0} (spans : S → Spans) (views : Views S) (attaches : S → 
       its_answer enabled gate t stands =
           answered spans views parts place before within seen_is found_site its_site.0 (ap (λ (k : ℕ). slice_get parts.world.sites k) sited_is ∙ site_is parts.world.sites site its_site.0 its_site.1) enabled gate t stands
 
-      pub serves_new : (enabled : Bool) → LetsThrough (member_of views.filtered None parts.world parts.dispatch) parts.world.sites before.id found_site enabled → MakesOnly spans does enabled parts.world new before at p found_site values parts.dispatch made
+      serves_let : (enabled : Bool) → LetsThrough (member_of views.filtered None parts.world parts.dispatch) parts.world.sites before.id found_site enabled → MakesOnly spans does enabled parts.world new before at p found_site values (Some parts.dispatch) made
           → (t : Tables) → StandsFor now t → Served (effect_of_call now.setup t at place (call.New site under fields)) t now then (reply.Made enabled number)
-      serves_new true gate did t stands = serves_made under p site its_site.0 its_site.1 found fields values its_values made before within seen_is (its_answer true gate) one (subst (λ (k : ℕ). Makes spans does parts.world new before at p k values parts.dispatch made) sited_is did) t stands
-      serves_new false gate did t stands = serves_declined under p site its_site.0 its_site.1 found fields values its_values (its_answer false gate) (one ∙ ap (λ (h : Handle). parts.handles ++ Some h ∷ []) did.0) did.1 t stands
+      serves_let true gate did t stands = serves_made under p site its_site.0 its_site.1 found fields values its_values made before within seen_is (its_answer true gate) one (subst (λ (k : ℕ). Makes spans does parts.world new before at p k values parts.dispatch made) sited_is did) t stands
+      serves_let false gate did t stands = serves_declined under p site its_site.0 its_site.1 found fields values its_values (its_answer false gate) (one ∙ ap (λ (h : Handle). parts.handles ++ Some h ∷ []) did.0) did.1 t stands
 
-      pub keeps_new : (enabled : Bool) → LetsThrough (member_of views.filtered None parts.world parts.dispatch) parts.world.sites before.id found_site enabled → MakesOnly spans does enabled parts.world new before at p found_site values parts.dispatch made → IsKept spans views kept is_whole then_parts
-      keeps_new true gate did = keeps_made under p site its_site.0 its_site.1 found fields values its_values made before within seen_is (its_answer true gate) one (subst (λ (k : ℕ). Makes spans does parts.world new before at p k values parts.dispatch made) sited_is did)
-      keeps_new false gate did = keeps_declined under p site its_site.0 its_site.1 found fields values its_values (its_answer false gate) (one ∙ ap (λ (h : Handle). parts.handles ++ Some h ∷ []) did.0) did.1
+      keeps_let : (enabled : Bool) → LetsThrough (member_of views.filtered None parts.world parts.dispatch) parts.world.sites before.id found_site enabled → MakesOnly spans does enabled parts.world new before at p found_site values (Some parts.dispatch) made → IsKept spans views kept is_whole then_parts
+      keeps_let true gate did = keeps_made under p site its_site.0 its_site.1 found fields values its_values made before within seen_is (its_answer true gate) one (subst (λ (k : ℕ). Makes spans does parts.world new before at p k values parts.dispatch made) sited_is did)
+      keeps_let false gate did = keeps_declined under p site its_site.0 its_site.1 found fields values its_values (its_answer false gate) (one ∙ ap (λ (h : Handle). parts.handles ++ Some h ∷ []) did.0) did.1
+
+      -- what is done by the lane's own subscriber is done by the pipeline's
+      abbrev ByOwn : Bool → Option ℕ → Type 0
+      ByOwn enabled own = MakesOnly spans does enabled parts.world new before at p found_site values (dispatch_on own parts.world.global) made
+
+      by_own : (enabled : Bool) → ByOwn enabled before.default → ByOwn enabled (Some parts.dispatch)
+      by_own enabled did = subst (λ (o : Option ℕ). ByOwn enabled o) (own_lane spans views kept is_whole parts inv place before within seen_is) did
+
+      pub serves_new : (enabled : Bool) → LetsThrough (member_of views.filtered None parts.world parts.dispatch) parts.world.sites before.id found_site enabled → ByOwn enabled before.default
+          → (t : Tables) → StandsFor now t → Served (effect_of_call now.setup t at place (call.New site under fields)) t now then (reply.Made enabled number)
+      serves_new enabled gate did t stands = serves_let enabled gate (by_own enabled did) t stands
+
+      pub keeps_new : (enabled : Bool) → LetsThrough (member_of views.filtered None parts.world parts.dispatch) parts.world.sites before.id found_site enabled → ByOwn enabled before.default → IsKept spans views kept is_whole then_parts
+      keeps_new enabled gate did = keeps_let enabled gate (by_own enabled did)
 
 -- what a making requires
 few_if : (o : Option ℕ) (made : List Span) → ((s : ℕ) → HasFewHolds made s) → IfSome o (HasFewHolds made)
@@ -347,6 +363,10 @@ module _ {S : Type 0} (spans : S → Spans) (views : Views S) (kept : S → ℕ 
             (few_if (place_on (entries_on lane (spans_in spans parts.world parts.dispatch).lanes) p) (spans_in spans parts.world parts.dispatch).made (λ s. let f = inv.stands.fits.few_holds s in omega (arith, f, a, b, few_handles, few_guards)));
       }
 
+  -- the same by the own subscriber of a lane
+  pub make_may_own : (under : Place) (p : Parent) → parent_for (map held_by parts.handles) under ≡ Some p → (own : Option ℕ) → own ≡ Some parts.dispatch → (lane : ℕ) → length parts.handles < 2 ^ 62 → length parts.guards < 2 ^ 62 → MayMakeIf spans is_whole parts.world lane p (dispatch_on own parts.world.global)
+  make_may_own under p found own is lane few_handles few_guards = subst (λ (o : Option ℕ). MayMakeIf spans is_whole parts.world lane p (dispatch_on o parts.world.global)) (sym is) (make_may under p found lane few_handles few_guards)
+
   pub tell_live : (under : Place) (p : Parent) → parent_for (map held_by parts.handles) under ≡ Some p → Has (λ s. IsLivePlace (spans s).made p) parts.world parts.dispatch
   tell_live under p found = has_by spans no_spans parts.world parts.dispatch (λ (x : Spans). IsLivePlace x.made p) (find_up (state_of spans views parts) inv.tables inv.stands.fits 0 under p found).live_place
 
@@ -363,3 +383,10 @@ made_alike {S} spans views attaches kept is_whole same law parts new hs' handles
     let still = adds_nothing (aside_in views parts.world parts.dispatch) (aside_in views new parts.dispatch) told.2 in
     let state : state_of spans views next ≡ state_of spans views parts = rw (alike.spans_same, sites, told.0, told.1, cached, still.0, still.1, handles) refl in
     (state, λ inv. kept_alike spans views attaches kept is_whole parts next inv state alike)
+
+-- the same by the own subscriber of a lane
+pub made_alike_own : {S : Type 0} (spans : S → Spans) (views : Views S) (attaches : S → Bool) (kept : S → ℕ → ℕ → ℕ) (is_whole : S → Type 0) (same : S → S → Type 0) → SameLaw spans views attaches kept is_whole same
+    → (parts : Parts S) (new : Worlds S) (hs' : List (Option Handle)) → hs' ≡ parts.handles → (own : Option ℕ) → own ≡ Some parts.dispatch → ReplacedIf same parts.world new (dispatch_on own parts.world.global)
+    → (state_of spans views (record parts { world = new; handles = hs' }) ≡ state_of spans views parts) × (IsKept spans views kept is_whole parts → IsKept spans views kept is_whole (record parts { world = new; handles = hs' }))
+made_alike_own {S} spans views attaches kept is_whole same law parts new hs' handles own is did =
+    made_alike spans views attaches kept is_whole same law parts new hs' handles (subst (λ (o : Option ℕ). ReplacedIf same parts.world new (dispatch_on o parts.world.global)) is did)

@@ -2,7 +2,7 @@
 use Rattle.span_script.proofs.Common.{list_any, cases_Bool, cond-true, cond-false, or_parts, Context, Op, SpanData, data_at, knows_span, with_span_data, waits, Recording, with_start, with_starts, with_applied, with_close, without_closed, data_after, data_started, MadeSpan, SpanOp, Effect, with_span_made, recorded_by}
 use Rattle.std.proofs.Common.{◌≡◌, ℕ, List, [], ◌∷◌, fold, Bool, true, false, Option, Some, None, refl, sym, ap, ◌∙◌, inl, inr, ◌==◌, ◌||◌, ◌≢◌}
 use Rattle.std.proofs.lemmas.Bool.{eq-eqb, true≢false}
-use Rattle.otel_layer.proofs.Finding.{told_at_op, told_at_start, told_at_removed}
+use Rattle.otel_layer.proofs.FoundSpanLemmas.{told_at_op, told_at_start, told_at_removed}
 
 abbrev IsKnown : ℕ → Recording → Type 0
 IsKnown s r = data_at s r.spans ≢ None

@@ -2,6 +2,8 @@
 use Rattle.std.proofs.Common.{◌≡◌, ℕ, Bool, false, zero, suc, ◌<◌, ◌≤◌, List, [], ◌∷◌, length, count_by, get_or, set, Option, Some, None, map, refl, sym, ap, subst, ◌∙◌, arith, inl, inr, Result, Ok, Err, OnErr, ◌==◌}
 use Rattle.span_script.proofs.Common.{cases_eq, cond-true, cond-false, length-map, map-set, Lane, Worlds, Spans, attached_as, AreAttached, KeepsAttached, Has, Alike, member_of, spans_in, kept_in, Handle, Held, ReplacedOn, LeavesLane, Guard, Attach, no_recording, Scope, slot_at, id_at, name_at, Views, State, state_of, LaneValue, lane_value, no_lane_value, lane_at, held_by, LanesFit, IsKept, held_of, StandsFor, Parts, AddsMeasures, SameLaw, aside_in}
 use Rattle.std.proofs.lemmas.Bool.{eq-eqb, ne_eqb}
+use Rattle.trace_base.specs.Gate.{IsOwn, dispatch_on}
+use Rattle.span_handles.specs.Handles.{HasIf}
 use Rattle.std.proofs.lemmas.List.{length-set, get_or-set_same, get_or-set_other}
 use Rattle.span_script.proofs.filter.CounterLemmas.{adds_nothing, adds_same}
 use Rattle.span_script.proofs.steps.SlotsLemmas.{find, held_slot, Found}
@@ -24,8 +26,8 @@ lanes_same [] n before later within is same = refl
 lanes_same (x ∷ xs) zero before later within is same = ap (λ (l : LaneValue). l ∷ map lane_value xs) (same ∙ ap lane_value is)
 lanes_same (x ∷ xs) (suc n) before later within is same = ap (λ (ls : List LaneValue). lane_value x ∷ ls) (lanes_same xs n before later (omega (arith, within)) is same)
 
-pub same_lane : (before later : Lane) → later.id ≡ before.id → later.contexts.live ≡ before.contexts.live → lane_value later ≡ lane_value before
-same_lane before later id live = rw (id, live) refl
+pub same_lane : (before later : Lane) → later.id ≡ before.id → later.default ≡ before.default → later.contexts.live ≡ before.contexts.live → lane_value later ≡ lane_value before
+same_lane before later id default live = rw (id, default, live) refl
 
 -- the id of a lane, as the setup tells it
 pub id_seen : (lanes : List Lane) (n : ℕ) (before : Lane) → n < length lanes → before ≡ get_or lanes n before → before.id ≡ id_at (map (λ (l : Lane). l.id) lanes) n
@@ -48,8 +50,8 @@ name_seen [] n before within is = absurd (omega (arith, within))
 name_seen (x ∷ xs) zero before within is = ap (λ (l : Lane). l.name) is
 name_seen (x ∷ xs) (suc n) before within is = name_seen xs n before (omega (arith, within)) is
 
-pub are_attached : (kept : ℕ → ℕ → ℕ) (lanes : List Lane) (n : ℕ) (before : Lane) → n < length lanes → before ≡ get_or lanes n before → LanesFit kept (map lane_value lanes) → AreAttached kept before
-are_attached kept lanes n before within is fits number =
+pub are_attached : (dispatch : ℕ) (kept : ℕ → ℕ → ℕ) (lanes : List Lane) (n : ℕ) (before : Lane) → n < length lanes → before ≡ get_or lanes n before → LanesFit dispatch kept (map lane_value lanes) → AreAttached kept before
+are_attached dispatch kept lanes n before within is fits number =
     let at = lane_seen lanes n before within is in
     let a = fits.attached n number (let k = length-map lanes lane_value in omega (arith, within, k)) in
     let w = ap (λ (l : LaneValue). count_by (λ item. item.0 == number) l.live) at in
@@ -57,9 +59,9 @@ are_attached kept lanes n before within is fits number =
     omega (arith, a, w, k)
 
 -- what is kept on a lane that was written, and on the others
-pub lanes_after : (kept now : ℕ → ℕ → ℕ) (lanes : List Lane) (n : ℕ) (before later : Lane) → n < length lanes → before ≡ get_or lanes n before → LanesFit kept (map lane_value lanes) → later.id ≡ before.id
-    → ((number : ℕ) → now before.id number ≤ attached_as number later) → ((lane number : ℕ) → (before.id ≡ lane → ⊥) → now lane number ≡ kept lane number) → LanesFit now (map lane_value (set lanes n later))
-lanes_after kept now lanes n before later within is fits same most others =
+pub lanes_after : (dispatch : ℕ) (kept now : ℕ → ℕ → ℕ) (lanes : List Lane) (n : ℕ) (before later : Lane) → n < length lanes → before ≡ get_or lanes n before → LanesFit dispatch kept (map lane_value lanes) → later.id ≡ before.id → later.default ≡ before.default
+    → ((number : ℕ) → now before.id number ≤ attached_as number later) → ((lane number : ℕ) → (before.id ≡ lane → ⊥) → now lane number ≡ kept lane number) → LanesFit dispatch now (map lane_value (set lanes n later))
+lanes_after dispatch kept now lanes n before later within is fits same own most others =
     let ls = map lane_value lanes in
     let ls' = map lane_value (set lanes n later) in
     let at = lane_seen lanes n before within is in
@@ -89,15 +91,35 @@ lanes_after kept now lanes n before later within is fits same most others =
                 let w = ap (λ (l : LaneValue). count_by (λ item. item.0 == number) l.live) (there m other) in
                 omega (arith, k, f, w, q))
           ]);
+      served = λ m below. elim (cases_eq m n) [
+        | inl e ↦ ap (λ (k : ℕ). (lane_at ls' k).default) e ∙ ap (λ (l : LaneValue). l.default) here ∙ own ∙ ap (λ (l : LaneValue). l.default) (sym at) ∙ fits.served n inside
+        | inr other ↦ ap (λ (l : LaneValue). l.default) (there m other) ∙ fits.served m (omega (arith, below, counts))
+      ];
     }
 
+-- a lane is served by the pipeline's subscriber
+pub lane_served : (dispatch : ℕ) (kept : ℕ → ℕ → ℕ) (lanes : List Lane) (n : ℕ) (before : Lane) → n < length lanes → before ≡ get_or lanes n before → LanesFit dispatch kept (map lane_value lanes) → before.default ≡ Some dispatch
+lane_served dispatch kept lanes n before within is fits =
+    ap (λ (l : LaneValue). l.default) (sym (lane_seen lanes n before within is)) ∙ fits.served n (let k = length-map lanes lane_value in omega (arith, within, k))
+
+-- what holds of a subscriber holds of the own one of a lane that it serves
+pub has_own : {S : Type 0} (P : S → Type 0) (world : Worlds S) (dispatch : ℕ) (own : Option ℕ) → own ≡ Some dispatch → Has P world dispatch → HasIf P world (dispatch_on own world.global)
+has_own P world dispatch own is has = subst (λ (o : Option ℕ). HasIf P world (dispatch_on o world.global)) (sym is) has
+
+-- and of each number that is its own one's
+pub own_has : {S : Type 0} (P : S → Type 0) (world : Worlds S) (dispatch : ℕ) (own : Option ℕ) → own ≡ Some dispatch → Has P world dispatch → (d : ℕ) → own ≡ Some d → Has P world d
+own_has P world dispatch own is has d same = subst (λ (n : ℕ). Has P world n) (let one : ◌≡◌ {A = Option ℕ} (Some dispatch) (Some d) = sym is ∙ same in cc one) has
+
+pub own_there : {S : Type 0} (world : Worlds S) (dispatch : ℕ) (own : Option ℕ) → own ≡ Some dispatch → dispatch < length world.subscribers → IsOwn world own
+own_there world dispatch own is there = subst (λ (o : Option ℕ). IsOwn world o) (sym is) there
+
 -- where a call keeps what it attached
-pub lanes_step : (kept now : ℕ → ℕ → ℕ) (lanes : List Lane) (n : ℕ) (before later : Lane) → n < length lanes → before ≡ get_or lanes n before → LanesFit kept (map lane_value lanes) → later.id ≡ before.id → KeepsAttached kept before later now
-    → LanesFit now (map lane_value (set lanes n later))
-lanes_step kept now lanes n before later within is fits same keeps = lanes_after kept now lanes n before later within is fits same
+pub lanes_step : (dispatch : ℕ) (kept now : ℕ → ℕ → ℕ) (lanes : List Lane) (n : ℕ) (before later : Lane) → n < length lanes → before ≡ get_or lanes n before → LanesFit dispatch kept (map lane_value lanes) → later.id ≡ before.id → later.default ≡ before.default → KeepsAttached kept before later now
+    → LanesFit dispatch now (map lane_value (set lanes n later))
+lanes_step dispatch kept now lanes n before later within is fits same own keeps = lanes_after dispatch kept now lanes n before later within is fits same own
     (λ number. (
     let k = keeps before.id number in
-    let still = are_attached kept lanes n before within is fits number in
+    let still = are_attached dispatch kept lanes n before within is fits number in
     let a = cond-true {A = ℕ} (before.id == before.id) (attached_as number before) 0 (eq-eqb before.id before.id refl) in
     let b = cond-true {A = ℕ} (later.id == before.id) (attached_as number later) 0 (eq-eqb later.id before.id same) in
     omega (arith, k, still, a, b)))
@@ -106,6 +128,9 @@ lanes_step kept now lanes n before later within is fits same keeps = lanes_after
     let a = cond-false {A = ℕ} (before.id == lane) (attached_as number before) 0 (ne_eqb before.id lane apart) in
     let b = cond-false {A = ℕ} (later.id == lane) (attached_as number later) 0 (ne_eqb later.id lane (λ e. apart (sym same ∙ e))) in
     omega (arith, k, a, b)))
+
+pub own_lane : {S : Type 0} (spans : S → Spans) (views : Views S) (kept : S → ℕ → ℕ → ℕ) (is_whole : S → Type 0) (parts : Parts S) → IsKept spans views kept is_whole parts → (n : ℕ) (before : Lane) → n < length parts.lanes → before ≡ get_or parts.lanes n before → before.default ≡ Some parts.dispatch
+own_lane spans views kept is_whole parts inv n before within is = lane_served parts.dispatch (kept_in kept parts.world parts.dispatch) parts.lanes n before within is inv.lanes
 
 module _ {S : Type 0} (spans : S → Spans) (views : Views S) (attaches : S → Bool) (kept : S → ℕ → ℕ → ℕ) (is_whole : S → Type 0) where
   abbrev pub AlikeOn : Worlds S → Worlds S → ℕ → Scope → Type 0
@@ -145,9 +170,9 @@ module _ {S : Type 0} (spans : S → Spans) (views : Views S) (attaches : S → 
         there = (let c = alike.count in let b = inv.there in omega (arith, on, c, b));
         alone = alike.count ∙ inv.alone;
         whole = subst (λ (d : ℕ). Has is_whole next.world d) (sym on) (alike.whole inv.whole);
-        lanes = subst (λ (d : ℕ). LanesFit (kept_in kept next.world d) (map lane_value next.lanes)) (sym on)
-            (subst (λ (ls : List LaneValue). LanesFit (kept_in kept next.world parts.dispatch) ls) (sym (ap (λ (k : State). k.lanes) same))
-            (subst (λ (f : ℕ → ℕ → ℕ). LanesFit f (map lane_value parts.lanes)) (sym alike.kept_same) inv.lanes));
+        lanes = subst (λ (d : ℕ). LanesFit d (kept_in kept next.world d) (map lane_value next.lanes)) (sym on)
+            (subst (λ (ls : List LaneValue). LanesFit parts.dispatch (kept_in kept next.world parts.dispatch) ls) (sym (ap (λ (k : State). k.lanes) same))
+            (subst (λ (f : ℕ → ℕ → ℕ). LanesFit parts.dispatch f (map lane_value parts.lanes)) (sym alike.kept_same) inv.lanes));
         tables = inv.tables;
         stands = subst (λ (k : State). StandsFor k inv.tables) (sym same) inv.stands;
       }
@@ -179,7 +204,7 @@ module _ {S : Type 0} (spans : S → Spans) (views : Views S) (attaches : S → 
         its_alike.4,
         its_rest.0,
         its_rest.1,
-        lanes_same parts.lanes n before later within seen_is (same_lane before later lane.id lane.live),
+        lanes_same parts.lanes n before later within seen_is (same_lane before later lane.id lane.default lane.live),
         ids_same parts.lanes n before later within seen_is lane.id,
         names_same parts.lanes n before later within seen_is lane.name,
         guards_same,

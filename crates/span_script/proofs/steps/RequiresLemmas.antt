@@ -76,4 +76,4 @@ module _ {S : Type 0} (spans : S → Spans) (views : Views S) (kept : S → ℕ 
 
     pub exit_still : (h : Handle) → slot_at parts.handles g.handle ≡ Some h → (n : ℕ) (before : Lane) → n < length parts.lanes → before ≡ get_or parts.lanes n before → HasOn (λ s id. AreAttached (kept s) before) parts.world h.held
     exit_still h there n before within seen = has_on (λ s id. AreAttached (kept s) before) parts.world parts.dispatch open_is.at.scope h.held (sym (guard_entry h there) ∙ entry_is)
-        (λ s up e. has_by kept (λ lane number. 0) parts.world parts.dispatch (λ (f : ℕ → ℕ → ℕ). AreAttached f before) (are_attached (kept_in kept parts.world parts.dispatch) parts.lanes n before within seen inv.lanes))
+        (λ s up e. has_by kept (λ lane number. 0) parts.world parts.dispatch (λ (f : ℕ → ℕ → ℕ). AreAttached f before) (are_attached parts.dispatch (kept_in kept parts.world parts.dispatch) parts.lanes n before within seen inv.lanes))

@@ -68,12 +68,12 @@ all_same k next contexts setup attaches lanes tokens fit =
 -- what is kept besides what fits the tables
 pub kept_served : {S : Type 0} (spans : S → Spans) (views : Views S) (kept : S → ℕ → ℕ → ℕ) (is_whole : S → Type 0) (parts next : Parts S) (inv : IsKept spans views kept is_whole parts) (resolved : Resolved) (answer : Reply)
     → Served resolved inv.tables (state_of spans views parts) (state_of spans views next) answer → next.dispatch ≡ parts.dispatch → length next.world.subscribers ≡ length parts.world.subscribers
-    → (Has is_whole parts.world parts.dispatch → Has is_whole next.world parts.dispatch) → LanesFit (kept_in kept next.world parts.dispatch) (map lane_value next.lanes) → IsKept spans views kept is_whole next
+    → (Has is_whole parts.world parts.dispatch → Has is_whole next.world parts.dispatch) → LanesFit parts.dispatch (kept_in kept next.world parts.dispatch) (map lane_value next.lanes) → IsKept spans views kept is_whole next
 kept_served spans views kept is_whole parts next inv resolved answer served dispatch count whole lanes = record {
   there = (let b = inv.there in omega (arith, b, dispatch, count));
   alone = count ∙ inv.alone;
   whole = subst (λ (d : ℕ). Has is_whole next.world d) (sym dispatch) (whole inv.whole);
-  lanes = subst (λ (d : ℕ). LanesFit (kept_in kept next.world d) (map lane_value next.lanes)) (sym dispatch) lanes;
+  lanes = subst (λ (d : ℕ). LanesFit d (kept_in kept next.world d) (map lane_value next.lanes)) (sym dispatch) lanes;
   tables = after_effect inv.tables served.effect;
   stands = served.stands;
 }
@@ -100,12 +100,13 @@ module _ {S : Type 0} (spans : S → Spans) (views : Views S) (attaches : S → 
   call_whole [] call same has = subst (λ (w : Worlds S). Has is_whole w parts.dispatch) (sym same) has
   call_whole (s ∷ up) call shown has = shown.0.whole has
 
-  pub call_lanes : (line : Scope) (call : ℕ → SubscriberCall) (before later : Lane) → ((s : ℕ) (b : Bool) (f g : ℕ → ℕ → ℕ) → Lanes b f (call s) g → (later.id ≡ before.id) × (later.name ≡ before.name) × KeepsAttached f before later g)
+  pub call_lanes : (line : Scope) (call : ℕ → SubscriberCall) (before later : Lane) → ((s : ℕ) (b : Bool) (f g : ℕ → ℕ → ℕ) → Lanes b f (call s) g → (later.id ≡ before.id) × (later.name ≡ before.name) × (later.default ≡ before.default) × KeepsAttached f before later g)
       → (line ≡ [] → later ≡ before) → ShownOn spans views attaches kept is_whole parts.world new parts.dispatch line call
-      → (later.id ≡ before.id) × (later.name ≡ before.name) × KeepsAttached (kept_in kept parts.world parts.dispatch) before later (kept_in kept new parts.dispatch)
+      → (later.id ≡ before.id) × (later.name ≡ before.name) × (later.default ≡ before.default) × KeepsAttached (kept_in kept parts.world parts.dispatch) before later (kept_in kept new parts.dispatch)
   call_lanes [] call before later step none same = (
     ap (λ (l : Lane). l.id) (none refl),
     ap (λ (l : Lane). l.name) (none refl),
+    ap (λ (l : Lane). l.default) (none refl),
     subst (λ (w : Worlds S). KeepsAttached (kept_in kept parts.world parts.dispatch) before later (kept_in kept w parts.dispatch)) (sym same) (subst (λ (l : Lane). KeepsAttached (kept_in kept parts.world parts.dispatch) before l (kept_in kept parts.world parts.dispatch)) (sym (none refl)) (λ l n. refl)),
   )
   call_lanes (s ∷ up) call before later step none shown = step s _ _ _ shown.0.lanes

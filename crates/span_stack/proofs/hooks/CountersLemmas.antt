@@ -1,7 +1,7 @@
 -- What the calls of a layer that may count events make of what it keeps.
 use Rattle.std.proofs.Common.{◌≡◌, ℕ, List, [], ◌∷◌, length, Bool, true, false, Option, Some, None, refl, sym, ap, ◌∙◌, inl, inr, ◌==◌}
 use Rattle.std.specs.Option.{option_map}
-use Rattle.span_stack.proofs.Common.{cases_Bool, cases_eq, cond-true, cond-false, RecorderValue, Callsite, Lane, Worlds, Hook, OnEvent, Spans, next_of, span_at, entries_on, place_on, SubscriberCall, NewSpan, Records, Follows, Event, Enter, Exit, CloneSpan, TryClose, spans_after_call, Allowed, Layered, DoesBoth, InStep, both_allowed, both_shows, Replaced, member_of, Chain, ended, closes, no_spans, Core, CoreWithRoom, seen_in, PartCall, Applies, Shows, Touches, data_at, update, Recording, recording_of, no_recording, RecordsCall, RecordsChain, RecordsPart, FilterState, FilterWithRoom, plain, enables_in, Telemetry, core_with_room_of, core_of, counter_of, events_by, with_counted, with_event_by, RecordsCallBy}
+use Rattle.span_stack.proofs.Common.{cases_Bool, cases_eq, cond-true, cond-false, RecorderValue, Callsite, Lane, Worlds, Hook, OnEvent, Spans, next_of, span_at, entries_on, place_on, SubscriberCall, NewSpan, Records, Follows, Event, Enter, Exit, CloneSpan, TryClose, spans_after_call, Allowed, Layered, DoesBoth, InStep, both_allowed, both_shows, Replaced, member_of, Chain, ended, closes, no_spans, Core, CoreWithRoom, seen_in, PartCall, Applies, Shows, Touches, data_at, update, Recording, recording_of, no_recording, RecordsCall, RecordsChain, RecordsPart, FilterState, FilterWithRoom, plain, enables_in, FilteredOpenTelemetryLayer, events_by, with_counted, with_event_by, RecordsCallBy}
 use Rattle.otel_base.specs.Recorder.{Records as RecordsBy}
 use Rattle.trace_base.specs.declared.field.ValueSet.{ValueSet}
 use Rattle.span_registry.specs.Registering.{RegistryValue, DoesRegistry}
@@ -10,9 +10,9 @@ use Rattle.otel_state.specs.fields.EventFields.{event_of}
 use Rattle.otel_state.specs.States.{SpanData, after_op}
 use Rattle.otel_layer.specs.Counting.{after_counted, IsNoEvent, hook_any}
 use Rattle.otel_layer.specs.Steps.{SameCore, DoesHook, Step, all_events}
-use Rattle.otel_layer.proofs.Finding.{told_at_next}
-use Rattle.otel_layer.proofs.Recalling.{room_recording, start_recording}
-use Rattle.otel_layer.proofs.Replaying.{layered_recording, chain_recording}
+use Rattle.otel_layer.proofs.FoundSpanLemmas.{told_at_next}
+use Rattle.otel_layer.proofs.RecordingHooksLemmas.{room_recording, start_recording}
+use Rattle.otel_layer.proofs.RecordingCallsLemmas.{layered_recording, chain_recording}
 
 -- ---- events
 
@@ -58,22 +58,25 @@ event_hook o c reached lane at callsite values d h =
 
 -- ---- the layer over the registry
 
+abbrev pub Layers : Type 0
+Layers = FilteredOpenTelemetryLayer RecorderValue FilterWithRoom
+
 abbrev pub Base : Type 0
-Base = Layered (Telemetry RecorderValue FilterWithRoom) RegistryValue
+Base = Layered Layers RegistryValue
 
-abbrev hooks_of : Telemetry RecorderValue FilterWithRoom → Hook → Telemetry RecorderValue FilterWithRoom → Type 0
-hooks_of l hook m = DoesHook RecordsBy (events_by enables (counter_of l)) (core_of l) hook (core_of m) × (counter_of m ≡ counter_of l)
+abbrev hooks_of : Layers → Hook → Layers → Type 0
+hooks_of l hook m = DoesHook RecordsBy (events_by enables l.filter) l.inner.core hook m.inner.core × (m.filter ≡ l.filter)
 
-abbrev room_of : Telemetry RecorderValue FilterWithRoom → Telemetry RecorderValue FilterWithRoom → Type 0
-room_of l m = SameCore RecordsBy (core_of l) (core_of m) × (counter_of m ≡ counter_of l)
+abbrev room_of : Layers → Layers → Type 0
+room_of l m = SameCore RecordsBy l.inner.core m.inner.core × (m.filter ≡ l.filter)
 
-abbrev active : Telemetry RecorderValue FilterWithRoom → Bool
-active l = (core_of l).settings.activation
+abbrev active : Layers → Bool
+active l = l.inner.core.settings.activation
 
 abbrev spans_of : RegistryValue → Spans
 spans_of s = s.spans
 
-abbrev Does : RegistryValue → Telemetry RecorderValue FilterWithRoom → SubscriberCall → RegistryValue → Telemetry RecorderValue FilterWithRoom → Type 0
+abbrev Does : RegistryValue → Layers → SubscriberCall → RegistryValue → Layers → Type 0
 Does s l call t m = DoesBoth spans_of DoesRegistry hooks_of room_of active s l call t m
 
 -- the same as of a layer that counts none
@@ -99,10 +102,10 @@ IsQuiet (Exit id at before later) = Unit {0}
 IsQuiet (CloneSpan id) = Unit {0}
 IsQuiet (TryClose id at) = Unit {0}
 
-as_plain : (l : Telemetry RecorderValue FilterWithRoom) (hook : Hook) (m : Telemetry RecorderValue FilterWithRoom) → IsNoEvent hook → hooks_of l hook m → plain_hooks (core_with_room_of l) hook (core_with_room_of m)
-as_plain l hook m quiet h = hook_any RecordsBy (events_by enables (counter_of l)) all_events (core_of l) hook (core_of m) quiet h.0
+as_plain : (l : Layers) (hook : Hook) (m : Layers) → IsNoEvent hook → hooks_of l hook m → plain_hooks l.inner hook m.inner
+as_plain l hook m quiet h = hook_any RecordsBy (events_by enables l.filter) all_events l.inner.core hook m.inner.core quiet h.0
 
-does_plain : (s : RegistryValue) (l : Telemetry RecorderValue FilterWithRoom) (call : SubscriberCall) (t : RegistryValue) (m : Telemetry RecorderValue FilterWithRoom) → IsQuiet call → Does s l call t m → PlainDoes s (core_with_room_of l) call t (core_with_room_of m)
+does_plain : (s : RegistryValue) (l : Layers) (call : SubscriberCall) (t : RegistryValue) (m : Layers) → IsQuiet call → Does s l call t m → PlainDoes s l.inner call t m.inner
 does_plain s l (Event lane at place site callsite values) t m quiet d = absurd quiet
 does_plain s l (NewSpan lane at place site callsite values) t m quiet d = (d.0, as_plain l _ m tt d.1)
 does_plain s l (Records id at callsite values) t m quiet d = (d.0, as_plain l _ m tt d.1)
@@ -119,20 +122,20 @@ abbrev pub BaseDoes : Base → SubscriberCall → Base → Type 0
 BaseDoes s call t = Does s.inner s.layer call t.inner t.layer
 
 abbrev pub base_recorded : Base → Recording
-base_recorded s = recording_of (core_of s.layer)
+base_recorded s = recording_of s.layer.inner.core
 
 abbrev pub base_counter : Base → Option FilterState
-base_counter s = plain_counter (counter_of s.layer)
+base_counter s = plain_counter s.layer.filter
 
 abbrev as_layered : Base → Layered (CoreWithRoom RecorderValue) RegistryValue
-as_layered s = record { layer = core_with_room_of s.layer; inner = s.inner }
+as_layered s = record { layer = s.layer.inner; inner = s.inner }
 
 quiet_records : (s : Base) (call : SubscriberCall) (t : Base) → IsQuiet call → BaseDoes s call t → RecordsCall (base_spans s) (base_recorded s) call (base_recorded t)
 quiet_records s call t quiet d = layered_recording (as_layered s) call (as_layered t) (does_plain s.inner s.layer call t.inner t.layer quiet d)
 
 pub base_records : (s : Base) (call : SubscriberCall) (t : Base) → BaseDoes s call t → RecordsCallBy (base_counter s) (base_spans s) (base_recorded s) call (base_recorded t)
 base_records s (Event lane at place site callsite values) t d =
-    event_hook (counter_of s.layer) (core_of s.layer) (place_on (entries_on lane.id s.inner.spans.lanes) place) lane at callsite values (core_of t.layer) d.1.0
+    event_hook s.layer.filter s.layer.inner.core (place_on (entries_on lane.id s.inner.spans.lanes) place) lane at callsite values t.layer.inner.core d.1.0
 base_records s (NewSpan lane at place site callsite values) t d = quiet_records s (NewSpan lane at place site callsite values) t tt d
 base_records s (Records id at callsite values) t d = quiet_records s (Records id at callsite values) t tt d
 base_records s (Follows id from at) t d = quiet_records s (Follows id from at) t tt d
@@ -142,7 +145,7 @@ base_records s (CloneSpan id) t d = quiet_records s (CloneSpan id) t tt d
 base_records s (TryClose id at) t d = quiet_records s (TryClose id at) t tt d
 
 -- the filter that counts stays
-pub base_counts : (s : Base) (call : SubscriberCall) (t : Base) → BaseDoes s call t → counter_of t.layer ≡ counter_of s.layer
+pub base_counts : (s : Base) (call : SubscriberCall) (t : Base) → BaseDoes s call t → t.layer.filter ≡ s.layer.filter
 base_counts s (Event lane at place site callsite values) t d = d.1.1
 base_counts s (NewSpan lane at place site callsite values) t d = d.1.1
 base_counts s (Records id at callsite values) t d = d.1.1
@@ -182,13 +185,13 @@ abbrev pub base_room : Base → Base → Type 0
 base_room s t = (t.inner ≡ s.inner) × room_of s.layer t.layer
 
 pub base_same : (s t : Base) → base_room s t → base_recorded t ≡ base_recorded s
-base_same s t h = room_recording (core_of s.layer) (core_of t.layer) h.1.0
+base_same s t h = room_recording s.layer.inner.core t.layer.inner.core h.1.0
 
 pub counter_same : (s t : Base) → base_room s t → base_counter t ≡ base_counter s
 counter_same s t h = ap (λ (o : Option FilterWithRoom). plain_counter o) h.1.1
 
-pub base_next : (s : Base) → InStep s.inner.spans (seen_in (core_of s.layer)) → data_at (length (base_spans s).made) (base_recorded s).spans ≡ None
-base_next s step = told_at_next (length s.inner.spans.made) (core_of s.layer).spans (step.made (length s.inner.spans.made))
+pub base_next : (s : Base) → InStep s.inner.spans (seen_in s.layer.inner.core) → data_at (length (base_spans s).made) (base_recorded s).spans ≡ None
+base_next s step = told_at_next (length s.inner.spans.made) s.layer.inner.core.spans (step.made (length s.inner.spans.made))
 
 pub base_part : (c : Core RecorderValue) (call : PartCall) (d : Core RecorderValue) → Touches RecordsBy c call d → RecordsPart (recording_of c) call (recording_of d)
 base_part c (Applies id at op answer) d h = (h.1, ap recording_of h.2)

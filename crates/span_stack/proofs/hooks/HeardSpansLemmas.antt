@@ -3,7 +3,7 @@ use Rattle.std.proofs.Common.{◌≡◌, ℕ, List, [], ◌∷◌, Bool, false, 
 use Rattle.std.specs.Option.{option_map}
 use Rattle.span_stack.proofs.Common.{cases_eq, Worlds, Spans, span_at, SubscriberCall, NewSpan, Records, Follows, Event, Enter, Exit, CloneSpan, TryClose, spans_after_call, Allowed, Lanes, Hook, LeavesLanes, Layered, DoesBoth, both_allowed, both_shows, HearsCall, Replaced, Chain, member_of, no_spans, closed_in, seen_before, seen_later, Layer, FilterState, FilterWithRoom, plain, span_level, DoesFilter, Both, layer_or, Steps, over_hears, step_in_place, does_in_place, same_in_place, in_place}
 use Rattle.std.proofs.lemmas.Bool.{eq-eqb, ne_eqb}
-use Rattle.span_handles.proofs.Telling.{told_world}
+use Rattle.span_handles.proofs.ToldClosesLemmas.{told_world}
 use Rattle.env_filter.specs.spans.Keyed.{put}
 use Rattle.env_filter.specs.spans.Kept.{with_open_level, without_open_level}
 use Rattle.span_stack.specs.Filtered.{without_span, filter_after, FiltersChain}

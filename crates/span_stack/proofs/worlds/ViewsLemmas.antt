@@ -56,9 +56,6 @@ along_two P {a} {a'} {b} {b'} e f h = subst (P a') f (subst (λ x. P x b) e h)
 pub kept_place : {S A : Type 0} {R : S → S → Type 0} (read : S → A) (none : A) → ((s t : S) → R s t → read t ≡ read s) → (old new : Worlds S) (dispatch : ℕ) → Replaced R old new dispatch → member_of read none new dispatch ≡ member_of read none old dispatch
 kept_place {S} {A} {R} read none keeps old new dispatch r = seen_later R old new dispatch r read none ∙ keeps r.before r.later r.did ∙ sym (seen_before R old new dispatch r read none)
 
-pub below_at : {L S : Type 0} (world : Worlds (Layered L S)) (dispatch : ℕ) (s : Layered L S) → slice_get world.subscribers dispatch ≡ Some s → slice_get (below world).subscribers dispatch ≡ Some s.inner
-below_at {L} {S} world dispatch s there = slice_get-map inner_of world.subscribers dispatch ∙ ap (λ (o : Option (Layered L S)). option_map inner_of o) there
-
 -- what a change of a subscriber leaves, if it leaves it of each
 pub leave_alike : {S : Type 0} (spans : S → Spans) (attaches : S → Bool) (kept : S → ℕ → ℕ → ℕ) (is_whole : S → Type 0) (change : S → S)
     → ((s : S) → spans (change s) ≡ spans s) → ((s : S) → attaches (change s) ≡ attaches s) → ((s : S) → kept (change s) ≡ kept s) → ((s : S) → is_whole s → is_whole (change s))

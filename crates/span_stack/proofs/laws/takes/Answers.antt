@@ -1,8 +1,8 @@
 -- A record is all that is gone.
-use Rattle.std.proofs.Common.{◌≡◌, ℕ, ◌+◌, Bool, false, refl, ap, sym, subst, None, ◌||◌, ◌&&◌}
-use Rattle.span_stack.proofs.Common.{KnownSpans, InStep, no_recording, layer_or, none_kept, stack_recording, counts_by, stack_interest, without_first}
+use Rattle.std.proofs.Common.{refl, ap, None}
+use Rattle.span_stack.proofs.Common.{no_recording, stack_recording, counts_by, stack_interest, without_first}
 use Rattle.span_stack.proofs.worlds.FreshInterestsLemmas.{fresh_later}
-use Rattle.span_stack.proofs.hooks.TakenRecordsLemmas.{one_less, taken_recorded, taken_counts_by, active_left, kept_left, seen_left, whole_left}
+use Rattle.span_stack.proofs.hooks.TakenRecordsLemmas.{one_less, taken_recorded, taken_counts_by, whole_left}
 use Rattle.span_stack.proofs.worlds.ViewsLemmas.{leave_alike, kept_place, read_two}
 use Rattle.span_stack.proofs.laws.takes.Goals as goal
 
@@ -16,16 +16,14 @@ pub returns-clause-current : goal.returns-clause-current
 returns-clause-current c = λ old new dispatch r. fresh_later stack_interest _ (λ s t e. ap stack_interest e) old new dispatch r
 
 pub returns-clause-others : goal.returns-clause-others
-returns-clause-others c = λ old new dispatch r. leave_alike _ _ _ _ without_first (λ s. refl)
-    (λ s. ap (λ (b : Bool). layer_or false (λ _. false) s.layer.inner || (b || false)) (active_left s.inner.inner.layer))
-    (λ s. (let upon : (ℕ → ℕ → ℕ) → ℕ → ℕ → ℕ = λ k lane number. layer_or none_kept (λ _ lane number. 0) s.layer.inner lane number + (0 + (k lane number + 0)) in ap upon (kept_left s.inner.inner.layer)))
+returns-clause-others c = λ old new dispatch r. leave_alike _ _ _ _ without_first (λ s. refl) (λ s. refl) (λ s. refl)
     (λ s w. record {
       inner = record {
         inner = record {
           inner = w.inner.inner.inner;
           outer = whole_left s.inner.inner.layer w.inner.inner.outer;
-          in_step = subst (λ (x : KnownSpans). InStep s.inner.inner.inner.spans x) (sym (seen_left s.inner.inner.layer)) w.inner.inner.in_step;
-          one_attaches = subst (λ (b : Bool). (b && false) ≡ false) (sym (active_left s.inner.inner.layer)) w.inner.inner.one_attaches;
+          in_step = w.inner.inner.in_step;
+          one_attaches = w.inner.inner.one_attaches;
         };
         outer = w.inner.outer;
         in_step = w.inner.in_step;
@@ -33,5 +31,5 @@ returns-clause-others c = λ old new dispatch r. leave_alike _ _ _ _ without_fir
       };
       outer = w.outer;
       in_step = w.in_step;
-      one_attaches = subst (λ (b : Bool). (layer_or false (λ _. false) s.layer.inner && (b || false)) ≡ false) (sym (active_left s.inner.inner.layer)) w.one_attaches;
+      one_attaches = w.one_attaches;
     }) old new dispatch r

@@ -1,7 +1,6 @@
 -- The entry.
 use Rattle.std.proofs.Common.{rules, ◌∙◌, refl, sym, ap, Err}
 use Rattle.std.proofs.lemmas.Bool.{true≢false}
-use Rattle.span_stack.specs.Counters.{core_of}
 use Rattle.span_pipeline.proofs.Common.{needs_known, needs_whole, needs_few, refused_kept, refused_state, within_view, refuses_unknown, by_view_opens, by_view_opens_refused, serves_entered, keeps_entered, serves_refusal, parts_of}
 use Rattle.span_script.proofs.entries.FullLanesLemmas.{layer_activates, filtered_activates, meets_not, refuses_entry}
 use Rattle.span_pipeline.proofs.pipeline.Pipeline.enter.Goals as goal
@@ -25,7 +24,7 @@ invariant_of-self-in-Err c = refused_kept _ _ _ _ _ _ c.same.ensures (parts_of c
 pub returns-in-Err : goal.returns-in-Err
 returns-in-Err c = record {
   ok = (search rules);
-  refused = λ t stands no. by_view_opens_refused c.args.at c.args.place c.args.handle c.args.owns _ _ _ c.self.view_is (λ t stands. refuses_entry _ _ _ _ _ (λ s id known. filtered_activates s.layer.inner _ _ _ (layer_activates (core_of s.inner.inner.layer).settings.activation id (core_of s.inner.inner.layer).spans known)) (parts_of c.self.inside) c.args.at c.args.place c.index_mut.result.now (within_view _ _ c.self.inside.lanes.items c.args.place c.self.view_is refl c.requires) c.index_mut.ensures.value c.args.handle c.in-Some.span.now (search rules) c.self.invariant c.args.owns c.in-Err.error c.of_entry.result c.of_entry.ensures (λ e. c.in-Err.ensures.full (ap (λ x. Err x) e)) no t stands) t stands;
+  refused = λ t stands no. by_view_opens_refused c.args.at c.args.place c.args.handle c.args.owns _ _ _ c.self.view_is (λ t stands. refuses_entry _ _ _ _ _ (λ s id known. filtered_activates s.layer.inner _ _ _ (layer_activates s.inner.inner.layer.inner.core.settings.activation id s.inner.inner.layer.inner.core.spans known)) (parts_of c.self.inside) c.args.at c.args.place c.index_mut.result.now (within_view _ _ c.self.inside.lanes.items c.args.place c.self.view_is refl c.requires) c.index_mut.ensures.value c.args.handle c.in-Some.span.now (search rules) c.self.invariant c.args.owns c.in-Err.error c.of_entry.result c.of_entry.ensures (λ e. c.in-Err.ensures.full (ap (λ x. Err x) e)) no t stands) t stands;
   err = refused_state _ _ _ _ _ _ c.same.ensures (parts_of c.self.inside) c.open_entry.new.world c.self.invariant c.args.handle c.in-Some.span.now (search rules) c.in-Err.ensures.leaves
       c.args.place c.index_mut.result.now c.open_entry.new.lane (within_view _ _ c.self.inside.lanes.items c.args.place c.self.view_is refl c.requires) c.index_mut.ensures.value c.in-Err.ensures.lane_leaves c.reserve_for.new.self.items (search rules) c.reserve.new.self.items (search rules) ∙ c.self.view_is;
   room = (search rules);
@@ -33,8 +32,8 @@ returns-in-Err c = record {
 
 pub invariant_of-self-2 : goal.invariant_of-self-2
 invariant_of-self-2 c = keeps_entered _ _ _ _ _ (parts_of c.self.inside) c.open_entry.new.world _ c.calls.ensures c.args.at c.args.place c.index_mut.result.now c.open_entry.new.lane (within_view _ _ c.self.inside.lanes.items c.args.place c.self.view_is refl c.requires) c.index_mut.ensures.value
-    c.args.handle c.len-guard.result c.args.owns c.in-Some.span.now c.in-Ok.entry c.keep.new.self.items (search rules) c.in-Ok.ensures.value (search rules) (search rules) (record { contexts = c.self.inside.contexts.made.items; attaches = c.skip.new.self.items }) refl (search rules) c.in-Ok.ensures.did c.in-Ok.ensures.none c.self.invariant (λ t stands line there is. meets_not _ _ _ _ _ (λ s id known. filtered_activates s.layer.inner _ _ _ (layer_activates (core_of s.inner.inner.layer).settings.activation id (core_of s.inner.inner.layer).spans known)) (parts_of c.self.inside) c.args.at c.args.place c.index_mut.result.now (within_view _ _ c.self.inside.lanes.items c.args.place c.self.view_is refl c.requires) c.index_mut.ensures.value c.args.handle c.in-Some.span.now (search rules) c.self.invariant t stands line there is (λ meets. true≢false (sym (c.in-Ok.ensures.full_refused meets))))
+    c.args.handle c.len-guard.result c.args.owns c.in-Some.span.now c.in-Ok.entry c.keep.new.self.items (search rules) c.in-Ok.ensures.value (search rules) (search rules) (record { contexts = c.self.inside.contexts.made.items; attaches = c.skip.new.self.items }) refl (search rules) c.in-Ok.ensures.did c.in-Ok.ensures.none c.self.invariant (λ t stands line there is. meets_not _ _ _ _ _ (λ s id known. filtered_activates s.layer.inner _ _ _ (layer_activates s.inner.inner.layer.inner.core.settings.activation id s.inner.inner.layer.inner.core.spans known)) (parts_of c.self.inside) c.args.at c.args.place c.index_mut.result.now (within_view _ _ c.self.inside.lanes.items c.args.place c.self.view_is refl c.requires) c.index_mut.ensures.value c.args.handle c.in-Some.span.now (search rules) c.self.invariant t stands line there is (λ meets. true≢false (sym (c.in-Ok.ensures.full_refused meets))))
 
 pub returns : goal.returns
 returns c = by_view_opens c.args.at c.args.place c.args.handle c.args.owns _ _ _ _ c.self.view_is (λ t stands. serves_entered _ _ _ _ _ (parts_of c.self.inside) c.open_entry.new.world _ c.calls.ensures c.args.at c.args.place c.index_mut.result.now c.open_entry.new.lane (within_view _ _ c.self.inside.lanes.items c.args.place c.self.view_is refl c.requires) c.index_mut.ensures.value
-    c.args.handle c.len-guard.result c.args.owns c.in-Some.span.now c.in-Ok.entry c.keep.new.self.items (search rules) c.in-Ok.ensures.value (search rules) (search rules) (record { contexts = c.self.inside.contexts.made.items; attaches = c.skip.new.self.items }) refl (search rules) c.in-Ok.ensures.did c.in-Ok.ensures.none c.self.invariant (λ t stands line there is. meets_not _ _ _ _ _ (λ s id known. filtered_activates s.layer.inner _ _ _ (layer_activates (core_of s.inner.inner.layer).settings.activation id (core_of s.inner.inner.layer).spans known)) (parts_of c.self.inside) c.args.at c.args.place c.index_mut.result.now (within_view _ _ c.self.inside.lanes.items c.args.place c.self.view_is refl c.requires) c.index_mut.ensures.value c.args.handle c.in-Some.span.now (search rules) c.self.invariant t stands line there is (λ meets. true≢false (sym (c.in-Ok.ensures.full_refused meets)))) t stands)
+    c.args.handle c.len-guard.result c.args.owns c.in-Some.span.now c.in-Ok.entry c.keep.new.self.items (search rules) c.in-Ok.ensures.value (search rules) (search rules) (record { contexts = c.self.inside.contexts.made.items; attaches = c.skip.new.self.items }) refl (search rules) c.in-Ok.ensures.did c.in-Ok.ensures.none c.self.invariant (λ t stands line there is. meets_not _ _ _ _ _ (λ s id known. filtered_activates s.layer.inner _ _ _ (layer_activates s.inner.inner.layer.inner.core.settings.activation id s.inner.inner.layer.inner.core.spans known)) (parts_of c.self.inside) c.args.at c.args.place c.index_mut.result.now (within_view _ _ c.self.inside.lanes.items c.args.place c.self.view_is refl c.requires) c.index_mut.ensures.value c.args.handle c.in-Some.span.now (search rules) c.self.invariant t stands line there is (λ meets. true≢false (sym (c.in-Ok.ensures.full_refused meets)))) t stands)

@@ -2,7 +2,7 @@
 use Rattle.std.proofs.Common.{Some, None}
 use Rattle.trace_base.specs.Gate.{Worlds}
 use Rattle.span_pipeline.proofs.Common.{Held, HasOn}
-use Rattle.span_pipeline.proofs.asked.context_any.Goals as goal
+use Rattle.span_pipeline.proofs.calls.contexts.context_any.Goals as goal
 
 has_on_both : {S : Type 0} (P Q : S → Type 0) → ((s : S) → P s → Q s) → (world : Worlds S) (held : Held) → HasOn (λ s id. P s) world held → HasOn (λ s id. Q s) world held
 has_on_both P Q all world None has = has
