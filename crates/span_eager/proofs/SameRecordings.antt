@@ -5,7 +5,7 @@ use Rattle.std.proofs.lemmas.Bool.{eq-eqb, eqb-true, true≢false}
 use Rattle.std.proofs.lemmas.List.{length-append}
 use Rattle.otel_base.specs.declared.record.SpanKind.{SpanKind}
 use Rattle.otel_state.specs.declared.op.Op.TheVariants as ops
-use Rattle.otel_layer.proofs.Finding.{told_at_removed}
+use Rattle.otel_layer.proofs.FoundSpanLemmas.{told_at_removed}
 use Rattle.span_eager.proofs.SameSpan.{Ids, SameTold, Quiet, op_by, told_by, early_ids, changed_alike, start_alike, made_alike, record_alike}
 use Rattle.span_eager.proofs.SameSpans.{SameSpans, SameAt, Below, same_at, same_later, same_update, update_same, same_push, next_unknown, unknown_by, pushed_told, pushed_update, same_remove, below_more, below_push, below_update, below_remove, updated_told, others_told}
 

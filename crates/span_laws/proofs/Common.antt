@@ -11,8 +11,8 @@ pub use Rattle.otel_base.specs.RecorderIds.{recorder_ids}
 pub use Rattle.otel_base.specs.declared.context.Context.{Context}
 pub use Rattle.otel_base.specs.declared.context.SpanContext.{SpanContext}
 pub use Rattle.otel_base.specs.declared.record.Record.{Record}
-pub use Rattle.trace_base.proofs.Entering.{any_if_counted, count_cons, count_push, counted_if_any, length_held, made_if_held}
-pub use Rattle.trace_base.proofs.Holding.{current_in, holds_other, holds_set, in_push, in_push_same, less_holds, times_without}
+pub use Rattle.trace_base.proofs.EntryLemmas.{any_if_counted, count_cons, count_push, counted_if_any, length_held, made_if_held}
+pub use Rattle.trace_base.proofs.HoldLemmas.{current_in, holds_other, holds_set, in_push, in_push_same, less_holds, times_without}
 pub use Rattle.trace_base.specs.Spans.{Span, Spans, current_of, entries_on, held_by_child, is_in, less_hold, next_of, no_span, place_on, span_at, times_in, with_hold, without_hold, without_last}
 pub use Rattle.trace_base.specs.declared.callsite.Callsite.{Callsite}
 pub use Rattle.trace_base.specs.declared.field.ValueSet.{ValueSet}
@@ -22,7 +22,7 @@ pub use Rattle.env_directives.specs.declared.env.directive.Directive.{Directive}
 pub use Rattle.env_filter.proofs.kept.StackedLemmas.{IsBefore, all_more, all_push, in_order, new_if}
 pub use Rattle.env_filter.specs.Filtering.{Each, FilterState, after_hook, enables_in, fresh, span_level}
 pub use Rattle.env_filter.specs.spans.Histories.{AreInOrder, IsNext, NeverFalls, is_close_of, is_ended, level_by_calls, levels_by_calls}
-pub use Rattle.otel_state.proofs.Summing.{appended, content_is, entries_is, own_is, parent_is}
+pub use Rattle.otel_state.proofs.SumLemmas.{appended, content_is, entries_is, own_is, parent_is}
 pub use Rattle.otel_state.specs.Content.{Making, attributes_of, closing_count, closing_times, content, counted_of}
 pub use Rattle.otel_state.specs.Deeds.{Deed, TimedOp, deed}
 pub use Rattle.otel_state.specs.Laws.{TellsTimes, was_entered}
@@ -35,7 +35,7 @@ pub use Rattle.otel_state.specs.declared.times.TheConstants.{GREATEST}
 pub use Rattle.otel_state.specs.fields.EventFields.{event_of}
 pub use Rattle.otel_state.specs.fields.FirstAttributes.{first_attributes}
 pub use Rattle.otel_state.specs.fields.SpanFields.{span_update}
-pub use Rattle.otel_layer.proofs.Finding.{told_at_made, told_at_op, told_at_removed}
+pub use Rattle.otel_layer.proofs.FoundSpanLemmas.{told_at_made, told_at_op, told_at_removed}
 pub use Rattle.otel_layer.specs.Recording.{Enters, Exits, Recording, RecordsCall, RecordsChain, RecordsPart, Stays, data_after, made_under, source_of, started_under, with_applied, with_close, with_entry, with_event, with_exit, with_follow, with_new_recorded, with_start, with_starts, without_closed}
 pub use Rattle.otel_layer.specs.Steps.{IfKnown, context_from, new_span_data, parent_source, with_link}
 pub use Rattle.otel_layer.specs.Table.{data_at, ids_at, is_id, knows_span, own_or, waits, waits_by, with_span_data}

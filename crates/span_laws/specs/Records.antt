@@ -57,18 +57,18 @@ closed_at h s = fold (λ at e. if is_in s e.closes then e.at else at) 0 h
 pub record Began (setup : Setup) (at : ℕ) (first : SpanData) (making : Making) : Type 0 where
   pub update : Update
   pub is : first ≡ after_op (data_at_making making) at (ops.Update update)
-  pub made : making.made ≡ at
+  pub made_at : making.made_at ≡ at
   pub tracked : making.inactivity ≡ setup.layer.inactivity
   pub counting_is : making.counting ≡ is_some setup.counting
 
 -- the making's update, and then the ops of a span
 abbrev pub all_ops : Making → Update → List TimedOp → List TimedOp
-all_ops making update done = record { at = making.made; op = ops.Update update } ∷ done
+all_ops making update done = record { at = making.made_at; op = ops.Update update } ∷ done
 
 -- A span's record is the content of its making, the making's update and its ops at a moment, none of its entries being open.
 -- Its own ids are those of a recorder for its place among the starts, under its parent.
 pub record IsRecord (making : Making) (update : Update) (done : SpanContext → List TimedOp) (place at : ℕ) (r : Record) : Type 0 where
-  pub in_order : MomentsRise making.made (all_ops making update (done r.context))
+  pub in_order : MomentsRise making.made_at (all_ops making update (done r.context))
   pub shut : open_by 0 (all_ops making update (done r.context)) ≡ 0
   pub is : r ≡ content making (all_ops making update (done r.context)) at
   pub started : 0 < place

@@ -9,7 +9,7 @@ ghost use Rattle.trace_eager.specs.Written.{answers_text, numbers_of, requests_o
 ghost use Rattle.trace_eager.specs.Renamed.{IsRenamed};
 
 /// What is written for request lines of which none is refused: for each line its reply and its records, and the end line.
-pub fn written()
+pub fn texts()
     ensures { (setup : Setup) (n : ℕ) (lines : List (List ℕ)) → (report_on signal.Traces setup [] n 0 lines).accepted ≡ true
         → (report_on signal.Traces setup [] n 0 lines).written
         ≡ answers_text 0 (numbers_of n lines) (answers setup (requests_of lines)) (outcome_of setup (requests_of lines)).left_open }
@@ -17,6 +17,6 @@ pub fn written()
 
 /// What is written for lines of which none is refused, and whose settings start spans early, is the text of the same script
 /// without that, with other ids, where that script may start them early.
-pub fn early()
+pub fn early_starts()
     ensures { (lines : List (List ℕ)) → accepts lines ≡ true → IsRenamed lines (report_from signal.Traces 0 lines).written }
 {}

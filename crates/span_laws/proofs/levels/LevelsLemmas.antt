@@ -6,7 +6,7 @@ use Rattle.std.proofs.lemmas.List.{append-nil}
 use Rattle.std.proofs.lemmas.List.Folds.{list_any-append}
 use Rattle.trace_base.specs.declared.level.LevelFilter.{LevelFilter}
 use Rattle.env_filter.proofs.kept.RisingLevelsLemmas.{level_rises, level_stays}
-use Rattle.env_filter.proofs.kept.ToldLevelsLemmas.{level_is_told, levels_are_told}
+use Rattle.env_filter.proofs.kept.ToldLevelsLemmas.{level_is_by_calls, levels_are_told}
 use Rattle.span_laws.specs.Levels.{level_in, directives_in, hooks_in, HasNoReload}
 use Rattle.span_laws.proofs.levels.HooksLemmas.{Hears, of_making, of_open, IsEndIn, heard_in_order, heard_before, heard_closed}
 use Rattle.span_laws.proofs.records.HistoriesLemmas.{fits, open_made, whole}
@@ -120,7 +120,7 @@ same_directives f all = ap (λ (x : FilterState). x.dynamics.directives) (fresh_
 -- ---- levels
 
 level_at : (setup : Setup) (t : Tables) (s : ℕ) → AreInOrder [] (map hook_of t.hooks) → span_level (filter_at setup t) s ≡ level_by_calls (text_filter (in_force setup t)).dynamics.directives s (map hook_of t.hooks)
-level_at setup t s order = level_is_told (filter_at setup t) (map hook_of t.hooks) s order (heard_fresh (in_force setup t) t.hooks)
+level_at setup t s order = level_is_by_calls (filter_at setup t) (map hook_of t.hooks) s order (heard_fresh (in_force setup t) t.hooks)
     ∙ ap (λ (ds : List Directive). level_by_calls ds s (map hook_of t.hooks)) (same_directives (text_filter (in_force setup t)) t.hooks)
 
 levels_at : (setup : Setup) (t : Tables) (lane : ℕ) → AreInOrder [] (map hook_of t.hooks) → (filter_at setup t).lanes lane ≡ levels_by_calls (text_filter (in_force setup t)).dynamics.directives lane (map hook_of t.hooks)

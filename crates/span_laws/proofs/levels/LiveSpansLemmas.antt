@@ -11,7 +11,7 @@ use Rattle.trace_base.specs.Sound.{IsSound}
 use Rattle.trace_base.proofs.Sound.{place_live}
 use Rattle.trace_base.specs.Gate.{Worlds}
 use Rattle.span_handles.specs.Worlds.{Replaced, member_of, ReleasesChain, all_released, releases, closed_in, no_spans}
-use Rattle.span_handles.proofs.Showing.{seen_before, seen_later}
+use Rattle.span_handles.proofs.ChangedSubscriberLemmas.{seen_before, seen_later}
 use Rattle.otel_base.specs.declared.memory.Memory.{Memory}
 use Rattle.otel_state.specs.declared.op.OpReply.{OpReply}
 use Rattle.otel_state.specs.declared.op.Op.TheVariants as ops

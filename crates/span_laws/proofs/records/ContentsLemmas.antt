@@ -14,9 +14,9 @@ module _ (setup : Setup) (first : SpanData) (done : SpanContext → List TimedOp
   abbrev all : List TimedOp
   all = all_ops rec.making rec.began.update (done r.context)
 
-  pub span_told : TellsSpan first.made (last_exit (done r.context)) at r
+  pub span_told : TellsSpan first.made_at (last_exit (done r.context)) at r
   span_told = record {
-    start = ap (λ (r : Record). r.start) rec.ends.is ∙ sym (ap (λ (t : SpanData). t.made) rec.began.is);
+    start = ap (λ (r : Record). r.start) rec.ends.is ∙ sym (ap (λ (t : SpanData). t.made_at) rec.began.is);
     end = ap (λ (r : Record). r.end) rec.ends.is;
   }
 
@@ -33,8 +33,8 @@ module _ (setup : Setup) (first : SpanData) (done : SpanContext → List TimedOp
 
   pub attributes_told : TellsAttributes setup first.attributes (attributes_of (done r.context)) (counted_of (done r.context)) r
   attributes_told =
-      let busy = busy_of rec.making.made all in
-      let idle = idle_of (last_exit all) rec.making.made busy in
+      let busy = busy_of rec.making.made_at all in
+      let idle = idle_of (last_exit all) rec.making.made_at busy in
       let count = closing_count (is_some setup.counting) (counted_of (done r.context)) in
       let closing = closing_times setup.layer.inactivity busy idle in
       record {

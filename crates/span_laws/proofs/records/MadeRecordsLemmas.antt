@@ -12,7 +12,7 @@ use Rattle.span_laws.proofs.records.StoriesLemmas.{IsEnding}
 
 -- ---- a record from one making is that from another which came to the same
 
-module _ (setup : Setup) (first : SpanData) (began_at : ℕ) (one other : Making) (a : Began setup first.made first one) (b : Began setup began_at first other) (done : SpanContext → List TimedOp) (place at : ℕ) (r : Record)
+module _ (setup : Setup) (first : SpanData) (began_at : ℕ) (one other : Making) (a : Began setup first.made_at first one) (b : Began setup began_at first other) (done : SpanContext → List TimedOp) (place at : ℕ) (r : Record)
     (ends : IsRecord one a.update done place at r) where
   abbrev own_ops : List TimedOp
   own_ops = done r.context
@@ -21,15 +21,15 @@ module _ (setup : Setup) (first : SpanData) (began_at : ℕ) (one other : Making
   last = fold after_stamped first own_ops
 
   one_stands : Stands one (all_ops one a.update own_ops) last
-  one_stands = ap (λ (t : SpanData). fold after_stamped t own_ops) (a.is ∙ ap (λ n. after_op (data_at_making one) n (ops.Update a.update)) (sym a.made))
+  one_stands = ap (λ (t : SpanData). fold after_stamped t own_ops) (a.is ∙ ap (λ n. after_op (data_at_making one) n (ops.Update a.update)) (sym a.made_at))
 
   other_stands : Stands other (all_ops other b.update own_ops) last
-  other_stands = ap (λ (t : SpanData). fold after_stamped t own_ops) (b.is ∙ ap (λ n. after_op (data_at_making other) n (ops.Update b.update)) (sym b.made))
+  other_stands = ap (λ (t : SpanData). fold after_stamped t own_ops) (b.is ∙ ap (λ n. after_op (data_at_making other) n (ops.Update b.update)) (sym b.made_at))
 
-  same_moment : one.made ≡ other.made
-  same_moment = a.made ∙ ap (λ (t : SpanData). t.made) b.is
+  same_moment : one.made_at ≡ other.made_at
+  same_moment = a.made_at ∙ ap (λ (t : SpanData). t.made_at) b.is
 
-  in_order : MomentsRise other.made (all_ops other b.update own_ops)
+  in_order : MomentsRise other.made_at (all_ops other b.update own_ops)
   in_order = (omega arith, subst (λ n. MomentsRise n own_ops) same_moment ends.in_order.1)
 
   remade : IsRecord other b.update done place at r

@@ -28,11 +28,11 @@ pub record IsStory (setup : Setup) (o : Option SpanData) (first : SpanData) (pla
   pub told : SpanData
   pub is : o ≡ Some told
   pub making : Making
-  pub began : Began setup first.made first making
+  pub began : Began setup first.made_at first making
   pub later : List TimedOp
   pub stands : Stands making (all_ops making began.update later) told
-  pub in_order : MomentsRise making.made (all_ops making began.update later)
-  pub last : last_at making.made (all_ops making began.update later) ≤ now
+  pub in_order : MomentsRise making.made_at (all_ops making began.update later)
+  pub last : last_at making.made_at (all_ops making began.update later) ≤ now
   pub rest : (own : SpanContext) → IsOwn told.own own → later ≡ done own
   pub has_id : HasId told.own place told.parent
   pub within : told.entries ≤ opened
@@ -40,7 +40,7 @@ pub record IsStory (setup : Setup) (o : Option SpanData) (first : SpanData) (pla
 -- the record of a span that had come to something by its making, whichever that was
 pub record IsEnding (setup : Setup) (first : SpanData) (done : SpanContext → List TimedOp) (place at : ℕ) (r : Record) : Type 0 where
   pub making : Making
-  pub began : Began setup first.made first making
+  pub began : Began setup first.made_at first making
   pub ends : IsRecord making began.update done place at r
 
 in_order_push : (made : ℕ) (all : List TimedOp) (op : TimedOp) → MomentsRise made all → last_at made all ≤ op.at → op.at ≤ GREATEST → MomentsRise made (all ++ op ∷ [])
@@ -85,8 +85,8 @@ module _ (setup : Setup) (first : SpanData) where
           began = story.began;
           later = story.later ++ stamp now op ∷ [];
           stands = appended story.told now op story.making all story.stands;
-          in_order = in_order_push story.making.made all (stamp now op) story.in_order story.last most;
-          last = let is = last_push story.making.made all (stamp now op) in omega (arith, is);
+          in_order = in_order_push story.making.made_at all (stamp now op) story.in_order story.last most;
+          last = let is = last_push story.making.made_at all (stamp now op) in omega (arith, is);
           rest = λ own mine. ap (λ (xs : List TimedOp). xs ++ stamp now op ∷ []) (story.rest own (subst (λ (o : Option SpanContext). IsOwn o own) same mine));
           has_id = id_after op same story.told.own refl story.has_id;
           within = turned_within (deed op).exits (deed op).enters story.told.entries story.within;
@@ -106,8 +106,8 @@ module _ (setup : Setup) (first : SpanData) where
           began = story.began;
           later = story.later ++ stamp now op ∷ [];
           stands = appended story.told now op story.making all story.stands;
-          in_order = in_order_push story.making.made all (stamp now op) story.in_order story.last most;
-          last = let at_now = last_push story.making.made all (stamp now op) in omega (arith, at_now);
+          in_order = in_order_push story.making.made_at all (stamp now op) story.in_order story.last most;
+          last = let at_now = last_push story.making.made_at all (stamp now op) in omega (arith, at_now);
           rest = λ own mine.
               let same : given ≡ own = subst (λ (o : Option SpanContext). IsOwn o own) started mine in
               ap (λ (xs : List TimedOp). xs ++ stamp now op ∷ []) (story.rest own (subst (λ (o : Option SpanContext). IsOwn o own) (sym unstarted) tt)) ∙ ap (λ (c : SpanContext). done own ++ stamp now (ops.Start c) ∷ []) same;
@@ -126,7 +126,7 @@ module _ (setup : Setup) (first : SpanData) where
           making = story.making;
           began = story.began;
           ends = record {
-            in_order = subst (MomentsRise story.making.made) all_is story.in_order;
+            in_order = subst (MomentsRise story.making.made_at) all_is story.in_order;
             shut = (let entries = entries_is story.told story.making all story.stands in let within = story.within in let same = ap (open_by 0) all_is in omega (arith, entries, within, none, same));
             is = content_is story.making all story.told now story.stands story.in_order ∙ ap (λ (xs : List TimedOp). content story.making xs now) all_is;
             started = some;

@@ -19,21 +19,21 @@ begins setup told done opened at making b undone most = record {
   told = told;
   is = refl;
   making = making;
-  began = record { update = b.update; is = at_making ∙ ap (λ n. after_op (data_at_making making) n (ops.Update b.update)) (sym moment); made = sym moment; tracked = b.tracked; counting_is = b.counting_is };
+  began = record { update = b.update; is = at_making ∙ ap (λ n. after_op (data_at_making making) n (ops.Update b.update)) (sym moment); made_at = sym moment; tracked = b.tracked; counting_is = b.counting_is };
   later = [];
   stands = at_making;
-  in_order = (omega arith, let same = b.made in omega (arith, same, most));
-  last = let same = b.made in omega (arith, same);
+  in_order = (omega arith, let same = b.made_at in omega (arith, same, most));
+  last = let same = b.made_at in omega (arith, same);
   rest = λ own mine. sym (undone own);
   has_id = subst (λ (t : SpanData). HasId t.own 0 t.parent) (sym b.is) refl;
   within = subst (λ (t : SpanData). t.entries ≤ opened) (sym b.is) (omega arith);
 }
   where
-    moment : told.made ≡ making.made
-    moment = ap (λ (t : SpanData). t.made) b.is
+    moment : told.made_at ≡ making.made_at
+    moment = ap (λ (t : SpanData). t.made_at) b.is
 
-    at_making : told ≡ after_op (data_at_making making) making.made (ops.Update b.update)
-    at_making = b.is ∙ ap (λ n. after_op (data_at_making making) n (ops.Update b.update)) (sym b.made)
+    at_making : told ≡ after_op (data_at_making making) making.made_at (ops.Update b.update)
+    at_making = b.is ∙ ap (λ n. after_op (data_at_making making) n (ops.Update b.update)) (sym b.made_at)
 
 -- starts of other spans give no place
 pub starts_spare : (order ids : List ℕ) (n : ℕ) → AllByRecursion (λ s. s < n) ids → place_in (fold with_started order ids) n ≡ place_in order n

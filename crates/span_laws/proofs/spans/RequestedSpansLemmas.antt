@@ -57,11 +57,11 @@ module _ (setup : Setup) (t : Tables) (fit : IsFit setup t) where
       parent = placed;
       given = read;
       scope = refl;
-      making = record { name = callsite.name; parent = context_from r.spans (context_around (t.contexts id) (parent_at under up)) source; made = at; first = first_attributes callsite (lane_in (here at place)) r.settings; counting = r.counting; inactivity = r.settings.inactivity };
+      making = record { name = callsite.name; parent = context_from r.spans (context_around (t.contexts id) (parent_at under up)) source; made_at = at; first = first_attributes callsite (lane_in (here at place)) r.settings; counting = r.counting; inactivity = r.settings.inactivity };
       name = refl;
       context = context_is setup.layer.activation (current_of (t.entries id)) t at id under up setup refl refl;
       first = ap (first_attributes callsite (lane_in (here at place))) settings;
-      began = record { update = span_update callsite values r.settings; is = refl; made = refl; tracked = ap (λ (s : LayerSettings). s.inactivity) settings; counting_is = (starts_keep source at t.recording).1 ∙ fit.counting_is };
+      began = record { update = span_update callsite values r.settings; is = refl; made_at = refl; tracked = ap (λ (s : LayerSettings). s.inactivity) settings; counting_is = (starts_keep source at t.recording).1 ∙ fit.counting_is };
       written = ap (span_update callsite values) settings;
     }
 

@@ -4,7 +4,7 @@ use Rattle.span_laws.proofs.Common.{AllByRecursion, cases_lt, sum_by-set, is_in,
 use Rattle.std.proofs.lemmas.Bool.{true≢false}
 use Rattle.span_laws.proofs.steps.GuardsLemmas.{IsGuarded, Enters, no_entry, skips, enters_by, exits_by}
 use Rattle.span_laws.proofs.records.RecordingLemmas.{turned_by}
-use Rattle.span_laws.proofs.steps.StepsLemmas.{IsCalm, Turns}
+use Rattle.span_laws.proofs.steps.StepsLemmas.{KeepsEntries, Turns}
 use Rattle.span_laws.proofs.records.StoriesLemmas.{turned}
 
 -- an open guard of an entry of a span
@@ -40,9 +40,9 @@ stands_still n false false unentered unleft = refl
 stands_still n false true unentered unleft = absurd (cc unentered)
 stands_still n true enters unentered unleft = absurd (cc unleft)
 
-calm : (ds : List SpanOp) (f : ℕ → ℕ) (s : ℕ) → AllByRecursion IsCalm ds → fold (λ f d. turned_by d f) f ds s ≡ f s
-calm [] f s all = refl
-calm (d ∷ ds) f s all = calm ds (turned_by d f) s all.1 ∙ by_test (d.span == s)
+entries_kept : (ds : List SpanOp) (f : ℕ → ℕ) (s : ℕ) → AllByRecursion KeepsEntries ds → fold (λ f d. turned_by d f) f ds s ≡ f s
+entries_kept [] f s all = refl
+entries_kept (d ∷ ds) f s all = entries_kept ds (turned_by d f) s all.1 ∙ by_test (d.span == s)
   where
     by_test : (b : Bool) → (if b then turned (deed d.op) (f s) else f s) ≡ f s
     by_test true = stands_still (f s) (deed d.op).exits (deed d.op).enters all.0.0 all.0.1
@@ -54,7 +54,7 @@ module _ (ids : List ℕ) (hs : List (Option Scope)) (gs : List (Option ScopeGua
   all_turned ds s = fold (λ f d. turned_by d f) (guards_of gs) ds s
 
   by_entry : (g : ScopeGuard) (scope : Scope) → g.scope ≡ scope → (ds : List SpanOp) → Turns (own_span scope) None ds → (s : ℕ) → all_turned ds s ≤ guards_of (gs ++ Some g ∷ []) s
-  by_entry g [] is ds turns s = let same = calm ds (guards_of gs) s turns in let push = count_push (guards_span s) gs (Some g) in omega (arith, same, push)
+  by_entry g [] is ds turns s = let same = entries_kept ds (guards_of gs) s turns in let push = count_push (guards_span s) gs (Some g) in omega (arith, same, push)
   by_entry g (x ∷ up) is ds turns s =
       let push = count_push (guards_span s) gs (Some g) in
       let mine = ap (λ (scope : Scope). cond {A = ℕ} (is_own s scope) 1 0) is in
@@ -72,7 +72,7 @@ module _ (ids : List ℕ) (hs : List (Option Scope)) (gs : List (Option ScopeGua
       by_scope scope ds turns (omega (arith, write, slot, mine))
     where
       by_scope : (scope : Scope) (ds : List SpanOp) → Turns None (own_span scope) ds → guards_of (slice_set gs n None) s + cond (is_own s scope) 1 0 ≡ guards_of gs s → all_turned ds s ≤ guards_of (slice_set gs n None) s
-      by_scope [] ds turns fewer = let same = calm ds (guards_of gs) s turns in omega (arith, same, fewer)
+      by_scope [] ds turns fewer = let same = entries_kept ds (guards_of gs) s turns in omega (arith, same, fewer)
       by_scope (x ∷ up) ds turns fewer = subst (λ (ds : List SpanOp). all_turned ds s ≤ guards_of (slice_set gs n None) s) (sym turns) (by_test (x == s) fewer)
         where
           by_test : (b : Bool) → guards_of (slice_set gs n None) s + cond b 1 0 ≡ guards_of gs s → (if b then guards_of gs s - 1 else guards_of gs s) ≤ guards_of (slice_set gs n None) s
@@ -80,7 +80,7 @@ module _ (ids : List ℕ) (hs : List (Option Scope)) (gs : List (Option ScopeGua
           by_test false is = omega (arith, is)
 
   pub turns_within : (new : Option ScopeGuard) (attach spent entry exit : Option ℕ) → Enters ids hs gs lane new attach spent entry exit → (ds : List SpanOp) → Turns entry exit ds → (s : ℕ) → all_turned ds s ≤ guards_of (either_after gs new attach spent) s
-  turns_within _ _ _ _ _ (skips place) ds turns s = let same = calm ds (guards_of gs) s turns in let push = count_push (guards_span s) gs None in omega (arith, same, push)
-  turns_within _ _ _ _ _ no_entry ds turns s = let same = calm ds (guards_of gs) s turns in omega (arith, same)
+  turns_within _ _ _ _ _ (skips place) ds turns s = let same = entries_kept ds (guards_of gs) s turns in let push = count_push (guards_span s) gs None in omega (arith, same, push)
+  turns_within _ _ _ _ _ no_entry ds turns s = let same = entries_kept ds (guards_of gs) s turns in omega (arith, same)
   turns_within _ _ _ _ _ (enters_by g there at) ds turns s = by_entry g g.scope refl ds turns s
   turns_within _ _ _ _ _ (exits_by n g there at) ds turns s = by_exit n g there g.scope refl ds turns s

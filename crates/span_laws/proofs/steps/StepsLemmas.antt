@@ -49,18 +49,18 @@ pub record IsReached (hs : List (Option Scope)) (d : SpanOp) : Type 0 where
 abbrev IsUnstarted : Op → Type 0
 IsUnstarted op = (deed op).own ≡ None
 
--- an op that turns no entry
-abbrev IsCalmOp : Op → Type 0
-IsCalmOp op = ((deed op).enters ≡ false) × ((deed op).exits ≡ false)
+-- an op that leaves the open entries as they are
+abbrev OpKeepsEntries : Op → Type 0
+OpKeepsEntries op = ((deed op).enters ≡ false) × ((deed op).exits ≡ false)
 
-abbrev pub IsCalm : SpanOp → Type 0
-IsCalm d = IsCalmOp d.op
+abbrev pub KeepsEntries : SpanOp → Type 0
+KeepsEntries d = OpKeepsEntries d.op
 
 -- an effect's ops turn the entry that it adds or takes off, and no other
 abbrev pub Turns : Option ℕ → Option ℕ → List SpanOp → Type 0
 Turns (Some s) exit ds = ds ≡ record { span = s; op = ops.Enter } ∷ []
 Turns None (Some s) ds = ds ≡ record { span = s; op = ops.Exit } ∷ []
-Turns None None ds = AllByRecursion IsCalm ds
+Turns None None ds = AllByRecursion KeepsEntries ds
 
 -- moments don't fall
 pub record IsTimed (before at : ℕ) : Type 0 where
@@ -115,8 +115,8 @@ starts_keep (Some id) at r = by_context (waits (data_at id r.spans))
 told_begins : (setup : Setup) (given : LayerSettings) (callsite : Callsite) (lane : Lane) (values : ValueSet) (context : Context) (at : ℕ) (counting : Bool) → given ≡ setup.layer → counting ≡ is_some setup.counting
     → (making : Making) × Began setup at (new_span_data callsite lane values context at given counting) making
 told_begins setup given callsite lane values context at counting same counting_is = (
-  record { name = callsite.name; parent = context; made = at; first = first_attributes callsite lane given; counting = counting; inactivity = given.inactivity },
-  record { update = span_update callsite values given; is = refl; made = refl; tracked = ap (λ (s : LayerSettings). s.inactivity) same; counting_is = counting_is },
+  record { name = callsite.name; parent = context; made_at = at; first = first_attributes callsite lane given; counting = counting; inactivity = given.inactivity },
+  record { update = span_update callsite values given; is = refl; made_at = refl; tracked = ap (λ (s : LayerSettings). s.inactivity) same; counting_is = counting_is },
 )
 
 module _ (setup : Setup) (t : Tables) (fit : IsFit setup t) where
@@ -265,25 +265,25 @@ module _ (setup : Setup) (t : Tables) (fit : IsFit setup t) where
     heard = of_open None _ (heard_exit t.handles [] g.scope (here at place).lane);
   }
 
-  on_calm : (scope : Scope) (op : Op) → (deed op).enters ≡ false → (deed op).exits ≡ false → AllByRecursion IsCalm (op_on scope op)
-  on_calm [] op unentered unleft = tt
-  on_calm (s ∷ up) op unentered unleft = ((unentered, unleft), tt)
+  op_keeps_entries : (scope : Scope) (op : Op) → (deed op).enters ≡ false → (deed op).exits ≡ false → AllByRecursion KeepsEntries (op_on scope op)
+  op_keeps_entries [] op unentered unleft = tt
+  op_keeps_entries (s ∷ up) op unentered unleft = ((unentered, unleft), tt)
 
   -- fields of a callsite, if it is there
   updates_reached : (scope : Scope) (fields : Fields) (callsite : Option Callsite) → IsKnown t.handles scope → AllByRecursion (IsReached t.handles) (update_ops setup.layer scope fields callsite)
   updates_reached scope fields None known = tt
   updates_reached scope fields (Some callsite) known = on_reached scope (ops.Update (span_update callsite (values_of callsite fields) setup.layer)) known refl
 
-  updates_calm : (scope : Scope) (fields : Fields) (callsite : Option Callsite) → AllByRecursion IsCalm (update_ops setup.layer scope fields callsite)
-  updates_calm scope fields None = tt
-  updates_calm scope fields (Some callsite) = on_calm scope (ops.Update (span_update callsite (values_of callsite fields) setup.layer)) refl refl
+  updates_keep_entries : (scope : Scope) (fields : Fields) (callsite : Option Callsite) → AllByRecursion KeepsEntries (update_ops setup.layer scope fields callsite)
+  updates_keep_entries scope fields None = tt
+  updates_keep_entries scope fields (Some callsite) = op_keeps_entries scope (ops.Update (span_update callsite (values_of callsite fields) setup.layer)) refl refl
 
-  told : (at place : ℕ) (answer : Reply) (done : List SpanOp) → AllByRecursion (IsReached t.handles) done → AllByRecursion IsCalm done → Step at false (ops_effect (here at place) answer done)
-  told at place answer done reached calm = record { moment = refl; names = no_name; enters = no_entry; spends = no_spending; begins = tt; early = refl; starts = tt; reached = reached; turns = calm; closing = λ no. refl; heard = of_open None [] tt }
+  told : (at place : ℕ) (answer : Reply) (done : List SpanOp) → AllByRecursion (IsReached t.handles) done → AllByRecursion KeepsEntries done → Step at false (ops_effect (here at place) answer done)
+  told at place answer done reached entries_kept = record { moment = refl; names = no_name; enters = no_entry; spends = no_spending; begins = tt; early = refl; starts = tt; reached = reached; turns = entries_kept; closing = λ no. refl; heard = of_open None [] tt }
 
   -- one op on a known scope's own span
   one_told : (at place : ℕ) (answer : Reply) (scope : Scope) (op : Op) → IsKnown t.handles scope → (deed op).own ≡ None → (deed op).enters ≡ false → (deed op).exits ≡ false → Step at false (ops_effect (here at place) answer (op_on scope op))
-  one_told at place answer scope op known unstarted unentered unleft = told at place answer (op_on scope op) (on_reached scope op known unstarted) (on_calm scope op unentered unleft)
+  one_told at place answer scope op known unstarted unentered unleft = told at place answer (op_on scope op) (on_reached scope op known unstarted) (op_keeps_entries scope op unentered unleft)
 
   -- the followed span starts, and the other one is linked
   follower : (at place : ℕ) (scope from : Scope) → IsKnown t.handles scope → IsKnown t.handles from → Step at false (follow_effect (here at place) scope from)
@@ -298,7 +298,7 @@ module _ (setup : Setup) (t : Tables) (fit : IsFit setup t) where
     early = refl;
     starts = (own_open (f ∷ above) other f above refl, tt);
     reached = on_reached (s ∷ up) op known refl;
-    turns = on_calm (s ∷ up) op refl refl;
+    turns = op_keeps_entries (s ∷ up) op refl refl;
     closing = λ no. refl;
     heard = of_open None [] tt;
   })
@@ -399,14 +399,14 @@ module _ (setup : Setup) (t : Tables) (fit : IsFit setup t) where
       (beside at (ops_effect (here at place) (reply.Enabled enabled) _) None [] _ (of_open None [] tt)
       (told at place (reply.Enabled enabled) _
       (each_told _ enabled _ (each_on IsUnstarted _ reached.0 _ (reaches reached.0 known) (each_counted IsUnstarted refl setup.counting there.0 op refl)))
-      (each_told _ enabled _ (each_on IsCalmOp _ reached.0 _ (λ s up o is calm. calm) (each_counted IsCalmOp (refl, refl) setup.counting there.0 op (refl, refl))))))
+      (each_told _ enabled _ (each_on OpKeepsEntries _ reached.0 _ (λ s up o is entries_kept. entries_kept) (each_counted OpKeepsEntries (refl, refl) setup.counting there.0 op (refl, refl))))))
   by_call at place (call.Record handle fields) e is =
       let there = found what.Handle (slot_at t.handles handle) _ e is in
       let callsite = callsite_of setup t there.0 in
       subst (Step at false) (the_effect _ e there.2)
       (beside at (ops_effect (here at place) reply.Done (update_ops setup.layer there.0 fields callsite)) None (hooks_of_values there.0 fields callsite) []
       (of_open None _ (heard_record t.handles [] there.0 fields callsite (own_open there.0 (of_handle handle there.0 there.1))))
-      (told at place reply.Done _ (updates_reached there.0 fields callsite (of_handle handle there.0 there.1)) (updates_calm there.0 fields callsite)))
+      (told at place reply.Done _ (updates_reached there.0 fields callsite (of_handle handle there.0 there.1)) (updates_keep_entries there.0 fields callsite)))
   by_call at place (call.HasField handle name) e is =
       let there = found what.Handle (slot_at t.handles handle) _ e is in
       subst (Step at false) (the_effect _ e there.2) (told at place (reply.Has _) [] tt tt)
@@ -436,7 +436,7 @@ module _ (setup : Setup) (t : Tables) (fit : IsFit setup t) where
       let op = link_of (ids_of given.0) attributes in
       let valid = is_valid (ids_of given.0) in
       let known = of_handle handle there.0 there.1 in
-      subst (Step at false) (the_effect _ e given.2) (told at place reply.Done _ (each_told _ valid _ (on_reached there.0 op known refl)) (each_told _ valid _ (on_calm there.0 op refl refl)))
+      subst (Step at false) (the_effect _ e given.2) (told at place reply.Done _ (each_told _ valid _ (on_reached there.0 op known refl)) (each_told _ valid _ (op_keeps_entries there.0 op refl refl)))
   by_call at place (call.SetAttribute handle key value) e is =
       let there = found what.Handle (slot_at t.handles handle) _ e is in
       subst (Step at false) (the_effect _ e there.2) (one_told at place _ there.0 (ops.SetAttribute (record { key = key; value = value })) (of_handle handle there.0 there.1) refl refl refl)

@@ -1,5 +1,5 @@
 use Rattle.trace_eager.proofs.RenamedLemmas.{is_renamed}
-use Rattle.trace_eager.proofs.laws.early.Goals as goal
+use Rattle.trace_eager.proofs.laws.early_starts.Goals as goal
 
 pub returns : goal.returns
 returns c = is_renamed
