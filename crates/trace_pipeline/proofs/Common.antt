@@ -16,7 +16,7 @@ pub use Rattle.std.proofs.Math.Nat.{pow-le-pow_right, pow-succ'}
 pub use Rattle.std.proofs.lemmas.Bool.{and_parts, both_ways, eqb-false, false_from_ne_true, not-true, or_parts}
 pub use Rattle.std.proofs.lemmas.Bool.Decides.{Decides-eqb, nat_tests}
 pub use Rattle.std.proofs.lemmas.Cmp.{nat_list_cmp_total, tied_itself}
-pub use Rattle.std.proofs.lemmas.Fmt.{decimal_by_steps, decimal_digit, decimal_is_IsNumeral_wide, decimal_step, length-decimal-le, parse-decimal_wide}
+pub use Rattle.std.proofs.lemmas.Fmt.{IsAscii-decimal, decimal_by_steps, decimal_digit, decimal_is_IsNumeral_wide, decimal_step, length-decimal-le, parse-decimal_wide}
 pub use Rattle.std.proofs.lemmas.List.{drop-set, drop_more, set-append_right, take_rest}
 pub use Rattle.std.proofs.lemmas.List.Folds.{list_all-append, list_any-append}
 pub use Rattle.std.proofs.lemmas.Slice.Eq.{bytes_eq-Decides, strip_prefix_is}
@@ -51,7 +51,7 @@ pub use Rattle.trace_pipeline.specs.declared.read.syntax.scan.TheConstants.{DEEP
 pub use Rattle.trace_pipeline.specs.declared.told.Told.TheVariants.{BadLine}
 pub use Rattle.trace_pipeline.specs.forms.AttributeForm.{attribute_spelled, key_value, list_of, otel_value_of, status_spelled}
 unfoldable pub use Rattle.trace_pipeline.specs.forms.AttributeForm.{error_status_form}
-pub use Rattle.trace_pipeline.specs.forms.FieldForm.{field_of, fields_of, value_spelled}
+pub use Rattle.trace_pipeline.specs.forms.FieldForm.{field_data, field_of, fields_of, value_spelled}
 unfoldable pub use Rattle.trace_pipeline.specs.forms.FieldForm.{error_form, typed_form}
 pub use Rattle.trace_pipeline.specs.forms.Forms.{all_of, as_whole, at_most, each, no_more, object_of, pair_with, unit_if, without_member}
 unfoldable pub use Rattle.trace_pipeline.specs.forms.RequestForm.{attach_form, clone_form, context_form, detach_form, drop_form, enabled_form, enter_form, entered_form, event_form, exit_form, has_field_form, new_form, or_current_form, record_form, reload_form, remote_form, request_form}
@@ -71,6 +71,6 @@ unfoldable pub use Rattle.trace_pipeline.specs.text.Hex.{hex16, hex_word}
 unfoldable pub use Rattle.trace_pipeline.specs.text.Texts.{end_text, measure_text, measures_end_text, record_text, refusal_text, reply_text}
 pub use Rattle.trace_pipeline.specs.text.Writes.{AddsText}
 pub use Rattle.trace_pipeline.specs.values.Building.{with_lane}
-pub use Rattle.trace_pipeline.specs.values.FieldData.{AreAttributes, AreValues, HasBits, IsOtelValue, IsValue, written_field, written_value}
+pub use Rattle.trace_pipeline.specs.values.FieldData.{AreAttributesInRange, AreValuesInRange, HasBits, IsOtelValueInRange, IsValueInRange, written_field, written_value}
 pub use Rattle.trace_pipeline.specs.values.RecordData.{attribute_data, attribute_value, attributes_data, event_data, kind_name, lane_members, lane_text, link_data, status_data}
 unfoldable pub use Rattle.trace_pipeline.specs.values.RecordData.{record_object}

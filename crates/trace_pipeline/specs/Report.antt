@@ -117,7 +117,3 @@ accepts lines = (report_from signal.Traces 0 lines).accepted
 pub record IsValid (bytes : List ℕ) : Type 0 where
   pub short : length bytes ≤ MAX_INPUT
   pub accepted : accepts (lines_of bytes) ≡ true
-
--- some line is refused, or the input ends without a settings line
-abbrev pub IsRefusedInput : List ℕ → Type 0
-IsRefusedInput bytes = accepts (lines_of bytes) ≡ false

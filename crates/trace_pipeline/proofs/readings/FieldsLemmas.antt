@@ -1,6 +1,6 @@
 -- The value of each field is read as the field.
 use Rattle.std.proofs.Common.{◌≡◌, ◌≢◌, ℕ, suc, ◌-◌, ◌^◌, ◌<◌, ℤ, pos, negsuc, neg_ℤ, List, [], ◌∷◌, true, Some, None, option_map, option_and_then, nat_lt, nat_le, decimal, refl, ap, subst, ◌∙◌, arith, ◌&&◌, if◌then◌else◌}
-use Rattle.trace_pipeline.proofs.Common.{signed_decimal, AllDigits, IsNumeral, nat_tests, decimal_is_IsNumeral_wide, string, as_str, Value, i128_word, below_zero, from_zero, written_value, written_field, HasBits, IsValue, AreValues, error_form, typed_form, value_spelled, field_of, at_most, each, items}
+use Rattle.trace_pipeline.proofs.Common.{signed_decimal, AllDigits, IsNumeral, nat_tests, decimal_is_IsNumeral_wide, string, as_str, Value, i128_word, below_zero, from_zero, written_value, written_field, HasBits, IsValueInRange, AreValuesInRange, error_form, typed_form, value_spelled, field_of, at_most, each, items}
 use Rattle.std.proofs.lemmas.Str.Parse.{digit_from_value}
 use Rattle.trace_base.specs.declared.field.Value.TheVariants.{Bool as Truth, I64, U64, I128, U128, Str, Debug, Error}
 use Rattle.trace_pipeline.proofs.texts.DecimalsLemmas.{decimal_read, no_minus}
@@ -32,7 +32,7 @@ texts_read (s ∷ chain) = ap (option_map (λ more. s ∷ more)) (texts_read cha
 pub small_number : (n : ℕ) → n < 2 ^ 63 → nat_lt n (2 ^ 63) ≡ true
 small_number n small = grind (arith, nat_tests, small)
 
-value_read : (v : Value) → IsValue v → value_spelled (written_value v) ≡ Some v
+value_read : (v : Value) → IsValueInRange v → value_spelled (written_value v) ≡ Some v
 unfolding typed_form error_form
 value_read (Truth b) is = refl
 value_read (I64 (pos n)) is = rw (small_number n is) refl
@@ -46,10 +46,10 @@ value_read (Error message chain) is = rw (texts_read chain) refl
 
 -- ---- fields
 
-field_read : (field : List ℕ × Value) → IsValue field.1 → field_of (written_field field) ≡ Some field
+field_read : (field : List ℕ × Value) → IsValueInRange field.1 → field_of (written_field field) ≡ Some field
 field_read field is = ap (option_map (λ v. (field.0, v))) (value_read field.1 is)
 
-pub fields_read : (fields : List (List ℕ × Value)) → AreValues fields → each field_of (items written_field fields) ≡ Some fields
+pub fields_read : (fields : List (List ℕ × Value)) → AreValuesInRange fields → each field_of (items written_field fields) ≡ Some fields
 fields_read [] all = refl
 fields_read (f ∷ fields) all =
     ap (λ o. option_and_then (λ a. option_map (λ more. a ∷ more) (each field_of (items written_field fields))) o) (field_read f all.0)

@@ -20,6 +20,11 @@ quoted_added old a b d new front s x begin body close utf8 =
     parts : (old front body : List ℕ) → (((old ++ front) ++ 34 ∷ []) ++ body) ++ 34 ∷ [] ≡ old ++ (front ++ 34 ∷ (body ++ 34 ∷ []))
     parts old front body = simp append_assoc
 
+-- a text of no byte
+pub none_added : (old text : List ℕ) → length text ≡ 0 → AddsText old old text
+none_added old [] none = begun old
+none_added old (x ∷ text) none = absurd (omega (arith, none))
+
 -- a text of one byte
 pub byte_added : (old new text : List ℕ) (byte : ℕ) → length text ≡ 1 → byte ≡ get_or text 0 byte → new ≡ old ++ byte ∷ [] → IsUtf8 text → AddsText old new text
 byte_added old new [] byte one is added utf8 = absurd (omega (arith, one))

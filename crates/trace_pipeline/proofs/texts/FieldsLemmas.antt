@@ -1,6 +1,6 @@
 -- Pairs of names and values, and fields in a text.
 use Rattle.std.proofs.Common.{◌≡◌, ◌≢◌, ℕ, ◌+◌, List, [], ◌∷◌, ◌++◌, length, Option, Some, None, option_map, option_and_then, unwrap_or, refl, sym, ap, ◌∙◌, arith, append_assoc, length-append}
-use Rattle.trace_pipeline.proofs.Common.{quoted, Data, null, boolean, number, string, array, object, no_items, item, as_object, compact_text, nested_value, BeginsWithValue, typed_form, value_spelled, field_of, fields_of, all_of, each, pair_with, value_data, items}
+use Rattle.trace_pipeline.proofs.Common.{quoted, Data, null, boolean, number, string, array, object, no_items, item, as_object, compact_text, nested_value, BeginsWithValue, typed_form, value_spelled, field_data, field_of, fields_of, all_of, each, pair_with, value_data, items}
 use Rattle.trace_base.specs.declared.field.Value.{Value as FieldValue}
 use Rattle.trace_pipeline.specs.declared.read.syntax.value.Value.{Value}
 use Rattle.trace_pipeline.proofs.readings.CompactLemmas.{Pair, read_items}
@@ -44,7 +44,7 @@ joined name value rest = simp append_assoc
 
 pub pair_begins : (deep : ℕ) (text inner comma more end rest name : List ℕ) (d : Data)
     → text ≡ 91 ∷ inner → inner ≡ quoted name ++ comma → comma ≡ 44 ∷ more → BeginsWithValue deep more d end → end ≡ 93 ∷ rest
-    → BeginsWithValue (deep + 1) text (array (item (string name) (item d no_items))) rest
+    → BeginsWithValue (deep + 1) text (field_data name d) rest
 pair_begins deep text inner comma more end rest name d a b c v e = (
   array (item (string name) (item v.0 no_items)),
   a ∙ ap (λ (l : List ℕ). 91 ∷ l) (b ∙ ap (λ (l : List ℕ). quoted name ++ l) (c ∙ ap (λ (l : List ℕ). 44 ∷ l) (v.1 ∙ ap (λ (l : List ℕ). compact_text v.0 ++ l) e))) ∙ joined (quoted name) (compact_text v.0) rest,
@@ -71,10 +71,17 @@ read_more (q ∷ ps) p =
     ap (λ e. option_and_then (λ a. option_map (λ more. a ∷ more) e) (field_of q.1)) (read_more ps p)
     ∙ one_more (field_of q.1) (each field_of (read_items ps)) (field_of p.1)
 
-pub field_more : (ps : List Pair) (p : Pair) (old new : List (List ℕ × FieldValue)) (f : List ℕ × FieldValue)
-    → each field_of (read_items ps) ≡ Some old → field_of p.1 ≡ Some f → new ≡ old ++ f ∷ [] → each field_of (read_items (ps ++ p ∷ [])) ≡ Some new
-field_more ps p old new f before is all =
-    read_more ps p
-    ∙ ap (λ e. option_and_then (λ fs. option_map (λ x. fs ++ x ∷ []) (field_of p.1)) e) before
-    ∙ ap (λ o. option_map (λ x. old ++ x ∷ []) o) is
-    ∙ ap (λ fs. Some fs) (sym all)
+put_behind : (old : List (List ℕ × FieldValue)) (name : List ℕ) (o : Option FieldValue)
+    → option_map (λ x. old ++ x ∷ []) (option_map (λ (v : FieldValue). (name, v)) o) ≡ option_map (λ (v : FieldValue). old ++ (name, v) ∷ []) o
+put_behind old name None = refl
+put_behind old name (Some v) = refl
+
+-- the fields with one more, which is read of a text that stands as raw
+pub field_more : (ps : List Pair) (raw d : Data) (name : List ℕ) (old new : List (List ℕ × FieldValue))
+    → each field_of (read_items ps) ≡ Some old → option_map (λ (v : FieldValue). old ++ (name, v) ∷ []) (value_spelled d) ≡ Some new
+    → each field_of (read_items (ps ++ (raw, field_data name d) ∷ [])) ≡ Some new
+field_more ps raw d name old new before all =
+    read_more ps (raw, field_data name d)
+    ∙ ap (λ e. option_and_then (λ fs. option_map (λ x. fs ++ x ∷ []) (field_of (field_data name d))) e) before
+    ∙ put_behind old name (value_spelled d)
+    ∙ all

@@ -1,6 +1,6 @@
 -- The forms of fields, and of their values.
 use Rattle.std.specs.Prelude.{ℕ, ℤ, List, Option, Some, None, option_map, option_and_then, codes}
-use Rattle.serde_json.specs.Data.{Data, null, boolean, number, string, array, object, Members}
+use Rattle.serde_json.specs.Data.{Data, null, boolean, number, string, array, object, no_items, item, Members}
 use Rattle.serde_json.specs.Find.{as_str, as_array, as_i64, as_u64}
 use Rattle.trace_base.specs.declared.field.Value.{Value}
 use Rattle.trace_base.specs.declared.field.Value.TheVariants.{Bool, I64, U64, I128, U128, Str, Debug, Error}
@@ -61,6 +61,10 @@ value_spelled (array ds) = None
 value_spelled (object ms) = all_of typed_form ms
 
 -- ---- fields
+
+-- a name and a value, as an array
+abbrev pub field_data : List ℕ → Data → Data
+field_data name value = array (item (string name) (item value no_items))
 
 -- a field has a name and a value
 abbrev pub field_of : Data → Option (List ℕ × Value)

@@ -36,28 +36,28 @@ HasBits bits (pos n) = n < 2 ^ bits
 HasBits bits (negsuc n) = n < 2 ^ bits
 
 -- a number has the bits of its type
-abbrev pub IsValue : Value → Type 0
-IsValue (Bool b) = Unit {0}
-IsValue (I64 z) = HasBits 63 z
-IsValue (U64 n) = n < 2 ^ 64
-IsValue (I128 z) = HasBits 127 z
-IsValue (U128 n) = n < 2 ^ 128
-IsValue (Str s) = Unit {0}
-IsValue (Debug s) = Unit {0}
-IsValue (Error message chain) = Unit {0}
+abbrev pub IsValueInRange : Value → Type 0
+IsValueInRange (Bool b) = Unit {0}
+IsValueInRange (I64 z) = HasBits 63 z
+IsValueInRange (U64 n) = n < 2 ^ 64
+IsValueInRange (I128 z) = HasBits 127 z
+IsValueInRange (U128 n) = n < 2 ^ 128
+IsValueInRange (Str s) = Unit {0}
+IsValueInRange (Debug s) = Unit {0}
+IsValueInRange (Error message chain) = Unit {0}
 
-abbrev pub AreValues : List (List ℕ × Value) → Type 0
-AreValues [] = Unit {0}
-AreValues (field ∷ fields) = IsValue field.1 × AreValues fields
+abbrev pub AreValuesInRange : List (List ℕ × Value) → Type 0
+AreValuesInRange [] = Unit {0}
+AreValuesInRange (field ∷ fields) = IsValueInRange field.1 × AreValuesInRange fields
 
 -- ---- attributes
 
-abbrev pub IsOtelValue : OtelValue → Type 0
-IsOtelValue (otel.Bool b) = Unit {0}
-IsOtelValue (otel.I64 z) = HasBits 63 z
-IsOtelValue (otel.Str s) = Unit {0}
-IsOtelValue (otel.List texts) = Unit {0}
+abbrev pub IsOtelValueInRange : OtelValue → Type 0
+IsOtelValueInRange (otel.Bool b) = Unit {0}
+IsOtelValueInRange (otel.I64 z) = HasBits 63 z
+IsOtelValueInRange (otel.Str s) = Unit {0}
+IsOtelValueInRange (otel.List texts) = Unit {0}
 
-abbrev pub AreAttributes : List KeyValue → Type 0
-AreAttributes [] = Unit {0}
-AreAttributes (attribute ∷ attributes) = IsOtelValue attribute.value × AreAttributes attributes
+abbrev pub AreAttributesInRange : List KeyValue → Type 0
+AreAttributesInRange [] = Unit {0}
+AreAttributesInRange (attribute ∷ attributes) = IsOtelValueInRange attribute.value × AreAttributesInRange attributes

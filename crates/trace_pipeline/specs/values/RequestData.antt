@@ -9,7 +9,7 @@ use Rattle.span_script.specs.declared.request.Call.TheVariants as call
 use Rattle.span_script.specs.declared.request.Place.{Place}
 use Rattle.span_script.specs.declared.request.Place.TheVariants as place
 use Rattle.trace_base.specs.declared.field.Value.{Value}
-use Rattle.trace_pipeline.specs.values.FieldData.{written_field, AreValues, IsOtelValue, AreAttributes}
+use Rattle.trace_pipeline.specs.values.FieldData.{written_field, AreValuesInRange, IsOtelValueInRange, AreAttributesInRange}
 use Rattle.trace_pipeline.specs.text.Hex.{hex16, hex32}
 use Rattle.trace_pipeline.specs.reading.Object.{array_of}
 use Rattle.trace_pipeline.specs.values.RecordData.{attribute_value, attributes_data, status_data}
@@ -20,7 +20,7 @@ request_of at lane call = record { at = at; lane = lane; call = call }
 
 -- ids have 128 and 64 bits, numbers of fields and attributes those of their types, and a time is a moment
 abbrev pub IsInRange : Call → Type 0
-IsInRange (call.New site put fields) = AreValues fields
+IsInRange (call.New site put fields) = AreValuesInRange fields
 IsInRange call.Current = Unit {0}
 IsInRange (call.Clone handle) = Unit {0}
 IsInRange (call.OrCurrent handle) = Unit {0}
@@ -28,21 +28,21 @@ IsInRange (call.Drop handle) = Unit {0}
 IsInRange (call.Enter handle) = Unit {0}
 IsInRange (call.Entered handle) = Unit {0}
 IsInRange (call.Exit guard) = Unit {0}
-IsInRange (call.Record handle fields) = AreValues fields
+IsInRange (call.Record handle fields) = AreValuesInRange fields
 IsInRange (call.HasField handle name) = Unit {0}
 IsInRange (call.Enabled site) = Unit {0}
 IsInRange (call.Reload text) = Unit {0}
-IsInRange (call.Event site put fields) = AreValues fields
+IsInRange (call.Event site put fields) = AreValuesInRange fields
 IsInRange (call.Remote ids) = (ids.trace < 2 ^ 128) × (ids.span < 2 ^ 64)
 IsInRange (call.Context handle) = Unit {0}
 IsInRange (call.Attach context) = Unit {0}
 IsInRange (call.Detach guard) = Unit {0}
 IsInRange (call.Follows handle from) = Unit {0}
 IsInRange (call.SetParent handle context) = Unit {0}
-IsInRange (call.AddLink handle context attributes) = AreAttributes attributes
-IsInRange (call.SetAttribute handle key value) = IsOtelValue value
+IsInRange (call.AddLink handle context attributes) = AreAttributesInRange attributes
+IsInRange (call.SetAttribute handle key value) = IsOtelValueInRange value
 IsInRange (call.SetStatus handle status) = Unit {0}
-IsInRange (call.AddEvent handle name attributes time) = AreAttributes attributes × IfSome time (λ at. at ≤ LAST_MOMENT)
+IsInRange (call.AddEvent handle name attributes time) = AreAttributesInRange attributes × IfSome time (λ at. at ≤ LAST_MOMENT)
 
 -- the word of `do`
 abbrev pub word_of : Call → List ℕ

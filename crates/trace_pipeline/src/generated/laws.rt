@@ -11,7 +11,7 @@ ghost use Rattle.trace_pipeline.specs.reading.Spelled.{settings_spelled, request
 use crate::generated::MOST_ROUNDS;
 
 /// The lines of a script spell its settings and its requests.
-pub fn spelled()
+pub fn lines()
     ensures lines { (rounds : ℕ) → rounds ≤ MOST_ROUNDS → lines_of (made_script rounds) ≡ made_lines rounds }
     ensures settings { settings_spelled settings_line ≡ Ok made_settings }
     ensures requests { (rounds : ℕ) → rounds ≤ MOST_ROUNDS
@@ -25,7 +25,7 @@ pub fn valid()
 {}
 
 /// Each request of a script has an effect.
-pub fn served()
+pub fn effects()
     ensures { (rounds : ℕ) → rounds ≤ MOST_ROUNDS
         → (h : History) × (history_after made_setup [] (made_requests rounds) ≡ Some h) }
 {}

@@ -74,7 +74,7 @@ pub fn otel_value_of(alloc: Global, value: Value<'_>) -> Result<OtelValue, LineE
 
 // The attribute that a pair of a key and a value spells.
 #[tactic(auto, using(crate::proofs::texts::FieldsLemmas::no_pair))]
-fn keyed(alloc: Global, values: Vec<Value<'_>>) -> Result<KeyValue, LineError>
+fn attribute_of_pair(alloc: Global, values: Vec<Value<'_>>) -> Result<KeyValue, LineError>
     ensures { Gives (λ a. a) result (option_map key_value (pair_with otel_value_of (items value_data values.entry.items))) }
 {
     match two_of(values) {
@@ -91,7 +91,7 @@ fn keyed(alloc: Global, values: Vec<Value<'_>>) -> Result<KeyValue, LineError>
 fn attribute(alloc: Global, value: Value<'_>) -> Result<KeyValue, LineError>
     ensures { Gives (λ a. a) result (attribute_spelled (value_data value.entry)) }
 {
-    keyed(alloc, value.into_array(alloc)?)
+    attribute_of_pair(alloc, value.into_array(alloc)?)
 }
 
 // The attributes that the items of an array spell.

@@ -1,8 +1,8 @@
 //! Fields that stand plainly in a text, read in one pass. None says nothing of what the text is.
-ghost use Rattle.std.specs.Prelude.{◌≡◌, ◌+◌, ◌++◌, [], ◌∷◌, Some, IfSome, option_and_then};
+ghost use Rattle.std.specs.Prelude.{◌≡◌, ◌+◌, ◌++◌, [], ◌∷◌, Some, IfSome, option_map, option_and_then};
 ghost use Rattle.serde_json.specs.Data.{Data};
 ghost use Rattle.trace_pipeline.specs.text.Compact.{plain_data, BeginsWithValue};
-ghost use Rattle.trace_pipeline.specs.forms.FieldForm.{value_spelled, field_of, fields_of};
+ghost use Rattle.trace_pipeline.specs.forms.FieldForm.{value_spelled, field_data, fields_of};
 ghost use Rattle.trace_pipeline.specs.reading.Spelled.{line_value};
 
 use crate::read::fields::plain_value;
@@ -14,39 +14,41 @@ use otel_base::text::Text;
 use std::alloc::Global;
 use trace_base::field::Value as FieldValue;
 
+// The room that most lists of fields need.
+const USUAL: usize = 4;
+
 // The most fields that are read so.
 const MOST_FIELDS: u32 = 65_536;
 
-// A name and a value, to be kept.
-fn kept(alloc: Global, name: &[u8], plain: Plain<'_>) -> Option<(Text, FieldValue)>
-    ensures name { IfSome result (λ field. field.0 ≡ name.now) }
-    ensures value { IfSome result (λ field. value_spelled (plain_data plain.entry) ≡ Some field.1) }
-{
-    let words = str::from_utf8(name).ok()?;
-    let name = Text::from(String::from_str(alloc, words).ok()?);
-    let value = plain_value(alloc, plain).ok()?;
-    Some((name, value))
-}
-
-// A field, and what stands behind it.
-fn plain_field<'a>(alloc: Global, bytes: &'a [u8]) -> Option<((Text, FieldValue), &'a [u8])>
+// A field's name and value as they stand in a text, and what stands behind the field.
+#[inline(always)]
+fn plain_field(bytes: &[u8]) -> Option<(&[u8], Plain<'_>, &[u8])>
     ensures { IfSome result (λ r.
-        (d : Data) × BeginsWithValue (DEEPEST + 1) bytes.now d r.1.now × (field_of d ≡ Some r.0)) }
+        BeginsWithValue (DEEPEST + 1) bytes.now (field_data r.0.now (plain_data r.1)) r.2.now) }
 {
     let inner = behind(bytes, b'[')?;
     let (name, comma) = text(inner)?;
     let more = behind(comma, b',')?;
     let (plain, end) = value(more)?;
     let rest = behind(end, b']')?;
-    let field = kept(alloc, name, plain)?;
-    Some((field, rest))
+    Some((name, plain, rest))
 }
 
-// Adds a field. None where there is no memory.
-fn keep(fields: &mut Vec<(Text, FieldValue)>, field: (Text, FieldValue)) -> Option<()>
-    ensures { IfSome result (λ _. fields.new.items ≡ fields.old.items ++ field ∷ []) }
+// Adds a field. It is made where it is kept, since a field is large. None where there is no memory, or none is spelled.
+fn keep(
+    alloc: Global,
+    fields: &mut Vec<(Text, FieldValue)>,
+    name: &[u8],
+    plain: Plain<'_>,
+) -> Option<()>
+    ensures { IfSome result (λ _. option_map (λ value. fields.old.items ++ (name.now, value) ∷ [])
+        (value_spelled (plain_data plain.entry)) ≡ Some fields.new.items) }
 {
-    fields.push(field).ok()?;
+    let words = str::from_utf8(name).ok()?;
+    let name = Text::from(String::from_str(alloc, words).ok()?);
+    let value = plain_value(alloc, plain).ok()?;
+    fields.reserve(1).ok()?;
+    fields.push_reserved((name, value));
     Some(())
 }
 
@@ -58,14 +60,14 @@ pub fn leading_fields<'a>(
     ensures { IfSome result (λ r.
         (d : Data) × BeginsWithValue (DEEPEST + 2) bytes.now d r.1.now × (fields_of d ≡ Some r.0)) }
 {
-    let mut fields = Vec::new(alloc);
     let mut rest = behind(bytes, b'[')?;
     if let Some(end) = behind(rest, b']') {
-        return Some((Items::from(fields), end));
+        return Some((Items::new(alloc), end));
     }
+    let mut fields = Vec::with_capacity(alloc, USUAL).ok()?;
     for _ in 0..MOST_FIELDS {
-        let (field, after) = plain_field(alloc, rest)?;
-        keep(&mut fields, field)?;
+        let (name, plain, after) = plain_field(rest)?;
+        keep(alloc, &mut fields, name, plain)?;
         match behind(after, b',') {
             Some(more) => rest = more,
             None => {

@@ -31,7 +31,6 @@ fn pair(text: &[u8], first: &[u8], second: &[u8]) -> Option<(u64, u64)>
 
 // A drop.
 fn drop_line(line: &[u8], at: u64, rest: &[u8]) -> Option<Request>
-    requires text { IsUtf8 line.now }
     requires fits { at < 2 ^ 64 }
     requires front { line.now ≡ line_from at rest.now }
     ensures { IfSome result (λ request. request_spelled line.now ≡ Ok request) }
@@ -55,7 +54,6 @@ fn drop_line(line: &[u8], at: u64, rest: &[u8]) -> Option<Request>
 
 // An entry.
 fn enter_line(line: &[u8], at: u64, rest: &[u8]) -> Option<Request>
-    requires text { IsUtf8 line.now }
     requires fits { at < 2 ^ 64 }
     requires front { line.now ≡ line_from at rest.now }
     ensures { IfSome result (λ request. request_spelled line.now ≡ Ok request) }
@@ -79,7 +77,6 @@ fn enter_line(line: &[u8], at: u64, rest: &[u8]) -> Option<Request>
 
 // An exit.
 fn exit_line(line: &[u8], at: u64, rest: &[u8]) -> Option<Request>
-    requires text { IsUtf8 line.now }
     requires fits { at < 2 ^ 64 }
     requires front { line.now ≡ line_from at rest.now }
     ensures { IfSome result (λ request. request_spelled line.now ≡ Ok request) }
@@ -103,7 +100,6 @@ fn exit_line(line: &[u8], at: u64, rest: &[u8]) -> Option<Request>
 
 // A span without fields, contextual or under no other.
 fn new_line(alloc: Global, line: &[u8], at: u64, rest: &[u8]) -> Option<Request>
-    requires text { IsUtf8 line.now }
     requires fits { at < 2 ^ 64 }
     requires front { line.now ≡ line_from at rest.now }
     ensures { IfSome result (λ request. request_spelled line.now ≡ Ok request) }
@@ -154,7 +150,6 @@ fn new_fields_line(alloc: Global, line: &[u8], at: u64, rest: &[u8]) -> Option<R
 
 // An event without fields, contextual or under no other.
 fn event_line(alloc: Global, line: &[u8], at: u64, rest: &[u8]) -> Option<Request>
-    requires text { IsUtf8 line.now }
     requires fits { at < 2 ^ 64 }
     requires front { line.now ≡ line_from at rest.now }
     ensures { IfSome result (λ request. request_spelled line.now ≡ Ok request) }
@@ -207,6 +202,21 @@ fn event_fields_line(alloc: Global, line: &[u8], at: u64, rest: &[u8]) -> Option
     Some(Request { at, lane, call })
 }
 
+// A contextual span or event with fields. Its bytes are tested; those of the other lines are ASCII if they are read.
+fn fields_line(alloc: Global, line: &[u8], at: u64, rest: &[u8]) -> Option<Request>
+    requires fits { at < 2 ^ 64 }
+    requires front { line.now ≡ line_from at rest.now }
+    ensures { IfSome result (λ request. request_spelled line.now ≡ Ok request) }
+{
+    if !is_text(line) {
+        return None;
+    }
+    match new_fields_line(alloc, line, at, rest) {
+        Some(request) => Some(request),
+        None => event_fields_line(alloc, line, at, rest),
+    }
+}
+
 // The moment in front, and what stands behind the quote of the word.
 #[inline(always)]
 fn moment(line: &[u8]) -> Option<(u64, &[u8])>
@@ -223,9 +233,6 @@ fn moment(line: &[u8]) -> Option<(u64, &[u8])>
 pub(crate) fn quick_request(alloc: Global, line: &[u8]) -> Option<Request>
     ensures { IfSome result (λ request. request_spelled line.now ≡ Ok request) }
 {
-    if !is_text(line) {
-        return None;
-    }
     let (at, rest) = moment(line)?;
     if rest.len() < 2 {
         return None;
@@ -233,13 +240,13 @@ pub(crate) fn quick_request(alloc: Global, line: &[u8]) -> Option<Request>
     match (rest[0], rest[1]) {
         (b'n', _) => match new_line(alloc, line, at, rest) {
             Some(request) => Some(request),
-            None => new_fields_line(alloc, line, at, rest),
+            None => fields_line(alloc, line, at, rest),
         },
         (b'd', _) => drop_line(line, at, rest),
         (b'e', b'n') => enter_line(line, at, rest),
         (b'e', b'v') => match event_line(alloc, line, at, rest) {
             Some(request) => Some(request),
-            None => event_fields_line(alloc, line, at, rest),
+            None => fields_line(alloc, line, at, rest),
         },
         (b'e', _) => exit_line(line, at, rest),
         _ => None,

@@ -13,12 +13,15 @@ use std::alloc::AllocError;
 
 /// Adds a text as it is.
 #[inline(always)]
-#[tactic(auto, using(crate::proofs::texts::AddsLemmas::byte_added))]
+#[tactic(auto, using(crate::proofs::texts::AddsLemmas::none_added, crate::proofs::texts::AddsLemmas::byte_added))]
 pub fn add(out: &mut Vec<u8>, front: &str) -> Result<(), AllocError>
     ensures { Writes result out.old out.new front.now }
 {
     let bytes = front.as_bytes();
-    // Most texts that are one byte are known to the compiler, so this test costs less than a copy.
+    // Most texts of no byte or of one are known to the compiler, so these tests cost less than a copy.
+    if bytes.len() == 0 {
+        return Ok(());
+    }
     if bytes.len() == 1 {
         out.push(bytes[0])?;
         return Ok(());

@@ -1,5 +1,5 @@
 //! Records as JSON.
-ghost use Rattle.std.specs.Prelude.{◌≡◌, ◌++◌};
+ghost use Rattle.std.specs.Prelude.{◌≡◌, ◌++◌, codes};
 ghost use Rattle.json.specs.Print.{quoted};
 ghost use Rattle.serde_json.specs.Written.{compact_text};
 ghost use Rattle.trace_pipeline.specs.reading.Object.{array_of};
@@ -26,7 +26,7 @@ pub fn add_record(
     add_attributes(out, "{\"attributes\":", finished.attributes.as_slice())?;
     add_number(out, ",\"end\":", finished.end)?;
     add_events(out, ",\"events\":", finished.events.as_slice())?;
-    add_kind(out, ",\"kind\":", finished.kind)?;
+    add_kind(out, finished.kind)?;
     add_lane(out, lane)?;
     add_links(out, ",\"links\":", finished.links.as_slice())?;
     add_text(out, ",\"name\":", finished.name.as_str())?;
@@ -34,7 +34,7 @@ pub fn add_record(
     add_number(out, ",\"record\":", number)?;
     add_id(out, ",\"span\":", finished.context.span)?;
     add_number(out, ",\"start\":", finished.start)?;
-    add_status(out, ",\"status\":", &finished.status)?;
+    add_status(out, &finished.status)?;
     add_long_id(out, ",\"trace\":", finished.context.trace)?;
     add(out, "}")?;
     Ok(())
@@ -62,25 +62,24 @@ pub(crate) fn name_of(kind: SpanKind) -> &'static str
     }
 }
 
-// The same in quotes, of which none needs an escape.
+// The member of a kind, whose name needs no escape.
 #[tactic(auto, unfolding(json::specs::Print::escape_byte))]
-fn quoted_name(kind: SpanKind) -> &'static str
-    ensures { result.now ≡ quoted (kind_name kind) }
+fn kind_member(kind: SpanKind) -> &'static str
+    ensures { result.now ≡ codes ",\"kind\":" ++ quoted (kind_name kind) }
 {
     match kind {
-        SpanKind::Server => "\"server\"",
-        SpanKind::Client => "\"client\"",
-        SpanKind::Producer => "\"producer\"",
-        SpanKind::Consumer => "\"consumer\"",
-        SpanKind::Internal => "\"internal\"",
+        SpanKind::Server => ",\"kind\":\"server\"",
+        SpanKind::Client => ",\"kind\":\"client\"",
+        SpanKind::Producer => ",\"kind\":\"producer\"",
+        SpanKind::Consumer => ",\"kind\":\"consumer\"",
+        SpanKind::Internal => ",\"kind\":\"internal\"",
     }
 }
 
-fn add_kind(out: &mut Vec<u8>, front: &str, kind: SpanKind) -> Result<(), AllocError>
-    ensures { Writes result out.old out.new (front.now ++ quoted (kind_name kind)) }
+fn add_kind(out: &mut Vec<u8>, kind: SpanKind) -> Result<(), AllocError>
+    ensures { Writes result out.old out.new (codes ",\"kind\":" ++ quoted (kind_name kind)) }
 {
-    add(out, front)?;
-    add(out, quoted_name(kind))?;
+    add(out, kind_member(kind))?;
     Ok(())
 }
 
@@ -94,13 +93,15 @@ fn add_error(out: &mut Vec<u8>, front: &str, description: &str) -> Result<(), Al
     Ok(())
 }
 
-fn add_status(out: &mut Vec<u8>, front: &str, status: &Status) -> Result<(), AllocError>
-    ensures { Writes result out.old out.new (front.now ++ compact_text (status_data status.now)) }
+#[tactic(auto, unfolding(json::specs::Print::escape_byte))]
+fn add_status(out: &mut Vec<u8>, status: &Status) -> Result<(), AllocError>
+    ensures { Writes result out.old out.new
+        (codes ",\"status\":" ++ compact_text (status_data status.now)) }
 {
     match status {
-        Status::Unset => add_text(out, front, "unset"),
-        Status::Error { description } => add_error(out, front, description.as_str()),
-        Status::Ok => add_text(out, front, "ok"),
+        Status::Unset => add(out, ",\"status\":\"unset\""),
+        Status::Error { description } => add_error(out, ",\"status\":", description.as_str()),
+        Status::Ok => add(out, ",\"status\":\"ok\""),
     }
 }
 

@@ -1,5 +1,6 @@
 //! Replies as JSON.
-ghost use Rattle.std.specs.Prelude.{◌≡◌};
+ghost use Rattle.std.specs.Prelude.{◌≡◌, ◌++◌, codes};
+ghost use Rattle.serde_json.specs.Data.{boolean};
 ghost use Rattle.serde_json.specs.Written.{compact_text};
 ghost use Rattle.trace_pipeline.specs.text.Texts.{reply_data, set_name};
 ghost use Rattle.trace_pipeline.specs.text.Writes.{Writes};
@@ -11,11 +12,21 @@ use otel_state::op::SetParentError;
 use span_script::reply::Reply;
 use std::alloc::AllocError;
 
+// What stands in front of the handle of a span that was made.
+fn made_front(enabled: bool) -> &'static str
+    ensures { result.now ≡ codes "{\"enabled\":" ++ (compact_text (boolean enabled) ++ codes ",\"handle\":") }
+{
+    if enabled {
+        "{\"enabled\":true,\"handle\":"
+    } else {
+        "{\"enabled\":false,\"handle\":"
+    }
+}
+
 fn add_made(out: &mut Vec<u8>, line: u64, enabled: bool, handle: u64) -> Result<(), AllocError>
     ensures { Writes result out.old out.new (compact_text (reply_data line (Reply.Made enabled handle))) }
 {
-    add_flag(out, "{\"enabled\":", enabled)?;
-    add_number(out, ",\"handle\":", handle)?;
+    add_number(out, made_front(enabled), handle)?;
     add_number(out, ",\"reply\":", line)?;
     add(out, "}")?;
     Ok(())
@@ -46,11 +57,21 @@ fn add_context(
     Ok(())
 }
 
+// What stands in front of the line, where the reply is whether something is enabled.
+fn enabled_front(enabled: bool) -> &'static str
+    ensures { result.now ≡ codes "{\"enabled\":" ++ (compact_text (boolean enabled) ++ codes ",\"reply\":") }
+{
+    if enabled {
+        "{\"enabled\":true,\"reply\":"
+    } else {
+        "{\"enabled\":false,\"reply\":"
+    }
+}
+
 fn add_enabled(out: &mut Vec<u8>, line: u64, enabled: bool) -> Result<(), AllocError>
     ensures { Writes result out.old out.new (compact_text (reply_data line (Reply.Enabled enabled))) }
 {
-    add_flag(out, "{\"enabled\":", enabled)?;
-    add_number(out, ",\"reply\":", line)?;
+    add_number(out, enabled_front(enabled), line)?;
     add(out, "}")?;
     Ok(())
 }

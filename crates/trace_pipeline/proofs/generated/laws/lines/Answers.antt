@@ -1,5 +1,5 @@
 use Rattle.trace_pipeline.proofs.made.LinesLemmas.{script_lines, requests_spelled, settings_read}
-use Rattle.trace_pipeline.proofs.generated.laws.spelled.Goals as goal
+use Rattle.trace_pipeline.proofs.generated.laws.lines.Goals as goal
 
 pub returns-clause-lines : goal.returns-clause-lines
 returns-clause-lines c = script_lines
