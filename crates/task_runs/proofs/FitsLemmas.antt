@@ -71,7 +71,7 @@ are_tested settings (t ∷ tasks) all =
     let one = one_fits settings t (all 0 t (omega arith)) in
     (one.1, one.2, are_tested settings tasks (λ k d less. all (suc k) d (omega (arith, less))))
 
-pub can_spell : (script : TaskScript) (polls : ℕ) → IsFit script → polls ≡ sum_by (λ t. yields t.steps) script.tasks + length script.tasks → polls < 2 ^ 60 → CanSpell script
+pub can_spell : (script : TaskScript) (polls : ℕ) → IsFit script → polls ≡ sum_by (λ t. yields t.steps) script.tasks + length script.tasks → polls < 2 ^ 60 → CanSpell script.settings.callsites script.tasks
 can_spell script polls fit is few = record {
   sited = all_sited script.settings script.tasks fit.tasks;
   tested = are_tested script.settings script.tasks fit.tasks;

@@ -1,8 +1,9 @@
 -- The record lines of requests that a pipeline runs one after another.
 use Rattle.std.proofs.Common.{◌≡◌, ℕ, ◌+◌, List, [], ◌∷◌, ◌++◌, length, None, refl, sym, ap, subst, ◌∙◌, append_assoc, append-nil, length-append, slice_get, add-one, arith}
-use Rattle.std.specs.Prelude.{option_and_then, Result, Ok, Err, IfOk}
+use Rattle.std.specs.Prelude.{option_and_then, Result, Ok, Err, IfOk, OnOk}
 use Rattle.std.proofs.lemmas.List.{length_push}
 use Rattle.std.proofs.Math.Nat.{add-zero, zero-add}
+use Rattle.otel_base.specs.declared.memory.Memory.{Memory}
 use Rattle.otel_base.specs.declared.record.Record.{Record}
 use Rattle.span_script.specs.declared.reply.Reply.{Reply}
 use Rattle.span_script.specs.declared.request.Request.{Request}
@@ -17,9 +18,11 @@ use Rattle.trace_pipeline.specs.Report.{record_lines}
 use Rattle.trace_pipeline.specs.text.Texts.{record_text, end_text}
 use Rattle.trace_records.specs.Following.{without_taken}
 use Rattle.trace_records.proofs.FollowingLemmas.{stands_beside}
+use Rattle.trace_tasks.specs.TapeTurns.{TakesAll}
+use Rattle.task_runs.specs.declared.runner.Runner.{Runner}
 use Rattle.task_runs.specs.declared.text.RecordLines.{RecordLines}
 use Rattle.task_runs.specs.Texts.{TellsOutcome}
-use Rattle.task_runs.specs.Writing.{AreWritten}
+use Rattle.task_runs.specs.Writing.{WrittenSoFar, RunsRequest}
 
 lines_append : (n : ℕ) (rs ss : List Record) → record_lines n (rs ++ ss) ≡ record_lines n rs ++ record_lines (n + length rs) ss
 lines_append n [] ss = ap (λ (k : ℕ). record_lines k ss) (sym (add-zero n))
@@ -27,17 +30,6 @@ lines_append n (r ∷ rs) ss =
     ap (λ (t : List ℕ). record_text n r ++ t) (lines_append (n + 1) rs ss)
     ∙ sym (append_assoc (record_text n r) (record_lines (n + 1) rs) (record_lines ((n + 1) + length rs) ss))
     ∙ ap (λ (k : ℕ). (record_text n r ++ record_lines (n + 1) rs) ++ record_lines k ss) {x = (n + 1) + length rs} {y = n + length (r ∷ rs)} (omega arith)
-
--- where requests stand of which some are left, and the records so far are written
-pub record WrittenSoFar (setup : Setup) (requests left : List Request) (now : State) (lines : RecordLines) : Type 0 where
-  pub history : History
-  pub setup_is : now.setup ≡ setup
-  pub stands : StandsFor now (tables setup history)
-  pub taken : now.recording.finished ≡ []
-  pub text_is : lines.text.items ≡ record_lines 1 (records_of_history setup history)
-  pub count_is : lines.count ≡ length (records_of_history setup history)
-  pub goes_on : history_of setup requests ≡ history ++ history_from setup (tables setup history) left
-  pub places : (n : ℕ) → slice_get requests (length history + n) ≡ slice_get left n
 
 pub written_first : (requests : List Request) (now : State) (lines : RecordLines) → StandsFor now (tables now.setup []) → now.recording.finished ≡ [] → lines.text.items ≡ [] → lines.count ≡ 0
     → WrittenSoFar now.setup requests requests now lines
@@ -111,7 +103,30 @@ written_next setup requests left rest request old mid new before after answer re
     subst (λ (s : Setup). WrittenSoFar s requests left new after) so_far.setup_is
     (written_own requests left request old mid new before after answer w (steps w.history w.stands) text count taken state)
 
+-- whatever requests came before and come behind, if memory was to be had
+pub runs : (request : Request) (old mid new : State) (before after : RecordLines) (answer : Reply) (result : Result (Unit {0}) Memory)
+    → ((h : History) → StandsFor old (tables old.setup h) → ServedByHistory (effect_of old.setup (tables old.setup h) request) h old mid answer)
+    → OnOk result (after.text.items ≡ before.text.items ++ record_lines (before.count + 1) mid.recording.finished) → OnOk result (after.count ≡ before.count + length mid.recording.finished)
+    → OnOk result (new.recording.finished ≡ []) → without_taken new ≡ without_taken mid
+    → OnOk result ((setup : Setup) (requests left : List Request) → WrittenSoFar setup requests (request ∷ left) old before → WrittenSoFar setup requests left new after)
+runs request old mid new before after answer (Ok x) steps text count taken state = λ setup requests left so_far. written_next setup requests left (request ∷ left) request old mid new before after answer refl steps text count taken state so_far
+runs request old mid new before after answer (Err e) steps text count taken state = tt
+
+runs_all : (setup : Setup) (requests rs left : List Request) (old new : Runner) → TakesAll RunsRequest rs old new → WrittenSoFar setup requests (rs ++ left) old.pipeline old.lines → WrittenSoFar setup requests left new.pipeline new.lines
+runs_all setup requests [] left old new is so_far = subst (λ (r : Runner). WrittenSoFar setup requests left r.pipeline r.lines) (sym is) so_far
+runs_all setup requests (r ∷ rs) left old new (m, one, rest) so_far = runs_all setup requests rs left m new rest (one setup requests (rs ++ left) so_far)
+
+pub runs_these : (setup : Setup) (requests : List Request) (old new : Runner) → TakesAll RunsRequest requests old new → WrittenSoFar setup requests requests old.pipeline old.lines → WrittenSoFar setup requests [] new.pipeline new.lines
+runs_these setup requests old new all so_far = runs_all setup requests requests [] old new all (subst (λ (rs : List Request). WrittenSoFar setup requests rs old.pipeline old.lines) (sym (append-nil requests)) so_far)
+
 -- ---- all requests
+
+-- None of them was refused, the pipeline stands for their history, and the lines are those of all records.
+pub record AreWritten (setup : Setup) (requests : List Request) (new : State) (lines : RecordLines) : Type 0 where
+  pub stands : StandsFor new (tables setup (history_of setup requests))
+  pub served : (outcome_of setup requests).refused ≡ None
+  pub text_is : lines.text.items ≡ record_lines 1 (outcome_of setup requests).records
+  pub count_is : lines.count ≡ length (outcome_of setup requests).records
 
 pub all_written : (setup : Setup) (requests rest : List Request) (now : State) (lines : RecordLines) → rest ≡ [] → WrittenSoFar setup requests rest now lines → AreWritten setup requests now lines
 all_written setup requests rest now lines none so_far =

@@ -8,8 +8,9 @@
 mod copies;
 pub mod input;
 pub mod run;
+mod runner;
 pub mod script;
-mod spell;
+mod script_run;
 mod text;
 
 pub use input::{tasks_answer, tasks_refusal};

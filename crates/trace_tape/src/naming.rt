@@ -23,7 +23,7 @@ fn name_at(alloc: Global, callsite: &Callsite, place: usize) -> Result<Text, Mem
 }
 
 /// The values of fields, each beside the name of its field.
-pub(crate) fn named(
+pub(crate) fn named_values(
     alloc: Global,
     callsite: &Callsite,
     values: &ValueSet,

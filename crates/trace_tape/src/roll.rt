@@ -1,5 +1,5 @@
 //! Requests in order, with room for some that come later.
-ghost use Rattle.std.specs.Prelude.{◌≡◌, ◌+◌, ◌<◌, ◌≤◌, [], ◌∷◌, ◌++◌, OnOk, OnErr};
+ghost use Rattle.std.specs.Prelude.{◌≡◌, ◌+◌, ◌<◌, ◌≤◌, [], ◌∷◌, ◌++◌, OnOk, OnErr, IfOk};
 
 use otel_base::memory::Memory;
 use span_script::request::Request;
@@ -43,11 +43,15 @@ impl Roll {
         self.requests.as_slice()
     }
 
-    // The requests in order, without a copy.
-    pub(crate) fn into_requests(self) -> Vec<Request>
-        ensures { result.items ≡ self.requests }
+    // Moves the requests out, in order. The spare places stay.
+    pub(crate) fn take(&mut self) -> Result<Vec<Request>, Memory>
+        ensures ok { IfOk result (λ taken. (taken.items ≡ self.old.requests)
+            × (self.new ≡ record self.old { requests = [] })) }
+        ensures memory_leaves { OnErr result (self.new ≡ self.old) }
     {
-        self.requests
+        let mut taken = Vec::with_capacity(*self.requests.allocator(), self.requests.len())?;
+        taken.append(&mut self.requests)?;
+        Ok(taken)
     }
 
     // Takes the room for one request more.

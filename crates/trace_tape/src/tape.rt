@@ -1,5 +1,5 @@
 //! The tape.
-ghost use Rattle.std.specs.Prelude.{◌≡◌, ◌≤◌, ◌+◌, ◌-◌, ◌++◌, ℕ, true, false, None, slice_set, count_by};
+ghost use Rattle.std.specs.Prelude.{◌≡◌, ◌≤◌, ◌+◌, ◌-◌, [], ◌++◌, ℕ, IfOk, OnErr, true, false, None, slice_set, count_by};
 ghost use Rattle.std.proofs.Common.{refl, ◌∙◌, ap};
 ghost use Rattle.trace_base.specs.declared.lane.Lane.{Lane};
 ghost use Rattle.trace_base.specs.declared.subscriber.Interest.TheVariants as interests;
@@ -7,7 +7,7 @@ ghost use Rattle.trace_tape.specs.Taping.{TapeValue, DoesTape, blank, one_more, 
 ghost use Rattle.trace_tape.specs.Taped.{tape_same, tape_lanes};
 ghost use Rattle.span_registry.specs.Registering.{no_spans};
 
-use crate::naming::named;
+use crate::naming::named_values;
 use crate::opened::{Opened, take_last};
 use crate::roll::Roll;
 use otel_base::enter_error::EnterError;
@@ -70,23 +70,13 @@ impl Tape {
         self.roll.requests()
     }
 
-    /// The requests that the calls so far spelled, in order, without a copy.
-    pub fn into_requests(self) -> Vec<Request>
-        ensures { result.items ≡ self.requests }
+    /// Moves the requests off the tape that the calls so far spelled, in order. `Memory` leaves it as it is.
+    pub fn take_requests(&mut self) -> Result<Vec<Request>, Memory>
+        ensures ok { IfOk result (λ taken. (taken.items ≡ self.old.requests)
+            × (self.new ≡ record self.old { requests = [] })) }
+        ensures memory_leaves { OnErr result (self.new ≡ self.old) }
     {
-        let Tape {
-            alloc: _,
-            registry,
-            handles,
-            due: _,
-            entries,
-            guards: _,
-            roll,
-        } = self;
-        drop(registry);
-        drop(handles);
-        drop(entries);
-        roll.into_requests()
+        self.roll.take()
     }
 }
 
@@ -171,9 +161,9 @@ impl Subscriber for Tape {
         self.handles.reserve(1)?;
         self.roll.reserve()?;
         self.roll.reserve()?;
-        let fields = named(self.alloc, callsite, values)?;
+        let fields = named_values(self.alloc, callsite, values)?;
         let number = number_of(site);
-        let place = spelled_place(parent.same());
+        let place = spelled_place(&parent);
         match self
             .registry
             .new_span(lane, at, parent, site, callsite, values)
@@ -205,7 +195,7 @@ impl Subscriber for Tape {
         values: &ValueSet,
     ) -> Result<(), Memory> {
         self.roll.reserve()?;
-        let fields = named(self.alloc, callsite, values)?;
+        let fields = named_values(self.alloc, callsite, values)?;
         self.registry.record(id, at, callsite, values)?;
         self.roll.tell(request(
             at,
@@ -240,9 +230,9 @@ impl Subscriber for Tape {
         values: &ValueSet,
     ) -> Result<(), Memory> {
         self.roll.reserve()?;
-        let fields = named(self.alloc, callsite, values)?;
+        let fields = named_values(self.alloc, callsite, values)?;
         let number = number_of(site);
-        let place = spelled_place(parent.same());
+        let place = spelled_place(&parent);
         self.registry
             .event(lane, at, parent, site, callsite, values)?;
         self.roll.tell(request(
@@ -331,8 +321,8 @@ fn number_of(site: SiteId) -> u64
 }
 
 // Where a span or an event is put.
-fn spelled_place(parent: Parent) -> Place
-    ensures { result ≡ spelled_place parent }
+fn spelled_place(parent: &Parent) -> Place
+    ensures { result ≡ spelled_place parent.now }
 {
     match parent {
         Parent::Root => Place::Root,

@@ -3,13 +3,12 @@ pub use Rattle.futures.specs.Task.{Keeps}
 unfoldable pub use Rattle.futures.specs.Task.{Holds}
 pub use Rattle.std.proofs.lemmas.Bool.{cond-true}
 pub use Rattle.std.proofs.lemmas.Grind.{common_steps}
-pub use Rattle.std.proofs.lemmas.List.{drop_more, take_more, take_rest}
 pub use Rattle.std.proofs.lemmas.List.Sums.{sum_by-cons, sum_by_push}
 pub use Rattle.std.specs.List.{cons_option, list_all}
 pub use Rattle.std.specs.Option.{option_map_or}
 pub use Rattle.otel_base.specs.declared.enter_error.EnterError.{EnterError}
 pub use Rattle.otel_base.specs.declared.memory.Memory.{Memory}
-pub use Rattle.trace_base.proofs.Entering.{count_cons, made_if_held, with_same}
+pub use Rattle.trace_base.proofs.EntryLemmas.{count_cons, made_if_held, with_same}
 pub use Rattle.trace_base.specs.Calls.{Enter, Event, Exit, NewSpan, Records, SubscriberCall, TryClose, spans_after_call, with_new_span, with_span_entry, with_span_exit}
 pub use Rattle.trace_base.specs.Field.{place_of}
 pub use Rattle.trace_base.specs.Gate.{Admits, Worlds, cached_at, dispatch_on, gate}
@@ -19,13 +18,13 @@ pub use Rattle.trace_base.specs.declared.field.ValueSet.{ValueSet}
 pub use Rattle.trace_base.specs.declared.lane.Lane.{Lane}
 pub use Rattle.trace_base.specs.declared.level.LevelFilter.{LevelFilter}
 pub use Rattle.trace_base.specs.lanes.Contexts.{Lanes}
-pub use Rattle.span_handles.proofs.Showing.{as_many, chain_shown, now_there, seen_before, seen_later}
+pub use Rattle.span_handles.proofs.ChangedSubscriberLemmas.{as_many, chain_shown, now_there, seen_before, seen_later}
 pub use Rattle.span_handles.specs.Entries.{BeginsInside, LeavesLane, MeetsFullLane}
 pub use Rattle.span_handles.specs.Handles.{Handle, HasOn, Held, IsKnown, MakesIf, RecordsAt, RecordsOn, ReplacedIf, ReplacedOn, callsite_in, handle_of, id_of}
 pub use Rattle.span_handles.specs.Worlds.{Chain, ReleasesChain, Replaced, all_released, closes, ended, no_spans, releases, spans_in}
-pub use Rattle.span_futures.proofs.Calling.{called_once, called_same, calls_none, calls_one, calls_then, changed_once}
+pub use Rattle.span_futures.proofs.CallsLemmas.{called_once, called_same, calls_none, calls_one, calls_then, changed_once}
 pub use Rattle.span_futures.proofs.Inside.{keeps_nothing, refused}
-pub use Rattle.span_futures.proofs.Keeping.{keeps_all, same_kept}
+pub use Rattle.span_futures.proofs.KeptLemmas.{keeps_all, same_kept}
 pub use Rattle.span_futures.specs.Calling.{Beside, CallsBy}
 pub use Rattle.span_futures.specs.Lent.{AreAllAttached, HasAll, KeepsLent}
 pub use Rattle.span_futures.specs.Polls.{CannotEnter, IsInside, Polled}

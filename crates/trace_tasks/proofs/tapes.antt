@@ -1,4 +1,6 @@
 -- What tasks spell on a tape.
+pub mod HandedOnRunLemmas
+pub mod HandingOnLemmas
 pub mod PollsLemmas
 pub mod RoundsLemmas
 pub mod RunsLemmas

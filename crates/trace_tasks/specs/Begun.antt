@@ -30,7 +30,7 @@ pub record MakesOne {S : Type 0} (spans : S → Spans) (hint : S → Option Leve
 -- a task was begun: its span was made, and nothing else happened
 pub record Begins {S : Type 0} (spans : S → Spans) (hint : S → Option LevelFilter) (enables : S → ℕ → Callsite → Bool) (kept : S → ℕ → ℕ → ℕ) (is_whole : S → Type 0) (does : S → SubscriberCall → S → Type 0) (touches : S → PartCall → S → Type 0)
     (task : Task) (lane : Lane) (old new : Worlds S) (f : Instrumented Running) : Type 0 where
-  pub steps : f.inner.steps.now ≡ task.steps
+  pub steps : f.inner.steps.items ≡ task.steps
   pub site : f.span.site ≡ Some task.site
   pub made : (handles : List Handle) (guards : List Held) → Made spans hint enables does touches (dispatch_serving lane) 0 task.site task.fields
       (record { world = old; lane = lane; handles = handles; guards = guards }) (record { world = new; lane = lane; handles = handles ++ f.span ∷ []; guards = guards })

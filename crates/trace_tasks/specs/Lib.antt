@@ -5,5 +5,6 @@ pub mod FieldNames
 pub mod Flat
 pub mod Spelled
 pub mod Stops
+pub mod TapeTurns
 pub mod Turning
 pub mod Waiting

@@ -48,12 +48,12 @@ pub record IsAlone (made : List Span) (d site : ℕ) (handle : Handle) : Type 0 
 
 -- the task of a handle's number
 abbrev pub left_as : ℕ → ℕ → Running → Left
-left_as number site f = record { number = number; site = site; steps = f.steps.now }
+left_as number site f = record { number = number; site = site; steps = f.steps.items }
 
 -- what becomes of a task that is polled: it has the steps behind the yield left, or it is finished
 abbrev pub IsLeft : Option (Instrumented Running) → Instrumented Running → Type 0
-IsLeft None f = left_of f.inner.steps.now ≡ None
-IsLeft (Some g) f = (left_of f.inner.steps.now ≡ Some g.inner.steps.now) × (g.span ≡ f.span)
+IsLeft None f = left_of f.inner.steps.items ≡ None
+IsLeft (Some g) f = (left_of f.inner.steps.items ≡ Some g.inner.steps.items) × (g.span ≡ f.span)
 
 -- the spans after a poll: all are the same, but for one that closed
 abbrev pub SpansStay : Option (Instrumented Running) → Held → List Span → List Span → Type 0

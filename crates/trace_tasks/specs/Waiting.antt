@@ -47,7 +47,7 @@ KeepsBut spans old new closed = (held : Held) → (held ≡ closed → ⊥) → 
 pub record TaskStands (handles : List Handle) (t : Left) (f : Instrumented Running) : Type 0 where
   pub handle : slice_get handles t.number ≡ Some f.span
   pub site : f.span.site ≡ Some t.site
-  pub steps : t.steps ≡ f.inner.steps.now
+  pub steps : t.steps ≡ f.inner.steps.items
 
 abbrev pub AllStand : List Handle → List Left → List (Instrumented Running) → Type 0
 AllStand handles [] [] = Unit {0}
@@ -62,7 +62,7 @@ queue_with fs (Some g) = fs ++ g ∷ []
 
 -- as many polls as a queue takes
 abbrev pub polls_in : List (Instrumented Running) → ℕ
-polls_in fs = sum_by (λ f. yields f.inner.steps.now + 1) fs
+polls_in fs = sum_by (λ f. yields f.inner.steps.items + 1) fs
 
 -- the tasks of a queue were polled in turn until all were finished
 pub record TakesTurns {S : Type 0} (spans : S → Spans) (hint : S → Option LevelFilter) (enables : S → ℕ → Callsite → Bool) (does : S → SubscriberCall → S → Type 0) (touches : S → PartCall → S → Type 0)

@@ -5,9 +5,9 @@ ghost use Rattle.span_futures.specs.Lent.{HasAll};
 ghost use Rattle.trace_tasks.specs.declared.script.Step.TheVariants as steps;
 ghost use Rattle.trace_tasks.specs.Acts.{StepOn, Changes, Wants};
 
-use crate::copies::copied_attribute;
 use crate::fields::values_of;
 use crate::script::Step;
+use otel_base::list::Items;
 use otel_base::memory::Memory;
 use otel_base::text::Text;
 use otel_base::value::{KeyValue, OtelValue};
@@ -26,26 +26,25 @@ pub(crate) fn act<S: OtelSubscriber>(
     world: &mut World<S>,
     lane: &Lane,
     at: u64,
-    step: &Step,
+    step: Step,
 ) -> Result<(), Memory>
     requires own { IsOwn world.old lane.now.default }
     requires whole { HasAll S.Subscriber.is_whole world.old }
     ensures ok { OnOk result (StepOn S.Subscriber.spans S.Subscriber.hint S.Subscriber.enables S.Subscriber.does
-        S.OtelPart.touches lane.now at step.now world.old world.new) }
+        S.OtelPart.touches lane.now at step world.old world.new) }
     ensures changes { Changes S.Subscriber.spans S.Subscriber.hint S.Subscriber.enables S.Subscriber.does
         S.OtelPart.touches S.Subscriber.same at world.old world.new }
     ensures wants { OnErr result (Wants S.Subscriber.spans S.Subscriber.hint S.Subscriber.enables S.Subscriber.does
         S.OtelPart.touches S.Subscriber.same at world.old world.new) }
 {
     let Some(dispatch) = get_default(world, lane) else {
+        drop(step);
         return Ok(());
     };
     match step {
-        Step::Event { site, fields } => {
-            tell(alloc, world, lane, dispatch, at, *site, fields.as_slice())
-        }
-        Step::Record { fields } => record(alloc, world, lane, dispatch, at, fields.as_slice()),
-        Step::SetAttribute { key, value } => set(alloc, world, lane, dispatch, at, key, value),
+        Step::Event { site, fields } => tell(alloc, world, lane, dispatch, at, site, fields),
+        Step::Record { fields } => record(alloc, world, lane, dispatch, at, fields),
+        Step::SetAttribute { key, value } => set(world, lane, dispatch, at, key, value),
         Step::Yield => Ok(()),
     }
 }
@@ -58,23 +57,25 @@ fn tell<S: OtelSubscriber>(
     dispatch: Dispatch,
     at: u64,
     site: u64,
-    fields: &[(Text, Value)],
+    fields: Items<(Text, Value)>,
 ) -> Result<(), Memory>
     requires own { IsOwn world.old lane.now.default }
     requires serves { dispatch_on lane.now.default world.old.global ≡ Some dispatch }
     requires there { dispatch < length world.old.subscribers }
     requires whole { HasAll S.Subscriber.is_whole world.old }
     ensures ok { OnOk result (StepOn S.Subscriber.spans S.Subscriber.hint S.Subscriber.enables S.Subscriber.does
-        S.OtelPart.touches lane.now at (steps.Event site fields.now) world.old world.new) }
+        S.OtelPart.touches lane.now at (steps.Event site fields) world.old world.new) }
     ensures changes { Changes S.Subscriber.spans S.Subscriber.hint S.Subscriber.enables S.Subscriber.does
         S.OtelPart.touches S.Subscriber.same at world.old world.new }
     ensures wants { OnErr result (Wants S.Subscriber.spans S.Subscriber.hint S.Subscriber.enables S.Subscriber.does
         S.OtelPart.touches S.Subscriber.same at world.old world.new) }
 {
     let Some(found) = world.site_at(site) else {
+        drop(fields);
         return Ok(());
     };
     if !world.admits(lane, found) {
+        drop(fields);
         return Ok(());
     }
     let values = values_of(alloc, world.site(found), fields)?;
@@ -89,22 +90,24 @@ fn record<S: OtelSubscriber>(
     lane: &Lane,
     dispatch: Dispatch,
     at: u64,
-    fields: &[(Text, Value)],
+    fields: Items<(Text, Value)>,
 ) -> Result<(), Memory>
     requires serves { dispatch_on lane.now.default world.old.global ≡ Some dispatch }
     requires there { dispatch < length world.old.subscribers }
     requires whole { HasAll S.Subscriber.is_whole world.old }
     ensures ok { OnOk result (StepOn S.Subscriber.spans S.Subscriber.hint S.Subscriber.enables S.Subscriber.does
-        S.OtelPart.touches lane.now at (steps.Record fields.now) world.old world.new) }
+        S.OtelPart.touches lane.now at (steps.Record fields) world.old world.new) }
     ensures changes { Changes S.Subscriber.spans S.Subscriber.hint S.Subscriber.enables S.Subscriber.does
         S.OtelPart.touches S.Subscriber.same at world.old world.new }
     ensures wants { OnErr result (Wants S.Subscriber.spans S.Subscriber.hint S.Subscriber.enables S.Subscriber.does
         S.OtelPart.touches S.Subscriber.same at world.old world.new) }
 {
     let Some((id, site)) = world.subscriber(dispatch).current_span(lane.id) else {
+        drop(fields);
         return Ok(());
     };
     let Some(found) = world.site_at(site.number()) else {
+        drop(fields);
         return Ok(());
     };
     let values = values_of(alloc, world.site(found), fields)?;
@@ -114,30 +117,28 @@ fn record<S: OtelSubscriber>(
 
 // Sets an attribute on the current span, if there is one.
 fn set<S: OtelSubscriber>(
-    alloc: Global,
     world: &mut World<S>,
     lane: &Lane,
     dispatch: Dispatch,
     at: u64,
-    key: &Text,
-    value: &OtelValue,
+    key: Text,
+    value: OtelValue,
 ) -> Result<(), Memory>
     requires serves { dispatch_on lane.now.default world.old.global ≡ Some dispatch }
     requires there { dispatch < length world.old.subscribers }
     requires whole { HasAll S.Subscriber.is_whole world.old }
     ensures ok { OnOk result (StepOn S.Subscriber.spans S.Subscriber.hint S.Subscriber.enables S.Subscriber.does
-        S.OtelPart.touches lane.now at (steps.SetAttribute key.now value.now) world.old world.new) }
+        S.OtelPart.touches lane.now at (steps.SetAttribute key value) world.old world.new) }
     ensures changes { Changes S.Subscriber.spans S.Subscriber.hint S.Subscriber.enables S.Subscriber.does
         S.OtelPart.touches S.Subscriber.same at world.old world.new }
     ensures wants { OnErr result (Wants S.Subscriber.spans S.Subscriber.hint S.Subscriber.enables S.Subscriber.does
         S.OtelPart.touches S.Subscriber.same at world.old world.new) }
 {
+    let pair = KeyValue { key, value };
     let Some((id, _)) = world.subscriber(dispatch).current_span(lane.id) else {
+        drop(pair);
         return Ok(());
     };
-    let key = key.clone()?;
-    let value = copied_attribute(alloc, value)?;
-    let pair = KeyValue { key, value };
     match world
         .subscriber_mut(dispatch)
         .otel_apply(id, at, Op::SetAttribute { pair })

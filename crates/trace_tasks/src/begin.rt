@@ -13,6 +13,7 @@ ghost use Rattle.trace_tasks.specs.Waiting.{AllKnown};
 use crate::fields::values_of;
 use crate::running::Running;
 use crate::script::Task;
+use otel_base::list::Items;
 use otel_base::memory::Memory;
 use otel_base::text::Text;
 use otel_layer::part::OtelSubscriber;
@@ -31,14 +32,14 @@ fn make<S: OtelSubscriber>(
     world: &mut World<S>,
     lane: &Lane,
     site: SiteId,
-    fields: &[(Text, Value)],
+    fields: Items<(Text, Value)>,
 ) -> Result<Span, Memory>
     requires ready { Ready S.Subscriber.spans S.Subscriber.kept S.Subscriber.is_whole world.old lane.now }
     requires site { site < length world.old.sites }
     requires few { length (spans_in S.Subscriber.spans world.old (dispatch_serving lane.now)).made < 2 ^ 63 }
 
     ensures ok { IfOk result (MakesOne S.Subscriber.spans S.Subscriber.hint S.Subscriber.enables
-        S.Subscriber.does S.OtelPart.touches site fields.now lane.now world.old world.new) }
+        S.Subscriber.does S.OtelPart.touches site fields lane.now world.old world.new) }
     ensures wants { OnErr result (Wants S.Subscriber.spans S.Subscriber.hint S.Subscriber.enables S.Subscriber.does
         S.OtelPart.touches S.Subscriber.same 0 world.old world.new) }
     ensures known { IfOk result (λ span. IsKnown S.Subscriber.spans world.new span.held) }
@@ -46,6 +47,7 @@ fn make<S: OtelSubscriber>(
     ensures whole { HasAll S.Subscriber.is_whole world.new }
 {
     if !world.admits(lane, site) {
+        drop(fields);
         return Ok(Span::new_disabled(site));
     }
     let values = values_of(alloc, world.site(site), fields)?;
@@ -53,52 +55,64 @@ fn make<S: OtelSubscriber>(
 }
 
 // Begins a task.
-fn begin<'a, S: OtelSubscriber>(
+fn begin<S: OtelSubscriber>(
     alloc: Global,
-    task: &'a Task,
+    task: Task,
     world: &mut World<S>,
     lane: &Lane,
-) -> Result<Instrumented<Running<'a>>, Memory>
+) -> Result<Instrumented<Running>, Memory>
     requires ready { Ready S.Subscriber.spans S.Subscriber.kept S.Subscriber.is_whole world.old lane.now }
-    requires site { task.now.site < length world.old.sites }
+    requires site { task.site < length world.old.sites }
     requires few { length (spans_in S.Subscriber.spans world.old (dispatch_serving lane.now)).made < 2 ^ 63 }
     ensures ok { IfOk result (Begins S.Subscriber.spans S.Subscriber.hint S.Subscriber.enables S.Subscriber.kept
-        S.Subscriber.is_whole S.Subscriber.does S.OtelPart.touches task.now lane.now world.old world.new) }
+        S.Subscriber.is_whole S.Subscriber.does S.OtelPart.touches task lane.now world.old world.new) }
     ensures wants { OnErr result (Wants S.Subscriber.spans S.Subscriber.hint S.Subscriber.enables S.Subscriber.does
         S.OtelPart.touches S.Subscriber.same 0 world.old world.new) }
     ensures keeps { KeepsHandles S.Subscriber.spans world.old world.new }
     ensures whole { HasAll S.Subscriber.is_whole world.new }
 {
-    let Some(found) = world.site_at(task.site) else {
+    let Task {
+        site,
+        fields,
+        steps,
+    } = task;
+    let Some(found) = world.site_at(site) else {
         unreachable!()
     };
-    let span = make(alloc, world, lane, found, task.fields.as_slice())?;
-    let steps = task.steps.as_slice();
-    Ok(Running { alloc, steps }.instrument(span))
+    match make(alloc, world, lane, found, fields) {
+        Ok(span) => {
+            let steps = VecDeque::from(steps.into_vec());
+            Ok(Running { alloc, steps }.instrument(span))
+        }
+        Err(memory) => {
+            drop(steps);
+            Err(memory)
+        }
+    }
 }
 
 /// Begins tasks in order, and puts them into a queue.
-pub(crate) fn begin_all<'a, S: OtelSubscriber>(
+pub(crate) fn begin_all<S: OtelSubscriber>(
     alloc: Global,
-    tasks: &'a [Task],
-    queue: &mut VecDeque<Instrumented<Running<'a>>>,
+    tasks: Items<Task>,
+    queue: &mut VecDeque<Instrumented<Running>>,
     world: &mut World<S>,
     lane: &Lane,
 ) -> Result<(), Memory>
     requires none { queue.old.items ≡ [] }
     requires ready { Ready S.Subscriber.spans S.Subscriber.kept S.Subscriber.is_whole world.old lane.now }
-    requires sites { AllSited (length world.old.sites) tasks.now }
-    requires few { length (spans_in S.Subscriber.spans world.old (dispatch_serving lane.now)).made + length tasks.now < 2 ^ 63 }
+    requires sites { AllSited (length world.old.sites) tasks }
+    requires few { length (spans_in S.Subscriber.spans world.old (dispatch_serving lane.now)).made + length tasks < 2 ^ 63 }
 
     ensures ok { OnOk result (AreBegun S.Subscriber.spans S.Subscriber.hint S.Subscriber.enables S.Subscriber.kept
-        S.Subscriber.is_whole S.Subscriber.does S.OtelPart.touches tasks.now lane.now world.old world.new queue.new.items) }
+        S.Subscriber.is_whole S.Subscriber.does S.OtelPart.touches tasks lane.now world.old world.new queue.new.items) }
     ensures stops { OnErr result (StopsBeginning S.Subscriber.spans S.Subscriber.hint S.Subscriber.enables
-        S.Subscriber.kept S.Subscriber.is_whole S.Subscriber.does S.OtelPart.touches S.Subscriber.same tasks.now lane.now
+        S.Subscriber.kept S.Subscriber.is_whole S.Subscriber.does S.OtelPart.touches S.Subscriber.same tasks lane.now
         world.old world.new queue.new.items) }
     ensures known { AllKnown S.Subscriber.spans world.new queue.new.items }
     ensures whole { HasAll S.Subscriber.is_whole world.new }
 {
-    for task in tasks {
+    for task in tasks.into_vec() {
         queue.reserve(1)?;
         let begun = begin(alloc, task, world, lane)?;
         queue.push_back_reserved(begun);

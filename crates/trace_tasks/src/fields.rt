@@ -8,20 +8,19 @@ use otel_base::text::Text;
 use std::alloc::Global;
 use trace_base::callsite::Callsite;
 use trace_base::field::{Value, ValueSet};
-use trace_tape::copies::copied_value;
 
 /// The values of those fields that the callsite declares, in their order.
 pub(crate) fn values_of(
     alloc: Global,
     callsite: &Callsite,
-    fields: &[(Text, Value)],
+    fields: Items<(Text, Value)>,
 ) -> Result<ValueSet, Memory>
-    ensures { IfOk result (λ values. values ≡ values_of callsite.now fields.now) }
+    ensures { IfOk result (λ values. values ≡ values_of callsite.now fields) }
 {
     let mut pairs = Items::new(alloc);
-    for (name, value) in fields {
+    for (name, value) in fields.into_vec() {
         if let Some(place) = callsite.field(name.as_str()) {
-            pairs.push((place, copied_value(alloc, value)?))?;
+            pairs.push((place, value))?;
         }
     }
     Ok(ValueSet { pairs })

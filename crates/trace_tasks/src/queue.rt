@@ -20,8 +20,8 @@ use trace_base::world::World;
 
 /// Polls the first task of a queue, which goes to the end if it isn't finished, until none is left; answers the number of
 /// polls. The k-th poll is at the moment 10 k. A poll that is refused ends it, and all handles are closed at its moment.
-pub(crate) fn poll_all<'a, S: OtelSubscriber>(
-    queue: &mut VecDeque<Instrumented<Running<'a>>>,
+pub(crate) fn poll_all<S: OtelSubscriber>(
+    queue: &mut VecDeque<Instrumented<Running>>,
     world: &mut World<S>,
     lane: &mut Lane,
     cx: &mut Context<'_>,
@@ -56,13 +56,13 @@ pub(crate) fn poll_all<'a, S: OtelSubscriber>(
     Ok(polls)
 }
 
-// A task goes to the end of the queue, if it isn't finished.
-fn put_back<'a>(
-    queue: &mut VecDeque<Instrumented<Running<'a>>>,
-    left: Option<Instrumented<Running<'a>>>,
+/// A task goes to the end of the queue, if it isn't finished.
+pub(crate) fn put_back(
+    queue: &mut VecDeque<Instrumented<Running>>,
+    left: Option<Instrumented<Running>>,
 )
     requires { deque_len queue.old < deque_capacity queue.old }
-    ensures { queue.new.items ≡ queue_with queue.old.items left.entry }
+    ensures { queue.new.items ≡ queue_with queue.old.items left }
 {
     match left {
         Some(task) => queue.push_back_reserved(task),
@@ -71,8 +71,8 @@ fn put_back<'a>(
 }
 
 /// Closes the handles of all tasks that are left.
-pub(crate) fn close_all<'a, S: OtelSubscriber>(
-    queue: &mut VecDeque<Instrumented<Running<'a>>>,
+pub(crate) fn close_all<S: OtelSubscriber>(
+    queue: &mut VecDeque<Instrumented<Running>>,
     world: &mut World<S>,
     at: u64,
 )

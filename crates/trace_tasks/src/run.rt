@@ -1,4 +1,4 @@
-//! Running a script of tasks.
+//! Running tasks.
 ghost use Rattle.std.specs.Prelude.{◌≡◌, ◌<◌, ◌^◌, ◌+◌, [], length, sum_by, IfOk, IfErr};
 ghost use Rattle.futures.specs.Task.{Keeps};
 ghost use Rattle.span_handles.specs.Worlds.{spans_in};
@@ -10,9 +10,10 @@ ghost use Rattle.trace_tasks.specs.Turning.{Ready, dispatch_serving};
 use crate::begin::begin_all;
 use crate::queue::{close_all, poll_all};
 use crate::running::Running;
-use crate::script::{Task, TaskScript};
+use crate::script::Task;
 use futures::task::Context;
 use otel_base::enter_error::EnterError;
+use otel_base::list::Items;
 use otel_base::memory::Memory;
 use otel_layer::part::OtelSubscriber;
 use span_futures::instrument::Instrumented;
@@ -21,32 +22,30 @@ use std::collections::VecDeque;
 use trace_base::lane::Lane;
 use trace_base::world::World;
 
-/// Makes a task of each of the script's, under a span of its own, and polls them in turn until all are finished; answers
+/// Puts each task under a span of its own, and polls them in turn until all are finished; answers
 /// how many polls there were. `Full` only where an entry met a full lane, `Memory` freely: what was done before a refusal
 /// stays, and the handles that are left are closed.
 pub fn run_tasks<S: OtelSubscriber>(
     alloc: Global,
-    script: &TaskScript,
+    tasks: Items<Task>,
     world: &mut World<S>,
     lane: &mut Lane,
     cx: &mut Context<'_>,
 ) -> Result<u64, EnterError>
     requires ready { Ready S.Subscriber.spans S.Subscriber.kept S.Subscriber.is_whole world.old lane.old }
-    requires sites { world.old.sites ≡ script.now.settings.callsites }
-    requires sited { AllSited (length script.now.settings.callsites) script.now.tasks }
-    requires few { length (spans_in S.Subscriber.spans world.old (dispatch_serving lane.old)).made + length script.now.tasks < 2 ^ 63 }
-    requires few_polls { all_polls (tasks_at_first 0 script.now.tasks) < 2 ^ 60 }
+    requires sited { AllSited (length world.old.sites) tasks }
+    requires few { length (spans_in S.Subscriber.spans world.old (dispatch_serving lane.old)).made + length tasks < 2 ^ 63 }
+    requires few_polls { all_polls (tasks_at_first 0 tasks) < 2 ^ 60 }
 
     ensures ok { IfOk result (Ran S.Subscriber.spans S.Subscriber.hint S.Subscriber.enables S.Subscriber.does
-        S.OtelPart.touches script.now.settings.callsites script.now.tasks world.old world.new lane.old lane.new) }
-    ensures answer { IfOk result (λ polls. polls ≡ sum_by (λ t. yields t.steps) script.now.tasks + length script.now.tasks) }
+        S.OtelPart.touches world.old.sites tasks world.old world.new lane.old lane.new) }
+    ensures answer { IfOk result (λ polls. polls ≡ sum_by (λ t. yields t.steps) tasks + length tasks) }
     ensures gives_up { IfErr result (λ e.
         GaveUp S.Subscriber.spans S.Subscriber.hint S.Subscriber.enables S.Subscriber.activates S.Subscriber.does
-        S.OtelPart.touches S.Subscriber.same (dispatch_serving lane.old) script.now.settings.callsites script.now.tasks e
+        S.OtelPart.touches S.Subscriber.same (dispatch_serving lane.old) world.old.sites tasks e
         (record { world = world.old; lane = lane.old; handles = []; guards = [] }) world.new lane.new) }
     ensures context { Keeps cx.old cx.new }
 {
-    let tasks = script.tasks.as_slice();
     let mut queue = VecDeque::new(alloc);
     let answer = begin_and_poll(alloc, tasks, &mut queue, world, lane, cx);
     queue.destroy_empty();
@@ -54,26 +53,26 @@ pub fn run_tasks<S: OtelSubscriber>(
 }
 
 // Begins tasks, and polls them until none is left.
-fn begin_and_poll<'a, S: OtelSubscriber>(
+fn begin_and_poll<S: OtelSubscriber>(
     alloc: Global,
-    tasks: &'a [Task],
-    queue: &mut VecDeque<Instrumented<Running<'a>>>,
+    tasks: Items<Task>,
+    queue: &mut VecDeque<Instrumented<Running>>,
     world: &mut World<S>,
     lane: &mut Lane,
     cx: &mut Context<'_>,
 ) -> Result<u64, EnterError>
     requires none { queue.old.items ≡ [] }
     requires ready { Ready S.Subscriber.spans S.Subscriber.kept S.Subscriber.is_whole world.old lane.old }
-    requires sited { AllSited (length world.old.sites) tasks.now }
-    requires few { length (spans_in S.Subscriber.spans world.old (dispatch_serving lane.old)).made + length tasks.now < 2 ^ 63 }
-    requires few_polls { all_polls (tasks_at_first 0 tasks.now) < 2 ^ 60 }
+    requires sited { AllSited (length world.old.sites) tasks }
+    requires few { length (spans_in S.Subscriber.spans world.old (dispatch_serving lane.old)).made + length tasks < 2 ^ 63 }
+    requires few_polls { all_polls (tasks_at_first 0 tasks) < 2 ^ 60 }
 
     ensures ok { IfOk result (Ran S.Subscriber.spans S.Subscriber.hint S.Subscriber.enables S.Subscriber.does
-        S.OtelPart.touches world.old.sites tasks.now world.old world.new lane.old lane.new) }
-    ensures answer { IfOk result (λ polls. polls ≡ sum_by (λ t. yields t.steps) tasks.now + length tasks.now) }
+        S.OtelPart.touches world.old.sites tasks world.old world.new lane.old lane.new) }
+    ensures answer { IfOk result (λ polls. polls ≡ sum_by (λ t. yields t.steps) tasks + length tasks) }
     ensures gives_up { IfErr result (λ e.
         GaveUp S.Subscriber.spans S.Subscriber.hint S.Subscriber.enables S.Subscriber.activates S.Subscriber.does
-        S.OtelPart.touches S.Subscriber.same (dispatch_serving lane.old) world.old.sites tasks.now e
+        S.OtelPart.touches S.Subscriber.same (dispatch_serving lane.old) world.old.sites tasks e
         (record { world = world.old; lane = lane.old; handles = []; guards = [] }) world.new lane.new) }
     ensures empty { queue.new.items ≡ [] }
     ensures context { Keeps cx.old cx.new }

@@ -10,19 +10,20 @@ use otel_base::memory::Memory;
 use otel_layer::part::OtelSubscriber;
 use span_futures::traced_future::TracedFuture;
 use std::alloc::Global;
+use std::collections::VecDeque;
 use trace_base::lane::Lane;
 use trace_base::world::World;
 
-/// The steps of a task that are left. A poll does those up to a yield, or up to the end.
+/// The steps of a task that are left. A poll does those up to a yield, or up to the end, and lets them go.
 #[derive(Drop)]
-pub struct Running<'a> {
+pub struct Running {
     /// The allocator of what its steps give.
     pub alloc: Global,
     /// The steps, the next one first.
-    pub steps: &'a [Step],
+    pub steps: VecDeque<Step>,
 }
 
-impl<'a, S: OtelSubscriber> TracedFuture<S> for Running<'a> {
+impl<S: OtelSubscriber> TracedFuture<S> for Running {
     type Output = ();
 
     ghost can_poll = { λ f. Unit {0} };
@@ -37,7 +38,7 @@ impl<'a, S: OtelSubscriber> TracedFuture<S> for Running<'a> {
 
     ghost polls = { λ f world lane at r g new later.
         PollsSteps S.Subscriber.spans S.Subscriber.hint S.Subscriber.enables S.Subscriber.does S.OtelPart.touches
-        S.Subscriber.same f.steps.now world lane at r g.steps.now new later };
+        S.Subscriber.same f.steps.items world lane at r g.steps.items new later };
 
     ghost besides = { Asks S.OtelPart.touches };
 
@@ -50,11 +51,9 @@ impl<'a, S: OtelSubscriber> TracedFuture<S> for Running<'a> {
         at: u64,
         cx: &mut Context<'_>,
     ) -> Result<Poll<()>, EnterError> {
-        while !self.steps.is_empty() {
-            let steps = self.steps;
-            let step = &steps[0];
-            self.steps = &steps[1..];
+        while let Some(step) = self.steps.pop_front() {
             if matches!(step, Step::Yield) {
+                drop(step);
                 return Ok(cx.yield_now());
             }
             match act(self.alloc, world, lane, at, step) {

@@ -1,43 +1,167 @@
 //! A run of tasks over a tape.
-ghost use Rattle.std.specs.Prelude.{◌≡◌, ◌≢◌, ◌<◌, ◌^◌, ◌+◌, length, sum_by, Some, Err, IfOk, slice_get};
+ghost use Rattle.std.specs.Prelude.{◌≡◌, ◌≢◌, ◌<◌, ◌^◌, ◌+◌, [], length, sum_by, Err, IfOk, OnOk};
 ghost use Rattle.futures.specs.Task.{Keeps};
 ghost use Rattle.otel_base.specs.declared.enter_error.EnterError.TheVariants as faults;
 ghost use Rattle.trace_tasks.specs.Begun.{AllSited};
 ghost use Rattle.trace_tasks.specs.Flat.{all_polls, tasks_at_first, flat, yields};
 ghost use Rattle.trace_tasks.specs.Spelled.{AreTested, IsNewTape, tape_spans};
+ghost use Rattle.trace_tasks.specs.TapeTurns.{WaitOnTape, TakesAll, OnlyRequestsChange, HandsOn, HandsTurnsOn};
 ghost use Rattle.trace_tasks.specs.Turning.{Ready, dispatch_serving};
+ghost use Rattle.trace_tasks.specs.Waiting.{AllWait, polls_in};
 
-use crate::run::run_tasks;
-use crate::script::TaskScript;
+use crate::begin::begin_all;
+use crate::queue::{close_all, put_back};
+use crate::request_sink::RequestSink;
+use crate::running::Running;
+use crate::script::Task;
+use crate::turn::turn;
 use futures::task::Context;
 use otel_base::enter_error::EnterError;
+use otel_base::list::Items;
+use otel_base::memory::Memory;
+use span_futures::instrument::Instrumented;
+use span_script::request::Request;
 use std::alloc::Global;
+use std::collections::VecDeque;
+use trace_base::dispatcher::Dispatch;
 use trace_base::lane::Lane;
 use trace_base::world::World;
 use trace_tape::tape::Tape;
 
-/// Runs tasks over a new tape, which leaves exactly the flat list on it, and answers how many polls that has: one for each
-/// task and one for each yield. Never `Full`, `Memory` freely.
-pub fn run_on_tape(
+/// Runs tasks over a new tape, and hands the requests that they spell on, those of a poll as soon as it has ended: the sink
+/// takes exactly the flat list. Answers how many polls that has: one for each task and one for each yield. Never `Full`,
+/// `Memory` freely.
+pub fn run_on_tape<K: RequestSink>(
     alloc: Global,
-    script: &TaskScript,
+    tasks: Items<Task>,
     world: &mut World<Tape>,
     lane: &mut Lane,
+    dispatch: Dispatch,
     cx: &mut Context<'_>,
+    sink: &mut K,
 ) -> Result<u64, EnterError>
-    requires new_tape { (tape : _) × IsNewTape world.old (dispatch_serving lane.old) tape }
+    requires serves { dispatch_serving lane.old ≡ dispatch }
+    requires new_tape { (tape : _) × IsNewTape world.old dispatch tape }
     requires ready { Ready tape_spans (λ s lane number. 0) (λ s. Unit {0}) world.old lane.old }
-    requires sites { world.old.sites ≡ script.now.settings.callsites }
-    requires sited { AllSited (length script.now.settings.callsites) script.now.tasks }
-    requires tested { AreTested script.now.settings.callsites script.now.tasks }
-    requires few { length script.now.tasks < 2 ^ 63 }
-    requires few_polls { all_polls (tasks_at_first 0 script.now.tasks) < 2 ^ 60 }
+    requires sited { AllSited (length world.old.sites) tasks }
+    requires tested { AreTested world.old.sites tasks }
+    requires few { length tasks < 2 ^ 63 }
+    requires few_polls { all_polls (tasks_at_first 0 tasks) < 2 ^ 60 }
 
-    ensures polls { IfOk result (λ polls. polls ≡ sum_by (λ t. yields t.steps) script.now.tasks + length script.now.tasks) }
+    ensures polls { IfOk result (λ polls. polls ≡ sum_by (λ t. yields t.steps) tasks + length tasks) }
     ensures never_full { result ≢ Err faults.Full }
-    ensures spelled { IfOk result (λ polls. (tape : _) × (slice_get world.new.subscribers (dispatch_serving lane.old) ≡ Some tape)
-        × (tape.requests ≡ flat script.now.settings.callsites script.now.tasks)) }
+    ensures taken { IfOk result (λ polls. TakesAll K.takes (flat world.old.sites tasks) sink.old sink.new) }
     ensures context { Keeps cx.old cx.new }
 {
-    run_tasks(alloc, script, world, lane, cx)
+    let mut queue = VecDeque::new(alloc);
+    let answer = begin_and_spell(alloc, tasks, &mut queue, world, lane, dispatch, cx, sink);
+    queue.destroy_empty();
+    answer
+}
+
+// Begins tasks, and polls them until none is left.
+fn begin_and_spell<K: RequestSink>(
+    alloc: Global,
+    tasks: Items<Task>,
+    queue: &mut VecDeque<Instrumented<Running>>,
+    world: &mut World<Tape>,
+    lane: &mut Lane,
+    dispatch: Dispatch,
+    cx: &mut Context<'_>,
+    sink: &mut K,
+) -> Result<u64, EnterError>
+    requires none { queue.old.items ≡ [] }
+    requires serves { dispatch_serving lane.old ≡ dispatch }
+    requires new_tape { (tape : _) × IsNewTape world.old dispatch tape }
+    requires ready { Ready tape_spans (λ s lane number. 0) (λ s. Unit {0}) world.old lane.old }
+    requires sited { AllSited (length world.old.sites) tasks }
+    requires tested { AreTested world.old.sites tasks }
+    requires few { length tasks < 2 ^ 63 }
+    requires few_polls { all_polls (tasks_at_first 0 tasks) < 2 ^ 60 }
+
+    ensures polls { IfOk result (λ polls. polls ≡ sum_by (λ t. yields t.steps) tasks + length tasks) }
+    ensures never_full { result ≢ Err faults.Full }
+    ensures taken { IfOk result (λ polls. TakesAll K.takes (flat world.old.sites tasks) sink.old sink.new) }
+    ensures empty { queue.new.items ≡ [] }
+    ensures context { Keeps cx.old cx.new }
+{
+    match begin_all(alloc, tasks, queue, world, lane) {
+        Ok(()) => {}
+        Err(Memory) => {
+            close_all(queue, world, 0);
+            return Err(EnterError::Memory);
+        }
+    }
+    match hand_on(world, dispatch, sink) {
+        Ok(()) => spell_turns(queue, world, lane, dispatch, cx, sink),
+        Err(Memory) => {
+            close_all(queue, world, 0);
+            Err(EnterError::Memory)
+        }
+    }
+}
+
+// Polls the tasks of a queue in turn until none is left, and hands on what each poll spelled; answers the number of polls.
+fn spell_turns<K: RequestSink>(
+    queue: &mut VecDeque<Instrumented<Running>>,
+    world: &mut World<Tape>,
+    lane: &mut Lane,
+    dispatch: Dispatch,
+    cx: &mut Context<'_>,
+    sink: &mut K,
+) -> Result<u64, EnterError>
+    requires serves { dispatch_serving lane.old ≡ dispatch }
+    requires ready { Ready tape_spans (λ s lane number. 0) (λ s. Unit {0}) world.old lane.old }
+    requires wait { AllWait tape_spans world.old (dispatch_serving lane.old) queue.old.items }
+    requires few { polls_in queue.old.items < 2 ^ 60 }
+
+    ensures turns { IfOk result (λ polls. (ts : _) → WaitOnTape dispatch world.old.sites 0 ts world.old lane.old queue.old.items
+        → HandsTurnsOn K.takes world.old.sites ts polls sink.old sink.new) }
+    ensures never_full { result ≢ Err faults.Full }
+    ensures empty { queue.new.items ≡ [] }
+    ensures context { Keeps cx.old cx.new }
+{
+    let mut polls = 0;
+    while let Some(task) = queue.pop_front() {
+        let at = 10 * (polls + 1);
+        match turn(task, world, lane, at, cx) {
+            Ok(left) => put_back(queue, left),
+            Err(error) => {
+                close_all(queue, world, at);
+                return Err(error);
+            }
+        }
+        match hand_on(world, dispatch, sink) {
+            Ok(()) => polls += 1,
+            Err(Memory) => {
+                close_all(queue, world, at);
+                return Err(EnterError::Memory);
+            }
+        }
+    }
+    Ok(polls)
+}
+
+// Hands the requests on a tape on, which leaves none on it.
+fn hand_on<K: RequestSink>(
+    world: &mut World<Tape>,
+    dispatch: Dispatch,
+    sink: &mut K,
+) -> Result<(), Memory>
+    requires there { dispatch < length world.old.subscribers }
+    ensures changes { OnlyRequestsChange dispatch world.old world.new }
+    ensures ok { OnOk result (HandsOn K.takes dispatch world.old world.new sink.old sink.new) }
+{
+    let requests = world.subscriber_mut(dispatch).take_requests()?;
+    push_all(sink, requests)
+}
+
+// Hands requests on.
+fn push_all<K: RequestSink>(sink: &mut K, requests: Vec<Request>) -> Result<(), Memory>
+    ensures { OnOk result (TakesAll K.takes requests.items sink.old sink.new) }
+{
+    for request in requests {
+        sink.push(request)?;
+    }
+    Ok(())
 }

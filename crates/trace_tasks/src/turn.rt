@@ -18,24 +18,24 @@ use trace_base::lane::Lane;
 use trace_base::world::World;
 
 /// Polls a task once, and ends it if it is finished or refused.
-pub(crate) fn turn<'a, S: OtelSubscriber>(
-    task: Instrumented<Running<'a>>,
+pub(crate) fn turn<S: OtelSubscriber>(
+    task: Instrumented<Running>,
     world: &mut World<S>,
     lane: &mut Lane,
     at: u64,
     cx: &mut Context<'_>,
-) -> Result<Option<Instrumented<Running<'a>>>, EnterError>
+) -> Result<Option<Instrumented<Running>>, EnterError>
     requires ready { Ready S.Subscriber.spans S.Subscriber.kept S.Subscriber.is_whole world.old lane.old }
     requires known { IsKnown S.Subscriber.spans world.old task.span.held }
     requires lone { (site : _) × IsAlone (spans_in S.Subscriber.spans world.old (dispatch_serving lane.old)).made (dispatch_serving lane.old) site task.span }
 
     ensures ok { IfOk result (λ left.
         Turned S.Subscriber.spans S.Subscriber.hint S.Subscriber.enables S.Subscriber.kept S.Subscriber.is_whole
-        S.Subscriber.does S.OtelPart.touches at task.entry world.old lane.old left world.new lane.new) }
+        S.Subscriber.does S.OtelPart.touches at task world.old lane.old left world.new lane.new) }
     ensures stops { IfErr result (λ e.
         TurnStops S.Subscriber.spans S.Subscriber.hint S.Subscriber.enables S.Subscriber.activates S.Subscriber.does
-        S.OtelPart.touches S.Subscriber.same at task.entry world.old lane.old e world.new lane.new) }
-    ensures keeps { KeepsBut S.Subscriber.spans world.old world.new task.entry.span.held }
+        S.OtelPart.touches S.Subscriber.same at task world.old lane.old e world.new lane.new) }
+    ensures keeps { KeepsBut S.Subscriber.spans world.old world.new task.span.held }
     ensures known { IfOk result (λ left. IfSome left (λ g. IsKnown S.Subscriber.spans world.new g.span.held)) }
     ensures whole { HasAll S.Subscriber.is_whole world.new }
     ensures context { Keeps cx.old cx.new }

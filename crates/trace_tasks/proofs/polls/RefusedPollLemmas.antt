@@ -55,7 +55,7 @@ module _ {S : Type 0} (spans : S → Spans) (hint : S → Option LevelFilter) (e
 
   -- what a poll of a task's steps is
   abbrev pub RunPolls : Running → Worlds S → Lane → ℕ → Polled (Unit {0}) → Running → Worlds S → Lane → Type 0
-  RunPolls f world lane at r g new later = PollsSteps spans hint enables does touches same f.steps.now world lane at r g.steps.now new later
+  RunPolls f world lane at r g new later = PollsSteps spans hint enables does touches same f.steps.items world lane at r g.steps.items new later
 
   module _ (f g : Instrumented Running) (site : ℕ) (old world new : Worlds S) (before later : Lane) (e : EnterError) (ready : Ready spans kept is_whole old before) (lone : IsAlone (spans_in spans old (dispatch_serving before)).made (dispatch_serving before) site f.span)
       (number k : ℕ) (handles : List Handle) (guards : List Held) (is : slice_get handles number ≡ Some f.span) (count : length guards ≡ k) where
@@ -114,7 +114,7 @@ module _ {S : Type 0} (spans : S → Spans) (hint : S → Option LevelFilter) (e
     -- a step wanted memory
     inside : IsInside does activates RunPolls f old before m (Err e) g world later → ReplacedOn (λ id s t. Chain spans does m (Some id) s t) world new f.span.held → StopsPoll spans hint enables activates does touches same d old.sites m k t e start new later
     inside i chain =
-        let polled : PollsSteps spans hint enables does touches same f.inner.steps.now i.world i.lane m (Err e) g.inner.steps.now i.left_world i.left_lane = i.polled in
+        let polled : PollsSteps spans hint enables does touches same f.inner.steps.items i.world i.lane m (Err e) g.inner.steps.items i.left_world i.left_lane = i.polled in
         let stop = polled.2 in
         let inn = inner d f.span.held f.span.site site m old i.world before i.lane lone.site_is ready.none_open lone.held_is i.entered in
         let f' : Step → Request = λ s. on_first_lane m (step_call old.sites t s) in
@@ -126,7 +126,7 @@ module _ {S : Type 0} (spans : S → Spans) (hint : S → Option LevelFilter) (e
           guards = refl;
         } in
         let did = acts_carry spans hint enables does touches d shows stays old.sites t m i.lane handles guarded (inn.default ∙ ready.default) f.span (current_by f.span.held site) inn.here is
-        stop.done (first_acts stop.done stop.others f.inner.steps.now stop.within) i.world stop.world inn.sites inn.current stop.did in
+        stop.done (first_acts stop.done stop.others f.inner.steps.items stop.within) i.world stop.world inn.sites inn.current stop.did in
         let exit : Exited spans hint enables does touches d m k (record { world = i.left_world; lane = i.left_lane; handles = handles; guards = guarded }) (record { world = world; lane = later; handles = handles; guards = guarded }) = record {
           held = f.span.held;
           is = get_push guards f.span.held k count;
@@ -135,7 +135,7 @@ module _ {S : Type 0} (spans : S → Spans) (hint : S → Option LevelFilter) (e
           handles = refl;
           guards = refl;
         } in
-        let tail : List Request = on_first_lane m (call.Exit k) ∷ drop_at_end k number (left_of f.inner.steps.now) in
+        let tail : List Request = on_first_lane m (call.Exit k) ∷ drop_at_end k number (left_of f.inner.steps.items) in
         record {
           part = on_first_lane m (call.Enter number) ∷ map f' stop.done;
           others = map f' stop.others ++ tail;

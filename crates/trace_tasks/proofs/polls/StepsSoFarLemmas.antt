@@ -1,6 +1,6 @@
 -- A poll of a task's steps, so far.
-use Rattle.std.proofs.Common.{◌≡◌, ◌<◌, ◌-◌, ℕ, length, take, drop, get_or, List, [], ◌∷◌, ◌++◌, Bool, Option, Ok, Err, refl, sym, ap, subst, ◌∙◌, ◌⊎◌, inl, inr, append_assoc}
-use Rattle.trace_tasks.proofs.Common.{drop_more, take_rest, Callsite, Lane, LevelFilter, Worlds, Spans, SubscriberCall, spans_after_call, Lanes, CallsBy, KeepsLent, calls_none, calls_then, keeps_nothing, PartCall, StaysStack, Step, now_of, left_of, StepOn, StepsOn, PollsSteps, Changes, Asks, Wants}
+use Rattle.std.proofs.Common.{◌≡◌, ℕ, List, [], ◌∷◌, ◌++◌, Bool, Option, Ok, Err, refl, sym, ap, subst, ◌∙◌, ◌⊎◌, inl, inr, append_assoc}
+use Rattle.trace_tasks.proofs.Common.{Callsite, Lane, LevelFilter, Worlds, Spans, SubscriberCall, spans_after_call, Lanes, CallsBy, KeepsLent, calls_none, calls_then, keeps_nothing, PartCall, StaysStack, Step, now_of, left_of, StepOn, StepsOn, PollsSteps, Changes, Asks, Wants}
 use Rattle.std.proofs.lemmas.List.{append-nil}
 use Rattle.otel_base.specs.declared.enter_error.EnterError.TheVariants as faults
 use Rattle.futures.specs.declared.task.Poll.TheVariants as polls
@@ -19,13 +19,6 @@ act_or step.Yield = inl refl
 act_or (step.Event site fields) = inr tt
 act_or (step.Record fields) = inr tt
 act_or (step.SetAttribute key value) = inr tt
-
--- what stands behind the first item of a slice
-abbrev pub rest_of : List Step → List Step
-rest_of steps = take (length steps - 1) (drop 1 steps)
-
-pub first_and_rest : (steps : List Step) (s : Step) → 0 < length steps → s ≡ get_or steps 0 s → steps ≡ s ∷ rest_of steps
-first_and_rest steps s less is = drop_more steps 0 s less ∙ ap (λ (x : Step). x ∷ drop 1 steps) (sym is) ∙ ap (λ (xs : List Step). s ∷ xs) (sym (take_rest steps 1))
 
 module _ {S : Type 0} (spans : S → Spans) (hint : S → Option LevelFilter) (enables : S → ℕ → Callsite → Bool) (attaches : S → Bool) (kept : S → ℕ → ℕ → ℕ) (is_whole : S → Type 0) (does : S → SubscriberCall → S → Type 0) (touches : S → PartCall → S → Type 0) (same : S → S → Type 0) (lane : Lane) (at : ℕ) where
   pub record Polling (first steps : List Step) (old world : Worlds S) : Type 0 where

@@ -28,7 +28,7 @@ module _ {S : Type 0} (spans : S → Spans) (hint : S → Option LevelFilter) (e
     (keeps_whole : (s : S) (call : SubscriberCall) (t : S) → does s call t → is_whole s → is_whole t) (stays : (s : S) (call : PartCall) (t : S) → touches s call t → spans t ≡ spans s) where
   -- what a poll of a task's steps is
   abbrev pub RunPolls : Running → Worlds S → Lane → ℕ → Polled (Unit {0}) → Running → Worlds S → Lane → Type 0
-  RunPolls f world lane at r g new later = PollsSteps spans hint enables does touches same f.steps.now world lane at r g.steps.now new later
+  RunPolls f world lane at r g new later = PollsSteps spans hint enables does touches same f.steps.items world lane at r g.steps.items new later
 
   -- a poll that was answered ran inside the span
   pub inside_of : (f g : Instrumented Running) (old new : Worlds S) (before later : Lane) (at : ℕ) (p : Poll (Unit {0})) → CannotEnter same activates f old before (Ok p) g new later ⊎ IsInside does activates RunPolls f old before at (Ok p) g new later
@@ -50,10 +50,10 @@ module _ {S : Type 0} (spans : S → Spans) (hint : S → Option LevelFilter) (e
 
   -- the entry, the steps and the exit of a poll
   through_of : (f g : Instrumented Running) (at site : ℕ) (old new : Worlds S) (before later : Lane) (p : Poll (Unit {0})) → Ready spans kept is_whole old before → IsAlone (spans_in spans old (dispatch_serving before)).made (dispatch_serving before) site f.span
-      → (inside : IsInside does activates RunPolls f old before at (Ok p) g new later) → inside.left_lane ≡ inside.lane → StepsOn spans hint enables does touches inside.lane at (now_of f.inner.steps.now) inside.world inside.left_world
-      → Through spans hint enables attaches kept does touches (dispatch_serving before) shows lanes stays f.span.held f.span.site site at f.inner.steps.now old new before later
+      → (inside : IsInside does activates RunPolls f old before at (Ok p) g new later) → inside.left_lane ≡ inside.lane → StepsOn spans hint enables does touches inside.lane at (now_of f.inner.steps.items) inside.world inside.left_world
+      → Through spans hint enables attaches kept does touches (dispatch_serving before) shows lanes stays f.span.held f.span.site site at f.inner.steps.items old new before later
   through_of f g at site old new before later p ready lone inside same_lane on =
-      through spans hint enables attaches kept does touches (dispatch_serving before) shows lanes stays f.span.held f.span.site site at f.inner.steps.now old inside.world inside.left_world new before inside.lane later
+      through spans hint enables attaches kept does touches (dispatch_serving before) shows lanes stays f.span.held f.span.site site at f.inner.steps.items old inside.world inside.left_world new before inside.lane later
       ready.default lone.site_is ready.none_open lone.held_is inside.entered on
       (subst (λ (l : Lane). ReplacedOn (λ id s t. does s (Exit id at l later) t) inside.left_world new f.span.held) same_lane inside.exited)
       (λ no. inside.none no ∙ same_lane)
@@ -62,7 +62,7 @@ module _ {S : Type 0} (spans : S → Spans) (hint : S → Option LevelFilter) (e
       → KeepsLent spans kept is_whole old new before later → IsInside does activates RunPolls f old before at (Ok polls.Pending) g new later
       → Turned spans hint enables kept is_whole does touches at f old before (Some g) new later
   pending f g at site old new before later ready lone lent inside =
-      let polled : PollsSteps spans hint enables does touches same f.inner.steps.now inside.world inside.lane at (Ok polls.Pending) g.inner.steps.now inside.left_world inside.left_lane = inside.polled in
+      let polled : PollsSteps spans hint enables does touches same f.inner.steps.items inside.world inside.lane at (Ok polls.Pending) g.inner.steps.items inside.left_world inside.left_lane = inside.polled in
       let thr = through_of f g at site old new before later polls.Pending ready lone inside polled.0 polled.2 in
       record {
         left_is = (polled.1, inside.span_same);
@@ -76,7 +76,7 @@ module _ {S : Type 0} (spans : S → Spans) (hint : S → Option LevelFilter) (e
             let same : site ≡ own = cc (lone.site_is, own_is) in
             let t : Left = left_as number own f.inner in
             let end : Stage S = record { world = new; lane = later; handles = handles; guards = guards ++ f.span.held ∷ [] } in
-            subst (λ (o : Option (List Step)). Carries spans hint enables does touches (dispatch_serving before) (on_first_lane (moment_of k) (call.Enter number) ∷ map (λ s. on_first_lane (moment_of k) (step_call old.sites t s)) (now_of f.inner.steps.now) ++ on_first_lane (moment_of k) (call.Exit k) ∷ drop_at_end k number o)
+            subst (λ (o : Option (List Step)). Carries spans hint enables does touches (dispatch_serving before) (on_first_lane (moment_of k) (call.Enter number) ∷ map (λ s. on_first_lane (moment_of k) (step_call old.sites t s)) (now_of f.inner.steps.items) ++ on_first_lane (moment_of k) (call.Exit k) ∷ drop_at_end k number o)
             (record { world = old; lane = before; handles = handles; guards = guards }) end) (sym polled.1)
             (thr.carried t k handles guards [] end moment count (sym same) refl is refl);
       }
@@ -124,7 +124,7 @@ module _ {S : Type 0} (spans : S → Spans) (hint : S → Option LevelFilter) (e
       → Turned spans hint enables kept is_whole does touches at f old before None new later
   finished f g at site old world new before later ready lone lent inside chain whole =
       let d : ℕ = dispatch_serving before in
-      let polled : PollsSteps spans hint enables does touches same f.inner.steps.now inside.world inside.lane at (Ok (polls.Ready tt)) g.inner.steps.now inside.left_world inside.left_lane = inside.polled in
+      let polled : PollsSteps spans hint enables does touches same f.inner.steps.items inside.world inside.lane at (Ok (polls.Ready tt)) g.inner.steps.items inside.left_world inside.left_lane = inside.polled in
       let thr = through_of f g at site old world before later (polls.Ready tt) ready lone inside polled.0 polled.2 in
       let ends_it : ReplacedOn (λ id s t. Chain spans does at (Some id) s t) world new f.span.held = subst (λ (h : Handle). ReplacedOn (λ id s t. Chain spans does at (Some id) s t) world new h.held) inside.span_same chain in
       let gone = closed f.span.held at d site world new (subst (λ (made : List Span). IsAloneAs made d site f.span.held) (sym thr.made) lone.held_is) ends_it in
@@ -149,7 +149,7 @@ module _ {S : Type 0} (spans : S → Spans) (hint : S → Option LevelFilter) (e
               handles = refl;
               guards = refl;
             } in
-            subst (λ (o : Option (List Step)). Carries spans hint enables does touches d (on_first_lane m (call.Enter number) ∷ map (λ s. on_first_lane m (step_call old.sites t s)) (now_of f.inner.steps.now) ++ on_first_lane m (call.Exit k) ∷ drop_at_end k number o)
+            subst (λ (o : Option (List Step)). Carries spans hint enables does touches d (on_first_lane m (call.Enter number) ∷ map (λ s. on_first_lane m (step_call old.sites t s)) (now_of f.inner.steps.items) ++ on_first_lane m (call.Exit k) ∷ drop_at_end k number o)
             (record { world = old; lane = before; handles = handles; guards = guards }) end) (sym polled.1)
             (thr.carried t k handles guards (on_first_lane m (call.Drop number) ∷ []) end moment count (sym same) refl is (end, drop, refl));
       }

@@ -131,7 +131,7 @@ same_polls handles [] (f ∷ fs) all = absurd all
 same_polls handles (t ∷ ts) [] all = absurd all
 same_polls handles (t ∷ ts) (f ∷ fs) all = (
     let a = sum_by-cons polls_left t ts in
-    let b = sum_by-cons (λ (g : Instrumented Running). yields g.inner.steps.now + 1) f fs in
+    let b = sum_by-cons (λ (g : Instrumented Running). yields g.inner.steps.items + 1) f fs in
     let e = ap yields all.0.steps in
     let r = same_polls handles ts fs all.1 in
     omega (arith, a, b, e, r))

@@ -27,7 +27,7 @@ one_longer (x ∷ made) new = (let r = one_longer made new in omega (arith, r))
 module _ {S : Type 0} (spans : S → Spans) (hint : S → Option LevelFilter) (enables : S → ℕ → Callsite → Bool) (attaches : S → Bool) (kept : S → ℕ → ℕ → ℕ) (is_whole : S → Type 0) (does : S → SubscriberCall → S → Type 0) (touches : S → PartCall → S → Type 0)
     (shows : (s : S) (call : SubscriberCall) (t : S) → does s call t → spans t ≡ spans_after_call (spans s) call) (lanes : (s : S) (call : SubscriberCall) (t : S) → does s call t → Lanes (attaches s) (kept s) call (kept t))
     (keeps_whole : (s : S) (call : SubscriberCall) (t : S) → does s call t → is_whole s → is_whole t) where
-  begun : (task : Task) (lane : Lane) (old new : Worlds S) (f : Instrumented Running) (one : MakesOne spans hint enables does touches task.site task.fields lane old new f.span) → Ready spans kept is_whole old lane → IsKnown spans new f.span.held → f.inner.steps.now ≡ task.steps
+  begun : (task : Task) (lane : Lane) (old new : Worlds S) (f : Instrumented Running) (one : MakesOne spans hint enables does touches task.site task.fields lane old new f.span) → Ready spans kept is_whole old lane → IsKnown spans new f.span.held → f.inner.steps.items ≡ task.steps
       → (made : f.span.site ≡ Some task.site) → IsAlone (spans_in spans new (dispatch_serving lane)).made (dispatch_serving lane) task.site f.span → ((id : ℕ) → id_of f.span.held ≡ Some id → length (spans_in spans old (dispatch_serving lane)).made ≤ id)
       → ((q : ℕ) → q < length (spans_in spans old (dispatch_serving lane)).made → span_at (spans_in spans new (dispatch_serving lane)).made q ≡ span_at (spans_in spans old (dispatch_serving lane)).made q)
       → length (spans_in spans new (dispatch_serving lane)).made ≤ length (spans_in spans old (dispatch_serving lane)).made + 1 → Ready spans kept is_whole new lane → new.sites ≡ old.sites → Begins spans hint enables kept is_whole does touches task lane old new f
@@ -44,7 +44,7 @@ module _ {S : Type 0} (spans : S → Spans) (hint : S → Option LevelFilter) (e
     sites = sites;
   }
 
-  pub begins : (task : Task) (lane : Lane) (old new : Worlds S) (f : Instrumented Running) → (one : MakesOne spans hint enables does touches task.site task.fields lane old new f.span) → Ready spans kept is_whole old lane → IsKnown spans new f.span.held → f.inner.steps.now ≡ task.steps
+  pub begins : (task : Task) (lane : Lane) (old new : Worlds S) (f : Instrumented Running) → (one : MakesOne spans hint enables does touches task.site task.fields lane old new f.span) → Ready spans kept is_whole old lane → IsKnown spans new f.span.held → f.inner.steps.items ≡ task.steps
       → Begins spans hint enables kept is_whole does touches task lane old new f
   begins task lane old new f one ready known steps = by_gate one.admitted one.made where
     d : ℕ

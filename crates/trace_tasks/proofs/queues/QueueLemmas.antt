@@ -23,16 +23,16 @@ yields_some (step.Event site fields ∷ steps) rest is = yields_some steps rest 
 yields_some (step.Record fields ∷ steps) rest is = yields_some steps rest is
 yields_some (step.SetAttribute key value ∷ steps) rest is = yields_some steps rest is
 
-pub polls_cons : (f : Instrumented Running) (fs : List (Instrumented Running)) → polls_in (f ∷ fs) ≡ yields f.inner.steps.now + 1 + polls_in fs
-polls_cons f fs = sum_by-cons (λ (g : Instrumented Running). yields g.inner.steps.now + 1) f fs
+pub polls_cons : (f : Instrumented Running) (fs : List (Instrumented Running)) → polls_in (f ∷ fs) ≡ yields f.inner.steps.items + 1 + polls_in fs
+polls_cons f fs = sum_by-cons (λ (g : Instrumented Running). yields g.inner.steps.items + 1) f fs
 
 -- one poll less
 pub polls_after : (f : Instrumented Running) (fs : List (Instrumented Running)) (left : Option (Instrumented Running)) → IsLeft left f → polls_in (f ∷ fs) ≡ polls_in (queue_with fs left) + 1
-polls_after f fs None is = (let a = polls_cons f fs in let b = yields_none f.inner.steps.now is in omega (arith, a, b))
+polls_after f fs None is = (let a = polls_cons f fs in let b = yields_none f.inner.steps.items is in omega (arith, a, b))
 polls_after f fs (Some g) is = (
     let a = polls_cons f fs in
-    let b = yields_some f.inner.steps.now g.inner.steps.now is.0 in
-    let c = sum_by_push (λ (h : Instrumented Running). yields h.inner.steps.now + 1) fs g in
+    let b = yields_some f.inner.steps.items g.inner.steps.items is.0 in
+    let c = sum_by_push (λ (h : Instrumented Running). yields h.inner.steps.items + 1) fs g in
     omega (arith, a, b, c))
 
 left_cons : (t : Left) (ts : List Left) → all_polls (t ∷ ts) ≡ polls_left t + all_polls ts
@@ -64,7 +64,7 @@ stand_after handles t ts f fs None one all is =
     subst (λ (o : Option (List Step)). AllStand handles (requeue ts (option_map (λ steps. record t { steps = steps }) o)) fs) (sym (ap left_of one.steps ∙ is)) all
 stand_after handles t ts f fs (Some g) one all is =
     subst (λ (o : Option (List Step)). AllStand handles (requeue ts (option_map (λ steps. record t { steps = steps }) o)) (fs ++ g ∷ [])) (sym (ap left_of one.steps ∙ is.0))
-    (stand_push handles ts fs (record t { steps = g.inner.steps.now }) g all (record {
+    (stand_push handles ts fs (record t { steps = g.inner.steps.items }) g all (record {
       handle = one.handle ∙ ap (λ (h : Handle). Some h) (sym is.1);
       site = ap (λ (h : Handle). h.site) is.1 ∙ one.site;
       steps = refl;

@@ -3,10 +3,10 @@ use Rattle.std.proofs.Common.{◌≡◌, ℕ, zero, suc, ◌+◌, ◌-◌, ◌<�
 use Rattle.std.proofs.lemmas.List.{append-nil}
 use Rattle.trace_tasks.proofs.Common.{cond-true, Callsite, Lane, Enter, Exit, TryClose, with_span_entry, with_span_exit, cached_at, Span, Spans, span_at, entries_on, with_hold, without_hold, without_last, next_of, Replaced, Chain, ended, closes, Handle, Held, ReplacedOn, handle_of, BeginsInside, Request, TapeValue, DoesTape, on_first_lane, is_opened, is_due, let_go, exit_requests, drop_requests, handles_of, one_more, TouchesTape, is_live, Step, now_of, left_of, Stage, Entered, Exited, Left, step_call, moment_of, drop_at_end, poll, tape_spans, CarriesTape, IsTested, root_of_one_handle}
 use Rattle.std.proofs.lemmas.Bool.{eq-eqb, lt-ltb}
-use Rattle.trace_base.specs.declared.subscriber.Interest.TheVariants as interests
 use Rattle.otel_state.specs.Stack.{last_passing}
 use Rattle.trace_tape.specs.declared.opened.Opened.{Opened}
 use Rattle.span_script.specs.declared.request.Call.TheVariants as call
+use Rattle.trace_tasks.specs.TapeTurns.{Calm, HeldOnce}
 use Rattle.trace_tasks.proofs.polls.EntryLemmas.{get_push}
 use Rattle.trace_tasks.proofs.queues.RootLemmas.{back, entered_made, entered_entries, exited_made, exited_entries, no_next}
 use Rattle.trace_tasks.proofs.tapes.SpelledLemmas.{one_call}
@@ -21,23 +21,6 @@ the_held a b e = cc e
 
 the_handle : (a b : Handle) → ◌≡◌ {A = Option Handle} (Some a) (Some b) → a ≡ b
 the_handle a b e = cc e
-
--- a tape between polls, after k of them
-pub record Calm (d : ℕ) (sites : List Callsite) (k : ℕ) (s : Stage TapeValue) (tape : TapeValue) : Type 0 where
-  pub there : slice_get s.world.subscribers d ≡ Some tape
-  pub sites_are : s.world.sites ≡ sites
-  pub cached : (n : ℕ) → n < length sites → cached_at s.world.cached d n ≡ interests.Always
-  pub no_due : tape.due ≡ None
-  pub no_entries : tape.entries ≡ []
-  pub guards : tape.guards ≡ k
-  pub guard_count : length s.guards ≡ k
-  pub none_open : entries_on s.lane.id tape.below.spans.lanes ≡ []
-
--- a task that waits, on a tape
-pub record Held_once (d : ℕ) (s : Stage TapeValue) (tape : TapeValue) (t : Left) : Type 0 where
-  pub handle : slice_get s.handles t.number ≡ Some (handle_of d t.number t.site)
-  pub lone : span_at tape.below.spans.made t.number ≡ root_of_one_handle t.site
-  pub once : handles_of tape.handles t.number ≡ 1
 
 -- what a poll made of a tape and of a task
 pub record Polled (d : ℕ) (sites : List Callsite) (k : ℕ) (t : Left) (s m : Stage TapeValue) (tape : TapeValue) : Type 0 where
@@ -111,7 +94,7 @@ module _ (d : ℕ) (sites : List Callsite) (k : ℕ) (t : Left) (few : k < 2 ^ 6
     pub table : m.handles ≡ s.handles
     pub guarded : m.guards ≡ s.guards ++ Some (d, t.number) ∷ []
 
-  enters : (s e : Stage TapeValue) (tape : TapeValue) → Calm d sites k s tape → Held_once d s tape t → Entered tape_spans (λ x. None) (λ x lane c. true) DoesTape TouchesTape d (moment_of k) t.number s e → Inside s e tape (on_first_lane (moment_of k) (call.Enter t.number) ∷ [])
+  enters : (s e : Stage TapeValue) (tape : TapeValue) → Calm d sites k s tape → HeldOnce d s tape t → Entered tape_spans (λ x. None) (λ x lane c. true) DoesTape TouchesTape d (moment_of k) t.number s e → Inside s e tape (on_first_lane (moment_of k) (call.Enter t.number) ∷ [])
   enters s e tape calm waits enter =
       let n : ℕ = t.number in
       let a : ℕ = moment_of k in
@@ -138,7 +121,7 @@ module _ (d : ℕ) (sites : List Callsite) (k : ℕ) (t : Left) (few : k < 2 ^ 6
       }
 
   -- the steps
-  acts : (s e m : Stage TapeValue) (tape : TapeValue) → Calm d sites k s tape → Held_once d s tape t → (rs : List Request) → Inside s e tape rs
+  acts : (s e m : Stage TapeValue) (tape : TapeValue) → Calm d sites k s tape → HeldOnce d s tape t → (rs : List Request) → Inside s e tape rs
       → CarriesTape d (map (λ x. on_first_lane (moment_of k) (step_call sites t x)) (now_of t.steps)) e m → Inside s m tape (rs ++ map (λ x. on_first_lane (moment_of k) (step_call sites t x)) (now_of t.steps))
   acts s e m tape calm waits rs inside did =
       let n : ℕ = t.number in
@@ -173,7 +156,7 @@ module _ (d : ℕ) (sites : List Callsite) (k : ℕ) (t : Left) (few : k < 2 ^ 6
     pub holds : now.handles ≡ tape.handles
     pub table : m.handles ≡ s.handles
 
-  leaves : (s e m : Stage TapeValue) (tape : TapeValue) → Calm d sites k s tape → Held_once d s tape t → (rs : List Request) → Inside s e tape rs → Exited tape_spans (λ x. None) (λ x lane c. true) DoesTape TouchesTape d (moment_of k) k e m
+  leaves : (s e m : Stage TapeValue) (tape : TapeValue) → Calm d sites k s tape → HeldOnce d s tape t → (rs : List Request) → Inside s e tape rs → Exited tape_spans (λ x. None) (λ x lane c. true) DoesTape TouchesTape d (moment_of k) k e m
       → Outside s m tape (rs ++ on_first_lane (moment_of k) (call.Exit k) ∷ [])
   leaves s e m tape calm waits rs inside exit =
       let n : ℕ = t.number in
@@ -212,7 +195,7 @@ module _ (d : ℕ) (sites : List Callsite) (k : ℕ) (t : Left) (few : k < 2 ^ 6
         one_longer (y ∷ xs) x = (let r = one_longer xs x in omega (arith, r))
 
   -- the handle's drop, if the task is finished
-  finishes : (s e m : Stage TapeValue) (tape : TapeValue) → Held_once d s tape t → (rs : List Request) (out : Outside s e tape rs) → (o : Option (List Step)) → left_of t.steps ≡ o → CarriesTape d (drop_at_end k t.number o) e m
+  finishes : (s e m : Stage TapeValue) (tape : TapeValue) → HeldOnce d s tape t → (rs : List Request) (out : Outside s e tape rs) → (o : Option (List Step)) → left_of t.steps ≡ o → CarriesTape d (drop_at_end k t.number o) e m
       → (now : TapeValue) × Calm d sites (k + 1) m now × (now.requests ≡ tape.requests ++ (rs ++ drop_at_end k t.number o)) × (m.handles ≡ s.handles)
       × ((i : ℕ) → (i ≡ t.number → ⊥) → (span_at now.below.spans.made i ≡ span_at tape.below.spans.made i) × (handles_of now.handles i ≡ handles_of tape.handles i))
       × ((rest : List Step) → o ≡ Some rest → (now.below.spans.made ≡ tape.below.spans.made) × (now.handles ≡ tape.handles))
@@ -267,7 +250,7 @@ module _ (d : ℕ) (sites : List Callsite) (k : ℕ) (t : Left) (few : k < 2 ^ 6
         the_now : (p q : TapeValue) → ◌≡◌ {A = Option TapeValue} (Some p) (Some q) → p ≡ q
         the_now p q e = cc e
 
-  pub poll_spells : (s m : Stage TapeValue) (tape : TapeValue) → Calm d sites k s tape → Held_once d s tape t → CarriesTape d (poll sites k t) s m → Polled d sites k t s m tape
+  pub poll_spells : (s m : Stage TapeValue) (tape : TapeValue) → Calm d sites k s tape → HeldOnce d s tape t → CarriesTape d (poll sites k t) s m → Polled d sites k t s m tape
   poll_spells s m tape calm waits (e, enter, rest) =
       let a : ℕ = moment_of k in
       let first : List Request = on_first_lane a (call.Enter t.number) ∷ [] in

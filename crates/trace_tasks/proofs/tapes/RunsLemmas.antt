@@ -1,17 +1,15 @@
--- A run over a new tape spells the flat list.
-use Rattle.std.proofs.Common.{◌≡◌, ℕ, zero, suc, ◌+◌, ◌<◌, ◌^◌, List, [], ◌∷◌, ◌++◌, length, Bool, true, false, Option, Some, None, Result, Ok, Err, refl, sym, ap, subst, ◌∙◌, arith, slice_get, append_assoc, IfOk, IfErr, slice_index_or}
+-- Tasks that wait on a tape, and what the makings of tasks spell.
+use Rattle.std.proofs.Common.{◌≡◌, ℕ, zero, suc, ◌+◌, ◌<◌, ◌^◌, List, [], ◌∷◌, ◌++◌, length, Bool, true, Option, Some, None, refl, sym, ap, subst, ◌∙◌, arith, slice_get, append_assoc, slice_index_or}
 use Rattle.std.proofs.lemmas.List.{append-nil}
-use Rattle.std.proofs.lemmas.Bool.{true≢false}
-use Rattle.trace_tasks.proofs.Common.{EnterError, list_all, option_map_or, Callsite, Lane, SubscriberCall, NewSpan, with_new_span, Worlds, cached_at, gate, Span, Spans, no_span, span_at, entries_on, place_on, Replaced, spans_in, no_spans, Handle, handle_of, Request, TapeValue, DoesTape, on_first_lane, named_values, handles_of, TouchesTape, Step, left_of, Stage, MakesGated, Made, Fields, declares, values_of, Left, poll, after_poll, requeue, turns, rounds, tasks_at_first, makings, all_polls, flat, tape_spans, CarriesTape, IsDeclared, IsTested, AreTested, IsNewTape, Ran, GaveUp, Ready, root_of_one_handle, dispatch_serving, Task}
-use Rattle.otel_base.specs.declared.enter_error.EnterError.TheVariants as faults
+use Rattle.trace_tasks.proofs.Common.{list_all, option_map_or, Callsite, Lane, SubscriberCall, NewSpan, with_new_span, Worlds, cached_at, gate, Span, Spans, no_span, span_at, entries_on, place_on, Replaced, spans_in, no_spans, Handle, handle_of, Request, TapeValue, DoesTape, on_first_lane, named_values, handles_of, TouchesTape, Step, left_of, Stage, MakesGated, Made, Fields, declares, values_of, Left, requeue, tasks_at_first, makings, tape_spans, CarriesTape, IsDeclared, IsTested, AreTested, IsNewTape, Ready, root_of_one_handle, dispatch_serving, Task, Instrumented, Running, AreBegun}
 use Rattle.std.specs.Option.{option_map}
 use Rattle.trace_base.specs.declared.span.Parent.TheVariants as parent
 use Rattle.span_script.specs.declared.request.Call.TheVariants as call
 use Rattle.span_script.specs.declared.request.Place.TheVariants as place
 use Rattle.trace_tasks.specs.declared.script.Step.TheVariants as step
-use Rattle.trace_tasks.proofs.tapes.PollsLemmas.{Calm, Held_once, Polled, poll_spells, split}
+use Rattle.trace_tasks.specs.TapeTurns.{Calm, Fit, Differs, AllFit}
+use Rattle.trace_tasks.proofs.tapes.PollsLemmas.{Polled}
 use Rattle.trace_tasks.proofs.polls.EntryLemmas.{get_push}
-use Rattle.trace_tasks.proofs.tapes.RoundsLemmas.{rounds_are_turns}
 use Rattle.trace_tasks.proofs.tapes.SpelledLemmas.{named_back, one_call}
 
 the_rest : (a b : List Step) → ◌≡◌ {A = Option (List Step)} (Some a) (Some b) → a ≡ b
@@ -23,21 +21,6 @@ tested_left sites (step.Yield ∷ steps) rest tested is = subst (λ (xs : List S
 tested_left sites (step.Event site fields ∷ steps) rest tested is = tested_left sites steps rest tested.1 is
 tested_left sites (step.Record fields ∷ steps) rest tested is = tested_left sites steps rest tested is
 tested_left sites (step.SetAttribute key value ∷ steps) rest tested is = tested_left sites steps rest tested is
-
--- a task that waits on a tape, with steps that were tested
-pub record Fit (d : ℕ) (sites : List Callsite) (s : Stage TapeValue) (tape : TapeValue) (t : Left) : Type 0 where
-  pub waits : Held_once d s tape t
-  pub callsite : Callsite
-  pub is : slice_get sites t.site ≡ Some callsite
-  pub tested : IsTested sites t.steps
-
-abbrev pub Differs : Left → List Left → Type 0
-Differs t [] = Unit {0}
-Differs t (u ∷ us) = (u.number ≡ t.number → ⊥) × Differs t us
-
-abbrev pub AllFit : ℕ → List Callsite → Stage TapeValue → TapeValue → List Left → Type 0
-AllFit d sites s tape [] = Unit {0}
-AllFit d sites s tape (t ∷ ts) = Fit d sites s tape t × Differs t ts × AllFit d sites s tape ts
 
 differs_push : (t : Left) (ts : List Left) (u : Left) → Differs t ts → (u.number ≡ t.number → ⊥) → Differs t (ts ++ u ∷ [])
 differs_push t [] u all one = (one, tt)
@@ -65,7 +48,7 @@ others_fit d sites k t s m tape p (u ∷ ts) differs all = (
   others_fit d sites k t s m tape p ts differs.1 all.2,
 )
 
-fit_after : (d : ℕ) (sites : List Callsite) (k : ℕ) (t : Left) (s m : Stage TapeValue) (tape : TapeValue) (p : Polled d sites k t s m tape) (ts : List Left) → AllFit d sites s tape (t ∷ ts) → (o : Option (List Step)) → left_of t.steps ≡ o
+pub fit_after : (d : ℕ) (sites : List Callsite) (k : ℕ) (t : Left) (s m : Stage TapeValue) (tape : TapeValue) (p : Polled d sites k t s m tape) (ts : List Left) → AllFit d sites s tape (t ∷ ts) → (o : Option (List Step)) → left_of t.steps ≡ o
     → AllFit d sites m p.now (requeue ts (option_map (λ steps. record t { steps = steps }) o))
 fit_after d sites k t s m tape p ts all None is = others_fit d sites k t s m tape p ts all.1 all.2
 fit_after d sites k t s m tape p ts all (Some rest) is =
@@ -81,17 +64,6 @@ fit_after d sites k t s m tape p ts all (Some rest) is =
       is = all.0.is;
       tested = tested_left sites t.steps rest all.0.tested is;
     })
-
--- turns spell their requests
-pub turns_spell : (d : ℕ) (sites : List Callsite) (n k : ℕ) (ts : List Left) (s m : Stage TapeValue) (tape : TapeValue) → k + n < 2 ^ 63 → Calm d sites k s tape → AllFit d sites s tape ts → CarriesTape d (turns sites n k ts) s m
-    → (now : TapeValue) × (slice_get m.world.subscribers d ≡ Some now) × (now.requests ≡ tape.requests ++ turns sites n k ts)
-turns_spell d sites zero k ts s m tape few calm all did = (tape, ap (λ (x : Stage TapeValue). slice_get x.world.subscribers d) did ∙ calm.there, sym (append-nil tape.requests))
-turns_spell d sites (suc n) k [] s m tape few calm all did = (tape, ap (λ (x : Stage TapeValue). slice_get x.world.subscribers d) did ∙ calm.there, sym (append-nil tape.requests))
-turns_spell d sites (suc n) k (t ∷ ts) s m tape few calm all did =
-    let parts = split d (poll sites k t) (turns sites n (k + 1) (requeue ts (after_poll t))) s m did in
-    let p = poll_spells d sites k t (omega (arith, few)) all.0.callsite all.0.is all.0.tested s parts.0 tape calm all.0.waits parts.1 in
-    let rest = turns_spell d sites n (k + 1) (requeue ts (after_poll t)) parts.0 m p.now (omega (arith, few)) p.calm (fit_after d sites k t s parts.0 tape p ts all (left_of t.steps) refl) parts.2 in
-    (rest.0, rest.1, rest.2 ∙ ap (λ (qs : List Request). qs ++ turns sites n (k + 1) (requeue ts (after_poll t))) p.requests ∙ append_assoc tape.requests (poll sites k t) (turns sites n (k + 1) (requeue ts (after_poll t))))
 
 -- ---- the makings
 
@@ -245,35 +217,7 @@ makings_spell d sites i (t ∷ tasks) s m tape making tested (x, new, rest) =
       before = λ n h is. all.before n h (one.before n h is);
     }
 
--- a run over a new tape leaves the flat list
-pub run_spells : (d : ℕ) (sites : List Callsite) (tasks : List Task) (s m : Stage TapeValue) (tape : TapeValue) → all_polls (tasks_at_first 0 tasks) < 2 ^ 63 → IsNewTape s.world d tape → s.world.sites ≡ sites → s.handles ≡ [] → s.guards ≡ []
-    → entries_on s.lane.id tape.below.spans.lanes ≡ [] → AreTested sites tasks → CarriesTape d (flat sites tasks) s m → (now : TapeValue) × (slice_get m.world.subscribers d ≡ Some now) × (now.requests ≡ flat sites tasks)
-run_spells d sites tasks s m tape few new same no_handles no_guards none_open tested did =
-    let ts : List Left = tasks_at_first 0 tasks in
-    let parts = split d (makings tasks) (rounds sites (all_polls ts) 0 ts) s m did in
-    let all = makings_spell d sites 0 tasks s parts.0 tape (record {
-      calm = record {
-        there = new.there;
-        sites_are = same;
-        cached = λ n less. new.cached n (subst (λ (xs : List Callsite). n < length xs) (sym same) less);
-        no_due = new.no_due;
-        no_entries = new.no_entries;
-        guards = new.no_guards;
-        guard_count = ap (λ gs. length gs) no_guards;
-        none_open = none_open;
-      };
-      made = ap (λ (xs : List Span). length xs) new.no_spans;
-      handles = ap (λ (xs : List ℕ). length xs) new.no_handles;
-      table = ap (λ (xs : List Handle). length xs) no_handles;
-    }) tested parts.1 in
-    let as_turns : rounds sites (all_polls ts) 0 ts ≡ turns sites (all_polls ts) 0 ts = rounds_are_turns sites (all_polls ts) 0 ts (omega arith) in
-    let end = turns_spell d sites (all_polls ts) 0 ts parts.0 m all.now (omega (arith, few)) all.calm all.fit (subst (λ (rs : List Request). CarriesTape d rs parts.0 m) as_turns parts.2) in (
-      end.0,
-      end.1,
-      end.2 ∙ ap (λ (qs : List Request). qs ++ turns sites (all_polls ts) 0 ts) (all.requests ∙ ap (λ (qs : List Request). qs ++ makings tasks) new.no_requests) ∙ ap (λ (rs : List Request). makings tasks ++ rs) (sym as_turns),
-    )
-
--- ---- as the function says it
+-- ---- begun tasks
 
 spans_there : (world : Worlds TapeValue) (d : ℕ) (tape : TapeValue) → IsNewTape world d tape → spans_in tape_spans world d ≡ tape.below.spans
 spans_there world d tape new = ap (λ (o : Option TapeValue). option_map_or tape_spans o no_spans) new.there
@@ -281,17 +225,25 @@ spans_there world d tape new = ap (λ (o : Option TapeValue). option_map_or tape
 pub few_new : (world : Worlds TapeValue) (d n : ℕ) (tape : TapeValue) → IsNewTape world d tape → n < 2 ^ 63 → length (spans_in tape_spans world d).made + n < 2 ^ 63
 few_new world d n tape new few = (let e = ap (λ (x : Spans). length x.made) (spans_there world d tape new) in let z = ap (λ (xs : List Span). length xs) new.no_spans in omega (arith, e, z, few))
 
-pub spelled : (sites : List Callsite) (tasks : List Task) (old new : Worlds TapeValue) (before later : Lane) (tape : TapeValue) (result : Result ℕ EnterError) → IsNewTape old (dispatch_serving before) tape → Ready tape_spans (λ s lane number. 0) (λ s. Unit {0}) old before
-    → old.sites ≡ sites → AreTested sites tasks → all_polls (tasks_at_first 0 tasks) < 2 ^ 60 → IfOk result (λ polls. Ran tape_spans (λ s. None) (λ s lane c. true) DoesTape TouchesTape sites tasks old new before later polls)
-    → IfOk result (λ polls. (now : TapeValue) × (slice_get new.subscribers (dispatch_serving before) ≡ Some now) × (now.requests ≡ flat sites tasks))
-spelled sites tasks old new before later tape (Err e) is_new ready same tested few ran = tt
-spelled sites tasks old new before later tape (Ok polls) is_new ready same tested few ran =
-    let s : Stage TapeValue = record { world = old; lane = before; handles = []; guards = [] } in
-    run_spells (dispatch_serving before) sites tasks s (record { world = new; lane = later; handles = ran.handles; guards = ran.guards }) tape (omega (arith, few)) is_new same refl refl
-    (sym (ap (λ (x : Spans). entries_on before.id x.lanes) (spans_there old (dispatch_serving before) tape is_new)) ∙ ready.none_open) tested ran.carried
-
--- a tape attaches nothing, so no lane is full for it
-pub never_full : (d : ℕ) (sites : List Callsite) (tasks : List Task) (s : Stage TapeValue) (new : Worlds TapeValue) (later : Lane) (result : Result ℕ EnterError)
-    → IfErr result (λ e. GaveUp tape_spans (λ s. None) (λ s lane c. true) (λ s id. false) DoesTape TouchesTape (λ s t. t ≡ s) d sites tasks e s new later) → result ≡ Err faults.Full → ⊥
-never_full d sites tasks s new later (Ok polls) gave is = absurd (cc is)
-never_full d sites tasks s new later (Err e) gave is = (let full = gave.stopped.full (cc is) in absurd (true≢false (sym full.attaches)))
+-- tasks that were begun over a new tape spelled their makings
+pub begun_spells : (d : ℕ) (tasks : List Task) (old world : Worlds TapeValue) (lane : Lane) (tape : TapeValue) (fs : List (Instrumented Running)) → dispatch_serving lane ≡ d → IsNewTape old d tape → Ready tape_spans (λ s lane number. 0) (λ s. Unit {0}) old lane → AreTested old.sites tasks
+    → (b : AreBegun tape_spans (λ s. None) (λ s lane c. true) (λ s lane number. 0) (λ s. Unit {0}) DoesTape TouchesTape tasks lane old world fs)
+    → MadeAll d old.sites 0 tasks (record { world = old; lane = lane; handles = []; guards = [] }) (record { world = world; lane = lane; handles = b.handles; guards = [] }) tape
+begun_spells d tasks old world lane tape fs serves new ready tested b =
+    let s : Stage TapeValue = record { world = old; lane = lane; handles = []; guards = [] } in
+    let m : Stage TapeValue = record { world = world; lane = lane; handles = b.handles; guards = [] } in
+    makings_spell d old.sites 0 tasks s m tape (record {
+      calm = record {
+        there = new.there;
+        sites_are = refl;
+        cached = new.cached;
+        no_due = new.no_due;
+        no_entries = new.no_entries;
+        guards = new.no_guards;
+        guard_count = refl;
+        none_open = sym (ap (λ (x : Spans). entries_on lane.id x.lanes) (spans_there old d tape new)) ∙ subst (λ (n : ℕ). entries_on lane.id (spans_in tape_spans old n).lanes ≡ []) serves ready.none_open;
+      };
+      made = ap (λ (xs : List Span). length xs) new.no_spans;
+      handles = ap (λ (xs : List ℕ). length xs) new.no_handles;
+      table = refl;
+    }) tested (subst (λ (n : ℕ). CarriesTape n (makings tasks) s m) serves b.carried)

@@ -1,6 +1,5 @@
 -- A line that is refused whatever lines follow.
 use Rattle.std.proofs.Common.{subst}
-use Rattle.std.specs.Prelude.{Some, None}
 use Rattle.trace_pipeline.specs.Lines.{lines_of}
 use Rattle.task_runs.specs.Reading.{IsRefusedBy}
 use Rattle.task_runs.proofs.InputLemmas.{refuses, none_refused}

@@ -1,6 +1,6 @@
 -- How many spans have a handle, after one count changed.
 use Rattle.std.proofs.Common.{◌≡◌, ℕ, zero, suc, ◌+◌, ◌<◌, List, [], ◌∷◌, ◌++◌, length, map, take, get_or, add-one, Bool, cond, count_by, refl, sym, ap, arith, slice_set}
-use Rattle.trace_base.proofs.Entering.{count_cons}
+use Rattle.trace_base.proofs.EntryLemmas.{count_cons}
 use Rattle.trace_tape.specs.Taping.{is_held, handles_of}
 
 -- one that has a handle before and after, or before and after none

@@ -2,8 +2,8 @@
 use Rattle.std.proofs.Common.{◌≡◌, ◌<◌, ℕ, List, ◌++◌, ◌∷◌, [], length, map, take, ap, sym, ◌∙◌}
 use Rattle.trace_base.specs.declared.field.Value.{Value}
 use Rattle.trace_tape.specs.Taping.{name_at}
-use Rattle.trace_tape.proofs.Counting.{map_more}
-use Rattle.trace_tape.proofs.naming.named.Goals as goal
+use Rattle.trace_tape.proofs.CountsLemmas.{map_more}
+use Rattle.trace_tape.proofs.naming.named_values.Goals as goal
 
 pub loop-place-preserved : goal.loop-place-preserved
 loop-place-preserved c =
