@@ -9,7 +9,7 @@ use Rattle.trace_base.specs.words.Level.{is_within}
 use Rattle.env_directives.specs.declared.directive.ParseError.{ParseError}
 use Rattle.env_directives.specs.declared.env.directive.Directive.{Directive}
 use Rattle.env_directives.specs.orders.Choice.{admits}
-use Rattle.env_directives.specs.reading.Reading.{Read, reading}
+use Rattle.env_directives.specs.reading.Reading.{DirectiveRead, reading}
 use Rattle.env_directives.specs.reading.Separators.{comma_pieces}
 use Rattle.env_filter.specs.texts.Building.{filter_by}
 use Rattle.env_filter.specs.Filtering.{FilterState, FilterWithRoom, plain, IsNewFilter, is_cared, hint_in}
@@ -20,7 +20,7 @@ use Rattle.event_gate.specs.declared.error.GateError.TheVariants as error
 use Rattle.event_gate.specs.declared.levels.Levels.{Levels}
 
 -- the directive that was read, if one was
-abbrev pub directive_read : Read → List Directive
+abbrev pub directive_read : DirectiveRead → List Directive
 directive_read (Ok d) = d ∷ []
 directive_read (Err fault) = []
 

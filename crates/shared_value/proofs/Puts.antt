@@ -1,5 +1,5 @@
 -- What the writer has put in place.
-use Rattle.std.proofs.Common.{◌≡◌, ◌+◌, Result, Ok, Err, MatchResult, OnOk, OnErr, List, [], ◌∷◌, ◌++◌, fold, refl, ap, sym, subst, ◌∙◌, arith}
+use Rattle.std.proofs.Common.{◌≡◌, ◌+◌, Result, Ok, Err, MatchResult, List, [], ◌∷◌, ◌++◌, fold, refl, ap, sym, subst, ◌∙◌, arith}
 use Rattle.value_reader.specs.declared.numbered.Numbered.{Numbered}
 use Rattle.value_reader.specs.declared.numbered.Shown.{Shown}
 use Rattle.value_reader.specs.declared.order.View.{View}
@@ -28,10 +28,6 @@ pub next_is : {A B : Type 0} (value : A → B) (now next : B) (xs ys : List A) (
 next_is value now next xs ys a is told = told ∙ (ap (λ zs. fold (λ _ x. value x) now zs) is ∙ last_counts value now xs a)
 
 -- two facts about one result
-pub on_ok : {A E : Type 0} (P P' : A → Type 0) (Q Q' : E → Type 0) (G : Type 0) (r : Result A E) → MatchResult r P Q → MatchResult r P' Q' → ((x : A) → P x → P' x → G) → OnOk r G
-on_ok P P' Q Q' G (Ok x) p p' f = f x p p'
-on_ok P P' Q Q' G (Err e) q q' f = tt
-
-pub on_err : {A E : Type 0} (P P' : A → Type 0) (Q Q' : E → Type 0) (G : Type 0) (r : Result A E) → MatchResult r P Q → MatchResult r P' Q' → ((e : E) → Q e → Q' e → G) → OnErr r G
-on_err P P' Q Q' G (Ok x) p p' f = tt
-on_err P P' Q Q' G (Err e) q q' f = f e q q'
+pub on_both : {A E : Type 0} (P P' : A → Type 0) (Q Q' : E → Type 0) (G H : Type 0) (r : Result A E) → MatchResult r P Q → MatchResult r P' Q' → ((x : A) → P x → P' x → G) → ((e : E) → Q e → Q' e → H) → MatchResult r (λ _. G) (λ _. H)
+on_both P P' Q Q' G H (Ok x) p p' f g = f x p p'
+on_both P P' Q Q' G H (Err e) q q' f g = g e q q'

@@ -1,5 +1,5 @@
 -- What the writer knows, and what it puts in place.
-use Rattle.std.specs.Prelude.{◌≡◌, List, [], ◌∷◌, ◌++◌}
+use Rattle.std.specs.Prelude.{◌≡◌, List, [], ◌∷◌, ◌++◌, Result, MatchResult}
 use mathlib.Core.List.{IsPrefix}
 use Rattle.value_reader.specs.declared.numbered.Shown.{Shown}
 use Rattle.value_reader.specs.declared.order.View.{View}
@@ -24,3 +24,7 @@ pub record IsPut {A : Type 0} (v : View A) (value : A) (w : View A) (s' : Shown 
 -- all is as before
 abbrev pub IsLeft : {A : Type 0} → View A → Shown A → View A → Shown A → Type 0
 IsLeft v s w s' = (w ≡ v) × (s' ≡ s)
+
+-- What came of a value that was to be put in place: it stands behind all others, or all is as before.
+abbrev pub PutsOrLeaves : {A U E : Type 0} → View A → Shown A → A → Result U E → View A → Shown A → Type 0
+PutsOrLeaves v s value result w s' = MatchResult result (λ _. IsPut v value w s') (λ _. IsLeft v s w s')

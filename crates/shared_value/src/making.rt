@@ -12,8 +12,8 @@ use left_right::writer::Writer;
 use std::alloc::{AllocError, Global};
 use std::snapshot::Snapshot;
 use std::sync::Arc;
-use std::sync::atomic::AtomicBool;
 use value_reader::numbered::{Numbered, Shown};
+use value_reader::order::OrderedFactory;
 use value_reader::reader::{Origin, ValueReader};
 
 /// How many readers a writer may have.
@@ -31,23 +31,17 @@ pub fn share<T: Drop>(
     ensures count { IfOk result (λ r. vec_len r.1 ≡ readers) }
     ensures readers { IfOk result (λ r. All (IsNew r.0.table first) r.1.items) }
 {
-    let last = Arc::new(
-        alloc,
-        Numbered {
-            number: 0,
-            value: first,
-            is_replaced: AtomicBool::new(false),
-        },
-    )?;
+    let last = Numbered::first(alloc, first)?;
     let copies = copies_of(alloc, &last, readers)?;
     let room = Vec::with_capacity(alloc, readers as usize)?;
     let writer = writer_of(alloc, &last, readers)?;
     // From here on nothing can be refused: without leave to wait the writer can't be ended.
+    let factory = writer.factory();
     let origin = Origin {
-        home: Snapshot::of(writer.factory()),
+        home: Snapshot::of(factory),
         first: Snapshot::of(&last.value),
     };
-    let made = readers_of(&writer, &origin, copies, room, readers);
+    let made = readers_of(factory, &origin, copies, room, readers);
     let writer = ValueWriter {
         alloc,
         origin,
@@ -94,12 +88,13 @@ fn writer_of<T: Drop>(
 
 // Readers that know the first value.
 fn readers_of<T: Drop>(
-    writer: &OrderedWriter<T>,
+    factory: &OrderedFactory<T>,
     origin: &Origin<T>,
     copies: Vec<Arc<Numbered<T>, Global>>,
     room: Vec<ValueReader<T>>,
     readers: u64,
 ) -> Vec<ValueReader<T>>
+    requires home { (arc_value factory.now.board).shared.table_id ≡ (arc_value origin.now.home.value.board).shared.table_id }
     requires copies { All (λ t. IsFirst origin.now.first.value (arc_value t)) copies.items }
     requires count { vec_len copies ≡ readers }
     requires none { (room.items ≡ []) × (vec_capacity room ≡ readers) }
@@ -112,7 +107,7 @@ fn readers_of<T: Drop>(
         let Some(last) = copies.pop() else {
             unreachable!()
         };
-        made.push_reserved(ValueReader::new(writer.factory(), origin, last));
+        made.push_reserved(ValueReader::new(factory, origin, last));
     }
     made
 }

@@ -1,16 +1,15 @@
 //! The writer, which puts values in place.
-ghost use Rattle.std.specs.Prelude.{◌≡◌, ◌+◌, ◌++◌, [], ◌∷◌, length, IfOk, OnOk, OnErr};
+ghost use Rattle.std.specs.Prelude.{◌≡◌, ◌+◌, ◌++◌, [], ◌∷◌, length, IfOk, OnErr};
 ghost use Rattle.std.specs.Arc.{arc_value};
 ghost use Rattle.left_right.specs.Sides.{view};
 ghost use Rattle.value_reader.specs.Order.{in_place};
-ghost use Rattle.shared_value.specs.Puts.{KnowsAll, IsPut, IsLeft};
+ghost use Rattle.shared_value.specs.Puts.{KnowsAll, PutsOrLeaves};
 
 use crate::order::{Notes, OrderedWriter, Puts};
 use core::mem::replace_with;
 use left_right::Absorb;
 use std::alloc::{AllocError, Global};
 use std::marker::Model;
-use std::sync::atomic::{AtomicBool, Ordering};
 use std::sync::{Arc, Wait};
 use value_reader::note::ValueNote;
 use value_reader::numbered::{Numbered, Shown};
@@ -55,7 +54,7 @@ impl<T: Drop> ValueWriter<T> {
             × (self.new.values ≡ self.old.values ++ value ∷ [])) }
         ensures leaves { OnErr result (self.new ≡ self.old) }
     {
-        let next = next_of(self.alloc, &self.writer.published().last, value)?;
+        let next = self.writer.published().last.next(self.alloc, value)?;
         let number = next.number;
         let put = replace_with(
             &mut self.writer,
@@ -66,8 +65,7 @@ impl<T: Drop> ValueWriter<T> {
             )
                 requires writer { KnowsAll (view writer.desk.place) writer.desk.shown.value }
                 requires next { (arc_value next).number ≡ (in_place writer.desk.shown.value).number + 1 }
-                ensures put { OnOk result.1 (IsPut (view writer.desk.place) (arc_value next).value (view result.0.desk.place) result.0.desk.shown.value) }
-                ensures left { OnErr result.1 (IsLeft (view writer.desk.place) writer.desk.shown.value (view result.0.desk.place) result.0.desk.shown.value) }
+                ensures { PutsOrLeaves (view writer.desk.place) writer.desk.shown.value (arc_value next).value result.1 (view result.0.desk.place) result.0.desk.shown.value }
             { put_next(rt, writer, next) },
         );
         match put {
@@ -97,32 +95,7 @@ impl<T: Drop> ValueWriter<T> {
     }
 }
 
-// The value behind the last one.
-fn next_of<T: Drop>(
-    alloc: Global,
-    last: &Numbered<T>,
-    value: T,
-) -> Result<Arc<Numbered<T>, Global>, AllocError>
-    ensures number { IfOk result (λ next. (arc_value next).number ≡ last.now.number + 1) }
-    ensures value { IfOk result (λ next. (arc_value next).value ≡ value) }
-{
-    let number = last.number.checked_add(1).ok_or(AllocError)?;
-    let is_replaced = AtomicBool::new(false);
-    let next = Arc::new(
-        alloc,
-        Numbered {
-            number,
-            value,
-            is_replaced,
-        },
-    )?;
-    // From here on readers that have the last one look, so none misses the next. If that isn't put in place, they look in
-    // vain.
-    last.is_replaced.store(true, Ordering::SeqCst);
-    Ok(next)
-}
-
-// Puts a value in place. It waits for readers of the one that was in place before the last.
+// Puts a value in place, or leaves all as before. It waits for readers of the one that was in place before the last.
 fn put_next<T: Drop, R: Wait>(
     rt: &R,
     writer: OrderedWriter<T>,
@@ -130,10 +103,8 @@ fn put_next<T: Drop, R: Wait>(
 ) -> (OrderedWriter<T>, Result<(), AllocError>)
     requires writer { KnowsAll (view writer.desk.place) writer.desk.shown.value }
     requires next { (arc_value next).number ≡ (in_place writer.desk.shown.value).number + 1 }
-    ensures put { OnOk result.1 (IsPut (view writer.desk.place) (arc_value next).value
-        (view result.0.desk.place) result.0.desk.shown.value) }
-    ensures left { OnErr result.1 (IsLeft (view writer.desk.place) writer.desk.shown.value
-        (view result.0.desk.place) result.0.desk.shown.value) }
+    ensures { PutsOrLeaves (view writer.desk.place) writer.desk.shown.value (arc_value next).value result.1
+        (view result.0.desk.place) result.0.desk.shown.value }
 {
     let mut writer = writer;
     match writer.append(next) {

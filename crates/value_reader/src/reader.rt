@@ -22,12 +22,21 @@ pub struct Origin<T: Drop> {
 }
 
 /// Has the value that was put in place last, as far as it has seen. It takes no lock.
-#[derive(Drop)]
 pub struct ValueReader<T: Drop> {
     pub(crate) origin: Snapshot<Origin<T>>,
     // None if it knows the first value alone.
     pub(crate) reader: Option<OrderedReader<T>>,
     pub(crate) last: Arc<Numbered<T>, Global>,
+}
+
+impl<T: Drop> Drop for ValueReader<T> {
+    fn drop(self) {
+        let ValueReader {
+            origin: _origin,
+            reader: _reader,
+            last: _last,
+        } = self;
+    }
 }
 
 impl<T: Drop> Model for ValueReader<T> {
@@ -43,13 +52,14 @@ impl<T: Drop> Model for ValueReader<T> {
 }
 
 impl<T: Drop> ValueReader<T> {
-    /// A reader that has the first value, of the writer that this makes readers for. Origin and factory are those of one writer.
+    /// A reader that has the first value, of the writer that this makes readers for.
     pub fn new(
         factory: &OrderedFactory<T>,
         origin: &Origin<T>,
         first: Arc<Numbered<T>, Global>,
     ) -> ValueReader<T>
-        requires { IsFirst origin.now.first.value (arc_value first) }
+        requires home { (arc_value factory.now.board).shared.table_id ≡ (arc_value origin.now.home.value.board).shared.table_id }
+        requires first { IsFirst origin.now.first.value (arc_value first) }
         ensures { IsNew (arc_value origin.now.home.value.board).shared.table_id origin.now.first.value result }
     {
         ValueReader {

@@ -1,10 +1,17 @@
 -- A reader more, of the last copy.
-use Rattle.std.proofs.Common.{◌∙◌, vec_capacity, arith}
+use Rattle.std.proofs.Common.{◌∙◌, vec_capacity, IfSome, subst, arith}
 use Rattle.std.proofs.lemmas.List.Elements.{All-pop}
 use Rattle.std.specs.Arc.{arc_value}
 use Rattle.value_reader.specs.Knowing.{IsNew, IsFirst}
 use Rattle.shared_value.proofs.Lists.{all_pushed}
 use Rattle.shared_value.proofs.making.readers_of.Goals as goal
+
+-- the last copy is of the first value, as all are
+pub new-requires-clause-first : goal.new-requires-clause-first
+new-requires-clause-first g c =
+    let first = c.args.origin.now.first.value in
+    let copies = All-pop (λ t. IsFirst first (arc_value t)) c.loop.copies.items c.pop.new.self.items c.pop.result c.pop.ensures.items c.loop.invariant.copies in
+    subst (λ r. IfSome r (λ t. IsFirst first (arc_value t))) c.in-Some.is copies.1
 
 pub loop-preserved : goal.loop-preserved
 loop-preserved g c =

@@ -7,7 +7,7 @@ use Rattle.shared_value.proofs.making.share.Goals as goal
 
 pub returns-clause-first : goal.returns-clause-first
 returns-clause-first g c =
-    let first = c.of-2.ensures ∙ ap (λ (n : Numbered g.row.T.Denot). n.value) (c.deref.ensures ∙ c.in_ok-last.ensures.ok) in
+    let first = c.of-2.ensures ∙ ap (λ (n : Numbered g.row.T.Denot). n.value) c.deref.ensures ∙ c.in_ok-last.ensures.1 in
     cc (first, c.in_ok-writer.ensures.1)
 
 pub returns-clause-count : goal.returns-clause-count
@@ -15,12 +15,11 @@ returns-clause-count g c = c.readers_of-made.ensures.count
 
 pub returns-clause-readers : goal.returns-clause-readers
 returns-clause-readers g c =
-    let first = c.of-2.ensures ∙ ap (λ (n : Numbered g.row.T.Denot). n.value) (c.deref.ensures ∙ c.in_ok-last.ensures.ok) in
+    let first = c.of-2.ensures ∙ ap (λ (n : Numbered g.row.T.Denot). n.value) c.deref.ensures ∙ c.in_ok-last.ensures.1 in
     subst (λ f. All (IsNew c.of.result.value.board.value.shared.table_id f) c.readers_of-made.result.items) first c.readers_of-made.ensures.readers
 
 pub invariant_of-writer : goal.invariant_of-writer
 invariant_of-writer g c =
     let last = c.in_ok-writer.ensures.0 in
-    let number = ap (λ (n : Numbered g.row.T.Denot). n.number) c.in_ok-last.ensures.ok in
     let value = sym (c.of-2.ensures ∙ ap (λ (n : Numbered g.row.T.Denot). n.value) c.deref.ensures) in
-    first_is_last _ _ _ _ last number value c.in_ok-writer.ensures.1
+    first_is_last _ _ _ _ last c.in_ok-last.ensures.0 value c.in_ok-writer.ensures.1
