@@ -11,9 +11,9 @@ use Rattle.thread_handles.specs.declared.gather.Ended.{Ended}
 use Rattle.thread_handles.specs.Shares.{IsShared}
 use Rattle.thread_handles.specs.Gathers.{IsMet, MetAll, GathersReleases, IsEnded}
 use Rattle.thread_handles.specs.Columns.{column, HaveLeft, WereTaken, IsJoined}
-use Rattle.thread_handles.proofs.Gathering.{asks_plain, is_ended, not_open}
-use Rattle.thread_handles.proofs.Meeting.{LeftFrom, met_all, gathered_first}
-use Rattle.thread_handles.proofs.Working.{same_get, get_drop, get_before, get_last, drop_more}
+use Rattle.thread_handles.proofs.GatheredLemmas.{asks_plain, is_ended, not_open}
+use Rattle.thread_handles.proofs.JoinsLemmas.{LeftFrom, met_all, gathered_first}
+use Rattle.thread_handles.proofs.WorkLemmas.{same_get, get_drop, get_before, get_last, drop_more}
 
 -- ---- one span: the releases of its handles, whatever held them
 

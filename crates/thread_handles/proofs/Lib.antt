@@ -1,7 +1,7 @@
-pub mod Following
-pub mod Opening
-pub mod Gathering
-pub mod Working
-pub mod Sharing
-pub mod Meeting
+pub mod AsksLemmas
+pub mod FirstEntriesLemmas
+pub mod GatheredLemmas
+pub mod WorkLemmas
+pub mod ClonesLemmas
+pub mod JoinsLemmas
 pub mod Columns

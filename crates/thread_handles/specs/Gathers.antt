@@ -20,7 +20,7 @@ or_else (Some x) y = Some x
 pub record IsMet (one other r : Released) : Type 0 where
   pub span : r.pass.span ≡ one.pass.span
   pub origin : r.pass.view.origin ≡ one.pass.view.origin
-  pub legal : IsLegal one.pass.view.origin.made (entries r.pass.view.seen)
+  pub legal : IsLegal one.pass.view.origin.made_at (entries r.pass.view.seen)
   pub ours : IsPrefix one.pass.view.seen r.pass.view.seen
   pub theirs : IsPrefix other.pass.view.seen r.pass.view.seen
   pub closed : r.closed ≡ or_else one.closed other.closed
@@ -30,12 +30,12 @@ pub record IsMet (one other r : Released) : Type 0 where
 pub record GathersReleases (of_span : TableId) (making : Making) (count n : ℕ) (parts : ℕ → List Ask) (r : Released) : Type 0 where
   pub span : r.pass.span ≡ of_span
   pub origin : r.pass.view.origin ≡ making
-  pub legal : IsLegal making.made (entries r.pass.view.seen)
+  pub legal : IsLegal making.made_at (entries r.pass.view.seen)
   pub longest : List Entry
   pub within : IsPrefix longest (entries r.pass.view.seen)
-  pub begins : IsPrefix (clone_entries making.made count) longest
+  pub begins : IsPrefix (clone_entries making.made_at count) longest
   pub closed : ClosedAs making longest r.closed
-  pub each : (w : ℕ) → w < n → FollowsAsks (w + 1) making.made (parts w) (entries r.pass.view.seen) × (has_end (w + 1) longest ≡ true)
+  pub each : (w : ℕ) → w < n → FollowsAsks (w + 1) making.made_at (parts w) (entries r.pass.view.seen) × (has_end (w + 1) longest ≡ true)
 
 -- What is answered of a shared span: a history that does what was asked, its content, and a pass of that very span
 -- which has seen just that history.
@@ -44,7 +44,7 @@ pub record IsEnded (of_span : TableId) (making : Making) (count : ℕ) (parts : 
   pub origin : e.pass.view.origin ≡ making
   pub seen : entries e.pass.view.seen ≡ e.history
   pub content : e.finished ≡ content_of making e.history
-  pub does : DoesAll making.made count parts e.history
+  pub does : DoesAll making.made_at count parts e.history
 
 -- releases joined one after another
 abbrev pub MetAll : Released → List Released → Released → Type 0

@@ -9,7 +9,7 @@ use Rattle.thread_script.specs.Asks.{FollowsAsks, clones_asked, clone_entries}
 
 -- the first handle of a span that was made at this moment
 abbrev pub IsFirst : SharedHandle → ℕ → Type 0
-IsFirst h at = (h.number ≡ 0) × (h.view ≡ first_view h.view.origin) × (h.view.origin.made ≡ at)
+IsFirst h at = (h.number ≡ 0) × (h.view ≡ first_view h.view.origin) × (h.view.origin.made_at ≡ at)
 
 abbrev pub numbers_of : List SharedHandle → List ℕ
 numbers_of [] = []
@@ -25,7 +25,7 @@ pub record AreCloned (h g : SharedHandle) (hs : List SharedHandle) : Type 0 wher
   pub number : g.number ≡ 0
   pub origin : g.view.origin ≡ h.view.origin
   pub out : open_of g ≡ 0
-  pub follows : FollowsAsks 0 h.view.origin.made (clones_asked h.view.origin.made (numbers_of hs)) (entries g.view.seen)
+  pub follows : FollowsAsks 0 h.view.origin.made_at (clones_asked h.view.origin.made_at (numbers_of hs)) (entries g.view.seen)
   pub own : entries_by 0 (entries g.view.seen) ≡ g.view.mine
   pub each : (i : ℕ) (d : SharedHandle) → i < length hs → ((slice_index_or hs i d).span ≡ h.span) × ((slice_index_or hs i d).view.origin ≡ h.view.origin) × ((slice_index_or hs i d).view.mine ≡ [])
 
@@ -53,7 +53,7 @@ pub record IsFresh (h : SharedHandle) (k : ℕ) (g : SharedHandle) : Type 0 wher
 pub record IsShared (h : SharedHandle) (hs : List SharedHandle) (r : Released) : Type 0 where
   pub span : r.pass.span ≡ h.span
   pub origin : r.pass.view.origin ≡ h.view.origin
-  pub log : entries r.pass.view.seen ≡ clone_entries h.view.origin.made (length hs)
-  pub legal : IsLegal h.view.origin.made (entries r.pass.view.seen)
+  pub log : entries r.pass.view.seen ≡ clone_entries h.view.origin.made_at (length hs)
+  pub legal : IsLegal h.view.origin.made_at (entries r.pass.view.seen)
   pub closed : ClosedAs h.view.origin (entries r.pass.view.seen) r.closed
   pub each : (i : ℕ) (d : SharedHandle) → i < length hs → IsFresh h (i + 1) (slice_index_or hs i d)

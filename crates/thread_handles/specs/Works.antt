@@ -47,13 +47,13 @@ pub record IsAtWork (k : ℕ) (all left : List Ask) (h g : SharedHandle) : Type 
   pub origin : g.view.origin ≡ h.view.origin
   pub asked : List Ask
   pub whole : asked ++ left ≡ all
-  pub follows : FollowsAsks k h.view.origin.made asked (entries g.view.seen)
+  pub follows : FollowsAsks k h.view.origin.made_at asked (entries g.view.seen)
   pub own : entries_by k (entries g.view.seen) ≡ g.view.mine
   pub balanced : is_balanced left (open_of g) ≡ true
 
 -- what a worker is asked on the span of a handle, by the calls of a list
 abbrev pub part_of : Plan → Option ℕ → ℕ → SharedHandle → List WorkerOp → List Ask
-part_of plan last s h ops = part_on plan s (release_at h.view.origin.made last) ops
+part_of plan last s h ops = part_on plan s (release_at h.view.origin.made_at last) ops
 
 abbrev pub AllAtWork : Plan → ℕ → Option ℕ → List WorkerOp → List WorkerOp → List SharedHandle → List SharedHandle → Type 0
 AllAtWork plan k last all left hs gs =
@@ -66,7 +66,7 @@ AllAtWork plan k last all left hs gs =
 abbrev pub AreMade : Plan → List SharedHandle → Type 0
 AreMade plan hs =
     (length plan.shared ≡ length hs)
-    × ((s : ℕ) (d : SharedHandle) (l : SharedLine) → s < length hs → ((slice_index_or plan.shared s l).at ≡ (slice_index_or hs s d).view.origin.made) × ((slice_index_or plan.shared s l).at ≤ GREATEST))
+    × ((s : ℕ) (d : SharedHandle) (l : SharedLine) → s < length hs → ((slice_index_or plan.shared s l).at ≡ (slice_index_or hs s d).view.origin.made_at) × ((slice_index_or plan.shared s l).at ≤ GREATEST))
 
 -- the plan has so many shared spans, and none is made too late
 abbrev pub AreLow : Plan → ℕ → Type 0
@@ -88,9 +88,9 @@ AllReleased plan last hs rs =
 pub record IsLeft (k : ℕ) (all : List Ask) (of_span : TableId) (making : Making) (r : Released) : Type 0 where
   pub span : r.pass.span ≡ of_span
   pub origin : r.pass.view.origin ≡ making
-  pub follows : FollowsAsks k making.made all (entries r.pass.view.seen)
+  pub follows : FollowsAsks k making.made_at all (entries r.pass.view.seen)
   pub ended : has_end k (entries r.pass.view.seen) ≡ true
-  pub legal : IsLegal making.made (entries r.pass.view.seen)
+  pub legal : IsLegal making.made_at (entries r.pass.view.seen)
   pub closed : ClosedAs making (entries r.pass.view.seen) r.closed
 
 abbrev pub AllLeft : Plan → ℕ → List WorkerOp → List SharedHandle → List Released → Type 0

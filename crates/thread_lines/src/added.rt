@@ -113,8 +113,8 @@ fn add_worker(alloc: Global, script: &mut ThreadScript, ops: Items<ThreadOp>) ->
     let worker = script.workers.as_slice().len();
     require(Told::BadLine, worker < MOST_WORKERS)?;
     test_lane(script, worker)?;
-    let made = last_made(script.shared.as_slice());
-    let ops = test_ops(alloc, script, made, ops)?;
+    let made_at = last_made(script.shared.as_slice());
+    let ops = test_ops(alloc, script, made_at, ops)?;
     script.workers.push(ops)?;
     Ok(())
 }

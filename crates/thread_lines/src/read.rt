@@ -25,7 +25,7 @@ fn worker_of(alloc: Global, value: Json) -> Result<ThreadLine, LineError>
 
 // Takes the members of a shared span.
 #[tactic(auto, unfolding(crate::specs::ThreadForm::shared_form))]
-fn shared(members: &mut Members) -> Result<ThreadLine, LineError>
+fn shared_line(members: &mut Members) -> Result<ThreadLine, LineError>
     ensures { Gives (λ l. (l, members_left members.new)) result (shared_form (members_left members.old)) }
 {
     let at = members.whole("at")?;
@@ -40,7 +40,7 @@ fn thread_line(alloc: Global, members: &mut Members) -> Result<ThreadLine, LineE
 {
     match members.optional("worker") {
         Some(value) => worker_of(alloc, value),
-        None => shared(members),
+        None => shared_line(members),
     }
 }
 

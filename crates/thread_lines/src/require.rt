@@ -23,7 +23,7 @@ pub(crate) fn require(told: Told, holds: bool) -> Result<(), Stop>
 }
 
 /// The refusal of a name that names nothing.
-pub(crate) fn unknown(what: What) -> Told
+pub(crate) fn unknown_name(what: What) -> Told
     ensures { result ≡ names_nothing what }
 {
     Told::Step {
@@ -44,7 +44,10 @@ pub(crate) fn test_moment(before: Moment, at: Moment) -> Result<(), Stop>
 pub(crate) fn test_lane(script: &ThreadScript, place: usize) -> Result<(), Stop>
     ensures { AnswersTest (λ u. u) result (has_lane script.now place) }
 {
-    require(unknown(What::Lane), place < script.lanes.as_slice().len())
+    require(
+        unknown_name(What::Lane),
+        place < script.lanes.as_slice().len(),
+    )
 }
 
 /// The callsite at a place, which has to make spans.
@@ -54,7 +57,7 @@ pub(crate) fn span_site(script: &ThreadScript, place: u64) -> Result<&Callsite, 
     match script.callsites.as_slice().get(place as usize) {
         Some(callsite) if callsite.kind == Kind::Span => Ok(callsite),
         _ => Err(Stop::Refused {
-            told: unknown(What::Site),
+            told: unknown_name(What::Site),
         }),
     }
 }
@@ -66,7 +69,7 @@ pub(crate) fn event_site(script: &ThreadScript, place: u64) -> Result<&Callsite,
     match script.callsites.as_slice().get(place as usize) {
         Some(callsite) if callsite.kind == Kind::Event => Ok(callsite),
         _ => Err(Stop::Refused {
-            told: unknown(What::Site),
+            told: unknown_name(What::Site),
         }),
     }
 }

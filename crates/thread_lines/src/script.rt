@@ -20,8 +20,8 @@ fn next_number(number: u64) -> Result<u64, Memory>
     number.checked_add(1).ok_or(Memory)
 }
 
-// A line was refused, unless memory wanted.
-fn refused(line: u64, stop: Stop) -> Result<RefusedLine, Memory>
+// The line that was refused, unless memory wanted.
+fn refused_line(line: u64, stop: Stop) -> Result<RefusedLine, Memory>
     ensures { IfOk result (λ r. (r.line ≡ line) × (stop ≡ Stop.Refused r.told)) }
 {
     match stop {
@@ -52,7 +52,7 @@ fn add_lines(
             continue;
         }
         if let Err(stop) = add_text(alloc, &mut script, line) {
-            return Ok(Err(refused(number, stop)?));
+            return Ok(Err(refused_line(number, stop)?));
         }
     }
     Ok(Ok(script))
@@ -74,7 +74,7 @@ pub fn read_script(alloc: Global, bytes: &[u8]) -> Result<Result<ThreadScript, R
         if !is_blank(line) {
             return match open_script(alloc, line) {
                 Ok(script) => add_lines(alloc, script, number, rest),
-                Err(stop) => Ok(Err(refused(number, stop)?)),
+                Err(stop) => Ok(Err(refused_line(number, stop)?)),
             };
         }
     }

@@ -8,7 +8,7 @@ ghost use Rattle.thread_lines.specs.Steps.{need, is_shared, has_entry_for, own_t
 ghost use Rattle.trace_threads.specs.Moves.{move_of, opens_after};
 
 use crate::line::{ThreadCall, ThreadOp};
-use crate::require::{event_site, require, test_moment, unknown};
+use crate::require::{event_site, require, test_moment, unknown_name};
 use crate::stop::Stop;
 use otel_base::list::Items;
 use otel_base::memory::Memory;
@@ -26,7 +26,7 @@ fn test_span(script: &ThreadScript, span: u64) -> Result<(), Stop>
     ensures { AnswersTest (λ u. u) result (is_shared script.now span) }
 {
     let count = script.shared.as_slice().len() as u64;
-    require(unknown(What::Handle), span < count)
+    require(unknown_name(What::Handle), span < count)
 }
 
 // The values of fields, each of which the callsite has to declare.
@@ -41,7 +41,7 @@ fn all_values(
     let values = values_of(alloc, callsite, fields)?;
     if values.pairs.as_slice().len() < given {
         return Err(Stop::Refused {
-            told: unknown(What::Field),
+            told: unknown_name(What::Field),
         });
     }
     Ok(values)
@@ -65,7 +65,7 @@ fn own_call(entries: u64, op: Op) -> Result<WorkerCall, Stop>
         Ok(WorkerCall::Own { op })
     } else {
         Err(Stop::Refused {
-            told: unknown(What::Guard),
+            told: unknown_name(What::Guard),
         })
     }
 }
@@ -167,14 +167,14 @@ fn test_counted(
 fn test_each(
     alloc: Global,
     script: &ThreadScript,
-    made: Moment,
+    made_at: Moment,
     entered: &mut [u64],
     ops: Items<ThreadOp>,
 ) -> Result<Items<WorkerOp>, Stop>
     requires { length entered.old ≡ length script.now.shared }
-    ensures { AnswersTest (λ l. l) result (ops_tested script.now made entered.old ops) }
+    ensures { AnswersTest (λ l. l) result (ops_tested script.now made_at entered.old ops) }
 {
-    let mut before = made;
+    let mut before = made_at;
     let mut tested = Items::new(alloc);
     for op in ops.into_vec() {
         let op = test_counted(alloc, script, before, entered, op)?;
@@ -190,11 +190,11 @@ fn test_each(
 pub(crate) fn test_ops(
     alloc: Global,
     script: &ThreadScript,
-    made: Moment,
+    made_at: Moment,
     ops: Items<ThreadOp>,
 ) -> Result<Items<WorkerOp>, Stop>
-    ensures { AnswersTest (λ l. l) result (ops_tested script.now made (replicate (length script.now.shared) 0) ops) }
+    ensures { AnswersTest (λ l. l) result (ops_tested script.now made_at (replicate (length script.now.shared) 0) ops) }
 {
     let mut entered = vec![in alloc; 0u64; script.shared.as_slice().len()]?;
-    test_each(alloc, script, made, entered.as_mut_slice(), ops)
+    test_each(alloc, script, made_at, entered.as_mut_slice(), ops)
 }

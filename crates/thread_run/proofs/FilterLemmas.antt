@@ -5,7 +5,7 @@ use Rattle.std.specs.Str.{trim}
 use Rattle.std.proofs.lemmas.Bool.{true≢false}
 use Rattle.env_directives.specs.reading.Faults.{HasFault}
 use Rattle.env_directives.specs.reading.Forms.{IsDirective}
-use Rattle.env_directives.specs.reading.Reading.{Read, reading}
+use Rattle.env_directives.specs.reading.Reading.{DirectiveRead, reading}
 use Rattle.env_directives.specs.reading.Separators.{comma_pieces}
 use Rattle.env_directives.specs.declared.directive.ParseError.{ParseError}
 use Rattle.env_directives.specs.declared.directive.ParseError.TheVariants as fault
@@ -21,8 +21,8 @@ use Rattle.thread_lines.specs.Runnable.{HasFilter}
 -- what is a directive has no fault
 no_fault : (text : List ℕ) (cause : ParseError) (d : Directive) → IsDirective false text d → HasFault false text cause → is_memory cause ≡ false → ⊥
 no_fault text fault.Shape d is h other = h.0 d is
-no_fault text fault.Level d is h other = (let no : ◌≡◌ {A = Read} (Ok d) (Err fault.Level) = sym (directive_reads false text d is) ∙ level_told false text h in cc no)
-no_fault text fault.Field d is h other = (let no : ◌≡◌ {A = Read} (Ok d) (Err fault.Field) = sym (directive_reads false text d is) ∙ field_told false text h in cc no)
+no_fault text fault.Level d is h other = (let no : ◌≡◌ {A = DirectiveRead} (Ok d) (Err fault.Level) = sym (directive_reads false text d is) ∙ level_told false text h in cc no)
+no_fault text fault.Field d is h other = (let no : ◌≡◌ {A = DirectiveRead} (Ok d) (Err fault.Field) = sym (directive_reads false text d is) ∙ field_told false text h in cc no)
 no_fault text fault.Pattern d is h other = true≢false (sym h.0)
 no_fault text fault.Equals d is h other = h
 no_fault text (fault.Fields many) d is h other = h

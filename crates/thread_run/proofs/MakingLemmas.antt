@@ -35,15 +35,15 @@ got (x ∷ xs) (suc i) d low = got xs i d (omega (arith, low))
 
 made_by : (script : ThreadScript) (place : ℕ) (l : SharedLine) (c : Option Callsite) (lane : Option (ℕ × Option (List ℕ))) (m : Making)
     → option_and_then (λ site. option_map (λ first. making_of site (lane_of first) script.layer l.at (ids_at place) empty_context no_values) lane) c ≡ Some m
-    → m.made ≡ l.at
+    → m.made_at ≡ l.at
 made_by script place l None lane m e = absurd (cc e)
 made_by script place l (Some c) None m e = absurd (cc e)
 made_by script place l (Some c) (Some lane) m e =
     let is : making_of c (lane_of lane) script.layer l.at (ids_at place) empty_context no_values ≡ m = cc e in
-    sym (ap (λ (x : Making). x.made) is)
+    sym (ap (λ (x : Making). x.made_at) is)
 
-pub made_at : (script : ThreadScript) (place : ℕ) (l : SharedLine) (m : Making) → place < length script.shared → shared_making script place ≡ Some m → m.made ≡ (slice_index_or script.shared place l).at
-made_at script place l m low e =
+pub shared_making_at : (script : ThreadScript) (place : ℕ) (l : SharedLine) (m : Making) → place < length script.shared → shared_making script place ≡ Some m → m.made_at ≡ (slice_index_or script.shared place l).at
+shared_making_at script place l m low e =
     let line = slice_index_or script.shared place l in
     let is : making_on script place line ≡ Some m = ap (option_and_then (making_on script place)) (sym (got script.shared place l low)) ∙ e in
     made_by script place line (slice_get script.callsites line.site) (slice_get script.lanes 0) m is
@@ -62,7 +62,7 @@ are_firsts script hs r made =
       λ s d l low.
           let in_shared : s < length script.shared = omega (arith, low, len) in
           let m = made.1 s d in_shared in
-          ((m.number, m.view, made_at script s l (slice_index_or hs s d).view.origin in_shared m.making), low_at script.callsites script.shared s l r.shared in_shared),
+          ((m.number, m.view, shared_making_at script s l (slice_index_or hs s d).view.origin in_shared m.making), low_at script.callsites script.shared s l r.shared in_shared),
     )
 
 -- ---- a span that is made

@@ -16,7 +16,7 @@ use Rattle.thread_run.specs.Spans.{shared_making}
 pub record FitsScript (script : ThreadScript) (place : ℕ) (log : List Entry) (finished : Record) : Type 0 where
   pub making : Making
   pub of_span : shared_making script place ≡ Some making
-  pub does : DoesAll making.made (length script.workers) (parts_on (plan_of script) place making.made script.workers) log
+  pub does : DoesAll making.made_at (length script.workers) (parts_on (plan_of script) place making.made_at script.workers) log
   pub content : finished ≡ content_of making log
 
 -- the pass that comes with it is of a span that was made so, and has seen just that history

@@ -1,3 +1,3 @@
 pub mod Crossing
-pub mod Spanning
-pub mod Preparing
+pub mod SpansLemmas
+pub mod PreparedLemmas

@@ -83,4 +83,4 @@ abbrev pub AllEnded : Plan → List SharedHandle → List (List WorkerOp) → Li
 AllEnded plan spans workers es =
     (s : ℕ) (x : SharedHandle) (e : Ended) → s < length spans
     → IsEnded (slice_index_or spans s x).span (slice_index_or spans s x).view.origin (length workers)
-    (parts_on plan s (slice_index_or spans s x).view.origin.made workers) (slice_index_or es s e)
+    (parts_on plan s (slice_index_or spans s x).view.origin.made_at workers) (slice_index_or es s e)

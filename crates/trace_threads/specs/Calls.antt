@@ -11,37 +11,37 @@ use Rattle.trace_threads.specs.declared.turns.View.{View}
 use Rattle.trace_threads.specs.declared.turns.Stage.TheVariants.{Idle, Waits, Holds}
 use Rattle.trace_threads.specs.History.{IsLegal, entries_by, written_entry, is_closed}
 use Rattle.trace_threads.specs.Shared.{Shared, shared_of, reply_at}
-use Rattle.trace_threads.specs.Turns.{Turn, Slot, Mine, entries, view, AllBegin, Known, home_of, view_after, after_turn, MayTurn}
+use Rattle.trace_threads.specs.Turns.{Turn, Slot, SeatValue, entries, view, AllBegin, Known, home_of, view_after, after_turn, MayTurn}
 
 -- a seat that has no ticket, and was not joined into another
-abbrev pub IsFree : Mine → Type 0
+abbrev pub IsFree : SeatValue → Type 0
 IsFree m = (m.0.stage ≡ Idle) × (m.0.live ≡ true)
 
 -- a seat that waits with this ticket
-abbrev pub IsWaiting : Mine → ℕ → Type 0
+abbrev pub IsWaiting : SeatValue → ℕ → Type 0
 IsWaiting m t = (m.0.stage ≡ Waits t) × (m.0.live ≡ true) × (m.1 ≡ [])
 
 -- between calls a seat has no ticket and no slot
-abbrev pub IsIdle : Mine → Type 0
+abbrev pub IsIdle : SeatValue → Type 0
 IsIdle m = (m.1 ≡ []) × (m.0.stage ≡ Idle) × (m.0.live ≡ true)
 
 -- a seat that has no number
-abbrev pub IsBare : Mine → Type 0
+abbrev pub IsBare : SeatValue → Type 0
 IsBare m = (m.0.number ≡ None) × (m.0.other ≡ None)
 
 -- and it has the number of its handle, all whose entries it has seen
-abbrev pub IsAtRest : Mine → ℕ → Type 0
+abbrev pub IsAtRest : SeatValue → ℕ → Type 0
 IsAtRest m k =
     IsIdle m × (m.0.number ≡ Some k) × (m.0.other ≡ None) × (entries_by k (entries m.0.seen) ≡ m.0.mine)
 
 -- the turn came, and the state was taken out of the slot
-pub record Begun (m w : Mine) (ticket : ℕ) (had : Shared) : Type 0 where
+pub record Begun (m w : SeatValue) (ticket : ℕ) (had : Shared) : Type 0 where
   pub view : w.0 ≡ view m.0.origin w.0.seen [] m.0.number m.0.mine m.0.other m.0.theirs (Holds ticket)
   pub slot : w.1 ≡ (0, None) ∷ []
   pub state : had ≡ shared_of m.0.origin (entries w.0.seen)
   pub begins : IsPrefix m.0.seen w.0.seen
   pub before : AllBegin m.0.origin m.0.earlier w.0.seen
-  pub legal : IsLegal m.0.origin.made (entries w.0.seen)
+  pub legal : IsLegal m.0.origin.made_at (entries w.0.seen)
   pub own : Known m.0.origin (entries w.0.seen) m.0.mine m.0.number
   pub other : Known m.0.origin (entries w.0.seen) m.0.theirs m.0.other
   pub apart : (k : ℕ) → m.0.number ≡ Some k → m.0.other ≡ Some k → ⊥
@@ -51,10 +51,10 @@ pub record Begun (m w : Mine) (ticket : ℕ) (had : Shared) : Type 0 where
 pub record MakesEntry (v w : View) (k at : ℕ) (what : What) : Type 0 where
   pub between : List Turn
   pub ends : w.seen
-      ≡ (v.seen ++ between) ++ Some (written_entry v.origin.made (entries (v.seen ++ between)) k at what) ∷ []
-  pub mine : w.mine ≡ v.mine ++ written_entry v.origin.made (entries (v.seen ++ between)) k at what ∷ []
+      ≡ (v.seen ++ between) ++ Some (written_entry v.origin.made_at (entries (v.seen ++ between)) k at what) ∷ []
+  pub mine : w.mine ≡ v.mine ++ written_entry v.origin.made_at (entries (v.seen ++ between)) k at what ∷ []
   pub own : entries_by k (entries w.seen) ≡ w.mine
-  pub legal : IsLegal v.origin.made (entries w.seen)
+  pub legal : IsLegal v.origin.made_at (entries w.seen)
   pub same : w.origin ≡ v.origin
 
 -- the same of a call: its place in the history, and what the op answers there
@@ -68,7 +68,7 @@ pub record LeftAsIs (v w : View) (k : ℕ) : Type 0 where
   pub begins : IsPrefix v.seen w.seen
   pub mine : w.mine ≡ v.mine
   pub own : entries_by k (entries w.seen) ≡ w.mine
-  pub legal : IsLegal v.origin.made (entries w.seen)
+  pub legal : IsLegal v.origin.made_at (entries w.seen)
   pub same : w.origin ≡ v.origin
 
 -- what `finish` asks: the state with what this turn added, and some handle held
@@ -79,7 +79,7 @@ FinishesState v state =
     × MayTurn v (entries v.seen) turn
 
 -- and what it leaves
-abbrev pub PassedWith : View → Shared → Mine → Type 0
+abbrev pub PassedWith : View → Shared → SeatValue → Type 0
 PassedWith v state w = (turn : Turn) × (state ≡ after_turn v turn) × (w ≡ (view_after v turn, []))
 
 -- what the last turn asks: no handle is held
@@ -89,7 +89,7 @@ Closes v ticket last =
     × (home_of v.origin (entries (v.seen ++ turn ∷ [])) ≡ None) × MayTurn v (entries v.seen) turn
 
 -- and what it leaves
-abbrev pub LastPassed : View → Slot → Mine → Type 0
+abbrev pub LastPassed : View → Slot → SeatValue → Type 0
 LastPassed v last w = (turn : Turn) × (last ≡ Some (after_turn v turn)) × (w ≡ (view_after v turn, []))
 
 -- a new handle has seen as much, and has no entries
@@ -98,5 +98,5 @@ IsCloneOf v w = (w.seen ≡ v.seen) × (w.mine ≡ []) × (w.origin ≡ v.origin
 
 -- the state comes back exactly if no handle is held after this history, and stands for all of it
 abbrev pub ClosesWith : Making → List Entry → Slot → Type 0
-ClosesWith making log None = is_closed making.made log ≡ false
-ClosesWith making log (Some state) = (state ≡ shared_of making log) × (is_closed making.made log ≡ true)
+ClosesWith making log None = is_closed making.made_at log ≡ false
+ClosesWith making log (Some state) = (state ≡ shared_of making log) × (is_closed making.made_at log ≡ true)

@@ -11,7 +11,7 @@ use Rattle.otel_state.specs.declared.op.OpReply.{OpReply}
 use Rattle.trace_threads.specs.declared.turns.View.{View}
 use Rattle.trace_threads.specs.History.{IsLegal, is_closed, opens_entry}
 use Rattle.trace_threads.specs.Shared.{content_of}
-use Rattle.trace_threads.specs.Turns.{Turn, Mine, IsSized, entries}
+use Rattle.trace_threads.specs.Turns.{Turn, SeatValue, IsSized, entries}
 use Rattle.trace_threads.specs.Calls.{IsIdle, IsBare, IsAtRest, MakesEntry, Called, LeftAsIs}
 
 -- a handle: of which span it is, its number, and what it knows
@@ -26,14 +26,14 @@ pub record ReleasedHandle : Type 0 where
   pub view : View
 
 -- what always holds of them
-pub record IsHandle (table seat : TableId) (me : Mine) (number entered : ℕ) : Type 0 where
+pub record IsHandle (table seat : TableId) (me : SeatValue) (number entered : ℕ) : Type 0 where
   pub sized : IsSized table
   pub of_table : seat ≡ table
   pub rests : IsAtRest me number
   pub counts : entered ≡ opens_entry me.0.mine
-  pub legal : IsLegal me.0.origin.made (entries me.0.seen)
+  pub legal : IsLegal me.0.origin.made_at (entries me.0.seen)
 
-pub record IsPass (table seat : TableId) (me : Mine) : Type 0 where
+pub record IsPass (table seat : TableId) (me : SeatValue) : Type 0 where
   pub sized : IsSized table
   pub of_table : seat ≡ table
   pub idle : IsIdle me
@@ -62,9 +62,9 @@ IsSameHandle h g = (g.span ≡ h.span) × (g.number ≡ h.number)
 
 -- the history and the record come back exactly if no handle is held after this history, and are those of it all
 abbrev pub ClosedAs : Making → List Entry → Option (List Entry × Record) → Type 0
-ClosedAs making log None = is_closed making.made log ≡ false
+ClosedAs making log None = is_closed making.made_at log ≡ false
 ClosedAs making log (Some last) =
-    (last.0 ≡ log) × (last.1 ≡ content_of making log) × (is_closed making.made log ≡ true)
+    (last.0 ≡ log) × (last.1 ≡ content_of making log) × (is_closed making.made_at log ≡ true)
 
 -- of two lists of turns that begin one list, one begins the other, and so do their entries
 abbrev pub OneBeginsTheOther : Type 0

@@ -13,7 +13,7 @@ ghost use Rattle.trace_threads.specs.Handles.{open_of, Enters, Calls, LeavesHand
 use crate::cell::{call_once, clone_once, cut_off, join_once, release_once, see_all, take_in};
 use crate::history::History;
 use crate::making::Making;
-use crate::moves::{opened, shift};
+use crate::moves::{open_entries, shift};
 use crate::pass::Pass;
 use crate::shared::SharedState;
 use crate::turns::{TurnSeat, Turns};
@@ -66,7 +66,7 @@ pub struct Released {
 impl Handle {
     /// The first handle of a span, which has number 0.
     pub(crate) fn first(alloc: Global, making: Making) -> Result<Handle, Memory>
-        requires { making.made ≤ GREATEST }
+        requires { making.made_at ≤ GREATEST }
         ensures { IfOk result (λ h. (h.view ≡ first_view making) × (h.number ≡ 0)) }
     {
         let origin = Snapshot::of(&making);
@@ -120,7 +120,7 @@ impl Handle {
         } = self;
         let (enters, exits) = shift(&op);
         let (place, reply) = call_once(rt, &turns.shared, seat, *number, at, op)?;
-        *inside = opened(*inside, enters, exits);
+        *inside = open_entries(*inside, enters, exits);
         Ok(CallReply { place, reply })
     }
 

@@ -62,7 +62,7 @@ impl Pass {
         // Passes of one span know the same making.
         ensures origin { other.view.origin ≡ self.old.view.origin }
         ensures same { self.new.view.origin ≡ self.old.view.origin }
-        ensures legal { IsLegal self.old.view.origin.made (entries self.new.view.seen) }
+        ensures legal { IsLegal self.old.view.origin.made_at (entries self.new.view.seen) }
     {
         let Pass {
             turns: _,

@@ -38,36 +38,36 @@ inside_length s c (Join j) m = refl
 inside_length s c Release m = refl
 
 ops_push : (making : Making) (log : List Entry) (c at : ℕ) (w : What) → ops_of making (log ++ entry c at w ∷ []) ≡ ops_of making log ++ ops_by making.own at w
-ops_push making log c at w = ap (λ (l : List TimedOp). record { at = making.made; op = ops.Update making.update } ∷ l) (flat_map-append (ops_in making.own) log (entry c at w ∷ []) ∙ ap (λ (l : List TimedOp). flat_map (ops_in making.own) log ++ l) (append-nil (ops_by making.own at w)))
+ops_push making log c at w = ap (λ (l : List TimedOp). record { at = making.made_at; op = ops.Update making.update } ∷ l) (flat_map-append (ops_in making.own) log (entry c at w ∷ []) ∙ ap (λ (l : List TimedOp). flat_map (ops_in making.own) log ++ l) (append-nil (ops_by making.own at w)))
 
 told_push : (making : Making) (log : List Entry) (c at : ℕ) (w : What) → data_by making (log ++ entry c at w ∷ []) ≡ fold after_stamped (data_by making log) (ops_by making.own at w)
 told_push making log c at w = ap (λ (l : List TimedOp). fold after_stamped (data_at_making (base_of making)) l) (ops_push making log c at w) ∙ fold-append after_stamped (data_at_making (base_of making)) (ops_of making log) (ops_by making.own at w)
 
 pub kept_push : (making : Making) (log new : List Entry) (told told' : SpanData) (own : SpanContext) (last clones holders inside room clones' holders' inside' room' : ℕ) (c at l : ℕ) (w : What)
-    → IsKept making log told own last clones holders inside room → IsHeld making.made c log → may_do (sum making.made log) c w ≡ true → at ≤ GREATEST → l ≡ max at last → new ≡ log ++ entry c l w ∷ []
+    → IsKept making log told own last clones holders inside room → IsHeld making.made_at c log → may_do (sum making.made_at log) c w ≡ true → at ≤ GREATEST → l ≡ max at last → new ≡ log ++ entry c l w ∷ []
     → clones' ≡ clones_after clones w → holders' ≡ holders_after holders w → inside' ≡ opens_after inside (move_in w) → told' ≡ fold after_stamped told (ops_by making.own l w)
     → length log + 1 + holders' + inside' ≤ room' → IsKept making new told' own l clones' holders' inside' room'
 kept_push making log new told told' own last clones holders inside room clones' holders' inside' room' c at l w k h m low late is cs hs ins ts enough =
-    let s : Sum = sum making.made log in
+    let s : Sum = sum making.made_at log in
     let e : Entry = entry c l w in
-    let sums : sum making.made new ≡ sum_after s e = ap (sum making.made) is ∙ sum_push (start making.made) log e in
+    let sums : sum making.made_at new ≡ sum_after s e = ap (sum making.made_at) is ∙ sum_push (start making.made_at) log e in
     let lasts : l ≡ max at s.last = late ∙ ap (max at) (sym k.at_last) in
     let can : may s e ≡ true = subst (λ (n : ℕ). may s (entry c n w) ≡ true) (sym lasts) (may_any s c at w h m) in
     let lows = k.low in
     record {
-      legal = ap (is_legal (start making.made)) is ∙ legal_push (start making.made) log e k.legal can;
+      legal = ap (is_legal (start making.made_at)) is ∙ legal_push (start making.made_at) log e k.legal can;
       at_last = ap (λ (t : Sum). t.last) sums;
       low = omega (arith, low, late, lows);
       cloned = ap (λ (t : Sum). t.clones) sums ∙ ap (λ (n : ℕ). clones_after n w) k.cloned ∙ sym cs;
-      held = ap (λ (t : Sum). length t.held) sums ∙ held_length s c w (distinct making.made log k.legal) h m ∙ ap (λ (n : ℕ). holders_after n w) k.held ∙ sym hs;
+      held = ap (λ (t : Sum). length t.held) sums ∙ held_length s c w (distinct making.made_at log k.legal) h m ∙ ap (λ (n : ℕ). holders_after n w) k.held ∙ sym hs;
       entered = ap (λ (t : Sum). length t.inside) sums ∙ inside_length s c w m ∙ ap (λ (n : ℕ). opens_after n (move_in w)) k.entered ∙ sym ins;
       enough = let long = ap length is ∙ length-append log (e ∷ []) in omega (arith, long, enough);
       ids = k.ids;
       came_to = ts ∙ ap (λ (t : SpanData). fold after_stamped t (ops_by making.own l w)) k.came_to ∙ sym (told_push making log c l w) ∙ ap (data_by making) (sym is);
     }
 
-pub closed_by : (making : Making) (log : List Entry) (told : SpanData) (own : SpanContext) (last clones holders inside room : ℕ) (b : Bool) → IsKept making log told own last clones holders inside room → b ≡ (holders == 0) → b ≡ is_closed making.made log
-closed_by making log told own last clones holders inside room b k e = e ∙ ap (λ (n : ℕ). n == 0) (sym k.held) ∙ counts_none (sum making.made log).held
+pub closed_by : (making : Making) (log : List Entry) (told : SpanData) (own : SpanContext) (last clones holders inside room : ℕ) (b : Bool) → IsKept making log told own last clones holders inside room → b ≡ (holders == 0) → b ≡ is_closed making.made_at log
+closed_by making log told own last clones holders inside room b k e = e ∙ ap (λ (n : ℕ). n == 0) (sym k.held) ∙ counts_none (sum making.made_at log).held
 
 -- ---- the close
 
@@ -85,14 +85,14 @@ last_push made at (x ∷ more) op = last_push x.at at more op
 
 -- the ops of a history are in order, and none is later than its greatest moment
 record Ordered (making : Making) (ops : List TimedOp) (last : ℕ) : Type 0 where
-  order : MomentsRise making.made ops
-  late : last_of making.made ops ≤ last
+  order : MomentsRise making.made_at ops
+  late : last_of making.made_at ops ≤ last
 
 ordered_by : (making : Making) (more : List TimedOp) (last at : ℕ) (what : What) → Ordered making more last → last ≤ at → at ≤ GREATEST → Ordered making (more ++ ops_by making.own at what) at
-ordered_by making more last at (Clone n) o le low = record { order = subst (MomentsRise making.made) (sym (append-nil more)) o.order; late = subst (λ (l : List TimedOp). last_of making.made l ≤ at) (sym (append-nil more)) (let l = o.late in omega (arith, l, le)) }
-ordered_by making more last at (Call op) o le low = record { order = ordered_push making.made at more (own_op making.own op) o.order (let l = o.late in omega (arith, l, le)) low; late = let l = last_push making.made at more (own_op making.own op) in omega (arith, l) }
-ordered_by making more last at (Join n) o le low = record { order = subst (MomentsRise making.made) (sym (append-nil more)) o.order; late = subst (λ (l : List TimedOp). last_of making.made l ≤ at) (sym (append-nil more)) (let l = o.late in omega (arith, l, le)) }
-ordered_by making more last at Release o le low = record { order = subst (MomentsRise making.made) (sym (append-nil more)) o.order; late = subst (λ (l : List TimedOp). last_of making.made l ≤ at) (sym (append-nil more)) (let l = o.late in omega (arith, l, le)) }
+ordered_by making more last at (Clone n) o le low = record { order = subst (MomentsRise making.made_at) (sym (append-nil more)) o.order; late = subst (λ (l : List TimedOp). last_of making.made_at l ≤ at) (sym (append-nil more)) (let l = o.late in omega (arith, l, le)) }
+ordered_by making more last at (Call op) o le low = record { order = ordered_push making.made_at at more (own_op making.own op) o.order (let l = o.late in omega (arith, l, le)) low; late = let l = last_push making.made_at at more (own_op making.own op) in omega (arith, l) }
+ordered_by making more last at (Join n) o le low = record { order = subst (MomentsRise making.made_at) (sym (append-nil more)) o.order; late = subst (λ (l : List TimedOp). last_of making.made_at l ≤ at) (sym (append-nil more)) (let l = o.late in omega (arith, l, le)) }
+ordered_by making more last at Release o le low = record { order = subst (MomentsRise making.made_at) (sym (append-nil more)) o.order; late = subst (λ (l : List TimedOp). last_of making.made_at l ≤ at) (sym (append-nil more)) (let l = o.late in omega (arith, l, le)) }
 
 last_grows : (s : Sum) (log : List Entry) → is_legal s log ≡ true → s.last ≤ (sum_of s log).last
 last_grows s [] l = omega arith
@@ -111,30 +111,30 @@ ordered_all making s (e ∷ log) more l low o =
     subst (λ (l : List TimedOp). Ordered making l (sum_of (sum_after s e) log).last) (append_assoc more (ops_in making.own e) (flat_map (ops_in making.own) log))
     (ordered_all making (sum_after s e) log (more ++ ops_in making.own e) p.1 low next)
 
-ordered : (making : Making) (log : List Entry) → IsLegal making.made log → (sum making.made log).last ≤ GREATEST → Ordered making (ops_of making log) (sum making.made log).last
+ordered : (making : Making) (log : List Entry) → IsLegal making.made_at log → (sum making.made_at log).last ≤ GREATEST → Ordered making (ops_of making log) (sum making.made_at log).last
 ordered making log l low =
-    let up = last_grows (start making.made) log l in
-    ordered_all making (start making.made) log (record { at = making.made; op = ops.Update making.update } ∷ []) l low (record { order = (omega arith, omega (arith, up, low)); late = omega arith })
+    let up = last_grows (start making.made_at) log l in
+    ordered_all making (start making.made_at) log (record { at = making.made_at; op = ops.Update making.update } ∷ []) l low (record { order = (omega arith, omega (arith, up, low)); late = omega arith })
 
-close_case : (making : Making) (log : List Entry) (b : Bool) → is_some (data_by making log).own ≡ b → IsLegal making.made log → (sum making.made log).last ≤ GREATEST
-    → Stands (base_of making) (ops_at_close making log) (started_by making.own (sum making.made log).last (data_by making log)) × MomentsRise making.made (ops_at_close making log)
+close_case : (making : Making) (log : List Entry) (b : Bool) → is_some (data_by making log).own ≡ b → IsLegal making.made_at log → (sum making.made_at log).last ≤ GREATEST
+    → Stands (base_of making) (ops_at_close making log) (started_by making.own (sum making.made_at log).last (data_by making log)) × MomentsRise making.made_at (ops_at_close making log)
 close_case making log true is l low = let o = ordered making log l low in rw is (refl, o.order)
 close_case making log false is l low =
     let o = ordered making log l low in
-    let at = (sum making.made log).last in
+    let at = (sum making.made_at log).last in
     rw is
-    (sym (fold-append after_stamped (data_at_making (base_of making)) (ops_of making log) (record { at = at; op = ops.Start making.own } ∷ [])), ordered_push making.made at (ops_of making log) (ops.Start making.own) o.order o.late low)
+    (sym (fold-append after_stamped (data_at_making (base_of making)) (ops_of making log) (record { at = at; op = ops.Start making.own } ∷ [])), ordered_push making.made_at at (ops_of making log) (ops.Start making.own) o.order o.late low)
 
 -- what the close of a state has to know
 pub closes : (making : Making) (log : List Entry) (told told' : SpanData) (own : SpanContext) (last clones holders inside room : ℕ) (result : Record) → IsKept making log told own last clones holders inside room → told' ≡ started_by own last told
-    → ((base : Base) (ops : List TimedOp) → Stands base ops told' → MomentsRise base.made ops → result ≡ content base ops last) → result ≡ content_of making log
+    → ((base : Base) (ops : List TimedOp) → Stands base ops told' → MomentsRise base.made_at ops → result ≡ content base ops last) → result ≡ content_of making log
 closes making log told told' own last clones holders inside room result k e f =
-    let low : (sum making.made log).last ≤ GREATEST = let a = k.at_last in let b = k.low in omega (arith, a, b) in
+    let low : (sum making.made_at log).last ≤ GREATEST = let a = k.at_last in let b = k.low in omega (arith, a, b) in
     let c = close_case making log (is_some (data_by making log).own) refl k.legal low in
-    let told_is : told' ≡ started_by making.own (sum making.made log).last (data_by making log) = e ∙ (λ i. started_by (k.ids i) (sym k.at_last i) (k.came_to i)) in
+    let told_is : told' ≡ started_by making.own (sum making.made_at log).last (data_by making log) = e ∙ (λ i. started_by (k.ids i) (sym k.at_last i) (k.came_to i)) in
     f (base_of making) (ops_at_close making log) (told_is ∙ c.0) c.1 ∙ ap (λ (n : ℕ). content (base_of making) (ops_at_close making log) n) (sym k.at_last)
 
-pub few_inside : (making : Making) (log : List Entry) (told : SpanData) (own : SpanContext) (last clones holders inside room : ℕ) → IsKept making log told own last clones holders inside room → room < 2 ^ 63 → length (sum making.made log).inside < 2 ^ 63
+pub few_inside : (making : Making) (log : List Entry) (told : SpanData) (own : SpanContext) (last clones holders inside room : ℕ) → IsKept making log told own last clones holders inside room → room < 2 ^ 63 → length (sum making.made_at log).inside < 2 ^ 63
 few_inside making log told own last clones holders inside room k small = let a = k.entered in let b = k.enough in omega (arith, a, b, small)
 
 -- ---- answers

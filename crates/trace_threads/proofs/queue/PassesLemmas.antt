@@ -1,6 +1,6 @@
 -- Passing a turn on, with what its holder did in it.
 use Rattle.std.proofs.Common.{◌≡◌, ◌≢◌, inl, ℕ, ◌+◌, ◌%◌, ◌^◌, ◌<◌, ◌==◌, Bool, true, false, List, [], ◌∷◌, ◌++◌, length, set, refl, ap, sym, ◌∙◌, subst, arith, length-append, Some, None, Option, if◌then◌else◌}
-use Rattle.trace_threads.proofs.Common.{nat_tests, get_elem?, either, step, gives, Allows, Making, Entry, What, Clone, Call, Join, Release, View, Stage, Idle, Waits, Holds, LAST, start, IsLegal, is_legal, may, entries_by, IsHeld, entry, shared_of, Turn, Slot, Mine, entries, home_of, AllBegin, Staged, Known, Placed, ViewFitsRule, KeepsRule, KeepsWords, passed_by, view_after, PassedOn, MayEnd, MayTurn, Closed}
+use Rattle.trace_threads.proofs.Common.{nat_tests, get_elem?, either, step, gives, Allows, Making, Entry, What, Clone, Call, Join, Release, View, Stage, Idle, Waits, Holds, LAST, start, IsLegal, is_legal, may, entries_by, IsHeld, entry, shared_of, Turn, Slot, SeatValue, entries, home_of, AllBegin, Staged, Known, Placed, ViewFitsRule, KeepsRule, KeepsWords, passed_by, view_after, PassedOn, MayEnd, MayTurn, Closed}
 use mathlib.Core.Option as core
 use Rattle.std.proofs.Math.Nat.{mod-eq_of_lt}
 use Rattle.trace_threads.specs.History.{sum}
@@ -30,35 +30,35 @@ placed_in place id (Some e) k = placed_by place id e.what k
 module _ (making : Making) where
   -- a held number at this place keeps its place and its entries, and stays held
   abbrev Leaves : (ℕ → ℕ × Bool) → (ℕ → ℕ × Bool) → List Entry → List Entry → ℕ × Bool → Type 0
-  Leaves place new log more q = (k : ℕ) → place k ≡ q → IsHeld making.made k log → (new k ≡ place k) × (entries_by k more ≡ entries_by k log) × IsHeld making.made k more
+  Leaves place new log more q = (k : ℕ) → place k ≡ q → IsHeld making.made_at k log → (new k ≡ place k) × (entries_by k more ≡ entries_by k log) × IsHeld making.made_at k more
 
   known_more : (place new : ℕ → ℕ × Bool) (log more : List Entry) (q : ℕ × Bool) (mine : List Entry) (num : Option ℕ) → Leaves place new log more q → Known making log mine num → Placed place q num → Known making more mine num × Placed new q num
   known_more place new log more q mine None l k p = (tt, tt)
   known_more place new log more q mine (Some n) l k p = let x = l n p k.1 in ((x.1 ∙ k.0, x.2), x.0 ∙ p)
 
-  pub known_at : (log mine : List Entry) (num : Option ℕ) (k : ℕ) → num ≡ Some k → Known making log mine num → (entries_by k log ≡ mine) × IsHeld making.made k log
+  pub known_at : (log mine : List Entry) (num : Option ℕ) (k : ℕ) → num ≡ Some k → Known making log mine num → (entries_by k log ≡ mine) × IsHeld making.made_at k log
   known_at log mine num k e h = subst (Known making log mine) e h
 
   -- an entry leaves the numbers at other places than its caller's and the ended one's alone
-  leaves_entry : (place : ℕ → ℕ × Bool) (id : ℕ) (log : List Entry) (e : Entry) (q : ℕ × Bool) (what : What) → e.what ≡ what → IsLegal making.made log → may (sum making.made log) (entry e.caller e.at what) ≡ true
+  leaves_entry : (place : ℕ → ℕ × Bool) (id : ℕ) (log : List Entry) (e : Entry) (q : ℕ × Bool) (what : What) → e.what ≡ what → IsLegal making.made_at log → may (sum making.made_at log) (entry e.caller e.at what) ≡ true
       → place e.caller ≢ q → ((m : ℕ) → what ≡ Join m → place m ≢ q) → Leaves place (placed_by place id what) log (log ++ e ∷ []) q
   leaves_entry place id log e q (Clone n) is legal m own joined k at held =
       let apart : e.caller ≢ k = λ same. own (ap place same ∙ at) in
-      let new : k ≢ n = fresh making.made log e.caller e.at n k legal m held in
+      let new : k ≢ n = fresh making.made_at log e.caller e.at n k legal m held in
       let miss : (k == n) ≡ false = grind (arith, nat_tests) in
-      (rw miss refl, by_other k log e apart, held_push making.made k log e (subst (Spares k e.caller) (sym is) tt) held)
+      (rw miss refl, by_other k log e apart, held_push making.made_at k log e (subst (Spares k e.caller) (sym is) tt) held)
   leaves_entry place id log e q (Call op) is legal m own joined k at held =
       let apart : e.caller ≢ k = λ same. own (ap place same ∙ at) in
-      (refl, by_other k log e apart, held_push making.made k log e (subst (Spares k e.caller) (sym is) tt) held)
+      (refl, by_other k log e apart, held_push making.made_at k log e (subst (Spares k e.caller) (sym is) tt) held)
   leaves_entry place id log e q (Join j) is legal m own joined k at held =
       let apart : e.caller ≢ k = λ same. own (ap place same ∙ at) in
       let other : k ≢ j = λ same. joined j refl (ap place (sym same) ∙ at) in
-      (refl, by_other k log e apart, held_push making.made k log e (subst (Spares k e.caller) (sym is) other) held)
+      (refl, by_other k log e apart, held_push making.made_at k log e (subst (Spares k e.caller) (sym is) other) held)
   leaves_entry place id log e q Release is legal m own joined k at held =
       let apart : e.caller ≢ k = λ same. own (ap place same ∙ at) in
-      (refl, by_other k log e apart, held_push making.made k log e (subst (Spares k e.caller) (sym is) (λ same. apart (sym same))) held)
+      (refl, by_other k log e apart, held_push making.made_at k log e (subst (Spares k e.caller) (sym is) (λ same. apart (sym same))) held)
 
-leaves_turn : (place : ℕ → ℕ × Bool) (id : ℕ) (v : View) (turns : List Turn) (turn : Turn) (q : ℕ × Bool) → IsLegal v.origin.made (entries turns) → MayTurn v (entries turns) turn
+leaves_turn : (place : ℕ → ℕ × Bool) (id : ℕ) (v : View) (turns : List Turn) (turn : Turn) (q : ℕ × Bool) → IsLegal v.origin.made_at (entries turns) → MayTurn v (entries turns) turn
     → Placed place (id, false) v.number → Placed place (id, true) v.other → (id, false) ≢ q → (id, true) ≢ q → Leaves v.origin place (placed_in place id turn) (entries turns) (entries (turns ++ turn ∷ [])) q
 leaves_turn place id v turns None q legal m own other a b = subst (λ (more : List Entry). Leaves v.origin place place (entries turns) more q) (sym (entries_none turns)) (λ k at held. (refl, refl, held))
 leaves_turn place id v turns (Some e) q legal m own other a b =
@@ -76,7 +76,7 @@ staged_passed turns turn owner tickets id j seen (Holds t) apart own s = absurd 
 first_of : (p q : ℕ × Bool) → p ≡ q → p.0 ≡ q.0
 first_of p q e = ap (λ (x : ℕ × Bool). x.0) e
 
-fits_passed : (turns : List Turn) (turn : Turn) (owner : ℕ → ℕ) (place : ℕ → ℕ × Bool) (tickets id j : ℕ) (v u : View) → j ≢ id → owner (length turns) ≡ id → IsLegal v.origin.made (entries turns) → MayTurn v (entries turns) turn
+fits_passed : (turns : List Turn) (turn : Turn) (owner : ℕ → ℕ) (place : ℕ → ℕ × Bool) (tickets id j : ℕ) (v u : View) → j ≢ id → owner (length turns) ≡ id → IsLegal v.origin.made_at (entries turns) → MayTurn v (entries turns) turn
     → Placed place (id, false) v.number → Placed place (id, true) v.other → ViewFitsRule v.origin turns owner place tickets j u → ViewFitsRule v.origin (turns ++ turn ∷ []) owner (placed_in place id turn) tickets j u
 fits_passed turns turn owner place tickets id j v u apart own legal m a b f =
     let l : (side : Bool) → Leaves v.origin place (placed_in place id turn) (entries turns) (entries (turns ++ turn ∷ [])) (j, side) = λ side. leaves_turn place id v turns turn (j, side) legal m a b (λ e. apart (sym (first_of _ _ e))) (λ e. apart (sym (first_of _ _ e))) in
@@ -85,14 +85,14 @@ fits_passed turns turn owner place tickets id j v u apart own legal m a b f =
     record { same = f.same; begins = prefix_more u.seen turns (turn ∷ []) f.begins; before = all_more v.origin u.earlier turns (turn ∷ []) f.before; staged = staged_passed turns turn owner tickets id j u.seen u.stage apart own f.staged; own = x.0; own_place = x.1; other = y.0; other_place = y.1 }
 
 -- the view that made the entry
-fits_entry : (v : View) (e : Entry) (owner : ℕ → ℕ) (place : ℕ → ℕ × Bool) (tickets id : ℕ) (what : What) → e.what ≡ what → IsLegal v.origin.made (entries v.seen) → may (sum v.origin.made (entries v.seen)) (entry e.caller e.at what) ≡ true
+fits_entry : (v : View) (e : Entry) (owner : ℕ → ℕ) (place : ℕ → ℕ × Bool) (tickets id : ℕ) (what : What) → e.what ≡ what → IsLegal v.origin.made_at (entries v.seen) → may (sum v.origin.made_at (entries v.seen)) (entry e.caller e.at what) ≡ true
     → v.number ≡ Some e.caller → MayEnd v.other what → ViewFitsRule v.origin v.seen owner place tickets id v → ViewFitsRule v.origin (v.seen ++ Some e ∷ []) owner (placed_by place id what) tickets id (passed_by v (v.seen ++ Some e ∷ []) e what)
 fits_entry v e owner place tickets id what is legal m num ends f = entry_by what is m ends
   where
     log : List Entry
     log = entries v.seen
 
-    own : (entries_by e.caller (entries v.seen) ≡ v.mine) × IsHeld v.origin.made e.caller (entries v.seen)
+    own : (entries_by e.caller (entries v.seen) ≡ v.mine) × IsHeld v.origin.made_at e.caller (entries v.seen)
     own = known_at v.origin (entries v.seen) v.mine v.number e.caller num f.own
 
     place_own : place e.caller ≡ (id, false)
@@ -105,16 +105,16 @@ fits_entry v e owner place tickets id what is legal m num ends f = entry_by what
     own_more : Spares e.caller e.caller e.what → Known v.origin (entries (v.seen ++ Some e ∷ [])) (v.mine ++ e ∷ []) v.number
     own_more spares =
         subst (λ (ls : List Entry). Known v.origin ls (v.mine ++ e ∷ []) v.number) (sym (entries_some v.seen e))
-        (subst (Known v.origin (entries v.seen ++ e ∷ []) (v.mine ++ e ∷ [])) (sym num) (by_own e.caller (entries v.seen) e refl ∙ ap (λ (l : List Entry). l ++ e ∷ []) own.0, held_push v.origin.made e.caller (entries v.seen) e spares own.1))
+        (subst (Known v.origin (entries v.seen ++ e ∷ []) (v.mine ++ e ∷ [])) (sym num) (by_own e.caller (entries v.seen) e refl ∙ ap (λ (l : List Entry). l ++ e ∷ []) own.0, held_push v.origin.made_at e.caller (entries v.seen) e spares own.1))
 
     -- its other number is left alone
-    other_more : (w : What) → e.what ≡ w → may (sum v.origin.made (entries v.seen)) (entry e.caller e.at w) ≡ true → ((j : ℕ) → w ≡ Join j → ⊥) → Known v.origin (entries (v.seen ++ Some e ∷ [])) v.theirs v.other × Placed (placed_by place id w) (id, true) v.other
+    other_more : (w : What) → e.what ≡ w → may (sum v.origin.made_at (entries v.seen)) (entry e.caller e.at w) ≡ true → ((j : ℕ) → w ≡ Join j → ⊥) → Known v.origin (entries (v.seen ++ Some e ∷ [])) v.theirs v.other × Placed (placed_by place id w) (id, true) v.other
     other_more w is m none =
         let l = leaves_entry v.origin place id (entries v.seen) e (id, true) w is legal m (λ h. sides id (sym place_own ∙ h)) (λ j s h. none j s) in
         let y = known_more v.origin place (placed_by place id w) (entries v.seen) (entries v.seen ++ e ∷ []) (id, true) v.theirs v.other l f.other f.other_place in
         (subst (λ (ls : List Entry). Known v.origin ls v.theirs v.other) (sym (entries_some v.seen e)) y.0, y.1)
 
-    entry_by : (what : What) → e.what ≡ what → may (sum v.origin.made (entries v.seen)) (entry e.caller e.at what) ≡ true → MayEnd v.other what → ViewFitsRule v.origin (v.seen ++ Some e ∷ []) owner (placed_by place id what) tickets id (passed_by v (v.seen ++ Some e ∷ []) e what)
+    entry_by : (what : What) → e.what ≡ what → may (sum v.origin.made_at (entries v.seen)) (entry e.caller e.at what) ≡ true → MayEnd v.other what → ViewFitsRule v.origin (v.seen ++ Some e ∷ []) owner (placed_by place id what) tickets id (passed_by v (v.seen ++ Some e ∷ []) e what)
     entry_by (Call op) is m ends =
         let y = other_more (Call op) is m (λ j no. absurd cc) in
         record {
@@ -128,7 +128,7 @@ fits_entry v e owner place tickets id what is legal m num ends f = entry_by what
           other_place = y.1;
         }
     entry_by (Clone n) is m ends =
-        let new : e.caller ≢ n = fresh v.origin.made (entries v.seen) e.caller e.at n e.caller legal m own.1 in
+        let new : e.caller ≢ n = fresh v.origin.made_at (entries v.seen) e.caller e.at n e.caller legal m own.1 in
         let miss : (e.caller == n) ≡ false = grind (arith, nat_tests) in
         let hit : (n == n) ≡ true = grind (arith, nat_tests) in
         record {
@@ -138,7 +138,7 @@ fits_entry v e owner place tickets id what is legal m num ends f = entry_by what
           staged = tt;
           own = own_more (subst (Spares e.caller e.caller) (sym is) tt);
           own_place = subst (Placed (placed_by place id (Clone n)) (id, false)) (sym num) (rw miss place_own);
-          other = subst (λ (ls : List Entry). Known v.origin ls [] (Some n)) (sym (entries_some v.seen e)) (by_other n (entries v.seen) e new ∙ fresh_entries v.origin.made (entries v.seen) e.caller e.at n legal m, subst (λ (x : Entry). IsHeld v.origin.made n (entries v.seen ++ x ∷ [])) (λ i. entry e.caller e.at (sym is i)) (held_new v.origin.made (entries v.seen) e.caller e.at n));
+          other = subst (λ (ls : List Entry). Known v.origin ls [] (Some n)) (sym (entries_some v.seen e)) (by_other n (entries v.seen) e new ∙ fresh_entries v.origin.made_at (entries v.seen) e.caller e.at n legal m, subst (λ (x : Entry). IsHeld v.origin.made_at n (entries v.seen ++ x ∷ [])) (λ i. entry e.caller e.at (sym is i)) (held_new v.origin.made_at (entries v.seen) e.caller e.at n));
           other_place = rw hit refl;
         }
     entry_by (Join j) is m ends =
@@ -166,7 +166,7 @@ fits_entry v e owner place tickets id what is legal m num ends f = entry_by what
           other_place = y.1;
         }
 
-fits_own : (v : View) (turn : Turn) (owner : ℕ → ℕ) (place : ℕ → ℕ × Bool) (tickets id : ℕ) → IsLegal v.origin.made (entries v.seen) → MayTurn v (entries v.seen) turn → ViewFitsRule v.origin v.seen owner place tickets id v
+fits_own : (v : View) (turn : Turn) (owner : ℕ → ℕ) (place : ℕ → ℕ × Bool) (tickets id : ℕ) → IsLegal v.origin.made_at (entries v.seen) → MayTurn v (entries v.seen) turn → ViewFitsRule v.origin v.seen owner place tickets id v
     → ViewFitsRule v.origin (v.seen ++ turn ∷ []) owner (placed_in place id turn) tickets id (view_after v turn)
 fits_own v None owner place tickets id legal m f = record {
   same = λ _. refl;
@@ -180,9 +180,9 @@ fits_own v None owner place tickets id legal m f = record {
 }
 fits_own v (Some e) owner place tickets id legal m f = fits_entry v e owner place tickets id e.what refl legal m.0 m.1 m.2 f
 
-legal_turn : (v : View) (turns : List Turn) (turn : Turn) → IsLegal v.origin.made (entries turns) → MayTurn v (entries turns) turn → IsLegal v.origin.made (entries (turns ++ turn ∷ []))
-legal_turn v turns None legal m = ap (is_legal (start v.origin.made)) (entries_none turns) ∙ legal
-legal_turn v turns (Some e) legal m = ap (is_legal (start v.origin.made)) (entries_some turns e) ∙ legal_push (start v.origin.made) (entries turns) e legal m.0
+legal_turn : (v : View) (turns : List Turn) (turn : Turn) → IsLegal v.origin.made_at (entries turns) → MayTurn v (entries turns) turn → IsLegal v.origin.made_at (entries (turns ++ turn ∷ []))
+legal_turn v turns None legal m = ap (is_legal (start v.origin.made_at)) (entries_none turns) ∙ legal
+legal_turn v turns (Some e) legal m = ap (is_legal (start v.origin.made_at)) (entries_some turns e) ∙ legal_push (start v.origin.made_at) (entries turns) e legal m.0
 
 -- what the slot has in the turn that comes home
 abbrev pub Back : View → Turn → List (ℕ × Slot)
@@ -227,7 +227,7 @@ to_next : (t n : ℕ) → n ≡ t → n < LAST → either (n == t) (t + 1) n ≡
 to_next t n is low = let yes : (n == t) ≡ true = grind (arith, nat_tests) in rw yes (omega (arith, is))
 
 -- as a caller meets it: the slot has the history with this turn, and some handle is held
-pub passes_on : (making : Making) (slots id t : ℕ) (me : Mine) (turn : Turn) → me.0.stage ≡ Holds t → me.0.live ≡ true → MayTurn me.0 (entries me.0.seen) turn
+pub passes_on : (making : Making) (slots id t : ℕ) (me : SeatValue) (turn : Turn) → me.0.stage ≡ Holds t → me.0.live ≡ true → MayTurn me.0 (entries me.0.seen) turn
     → me.1 ≡ (0, Some (shared_of me.0.origin (entries (me.0.seen ++ turn ∷ [])))) ∷ [] → home_of me.0.origin (entries (me.0.seen ++ turn ∷ [])) ≡ Some (shared_of me.0.origin (entries (me.0.seen ++ turn ∷ [])))
     → Allows (KeepsWords making) slots id me 0 (λ n. (n + 1) % 2 ^ 64) (PassedOn (step slots 0 1 0 core.none) me)
 passes_on making slots id t me turn holds live may slot full =
@@ -236,7 +236,7 @@ passes_on making slots id t me turn holds live may slot full =
     λ s k len at wide. let x = base s k len at wide in (x.0, x.1, x.2, x.3, (turn, slot, x.4))
 
 -- as the last release meets it: the slot is empty, and what it had is told
-pub closes : (making : Making) (slots id t : ℕ) (me : Mine) (turn : Turn) (said : Slot) → me.0.stage ≡ Holds t → me.0.live ≡ true → MayTurn me.0 (entries me.0.seen) turn
+pub closes : (making : Making) (slots id t : ℕ) (me : SeatValue) (turn : Turn) (said : Slot) → me.0.stage ≡ Holds t → me.0.live ≡ true → MayTurn me.0 (entries me.0.seen) turn
     → me.1 ≡ (0, None) ∷ [] → said ≡ Some (shared_of me.0.origin (entries (me.0.seen ++ turn ∷ []))) → home_of me.0.origin (entries (me.0.seen ++ turn ∷ [])) ≡ None
     → Allows (KeepsWords making) slots id me 0 (λ n. either (n == t) (t + 1) n) (Closed (step slots 0 t (t + 1) (core.some said)) me)
 closes making slots id t me turn said holds live may slot is none =

@@ -1,6 +1,6 @@
 -- Drawing a ticket, and looking whether it is served.
 use Rattle.std.proofs.Common.{◌≡◌, ◌≢◌, inl, inr, ℕ, ◌+◌, ◌<◌, ◌==◌, Bool, true, false, List, [], ◌∷◌, length, set, refl, ap, sym, ◌∙◌, subst, arith, if◌then◌else◌, MatchBool}
-use Rattle.trace_threads.proofs.Common.{nat_tests, get_elem?, either, step, keeps, takes, Allows, set_here, set_again, Making, View, Stage, Idle, Waits, Holds, LAST, Turn, Slot, Mine, entries, home_of, view, Staged, ViewFitsRule, IsHolder, IsHome, KeepsRule, KeepsWords, at_stage, Drawn, HasTurn, LookedAs, Looked, Noticed}
+use Rattle.trace_threads.proofs.Common.{nat_tests, get_elem?, either, step, keeps, takes, Allows, set_here, set_again, Making, View, Stage, Idle, Waits, Holds, LAST, Turn, Slot, SeatValue, entries, home_of, view, Staged, ViewFitsRule, IsHolder, IsHome, KeepsRule, KeepsWords, at_stage, Drawn, HasTurn, LookedAs, Looked, Noticed}
 use mathlib.Core.Option as core
 use Rattle.trace_threads.proofs.queue.SeatsLemmas.{prefix_self, Goes, allows, fits_set, there, same_view, home_else, no_holder, at_own, sides}
 
@@ -117,21 +117,21 @@ looks making slots id t v waits live =
     allows making slots (λ n. n) 0 id (v, []) (λ n w. MatchBool (n == t) (HasTurn (v, []) t w) (w ≡ (v, []))) live (λ turns owner place tickets home views r at. looked_case id t v waits turns owner place tickets home views r at (length turns == t) refl) in
     subst (λ (stage : Stage). Allows (KeepsWords making) slots id (v, []) 0 (λ n. n) (λ n w. LookedAs (v, []) n w stage)) (sym waits) known
 
-pub looks_as : (making : Making) (slots id t : ℕ) (me : Mine) → me.0.stage ≡ Waits t → me.0.live ≡ true → me.1 ≡ [] → Allows (KeepsWords making) slots id me 0 (λ n. n) (Looked (step slots 0 0 0 core.none) me)
+pub looks_as : (making : Making) (slots id t : ℕ) (me : SeatValue) → me.0.stage ≡ Waits t → me.0.live ≡ true → me.1 ≡ [] → Allows (KeepsWords making) slots id me 0 (λ n. n) (Looked (step slots 0 0 0 core.none) me)
 looks_as making slots id t me waits live none = subst (λ (c : List (ℕ × Slot)). Allows (KeepsWords making) slots id (me.0, c) 0 (λ n. n) (Looked (step slots 0 0 0 core.none) (me.0, c))) (sym none) (looks making slots id t me.0 waits live)
 
-looked_at : (me : Mine) (n t : ℕ) (w : Mine) → me.0.stage ≡ Waits t → LookedAs me n w me.0.stage → MatchBool (n == t) (HasTurn me t w) (w ≡ me)
+looked_at : (me : SeatValue) (n t : ℕ) (w : SeatValue) → me.0.stage ≡ Waits t → LookedAs me n w me.0.stage → MatchBool (n == t) (HasTurn me t w) (w ≡ me)
 looked_at me n t w waits l = subst (LookedAs me n w) waits l
 
-pub looked_turn : (me : Mine) (n t : ℕ) (w : Mine) → me.0.stage ≡ Waits t → LookedAs me n w me.0.stage → n ≡ t → HasTurn me t w
+pub looked_turn : (me : SeatValue) (n t : ℕ) (w : SeatValue) → me.0.stage ≡ Waits t → LookedAs me n w me.0.stage → n ≡ t → HasTurn me t w
 looked_turn me n t w waits l e = let yes : (n == t) ≡ true = grind (arith, nat_tests) in subst (λ (b : Bool). MatchBool b (HasTurn me t w) (w ≡ me)) yes (looked_at me n t w waits l)
 
-pub looked_same : (me : Mine) (n t : ℕ) (w : Mine) → me.0.stage ≡ Waits t → LookedAs me n w me.0.stage → n ≢ t → w ≡ me
+pub looked_same : (me : SeatValue) (n t : ℕ) (w : SeatValue) → me.0.stage ≡ Waits t → LookedAs me n w me.0.stage → n ≢ t → w ≡ me
 looked_same me n t w waits l e = let not_yet : (n == t) ≡ false = grind (arith, nat_tests) in subst (λ (b : Bool). MatchBool b (HasTurn me t w) (w ≡ me)) not_yet (looked_at me n t w waits l)
 
 -- ---- a plain look
 
-pub notices : (making : Making) (slots id : ℕ) (me : Mine) → me.0.stage ≡ Idle → me.0.live ≡ true → Allows (KeepsWords making) slots id me 0 (λ n. n) (Noticed (step slots 0 0 0 core.none) me)
+pub notices : (making : Making) (slots id : ℕ) (me : SeatValue) → me.0.stage ≡ Idle → me.0.live ≡ true → Allows (KeepsWords making) slots id me 0 (λ n. n) (Noticed (step slots 0 0 0 core.none) me)
 notices making slots id me idle live = allows making slots (λ n. n) 0 id me (Noticed (step slots 0 0 0 core.none) me) live (λ turns owner place tickets home views r at.
     let v = me.0 in
     let f = r.each id v at in

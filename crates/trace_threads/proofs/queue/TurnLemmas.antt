@@ -1,7 +1,7 @@
 -- The begin and the end of a turn.
 use Rattle.std.proofs.Common.{◌≡◌, ℕ, ◌+◌, ◌%◌, ◌^◌, true, false, List, [], ◌∷◌, ◌++◌, refl, ap, sym, ◌∙◌, subst, true≢false, Some, None, Option, IsSome}
 use mathlib.Core.Option as core
-use Rattle.trace_threads.proofs.Common.{Step, step, Allows, rest, Making, Entry, Waits, IsHeld, has, Shared, shared_of, some_making, Turn, Slot, Mine, entries, home_of, Known, KeepsWords, at_stage, HasTurn, view_after, PassedOn, Closed, Begun, FinishesState}
+use Rattle.trace_threads.proofs.Common.{Step, step, Allows, rest, Making, Entry, Waits, IsHeld, has, Shared, shared_of, some_making, Turn, Slot, SeatValue, entries, home_of, Known, KeepsWords, at_stage, HasTurn, view_after, PassedOn, Closed, Begun, FinishesState}
 use Rattle.trace_threads.specs.History.{sum, is_none}
 use Rattle.trace_threads.proofs.queue.PassesLemmas.{passes_on}
 
@@ -10,8 +10,8 @@ held_some : (k : ℕ) (h : List ℕ) → has k h ≡ true → is_none h ≡ fals
 held_some k [] e = absurd cc
 held_some k (x ∷ h) e = refl
 
-pub home_held : (making : Making) (k : ℕ) (log : List Entry) → IsHeld making.made k log → home_of making log ≡ Some (shared_of making log)
-home_held making k log h = rw (held_some k (sum making.made log).held h) refl
+pub home_held : (making : Making) (k : ℕ) (log : List Entry) → IsHeld making.made_at k log → home_of making log ≡ Some (shared_of making log)
+home_held making k log h = rw (held_some k (sum making.made_at log).held h) refl
 
 home_known : (making : Making) (log mine : List Entry) (num : Option ℕ) → IsSome num → Known making log mine num → home_of making log ≡ Some (shared_of making log)
 home_known making log mine None s k = absurd (true≢false (sym s))
@@ -29,10 +29,10 @@ abbrev rest_of : List (ℕ × Slot) → List (ℕ × Slot)
 rest_of [] = []
 rest_of (x ∷ xs) = xs
 
-there_is : (m : Mine) (t : ℕ) (w : Mine) → IsSome m.0.number → HasTurn m t w → w.1 ≡ (0, Some (shared_of m.0.origin (entries w.0.seen))) ∷ m.1
+there_is : (m : SeatValue) (t : ℕ) (w : SeatValue) → IsSome m.0.number → HasTurn m t w → w.1 ≡ (0, Some (shared_of m.0.origin (entries w.0.seen))) ∷ m.1
 there_is m t w s h = h.slot ∙ ap (λ (x : Slot). (0, x) ∷ m.1) (home_known m.0.origin (entries w.0.seen) m.0.mine m.0.number s h.own)
 
-begun : (m : Mine) (t : ℕ) (w u : Mine) (state : Shared) → IsSome m.0.number → m.1 ≡ [] → HasTurn (at_stage (Waits t) m.0, m.1) t w → w.1 ≡ (0, Some state) ∷ rest w.1 → u ≡ (w.0, (0, None) ∷ rest w.1) → Begun m u t state
+begun : (m : SeatValue) (t : ℕ) (w u : SeatValue) (state : Shared) → IsSome m.0.number → m.1 ≡ [] → HasTurn (at_stage (Waits t) m.0, m.1) t w → w.1 ≡ (0, Some state) ∷ rest w.1 → u ≡ (w.0, (0, None) ∷ rest w.1) → Begun m u t state
 begun m t w u state s empty h found after =
     let full = there_is (at_stage (Waits t) m.0, m.1) t w s h in
     let same : state ≡ shared_of m.0.origin (entries w.0.seen) = ap (λ l. state_of (value_in l)) (sym found ∙ full) in
@@ -48,24 +48,24 @@ begun m t w u state s empty h found after =
       other = h.other;
       apart = h.apart;
     } in
-    subst (λ (x : Mine). Begun m x t state) (sym after) made
+    subst (λ (x : SeatValue). Begun m x t state) (sym after) made
 
-pub finishes : (making : Making) (slots id : ℕ) (m me : Mine) (state : Shared) → m.1 ≡ (0, None) ∷ [] → m.0.live ≡ true → me ≡ (m.0, (0, Some state) ∷ rest m.1) → FinishesState m.0 state
+pub finishes : (making : Making) (slots id : ℕ) (m me : SeatValue) (state : Shared) → m.1 ≡ (0, None) ∷ [] → m.0.live ≡ true → me ≡ (m.0, (0, Some state) ∷ rest m.1) → FinishesState m.0 state
     → Allows (KeepsWords making) slots id me 0 (λ n. (n + 1) % 2 ^ 64) (PassedOn (step slots 0 1 0 core.none) me)
 finishes making slots id m me state slot live after f =
     let out : (0, Some state) ∷ rest m.1 ≡ (0, Some (shared_of m.0.origin (entries (m.0.seen ++ f.1 ∷ [])))) ∷ [] = λ i. (0, Some (f.3 i)) ∷ rest (slot i) in
-    subst (λ (x : Mine). Allows (KeepsWords making) slots id x 0 (λ n. (n + 1) % 2 ^ 64) (PassedOn (step slots 0 1 0 core.none) x)) (sym after)
+    subst (λ (x : SeatValue). Allows (KeepsWords making) slots id x 0 (λ n. (n + 1) % 2 ^ 64) (PassedOn (step slots 0 1 0 core.none) x)) (sym after)
     (passes_on making slots id f.0 (m.0, (0, Some state) ∷ rest m.1) f.1 f.2 live f.5 out f.4)
 
-pub finished : (st : Step Slot) (n : ℕ) (m me w : Mine) (state : Shared) → me ≡ (m.0, (0, Some state) ∷ rest m.1) → PassedOn st me n w
+pub finished : (st : Step Slot) (n : ℕ) (m me w : SeatValue) (state : Shared) → me ≡ (m.0, (0, Some state) ∷ rest m.1) → PassedOn st me n w
     → (turn : Turn) × (state ≡ shared_of m.0.origin (entries (m.0.seen ++ turn ∷ []))) × (w ≡ (view_after m.0 turn, []))
 finished st n m me w state after p =
-    let q : PassedOn st (m.0, (0, Some state) ∷ rest m.1) n w = subst (λ (x : Mine). PassedOn st x n w) after p in
+    let q : PassedOn st (m.0, (0, Some state) ∷ rest m.1) n w = subst (λ (x : SeatValue). PassedOn st x n w) after p in
     (q.0, ap (λ l. state_of (value_in l)) q.1, q.2)
 
-module _ (o : Mine) (t : ℕ) (m w : Mine) (drew : m ≡ (at_stage (Waits t) o.0, o.1)) (some_number : IsSome o.0.number) (h : HasTurn m t w) where
+module _ (o : SeatValue) (t : ℕ) (m w : SeatValue) (drew : m ≡ (at_stage (Waits t) o.0, o.1)) (some_number : IsSome o.0.number) (h : HasTurn m t w) where
   turn_of : HasTurn (at_stage (Waits t) o.0, o.1) t w
-  turn_of = subst (λ (x : Mine). HasTurn x t w) drew h
+  turn_of = subst (λ (x : SeatValue). HasTurn x t w) drew h
 
   pub takes_out : (x : Slot) × (w.1 ≡ (0, x) ∷ rest w.1)
   takes_out = let full = there_is (at_stage (Waits t) o.0, o.1) t w some_number turn_of in (Some (shared_of o.0.origin (entries w.0.seen)), full ∙ ap (λ (l : List (ℕ × Slot)). (0, Some (shared_of o.0.origin (entries w.0.seen))) ∷ rest l) (sym full))
@@ -74,8 +74,8 @@ module _ (o : Mine) (t : ℕ) (m w : Mine) (drew : m ≡ (at_stage (Waits t) o.0
   never_none x found e = let full = there_is (at_stage (Waits t) o.0, o.1) t w some_number turn_of in
       let is : Some (shared_of o.0.origin (entries w.0.seen)) ≡ None = ap value_in (sym full ∙ found) ∙ e in absurd cc
 
-  pub begun_by : (u : Mine) (x : Slot) (state : Shared) → o.1 ≡ [] → w.1 ≡ (0, x) ∷ rest w.1 → x ≡ Some state → u ≡ (w.0, (0, None) ∷ rest w.1) → Begun o u t state
+  pub begun_by : (u : SeatValue) (x : Slot) (state : Shared) → o.1 ≡ [] → w.1 ≡ (0, x) ∷ rest w.1 → x ≡ Some state → u ≡ (w.0, (0, None) ∷ rest w.1) → Begun o u t state
   begun_by u x state empty found is after = begun o t w u state some_number empty turn_of (found ∙ ap (λ (y : Slot). (0, y) ∷ rest w.1) is) after
 
-pub closed_as : (slots t : ℕ) (last : Slot) (n : ℕ) (me w : Mine) → Closed (step slots 0 t (t + 1) (core.some last)) me n w → (turn : Turn) × (last ≡ Some (shared_of me.0.origin (entries (me.0.seen ++ turn ∷ [])))) × (w ≡ (view_after me.0 turn, []))
+pub closed_as : (slots t : ℕ) (last : Slot) (n : ℕ) (me w : SeatValue) → Closed (step slots 0 t (t + 1) (core.some last)) me n w → (turn : Turn) × (last ≡ Some (shared_of me.0.origin (entries (me.0.seen ++ turn ∷ [])))) × (w ≡ (view_after me.0 turn, []))
 closed_as slots t last n me w p = (p.0, core.some-injective last (Some (shared_of me.0.origin (entries (me.0.seen ++ p.0 ∷ [])))) p.1, p.2)

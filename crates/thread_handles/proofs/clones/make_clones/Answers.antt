@@ -1,7 +1,7 @@
 use Rattle.std.proofs.Common.{sym, subst, arith, ◌∙◌, List}
 use Rattle.trace_threads.specs.Handles.{SharedHandle}
 use Rattle.thread_handles.specs.Shares.{AreCloned}
-use Rattle.thread_handles.proofs.Sharing.{cloned_more}
+use Rattle.thread_handles.proofs.ClonesLemmas.{cloned_more}
 use Rattle.thread_handles.proofs.clones.make_clones.Goals as goal
 
 pub loop-preserved : goal.loop-preserved

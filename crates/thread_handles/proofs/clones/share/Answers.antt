@@ -2,7 +2,7 @@ use Rattle.std.proofs.Common.{sym, ◌∙◌, refl, subst, List, length}
 use Rattle.trace_threads.specs.Handles.{SharedHandle}
 use Rattle.thread_handles.specs.Shares.{IsShared, HaveLearnt}
 use Rattle.thread_handles.specs.Works.{WasReleased}
-use Rattle.thread_handles.proofs.Sharing.{is_shared, take_front}
+use Rattle.thread_handles.proofs.ClonesLemmas.{is_shared, take_front}
 use Rattle.thread_handles.proofs.clones.share.Goals as goal
 
 pub returns-in-Ok-made-clause-shared : goal.returns-in-Ok-made-clause-shared

@@ -1,7 +1,7 @@
 use Rattle.std.proofs.Common.{◌≡◌, ◌<◌, ◌∙◌, arith, length, slice_index_or}
 use Rattle.trace_threads.specs.Handles.{SharedHandle}
-use Rattle.thread_handles.proofs.Working.{same_get}
-use Rattle.thread_handles.proofs.Sharing.{learnt_more, learnt_rest, set_len}
+use Rattle.thread_handles.proofs.WorkLemmas.{same_get}
+use Rattle.thread_handles.proofs.ClonesLemmas.{learnt_more, learnt_rest, set_len}
 use Rattle.thread_handles.proofs.clones.teach.Goals as goal
 
 pub loop-i-preserved : goal.loop-i-preserved

@@ -2,7 +2,7 @@ use Rattle.std.proofs.Common.{◌≡◌, ◌<◌, ◌+◌, suc, ◌∙◌, ap, s
 use Rattle.trace_threads.specs.declared.handle.Released.{Released}
 use Rattle.thread_handles.specs.Gathers.{MetAll}
 use Rattle.thread_handles.specs.Columns.{IsWhole}
-use Rattle.thread_handles.proofs.Working.{get_drop, drop_more}
+use Rattle.thread_handles.proofs.WorkLemmas.{get_drop, drop_more}
 use Rattle.thread_handles.proofs.Columns.{left_now, same_column, taken_next, joined_next}
 use Rattle.thread_handles.proofs.gather.gather_all.Goals as goal
 

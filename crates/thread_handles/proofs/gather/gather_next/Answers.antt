@@ -1,6 +1,6 @@
 use Rattle.std.proofs.Common.{◌<◌, ◌∙◌, ap, arith, length, length-set, slice_index_or}
 use Rattle.thread_handles.specs.declared.job.Job.{Job}
-use Rattle.thread_handles.proofs.Working.{same_get}
+use Rattle.thread_handles.proofs.WorkLemmas.{same_get}
 use Rattle.thread_handles.proofs.Columns.{joined_more, joined_end, taken_more, taken_rest}
 use Rattle.thread_handles.proofs.gather.gather_next.Goals as goal
 

@@ -2,7 +2,7 @@ use Rattle.std.proofs.Common.{sym, subst, arith, ◌∙◌, ◌≡◌, ◌<◌, 
 use Rattle.trace_threads.specs.declared.handle.Released.{Released}
 use Rattle.thread_script.specs.Plans.{release_at}
 use Rattle.thread_handles.specs.Works.{WasReleased}
-use Rattle.thread_handles.proofs.Working.{low_moment, released_more, drop_more}
+use Rattle.thread_handles.proofs.WorkLemmas.{low_moment, released_more, drop_more}
 use Rattle.thread_handles.proofs.worker.end_all.Goals as goal
 
 pub end_handle-requires : goal.end_handle-requires

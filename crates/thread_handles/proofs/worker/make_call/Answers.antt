@@ -1,4 +1,4 @@
-use Rattle.thread_handles.proofs.Working.{did_op}
+use Rattle.thread_handles.proofs.WorkLemmas.{did_op}
 use Rattle.thread_handles.proofs.worker.make_call.Goals as goal
 
 pub returns-clause-did : goal.returns-clause-did

@@ -2,7 +2,7 @@ use Rattle.std.proofs.Common.{◌≡◌, ◌+◌, ◌∙◌, ◌∷◌, List, re
 use Rattle.thread_script.specs.declared.script.WorkerOp.{WorkerOp}
 use Rattle.thread_script.specs.Plans.{AreTimed, last_at}
 use Rattle.thread_handles.specs.Works.{AllAtWork}
-use Rattle.thread_handles.proofs.Working.{did_all}
+use Rattle.thread_handles.proofs.WorkLemmas.{did_all}
 use Rattle.thread_handles.proofs.worker.make_calls.Goals as goal
 
 pub loop-op-preserved : goal.loop-op-preserved

@@ -2,8 +2,8 @@ use Rattle.std.proofs.Common.{[], sym, subst, ◌∙◌, ◌+◌, ap, List, leng
 use Rattle.trace_threads.specs.Handles.{SharedHandle}
 use Rattle.thread_script.specs.Plans.{last_at}
 use Rattle.thread_handles.specs.Works.{AreLow, AllReleased, AllAtWork}
-use Rattle.thread_handles.proofs.Working.{made_low, last_low, all_left, on_done, no_held}
-use Rattle.thread_handles.proofs.Sharing.{take_front}
+use Rattle.thread_handles.proofs.WorkLemmas.{made_low, last_low, all_left, on_done, no_held}
+use Rattle.thread_handles.proofs.ClonesLemmas.{take_front}
 use Rattle.thread_handles.proofs.worker.run_job.Goals as goal
 
 pub end_all-requires-clause-moments : goal.end_all-requires-clause-moments

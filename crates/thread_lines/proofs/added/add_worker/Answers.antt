@@ -9,8 +9,8 @@ pub returns-in_err-ops : goal.returns-in_err-ops
 returns-in_err-ops c =
     let room = rw c.as_slice-worker.ensures at c.in_ok-require.ensures in
     let lane = rw c.as_slice-worker.ensures at c.in_ok-test_lane.ensures in
-    let made = c.last_made-made.ensures ∙ ap last_made c.as_slice.ensures in
-    let stopped = rw made at c.in_err-ops.ensures in
+    let made_at = c.last_made-made_at.ensures ∙ ap last_made c.as_slice.ensures in
+    let stopped = rw made_at at c.in_err-ops.ensures in
     let p = err_from_is_err_and c.from_residual-in_err-ops.result c.from_residual-in_err-ops.ensures.1 in
     worker_stopped c.args.script.now c.args.ops _ _ room lane c.from_residual-in_err-ops.result c.in_err-ops.field-0.0 (p.1 ∙ ap Err p.2) stopped
 
@@ -18,7 +18,7 @@ pub returns : goal.returns
 returns c =
     let room = rw c.as_slice-worker.ensures at c.in_ok-require.ensures in
     let lane = rw c.as_slice-worker.ensures at c.in_ok-test_lane.ensures in
-    let made = c.last_made-made.ensures ∙ ap last_made c.as_slice.ensures in
-    let passed = rw made at c.in_ok-ops.ensures in
+    let made_at = c.last_made-made_at.ensures ∙ ap last_made c.as_slice.ensures in
+    let passed = rw made_at at c.in_ok-ops.ensures in
     worker_passed c.args.script.now c.args.ops _ _ room lane c.in_ok-ops.ops passed
     ∙ ap (λ (workers : List (List WorkerOp)). Ok (record c.args.script.now { workers = workers })) (sym c.in_ok-push.ensures.ok)

@@ -15,10 +15,10 @@ loop-rest-preserved-then-is_blank c = record {
 
 pub returns-in-Err-clause-added : goal.returns-in-Err-clause-added
 returns-in-Err-clause-added c =
-    let w = c.in_ok-refused.field-0 in
+    let w = c.in_ok-refused_line.field-0 in
     let line = c.first_line.result.0.now in
-    let refused = not_added ⊤ c.add_text.new.script c.in-Err.stop w.told (text_added c.loop-rest.script line) c.in-Err.ensures c.in_ok-refused.ensures.1 in
-    refused_there c.loop-rest.script c.loop-rest.number c.in_ok-number.number (lines_of c.loop-rest.rest.now) line (lines_of c.first_line.result.1.now) _ c.first_line.ensures.lines c.in_ok-number.ensures c.loop-rest.invariant.added w (sym c.if-is_blank.ensures) refused c.in_ok-refused.ensures.0
+    let refused = not_added ⊤ c.add_text.new.script c.in-Err.stop w.told (text_added c.loop-rest.script line) c.in-Err.ensures c.in_ok-refused_line.ensures.1 in
+    refused_there c.loop-rest.script c.loop-rest.number c.in_ok-number.number (lines_of c.loop-rest.rest.now) line (lines_of c.first_line.result.1.now) _ c.first_line.ensures.lines c.in_ok-number.ensures c.loop-rest.invariant.added w (sym c.if-is_blank.ensures) refused c.in_ok-refused_line.ensures.0
 
 pub loop-rest-preserved : goal.loop-rest-preserved
 loop-rest-preserved c =

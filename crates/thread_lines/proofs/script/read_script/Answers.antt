@@ -18,15 +18,15 @@ returns-in-Ok-clause-script c =
 pub returns-in-Ok-clause-told : goal.returns-in-Ok-clause-told
 returns-in-Ok-clause-told c = told_where (lines_of c.args.bytes.now) c.add_lines.result (returns-in-Ok-clause-script c)
 
-pub returns-in_ok-refused-in-Err-clause-script : goal.returns-in_ok-refused-in-Err-clause-script
-returns-in_ok-refused-in-Err-clause-script c =
-    let w = c.in_ok-refused-in-Err.field-0 in
+pub returns-in_ok-refused_line-in-Err-clause-script : goal.returns-in_ok-refused_line-in-Err-clause-script
+returns-in_ok-refused_line-in-Err-clause-script c =
+    let w = c.in_ok-refused_line-in-Err.field-0 in
     let line = c.first_line.result.0.now in
-    let refused = not_answered {A = ThreadScript} {B = ThreadScript} (λ s. s) c.in-Err.stop w.told (script_opened line) c.in-Err.ensures.opened c.in_ok-refused-in-Err.ensures.1 in
-    unopened_there c.loop-rest.number c.in_ok-number.number (lines_of c.loop-rest.rest.now) line (lines_of c.first_line.result.1.now) (script_of (lines_of c.args.bytes.now)) c.first_line.ensures.lines c.in_ok-number.ensures c.loop-rest.invariant w (sym c.if-not-is_blank.ensures) refused c.in_ok-refused-in-Err.ensures.0
+    let refused = not_answered {A = ThreadScript} {B = ThreadScript} (λ s. s) c.in-Err.stop w.told (script_opened line) c.in-Err.ensures.opened c.in_ok-refused_line-in-Err.ensures.1 in
+    unopened_there c.loop-rest.number c.in_ok-number.number (lines_of c.loop-rest.rest.now) line (lines_of c.first_line.result.1.now) (script_of (lines_of c.args.bytes.now)) c.first_line.ensures.lines c.in_ok-number.ensures c.loop-rest.invariant w (sym c.if-not-is_blank.ensures) refused c.in_ok-refused_line-in-Err.ensures.0
 
-pub returns-in_ok-refused-in-Err-clause-told : goal.returns-in_ok-refused-in-Err-clause-told
-returns-in_ok-refused-in-Err-clause-told c = script_told (lines_of c.args.bytes.now) c.in_ok-refused-in-Err.field-0 (sym (returns-in_ok-refused-in-Err-clause-script c))
+pub returns-in_ok-refused_line-in-Err-clause-told : goal.returns-in_ok-refused_line-in-Err-clause-told
+returns-in_ok-refused_line-in-Err-clause-told c = script_told (lines_of c.args.bytes.now) c.in_ok-refused_line-in-Err.field-0 (sym (returns-in_ok-refused_line-in-Err-clause-script c))
 
 pub loop-rest-preserved : goal.loop-rest-preserved
 loop-rest-preserved c = blank_from c.loop-rest.number c.in_ok-number.number (lines_of c.loop-rest.rest.now) c.first_line.result.0.now (lines_of c.first_line.result.1.now) (script_of (lines_of c.args.bytes.now)) c.first_line.ensures.lines c.in_ok-number.ensures c.loop-rest.invariant (sym c.if-not-is_blank.ensures)

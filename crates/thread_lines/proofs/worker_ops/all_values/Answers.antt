@@ -9,7 +9,7 @@ returns-then-as_slice-given c =
     let given = ap length c.as_slice-given.ensures in
     let values = ap length c.as_slice.ensures in
     ap (need Field) (sym (not_given c.args.callsite.now c.args.fields c.in_ok-values.values c.in_ok-values.ensures (omega (arith, given, values, c.if-as_slice-given.true))))
-    ∙ ap Err (sym c.unknown.ensures)
+    ∙ ap Err (sym c.unknown_name.ensures)
 
 pub returns : goal.returns
 returns c =

@@ -1,5 +1,5 @@
 use Rattle.std.proofs.Common.{arith, sym, length, ◌-◌}
-use Rattle.thread_work.proofs.Preparing.{last_is}
+use Rattle.thread_work.proofs.PreparedLemmas.{last_is}
 use Rattle.thread_work.proofs.prepare.last_moment.Goals as goal
 
 pub returns-in-Some : goal.returns-in-Some

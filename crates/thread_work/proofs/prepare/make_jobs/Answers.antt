@@ -1,7 +1,7 @@
 use Rattle.std.proofs.Common.{◌≡◌, ◌∷◌, ◌∙◌, List, length, sym, ap, subst, arith}
 use Rattle.thread_handles.specs.declared.job.Job.{Job}
 use Rattle.thread_work.specs.Preparing.{AllBegun}
-use Rattle.thread_work.proofs.Preparing.{begun_push, lists_more, gates_more}
+use Rattle.thread_work.proofs.PreparedLemmas.{begun_push, lists_more, gates_more}
 use Rattle.thread_work.proofs.prepare.make_jobs.Goals as goal
 
 pub loop-ops-preserved : goal.loop-ops-preserved

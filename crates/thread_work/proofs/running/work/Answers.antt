@@ -4,7 +4,7 @@ use Rattle.thread_script.specs.declared.script.WorkerOp.{WorkerOp}
 use Rattle.thread_script.specs.Tests.{AllTested, AllAtOpening}
 use Rattle.thread_work.specs.Preparing.{AllBegun}
 use Rattle.thread_work.specs.Spans.{AreFirsts, AllEnded}
-use Rattle.thread_work.proofs.Preparing.{as_many, all_prepared}
+use Rattle.thread_work.proofs.PreparedLemmas.{as_many, all_prepared}
 use Rattle.thread_work.proofs.running.work.Goals as goal
 
 pub prepare-requires : goal.prepare-requires

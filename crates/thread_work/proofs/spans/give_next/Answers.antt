@@ -1,7 +1,7 @@
 use Rattle.std.proofs.Common.{◌≡◌, ◌<◌, ◌+◌, ◌∙◌, suc, refl, arith, length, slice_index_or, length-set}
 use Rattle.thread_handles.specs.declared.job.Job.{Job}
-use Rattle.thread_handles.proofs.Working.{drop_more}
-use Rattle.thread_work.proofs.Spanning.{got_more, rest_after}
+use Rattle.thread_handles.proofs.WorkLemmas.{drop_more}
+use Rattle.thread_work.proofs.SpansLemmas.{got_more, rest_after}
 use Rattle.thread_work.proofs.spans.give_next.Goals as goal
 
 pub loop-w-preserved : goal.loop-w-preserved

@@ -1,9 +1,9 @@
 use Rattle.std.proofs.Common.{sym, ◌∙◌, subst, List, length}
 use Rattle.thread_handles.specs.declared.job.Job.{Job}
 use Rattle.thread_handles.specs.Columns.{AreWhole, AreJoined}
-use Rattle.thread_handles.proofs.Sharing.{take_front}
+use Rattle.thread_handles.proofs.ClonesLemmas.{take_front}
 use Rattle.thread_work.specs.Jobs.{AreDone}
-use Rattle.thread_work.proofs.Spanning.{shared_at, ready_for, are_whole, all_ended}
+use Rattle.thread_work.proofs.SpansLemmas.{shared_at, ready_for, are_whole, all_ended}
 use Rattle.thread_work.proofs.spans.work_over.Goals as goal
 
 pub run_all-requires-after_bounds : goal.run_all-requires-after_bounds

@@ -2,7 +2,7 @@
 use Rattle.std.proofs.Common.{List, map, Vec, Global, arith, ap, ◌∙◌}
 use mathlib.Core.Logic.{inl, inr}
 use Rattle.trace_batch.specs.declared.item.Sent.{Sent}
-use Rattle.trace_batch.proofs.Cutting.{cut_parted}
+use Rattle.trace_batch.proofs.CutLemmas.{cut_parted}
 use Rattle.trace_batch.proofs.batches.batches.Goals as goal
 use Rattle.trace_batch.proofs.batches.batches.Goals.{then-len-gt0+in_ok-close, else-len-gt0}
 

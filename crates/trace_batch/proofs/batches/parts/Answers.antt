@@ -1,7 +1,7 @@
 -- A batch that is full is added, and the next one is open and empty.
 use Rattle.std.proofs.Common.{◌≡◌, ◌++◌, ◌∷◌, List, [], map, length, Vec, Global, ap, ◌∙◌, arith}
 use Rattle.trace_batch.specs.declared.item.Sent.{Sent}
-use Rattle.trace_batch.proofs.Cutting.{full_step}
+use Rattle.trace_batch.proofs.CutLemmas.{full_step}
 use Rattle.trace_batch.proofs.batches.parts.Goals as goal
 
 abbrev items : List (Vec Sent Global) → List (List Sent)

@@ -1,5 +1,5 @@
 -- All is taken out, so what was taken and what was served late is a merge.
-use Rattle.trace_batch.proofs.Settling.{all_merged}
+use Rattle.trace_batch.proofs.SettledLemmas.{all_merged}
 use Rattle.trace_batch.proofs.relay.finish.Goals as goal
 
 pub returns : goal.returns

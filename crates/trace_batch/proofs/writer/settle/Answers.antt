@@ -5,7 +5,7 @@ use Rattle.trace_batch.specs.declared.item.Item.{Item}
 use Rattle.trace_batch.specs.declared.writer.Writer.{Writer}
 use Rattle.trace_batch.specs.Merges.{sent_of}
 use Rattle.trace_batch.specs.Rule.{one_fewer}
-use Rattle.trace_batch.proofs.Settling.{served_settled}
+use Rattle.trace_batch.proofs.SettledLemmas.{served_settled}
 use Rattle.trace_batch.proofs.Steps.{merges}
 use Rattle.trace_batch.proofs.writer.settle.Goals as goal
 

@@ -18,9 +18,9 @@ use Rattle.trace_threads.proofs.queue.FrontsLemmas.{prefix_entries}
 use Rattle.thread_script.specs.Asks.{Ask, ask, FollowsAsks, clones_asked, numbers_from, clone_entries}
 use Rattle.thread_handles.specs.Works.{WasReleased}
 use Rattle.thread_handles.specs.Shares.{IsFirst, numbers_of, AreOut, AreCloned, HasLearnt, HaveLearnt, IsFresh, IsShared}
-use Rattle.thread_handles.proofs.Following.{follows_made, by_append, no_items}
-use Rattle.thread_handles.proofs.Opening.{opened}
-use Rattle.thread_handles.proofs.Working.{same_get}
+use Rattle.thread_handles.proofs.AsksLemmas.{follows_made, by_append, no_items}
+use Rattle.thread_handles.proofs.FirstEntriesLemmas.{opened}
+use Rattle.thread_handles.proofs.WorkLemmas.{same_get}
 
 pub get_push : {A : Type 0} (P : A → Type 0) (xs : List A) (y : A) (i : ℕ) (d : A) → ((j : ℕ) → j < length xs → P (slice_index_or xs j d)) → P y → i < length (xs ++ y ∷ []) → P (slice_index_or (xs ++ y ∷ []) i d)
 get_push P [] y zero d f p low = p
@@ -40,24 +40,24 @@ cloned_first h at f = record {
   number = f.0;
   origin = refl;
   out = ap (λ (v : View). opens_entry v.mine) f.1;
-  follows = subst (λ (v : View). FollowsAsks 0 h.view.origin.made [] (entries v.seen)) (sym f.1) refl;
+  follows = subst (λ (v : View). FollowsAsks 0 h.view.origin.made_at [] (entries v.seen)) (sym f.1) refl;
   own = ap (λ (v : View). entries_by 0 (entries v.seen)) f.1 ∙ sym (ap (λ (v : View). v.mine) f.1);
   each = λ i d low. absurd (omega (arith, low));
 }
 
-pub cloned_more : (at : ℕ) (h g f x : SharedHandle) (hs : List SharedHandle) → h.view.origin.made ≡ at → AreCloned h g hs → IsSameHandle g f → x.span ≡ g.span → IsCloneOf f.view x.view → MakesEntry g.view f.view g.number at (Clone x.number) → open_of f ≡ open_of g → AreCloned h f (hs ++ x ∷ [])
+pub cloned_more : (at : ℕ) (h g f x : SharedHandle) (hs : List SharedHandle) → h.view.origin.made_at ≡ at → AreCloned h g hs → IsSameHandle g f → x.span ≡ g.span → IsCloneOf f.view x.view → MakesEntry g.view f.view g.number at (Clone x.number) → open_of f ≡ open_of g → AreCloned h f (hs ++ x ∷ [])
 cloned_more at h g f x hs moment c same span clone made opn =
-    let m : MakesEntry g.view f.view 0 h.view.origin.made (Clone x.number) = subst (λ (p : ℕ × ℕ). MakesEntry g.view f.view p.0 p.1 (Clone x.number)) (λ i. (c.number i, sym moment i)) made in
-    let asked = clones_asked h.view.origin.made (numbers_of hs) in
-    let before : FollowsAsks 0 g.view.origin.made asked (entries g.view.seen) = subst (λ (o : Making). FollowsAsks 0 o.made asked (entries g.view.seen)) (sym c.origin) c.follows in
-    let after : FollowsAsks 0 g.view.origin.made (asked ++ ask h.view.origin.made (Clone x.number) ∷ []) (entries f.view.seen) = follows_made g.view f.view 0 asked (ask h.view.origin.made (Clone x.number)) m c.own before in
-    let here : FollowsAsks 0 h.view.origin.made (asked ++ ask h.view.origin.made (Clone x.number) ∷ []) (entries f.view.seen) = subst (λ (o : Making). FollowsAsks 0 o.made (asked ++ ask h.view.origin.made (Clone x.number) ∷ []) (entries f.view.seen)) c.origin after in
+    let m : MakesEntry g.view f.view 0 h.view.origin.made_at (Clone x.number) = subst (λ (p : ℕ × ℕ). MakesEntry g.view f.view p.0 p.1 (Clone x.number)) (λ i. (c.number i, sym moment i)) made in
+    let asked = clones_asked h.view.origin.made_at (numbers_of hs) in
+    let before : FollowsAsks 0 g.view.origin.made_at asked (entries g.view.seen) = subst (λ (o : Making). FollowsAsks 0 o.made_at asked (entries g.view.seen)) (sym c.origin) c.follows in
+    let after : FollowsAsks 0 g.view.origin.made_at (asked ++ ask h.view.origin.made_at (Clone x.number) ∷ []) (entries f.view.seen) = follows_made g.view f.view 0 asked (ask h.view.origin.made_at (Clone x.number)) m c.own before in
+    let here : FollowsAsks 0 h.view.origin.made_at (asked ++ ask h.view.origin.made_at (Clone x.number) ∷ []) (entries f.view.seen) = subst (λ (o : Making). FollowsAsks 0 o.made_at (asked ++ ask h.view.origin.made_at (Clone x.number) ∷ []) (entries f.view.seen)) c.origin after in
     record {
       span = same.0 ∙ c.span;
       number = same.1 ∙ c.number;
       origin = made.same ∙ c.origin;
       out = opn ∙ c.out;
-      follows = subst (λ (l : List Ask). FollowsAsks 0 h.view.origin.made l (entries f.view.seen)) (sym (asked_push h.view.origin.made hs x)) here;
+      follows = subst (λ (l : List Ask). FollowsAsks 0 h.view.origin.made_at l (entries f.view.seen)) (sym (asked_push h.view.origin.made_at hs x)) here;
       own = m.own;
       each = λ i d low. get_push (λ (y : SharedHandle). (y.span ≡ h.span) × (y.view.origin ≡ h.view.origin) × (y.view.mine ≡ [])) hs x i d (λ j l. c.each j d l) (span ∙ c.span, clone.2 ∙ made.same ∙ c.origin, clone.1) low;
     }
@@ -103,24 +103,24 @@ none_before k xs ys p none =
     let a = length-append (entries_by k xs) (entries_by k p.0) in
     no_items (entries_by k xs) (omega (arith, l, a))
 
-module _ (at : ℕ) (h g : SharedHandle) (hs gs : List SharedHandle) (r : Released) (moment : h.view.origin.made ≡ at) (c : AreCloned h g hs) (d : WasReleased g r at) (len : length gs ≡ length hs) (learnt : HaveLearnt (record { span = r.pass.span; view = r.pass.view }) hs gs) where
-  m : MakesEntry g.view r.pass.view 0 h.view.origin.made Release
+module _ (at : ℕ) (h g : SharedHandle) (hs gs : List SharedHandle) (r : Released) (moment : h.view.origin.made_at ≡ at) (c : AreCloned h g hs) (d : WasReleased g r at) (len : length gs ≡ length hs) (learnt : HaveLearnt (record { span = r.pass.span; view = r.pass.view }) hs gs) where
+  m : MakesEntry g.view r.pass.view 0 h.view.origin.made_at Release
   m = subst (λ (p : ℕ × ℕ). MakesEntry g.view r.pass.view p.0 p.1 Release) (λ i. (c.number i, sym moment i)) d.made
 
   abbrev asked : List Ask
-  asked = clones_asked h.view.origin.made (numbers_of hs)
+  asked = clones_asked h.view.origin.made_at (numbers_of hs)
 
   origin : r.pass.view.origin ≡ h.view.origin
   origin = d.made.same ∙ c.origin
 
-  follows : FollowsAsks 0 h.view.origin.made (clones_asked h.view.origin.made (numbers_of hs) ++ ask h.view.origin.made Release ∷ []) (entries r.pass.view.seen)
+  follows : FollowsAsks 0 h.view.origin.made_at (clones_asked h.view.origin.made_at (numbers_of hs) ++ ask h.view.origin.made_at Release ∷ []) (entries r.pass.view.seen)
   follows =
-      let before : FollowsAsks 0 g.view.origin.made asked (entries g.view.seen) = subst (λ (o : Making). FollowsAsks 0 o.made asked (entries g.view.seen)) (sym c.origin) c.follows in
-      let after : FollowsAsks 0 g.view.origin.made (asked ++ ask h.view.origin.made Release ∷ []) (entries r.pass.view.seen) = follows_made g.view r.pass.view 0 asked (ask h.view.origin.made Release) m c.own before in
-      subst (λ (o : Making). FollowsAsks 0 o.made (asked ++ ask h.view.origin.made Release ∷ []) (entries r.pass.view.seen)) c.origin after
+      let before : FollowsAsks 0 g.view.origin.made_at asked (entries g.view.seen) = subst (λ (o : Making). FollowsAsks 0 o.made_at asked (entries g.view.seen)) (sym c.origin) c.follows in
+      let after : FollowsAsks 0 g.view.origin.made_at (asked ++ ask h.view.origin.made_at Release ∷ []) (entries r.pass.view.seen) = follows_made g.view r.pass.view 0 asked (ask h.view.origin.made_at Release) m c.own before in
+      subst (λ (o : Making). FollowsAsks 0 o.made_at (asked ++ ask h.view.origin.made_at Release ∷ []) (entries r.pass.view.seen)) c.origin after
 
-  legal : IsLegal h.view.origin.made (entries r.pass.view.seen)
-  legal = subst (λ (o : Making). IsLegal o.made (entries r.pass.view.seen)) c.origin d.made.legal
+  legal : IsLegal h.view.origin.made_at (entries r.pass.view.seen)
+  legal = subst (λ (o : Making). IsLegal o.made_at (entries r.pass.view.seen)) c.origin d.made.legal
 
   -- the clones have made no entry
   none_of : (i : ℕ) (x : SharedHandle) → i < length hs → entries_by (slice_index_or hs i x).number (entries (slice_index_or gs i x).view.seen) ≡ []
@@ -132,8 +132,8 @@ module _ (at : ℕ) (h g : SharedHandle) (hs gs : List SharedHandle) (r : Releas
       let l = learnt i.0 h i.1 in
       none_before n (entries r.pass.view.seen) (entries (slice_index_or gs i.0 h).view.seen) (prefix_entries r.pass.view.seen (slice_index_or gs i.0 h).view.seen l.seen) (ap (λ (k : ℕ). entries_by k (entries (slice_index_or gs i.0 h).view.seen)) (sym i.2) ∙ none_of i.0 h i.1)
 
-  whole : (entries r.pass.view.seen ≡ clone_entries h.view.origin.made (length (numbers_of hs))) × (numbers_of hs ≡ numbers_from 1 (length (numbers_of hs)))
-  whole = opened h.view.origin.made (numbers_of hs) (entries r.pass.view.seen) legal quiets follows
+  whole : (entries r.pass.view.seen ≡ clone_entries h.view.origin.made_at (length (numbers_of hs))) × (numbers_of hs ≡ numbers_from 1 (length (numbers_of hs)))
+  whole = opened h.view.origin.made_at (numbers_of hs) (entries r.pass.view.seen) legal quiets follows
 
   fresh : (i : ℕ) (x : SharedHandle) → i < length gs → IsFresh h (i + 1) (slice_index_or gs i x)
   fresh i x low =
@@ -155,8 +155,8 @@ module _ (at : ℕ) (h g : SharedHandle) (hs gs : List SharedHandle) (r : Releas
       record {
         span = s ∙ d.span ∙ c.span;
         origin = o ∙ origin;
-        log = ap entries v ∙ whole.0 ∙ ap (clone_entries h.view.origin.made) (lengths hs ∙ sym len);
-        legal = subst (λ l. IsLegal h.view.origin.made (entries l)) (sym v) legal;
+        log = ap entries v ∙ whole.0 ∙ ap (clone_entries h.view.origin.made_at) (lengths hs ∙ sym len);
+        legal = subst (λ l. IsLegal h.view.origin.made_at (entries l)) (sym v) legal;
         closed = subst (λ (x : _ × _). ClosedAs h.view.origin (entries x.0) x.1) (λ i. (sym v i, sym e i)) closed;
         each = fresh;
       }

@@ -24,7 +24,7 @@ use Rattle.thread_script.specs.Asks.{Ask, FollowsAsks, clone_entries, opening_fr
 use Rattle.thread_handles.specs.declared.gather.Ended.{Ended}
 use Rattle.thread_handles.specs.Works.{IsLeft}
 use Rattle.thread_handles.specs.Gathers.{or_else, GathersReleases, IsEnded}
-use Rattle.thread_handles.proofs.Following.{NextIs, by_append, follows_more}
+use Rattle.thread_handles.proofs.AsksLemmas.{NextIs, by_append, follows_more}
 
 -- ---- ends
 
@@ -56,21 +56,21 @@ same_whole made p q r l c =
     let none : r.0 ≡ [] = nothing_follows made p r.0 (subst (IsLegal made) (sym r.1) l) c in
     sym (append-nil p) ∙ ap (λ (l : List Entry). p ++ l) (sym none) ∙ r.1
 
-later_closes : (making : Making) (p q : List Entry) (c d : Closing) → IsPrefix p q → IsLegal making.made q → ClosedAs making p c → ClosedAs making q d → ClosedAs making q (or_else c d)
+later_closes : (making : Making) (p q : List Entry) (c d : Closing) → IsPrefix p q → IsLegal making.made_at q → ClosedAs making p c → ClosedAs making q d → ClosedAs making q (or_else c d)
 later_closes making p q None d r l x y = y
-later_closes making p q (Some last) d r l x y = subst (λ (log : List Entry). ClosedAs making log (Some last)) (same_whole making.made p q r l x.2) x
+later_closes making p q (Some last) d r l x y = subst (λ (log : List Entry). ClosedAs making log (Some last)) (same_whole making.made_at p q r l x.2) x
 
-earlier_closes : (making : Making) (p q : List Entry) (c d : Closing) → IsPrefix q p → IsLegal making.made p → ClosedAs making p c → ClosedAs making q d → ClosedAs making p (or_else c d)
+earlier_closes : (making : Making) (p q : List Entry) (c d : Closing) → IsPrefix q p → IsLegal making.made_at p → ClosedAs making p c → ClosedAs making q d → ClosedAs making p (or_else c d)
 earlier_closes making p q (Some last) d r l x y = x
 earlier_closes making p q None None r l x y = x
 earlier_closes making p q None (Some last) r l x y =
-    let same : q ≡ p = same_whole making.made q p r l y.2 in
-    absurd (true≢false (sym (subst (λ (log : List Entry). is_closed making.made log ≡ true) same y.2) ∙ x))
+    let same : q ≡ p = same_whole making.made_at q p r l y.2 in
+    absurd (true≢false (sym (subst (λ (log : List Entry). is_closed making.made_at log ≡ true) same y.2) ∙ x))
 
 -- ---- one release more
 
 module _ (span : TableId) (making : Making) (count n : ℕ) (parts : ℕ → List Ask) (r o u : Released) (g : GathersReleases span making count n parts r) (left : IsLeft (n + 1) (parts n) span making o) (same_span : u.pass.span ≡ span) (same_origin : u.pass.view.origin ≡ making)
-    (legal : IsLegal making.made (entries u.pass.view.seen)) (ours : IsPrefix r.pass.view.seen u.pass.view.seen) (theirs : IsPrefix o.pass.view.seen u.pass.view.seen) (closes : u.closed ≡ or_else r.closed o.closed) where
+    (legal : IsLegal making.made_at (entries u.pass.view.seen)) (ours : IsPrefix r.pass.view.seen u.pass.view.seen) (theirs : IsPrefix o.pass.view.seen u.pass.view.seen) (closes : u.closed ≡ or_else r.closed o.closed) where
   whole : List Entry
   whole = entries u.pass.view.seen
 
@@ -83,11 +83,11 @@ module _ (span : TableId) (making : Making) (count n : ℕ) (parts : ℕ → Lis
   our_longest : IsPrefix g.longest (entries u.pass.view.seen)
   our_longest = prefix_trans g.longest (entries r.pass.view.seen) (entries u.pass.view.seen) g.within our_log
 
-  follows_each : (w : ℕ) → w < n + 1 → FollowsAsks (w + 1) making.made (parts w) (entries u.pass.view.seen)
+  follows_each : (w : ℕ) → w < n + 1 → FollowsAsks (w + 1) making.made_at (parts w) (entries u.pass.view.seen)
   follows_each w low =
       dite (ℕ_discrete w n)
-      (λ (e : w ≡ n). subst (λ (v : ℕ). FollowsAsks (v + 1) making.made (parts v) (entries u.pass.view.seen)) (sym e) (follows_within (n + 1) making.made (parts n) (entries o.pass.view.seen) (entries u.pass.view.seen) their_log legal left.ended left.follows))
-      (λ (apart : w ≢ n). let old = g.each w (grind (arith, low, apart)) in follows_within (w + 1) making.made (parts w) (entries r.pass.view.seen) (entries u.pass.view.seen) our_log legal (end_within (w + 1) g.longest (entries r.pass.view.seen) g.within old.1) old.0)
+      (λ (e : w ≡ n). subst (λ (v : ℕ). FollowsAsks (v + 1) making.made_at (parts v) (entries u.pass.view.seen)) (sym e) (follows_within (n + 1) making.made_at (parts n) (entries o.pass.view.seen) (entries u.pass.view.seen) their_log legal left.ended left.follows))
+      (λ (apart : w ≢ n). let old = g.each w (grind (arith, low, apart)) in follows_within (w + 1) making.made_at (parts w) (entries r.pass.view.seen) (entries u.pass.view.seen) our_log legal (end_within (w + 1) g.longest (entries r.pass.view.seen) g.within old.1) old.0)
 
   end_each : (list : List Entry) → ((w : ℕ) → w < n → has_end (w + 1) list ≡ true) → has_end (n + 1) list ≡ true → (w : ℕ) → w < n + 1 → has_end (w + 1) list ≡ true
   end_each list old new w low =
@@ -106,7 +106,7 @@ module _ (span : TableId) (making : Making) (count n : ℕ) (parts : ℕ → Lis
         legal = legal;
         longest = list;
         within = their_log;
-        begins = prefix_trans (clone_entries making.made count) g.longest list g.begins p;
+        begins = prefix_trans (clone_entries making.made_at count) g.longest list g.begins p;
         closed = closed_by list (later_closes making g.longest list r.closed o.closed p left.legal g.closed left.closed);
         each = λ w low. (follows_each w low, end_each list (λ v old. end_within (v + 1) g.longest list p (g.each v old).1) left.ended w low);
       }
@@ -120,7 +120,7 @@ module _ (span : TableId) (making : Making) (count n : ℕ) (parts : ℕ → Lis
         longest = list;
         within = our_longest;
         begins = g.begins;
-        closed = closed_by list (earlier_closes making list (entries o.pass.view.seen) r.closed o.closed p (legal_first (start making.made) list our_longest.0 (subst (IsLegal making.made) (sym our_longest.1) legal)) g.closed left.closed);
+        closed = closed_by list (earlier_closes making list (entries o.pass.view.seen) r.closed o.closed p (legal_first (start making.made_at) list our_longest.0 (subst (IsLegal making.made_at) (sym our_longest.1) legal)) g.closed left.closed);
         each = λ w low. (follows_each w low, end_each list (λ v old. (g.each v old).1) (end_within (n + 1) (entries o.pass.view.seen) list p left.ended) w low);
       }
 
@@ -206,39 +206,39 @@ module _ (of_span : TableId) (making : Making) (count : ℕ) (parts : ℕ → Li
   log = entries r.pass.view.seen
 
   first : List Entry
-  first = clone_entries making.made count
+  first = clone_entries making.made_at count
 
-  more_is : clone_entries making.made count ++ (g.begins.0 ++ g.within.0) ≡ entries r.pass.view.seen
-  more_is = sym (append_assoc (clone_entries making.made count) g.begins.0 g.within.0) ∙ ap (λ l. l ++ g.within.0) g.begins.1 ∙ g.within.1
+  more_is : clone_entries making.made_at count ++ (g.begins.0 ++ g.within.0) ≡ entries r.pass.view.seen
+  more_is = sym (append_assoc (clone_entries making.made_at count) g.begins.0 g.within.0) ∙ ap (λ l. l ++ g.within.0) g.begins.1 ∙ g.within.1
 
   -- after the opening
-  abbrev more : IsPrefix (clone_entries making.made count) (entries r.pass.view.seen)
+  abbrev more : IsPrefix (clone_entries making.made_at count) (entries r.pass.view.seen)
   more = (g.begins.0 ++ g.within.0, more_is)
 
-  legal_more : IsLegal making.made (clone_entries making.made count ++ more.0)
-  legal_more = subst (IsLegal making.made) (sym more.1) g.legal
+  legal_more : IsLegal making.made_at (clone_entries making.made_at count ++ more.0)
+  legal_more = subst (IsLegal making.made_at) (sym more.1) g.legal
 
-  clones_first : (sum making.made (clone_entries making.made count)).clones ≡ count
-  clones_first = let c = opening_clones (start making.made) making.made 1 count in omega (arith, c)
+  clones_first : (sum making.made_at (clone_entries making.made_at count)).clones ≡ count
+  clones_first = let c = opening_clones (start making.made_at) making.made_at 1 count in omega (arith, c)
 
   none_of_first : entries_by 0 more.0 ≡ []
-  none_of_first = ended_is_done making.made 0 (clone_entries making.made count) more.0 legal_more (opening_ends making.made 1 count)
+  none_of_first = ended_is_done making.made_at 0 (clone_entries making.made_at count) more.0 legal_more (opening_ends making.made_at 1 count)
 
   plain_each : (k : ℕ) → k ≤ count → plain (entries_by k more.0) ≡ true
   plain_each zero low = ap plain none_of_first
   plain_each (suc w) low =
       let here : w < count = omega (arith, low) in
       let next : w + 1 ≡ suc w = omega arith in
-      let all : plain (entries_by (suc w) (entries r.pass.view.seen)) ≡ true = subst (λ (k : ℕ). plain (entries_by k (entries r.pass.view.seen)) ≡ true) next (plain_by (w + 1) making.made (parts w) (entries r.pass.view.seen) (are_plain w here) (g.each w here).0) in
-      plain_rest (entries_by (suc w) (clone_entries making.made count)) (entries_by (suc w) more.0) (ap plain (sym (by_append (suc w) (clone_entries making.made count) more.0) ∙ ap (entries_by (suc w)) more.1) ∙ all)
+      let all : plain (entries_by (suc w) (entries r.pass.view.seen)) ≡ true = subst (λ (k : ℕ). plain (entries_by k (entries r.pass.view.seen)) ≡ true) next (plain_by (w + 1) making.made_at (parts w) (entries r.pass.view.seen) (are_plain w here) (g.each w here).0) in
+      plain_rest (entries_by (suc w) (clone_entries making.made_at count)) (entries_by (suc w) more.0) (ap plain (sym (by_append (suc w) (clone_entries making.made_at count) more.0) ∙ ap (entries_by (suc w)) more.1) ∙ all)
 
-  clones_all : (rest : List Entry) → IsPrefix rest more.0 → (sum making.made (clone_entries making.made count ++ rest)).clones ≡ count
+  clones_all : (rest : List Entry) → IsPrefix rest more.0 → (sum making.made_at (clone_entries making.made_at count ++ rest)).clones ≡ count
   clones_all rest p =
-      let legal : IsLegal making.made ((clone_entries making.made count ++ rest) ++ p.0) = subst (IsLegal making.made) (ap (λ l. clone_entries making.made count ++ l) (sym p.1) ∙ sym (append_assoc (clone_entries making.made count) rest p.0)) legal_more in
-      let legal' = legal_first (start making.made) (clone_entries making.made count ++ rest) p.0 legal in
-      let i = numbered making.made (clone_entries making.made count) (legal_first (start making.made) (clone_entries making.made count) rest legal') in
-      ap (λ (s : Sum). s.clones) (sum_append (start making.made) (clone_entries making.made count) rest)
-      ∙ clones_stay (sum making.made (clone_entries making.made count)) rest i (legal_rest (start making.made) (clone_entries making.made count) rest legal') (λ k low. plain_first (entries_by k rest) (entries_by k p.0) (ap plain (sym (by_append k rest p.0) ∙ ap (entries_by k) p.1) ∙ plain_each k (omega (arith, low, clones_first)))) ∙ clones_first
+      let legal : IsLegal making.made_at ((clone_entries making.made_at count ++ rest) ++ p.0) = subst (IsLegal making.made_at) (ap (λ l. clone_entries making.made_at count ++ l) (sym p.1) ∙ sym (append_assoc (clone_entries making.made_at count) rest p.0)) legal_more in
+      let legal' = legal_first (start making.made_at) (clone_entries making.made_at count ++ rest) p.0 legal in
+      let i = numbered making.made_at (clone_entries making.made_at count) (legal_first (start making.made_at) (clone_entries making.made_at count) rest legal') in
+      ap (λ (s : Sum). s.clones) (sum_append (start making.made_at) (clone_entries making.made_at count) rest)
+      ∙ clones_stay (sum making.made_at (clone_entries making.made_at count)) rest i (legal_rest (start making.made_at) (clone_entries making.made_at count) rest legal') (λ k low. plain_first (entries_by k rest) (entries_by k p.0) (ap plain (sym (by_append k rest p.0) ∙ ap (entries_by k) p.1) ∙ plain_each k (omega (arith, low, clones_first)))) ∙ clones_first
     where
       plain_first : (xs ys : List Entry) → plain (xs ++ ys) ≡ true → plain xs ≡ true
       plain_first [] ys p = refl
@@ -246,28 +246,28 @@ module _ (of_span : TableId) (making : Making) (count : ℕ) (parts : ℕ → Li
 
   -- the longest list is the whole
   ended_each : (k : ℕ) → k ≤ count → has_end k g.longest ≡ true
-  ended_each zero low = end_within 0 (clone_entries making.made count) g.longest g.begins (opening_ends making.made 1 count)
+  ended_each zero low = end_within 0 (clone_entries making.made_at count) g.longest g.begins (opening_ends making.made_at 1 count)
   ended_each (suc w) low = let next : w + 1 ≡ suc w = omega arith in subst (λ (k : ℕ). has_end k g.longest ≡ true) next (g.each w (omega (arith, low))).1
 
-  clones_longest : (sum making.made g.longest).clones ≡ count
+  clones_longest : (sum making.made_at g.longest).clones ≡ count
   clones_longest =
       let inside : IsPrefix g.begins.0 more.0 = (g.within.0, refl) in
-      ap (λ (l : List Entry). (sum making.made l).clones) (sym g.begins.1) ∙ clones_all g.begins.0 inside
+      ap (λ (l : List Entry). (sum making.made_at l).clones) (sym g.begins.1) ∙ clones_all g.begins.0 inside
 
-  is_whole : (is_closed making.made g.longest ≡ true) × (g.within.0 ≡ [])
-  is_whole = whole_is_seen making.made g.longest g.within.0 (subst (IsLegal making.made) (sym g.within.1) g.legal) (λ k low. ended_each k (omega (arith, low, clones_longest)))
+  is_whole : (is_closed making.made_at g.longest ≡ true) × (g.within.0 ≡ [])
+  is_whole = whole_is_seen making.made_at g.longest g.within.0 (subst (IsLegal making.made_at) (sym g.within.1) g.legal) (λ k low. ended_each k (omega (arith, low, clones_longest)))
 
   pub whole_log : g.longest ≡ entries r.pass.view.seen
   whole_log = sym (append-nil g.longest) ∙ ap (λ (l : List Entry). g.longest ++ l) (sym is_whole.1) ∙ g.within.1
 
-  pub does_all : DoesAll making.made count parts (entries r.pass.view.seen)
+  pub does_all : DoesAll making.made_at count parts (entries r.pass.view.seen)
   does_all = record {
     legal = g.legal;
-    closed = subst (λ (l : List Entry). is_closed making.made l ≡ true) whole_log is_whole.0;
+    closed = subst (λ (l : List Entry). is_closed making.made_at l ≡ true) whole_log is_whole.0;
     begins = more;
-    first = ap (entries_by 0) (sym more.1) ∙ by_append 0 (clone_entries making.made count) more.0 ∙ (λ i. opening_by making.made 1 count i ++ none_of_first i) ∙ append-nil (clone_entries making.made count);
+    first = ap (entries_by 0) (sym more.1) ∙ by_append 0 (clone_entries making.made_at count) more.0 ∙ (λ i. opening_by making.made_at 1 count i ++ none_of_first i) ∙ append-nil (clone_entries making.made_at count);
     each = λ w low. (g.each w low).0;
-    others = λ k high. none_above (start making.made) (entries r.pass.view.seen) k (numbered_start making.made) g.legal (let c = ap (λ (l : List Entry). (sum making.made l).clones) (sym whole_log) ∙ clones_longest in omega (arith, c, high));
+    others = λ k high. none_above (start making.made_at) (entries r.pass.view.seen) k (numbered_start making.made_at) g.legal (let c = ap (λ (l : List Entry). (sum making.made_at l).clones) (sym whole_log) ∙ clones_longest in omega (arith, c, high));
   }
 
   -- so some release closed the span
@@ -285,5 +285,5 @@ module _ (of_span : TableId) (making : Making) (count : ℕ) (parts : ℕ → Li
         origin = ap (λ (s : ReleasedHandle). s.view.origin) p ∙ g.origin;
         seen = ap (λ (s : ReleasedHandle). entries s.view.seen) p ∙ sym last.0;
         content = last.1 ∙ ap (content_of making) (sym last.0);
-        does = subst (DoesAll making.made count parts) (sym last.0) does_all;
+        does = subst (DoesAll making.made_at count parts) (sym last.0) does_all;
       }

@@ -82,7 +82,7 @@ follows_push k last asks a (e ∷ es) f = push_case k last asks a e es (e.caller
 -- nobody else makes its entries
 between_none : (v w : View) (k at : ℕ) (what : What) (m : MakesEntry v w k at what) → entries_by k (entries v.seen) ≡ v.mine → entries_by k (entries m.between) ≡ []
 between_none v w k at what m own =
-    let x : Entry = written_entry v.origin.made (entries (v.seen ++ m.between)) k at what in
+    let x : Entry = written_entry v.origin.made_at (entries (v.seen ++ m.between)) k at what in
     let whole : entries w.seen ≡ entries (v.seen ++ m.between) ++ x ∷ [] = ap entries m.ends ∙ entries_some (v.seen ++ m.between) x in
     let hit : (k == k) ≡ true = grind (arith, nat_tests) in
     let one : entries_by k (x ∷ []) ≡ x ∷ [] = rw hit refl in
@@ -94,10 +94,10 @@ between_none v w k at what m own =
     let c = length-append v.mine (x ∷ []) in
     no_items (entries_by k (entries m.between)) (omega (arith, lens, a, b, c))
 
-pub follows_made : (v w : View) (k : ℕ) (asks : List Ask) (a : Ask) → MakesEntry v w k a.at a.what → entries_by k (entries v.seen) ≡ v.mine → FollowsAsks k v.origin.made asks (entries v.seen) → FollowsAsks k v.origin.made (asks ++ a ∷ []) (entries w.seen)
+pub follows_made : (v w : View) (k : ℕ) (asks : List Ask) (a : Ask) → MakesEntry v w k a.at a.what → entries_by k (entries v.seen) ≡ v.mine → FollowsAsks k v.origin.made_at asks (entries v.seen) → FollowsAsks k v.origin.made_at (asks ++ a ∷ []) (entries w.seen)
 follows_made v w k asks a m own f =
     let log = entries (v.seen ++ m.between) in
-    let more : FollowsAsks k v.origin.made asks log = subst (FollowsAsks k v.origin.made asks) (sym (entries_append v.seen m.between)) (follows_more k v.origin.made asks (entries v.seen) (entries m.between) (between_none v w k a.at a.what m own) f) in
-    let same : written_entry v.origin.made log k a.at a.what ≡ entry k (max a.at (last_from v.origin.made log)) a.what = ap (λ (n : ℕ). entry k (max a.at n) a.what) (sum_last (start v.origin.made) log) in
-    let whole : entries w.seen ≡ log ++ entry k (max a.at (last_from v.origin.made log)) a.what ∷ [] = ap entries m.ends ∙ entries_some (v.seen ++ m.between) (written_entry v.origin.made log k a.at a.what) ∙ ap (λ (x : Entry). log ++ x ∷ []) same in
-    subst (FollowsAsks k v.origin.made (asks ++ a ∷ [])) (sym whole) (follows_push k v.origin.made asks a log more)
+    let more : FollowsAsks k v.origin.made_at asks log = subst (FollowsAsks k v.origin.made_at asks) (sym (entries_append v.seen m.between)) (follows_more k v.origin.made_at asks (entries v.seen) (entries m.between) (between_none v w k a.at a.what m own) f) in
+    let same : written_entry v.origin.made_at log k a.at a.what ≡ entry k (max a.at (last_from v.origin.made_at log)) a.what = ap (λ (n : ℕ). entry k (max a.at n) a.what) (sum_last (start v.origin.made_at) log) in
+    let whole : entries w.seen ≡ log ++ entry k (max a.at (last_from v.origin.made_at log)) a.what ∷ [] = ap entries m.ends ∙ entries_some (v.seen ++ m.between) (written_entry v.origin.made_at log k a.at a.what) ∙ ap (λ (x : Entry). log ++ x ∷ []) same in
+    subst (FollowsAsks k v.origin.made_at (asks ++ a ∷ [])) (sym whole) (follows_push k v.origin.made_at asks a log more)

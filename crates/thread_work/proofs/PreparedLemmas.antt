@@ -64,7 +64,7 @@ one_prepared opening plan spans job len t g b = record {
   timed = t.timed;
   last = b.last;
   gate = g;
-  balanced = λ s x low. balanced_at plan s (release_at (slice_index_or spans s x).view.origin.made (last_at job.ops.items)) 0 job.ops.items 0 ∙ t.closed s (omega (arith, len, low));
+  balanced = λ s x low. balanced_at plan s (release_at (slice_index_or spans s x).view.origin.made_at (last_at job.ops.items)) 0 job.ops.items 0 ∙ t.closed s (omega (arith, len, low));
   room = b.room;
 }
 

@@ -20,11 +20,11 @@ use Rattle.thread_handles.specs.Gathers.{IsEnded}
 use Rattle.thread_handles.specs.Works.{part_of, AllAtWork, IsAtWork, AreMade, IsReadyWorker, IsLeft}
 use Rattle.thread_handles.specs.Shares.{IsFresh, IsShared}
 use Rattle.thread_handles.specs.Columns.{column, AreWhole, AreJoined}
-use Rattle.thread_handles.proofs.Gathering.{asks_plain}
-use Rattle.thread_handles.proofs.Following.{follows_none}
-use Rattle.thread_handles.proofs.Working.{same_get, get_drop, get_before, get_last}
-use Rattle.thread_handles.proofs.Sharing.{take_front}
-use Rattle.thread_handles.proofs.Meeting.{LeftFrom}
+use Rattle.thread_handles.proofs.GatheredLemmas.{asks_plain}
+use Rattle.thread_handles.proofs.AsksLemmas.{follows_none}
+use Rattle.thread_handles.proofs.WorkLemmas.{same_get, get_drop, get_before, get_last}
+use Rattle.thread_handles.proofs.ClonesLemmas.{take_front}
+use Rattle.thread_handles.proofs.JoinsLemmas.{LeftFrom}
 use Rattle.thread_handles.proofs.Columns.{span_closed, span_ended}
 use Rattle.thread_work.specs.Jobs.{AreReady, WereRun, AreDone, lists_of}
 use Rattle.thread_work.specs.Spans.{AreFirsts, GotOne, GotNext, HaveMore, HaveRoomFor, HasGot, WasShared, WereShared, IsPreparedFor, ArePreparedFor, AllEnded}
@@ -43,7 +43,7 @@ parts_plain plan s made [] w low = absurd (omega (arith, low))
 parts_plain plan s made (job ∷ jobs) zero low = part_plain plan s (release_at made (last_at job.ops.items)) job.ops.items
 parts_plain plan s made (job ∷ jobs) (suc w) low = parts_plain plan s made jobs w (omega (arith, low))
 
-parts_at : {G : Type 0} (plan : Plan) (s : ℕ) (first : SharedHandle) (xs : List (Job G)) (i : ℕ) (x : Job G) → i < length xs → parts_on plan s first.view.origin.made (lists_of xs) i ≡ part_of plan (last_at (slice_index_or xs i x).ops.items) s first (slice_index_or xs i x).ops.items
+parts_at : {G : Type 0} (plan : Plan) (s : ℕ) (first : SharedHandle) (xs : List (Job G)) (i : ℕ) (x : Job G) → i < length xs → parts_on plan s first.view.origin.made_at (lists_of xs) i ≡ part_of plan (last_at (slice_index_or xs i x).ops.items) s first (slice_index_or xs i x).ops.items
 parts_at plan s first [] i x low = absurd (omega (arith, low))
 parts_at plan s first (y ∷ ys) zero x low = refl
 parts_at plan s first (y ∷ ys) (suc i) x low = parts_at plan s first ys i x (omega (arith, low))
@@ -60,9 +60,9 @@ fresh_work plan s first h k last ops f b = record {
   origin = refl;
   asked = [];
   whole = refl;
-  follows = follows_none k h.view.origin.made (entries h.view.seen) f.none;
+  follows = follows_none k h.view.origin.made_at (entries h.view.seen) f.none;
   own = f.none ∙ sym f.mine;
-  balanced = (λ i. is_balanced (part_on plan s (release_at (f.origin i).made last) ops) (ap opens_entry f.mine i)) ∙ b;
+  balanced = (λ i. is_balanced (part_on plan s (release_at (f.origin i).made_at last) ops) (ap opens_entry f.mine i)) ∙ b;
 }
 
 module _ {G : Type 0} (opening : G → List ℕ) (plan : Plan) (spans : List SharedHandle) (jobs given : List (Job G)) (rs : List Released) (f : AreFirsts plan spans) (p : ArePreparedFor opening plan spans jobs) (glen : length given ≡ length jobs) (rlen : length rs ≡ length spans) (sh : WereShared (length spans) spans jobs given rs) where
@@ -78,7 +78,7 @@ module _ {G : Type 0} (opening : G → List ℕ) (plan : Plan) (spans : List Sha
       let made : AreMade plan hs = (
         f.0 ∙ sym n,
         λ s y l less. let m = f.1 s y l (omega (arith, n, less)) in let o = sh.fresh s w y d (omega (arith, n, less)) here in
-            (sym m.0.2 ∙ ap (λ (q : Making). q.made) (sym o.origin), m.1),
+            (sym m.0.2 ∙ ap (λ (q : Making). q.made_at) (sym o.origin), m.1),
       ) in
       let begins : AllAtWork plan (w + 1) (last_at job.ops.items) job.ops.items job.ops.items hs hs = λ s y less.
       fresh_work plan s (slice_index_or spans s y) (slice_index_or hs s y) (w + 1) (last_at job.ops.items) job.ops.items (sh.fresh s w y d (omega (arith, n, less)) here) (x.balanced s y (omega (arith, n, less))) in
@@ -105,7 +105,7 @@ module _ {G : Type 0} (opening : G → List ℕ) (plan : Plan) (spans : List Sha
         omega (arith, ok, m, n, ok')
 
     -- the release of a worker's handle of the span s
-    left_at : (s w : ℕ) (x : SharedHandle) (d : Job G) (e : Released) → s < length spans → w < length jobs → IsLeft (w + 1) (parts_on plan s (slice_index_or spans s x).view.origin.made (lists_of jobs) w) (slice_index_or spans s x).span (slice_index_or spans s x).view.origin (slice_index_or (slice_index_or run w d).left.items s e)
+    left_at : (s w : ℕ) (x : SharedHandle) (d : Job G) (e : Released) → s < length spans → w < length jobs → IsLeft (w + 1) (parts_on plan s (slice_index_or spans s x).view.origin.made_at (lists_of jobs) w) (slice_index_or spans s x).span (slice_index_or spans s x).view.origin (slice_index_or (slice_index_or run w d).left.items s e)
     left_at s w x d e less low =
         let hs = (slice_index_or given w d).handles.items in
         let h = slice_index_or hs s x in
@@ -115,7 +115,7 @@ module _ {G : Type 0} (opening : G → List ℕ) (plan : Plan) (spans : List Sha
         let a = (ran w d (omega (arith, glen, low))).2 (done w d (omega (arith, len_run, low))) s x e (omega (arith, n, less)) in
         let ops = (slice_index_or jobs w d).ops.items in
         let b : IsLeft (w + 1) (part_of plan (last_at ops) s h ops) h.span h.view.origin (slice_index_or (slice_index_or run w d).left.items s e) = subst (λ (t : List WorkerOp). IsLeft (w + 1) (part_of plan (last_at t) s h t) h.span h.view.origin (slice_index_or (slice_index_or run w d).left.items s e)) (λ j. (i.ops j).items) a in
-        let c = subst (λ (t : Making × TableId). IsLeft (w + 1) (part_on plan s (release_at t.0.made (last_at ops)) ops) t.1 t.0 (slice_index_or (slice_index_or run w d).left.items s e)) (λ j. (o.origin j, o.span j)) b in
+        let c = subst (λ (t : Making × TableId). IsLeft (w + 1) (part_on plan s (release_at t.0.made_at (last_at ops)) ops) t.1 t.0 (slice_index_or (slice_index_or run w d).left.items s e)) (λ j. (o.origin j, o.span j)) b in
         subst (λ (asks : List Ask). IsLeft (w + 1) asks (slice_index_or spans s x).span (slice_index_or spans s x).view.origin (slice_index_or (slice_index_or run w d).left.items s e)) (sym (parts_at plan s (slice_index_or spans s x) jobs w d low)) c
 
     column_len : (e : Released) (s : ℕ) (xs : List (Job G)) → length (column e s xs) ≡ length xs
@@ -130,9 +130,9 @@ module _ {G : Type 0} (opening : G → List ℕ) (plan : Plan) (spans : List Sha
           left_from t making parts e s (n + 1) xs (λ i d low. let same : n + suc i ≡ n + 1 + i = omega arith in subst (λ (k : ℕ). IsLeft (k + 1) (parts k) t making (slice_index_or (slice_index_or xs i d).left.items s e)) same (h (suc i) d (omega (arith, low)))),
         )
 
-    column_left : (s : ℕ) (x : SharedHandle) (e : Released) → s < length spans → LeftFrom (slice_index_or spans s x).span (slice_index_or spans s x).view.origin (parts_on plan s (slice_index_or spans s x).view.origin.made (lists_of jobs)) 0 (column e s run)
-    column_left s x e less = left_from (slice_index_or spans s x).span (slice_index_or spans s x).view.origin (parts_on plan s (slice_index_or spans s x).view.origin.made (lists_of jobs)) e s 0 run (λ w d low. let same : w ≡ 0 + w = omega arith in
-        subst (λ (k : ℕ). IsLeft (k + 1) (parts_on plan s (slice_index_or spans s x).view.origin.made (lists_of jobs) k) (slice_index_or spans s x).span (slice_index_or spans s x).view.origin (slice_index_or (slice_index_or run w d).left.items s e)) same (left_at s w x d e less (omega (arith, len_run, low))))
+    column_left : (s : ℕ) (x : SharedHandle) (e : Released) → s < length spans → LeftFrom (slice_index_or spans s x).span (slice_index_or spans s x).view.origin (parts_on plan s (slice_index_or spans s x).view.origin.made_at (lists_of jobs)) 0 (column e s run)
+    column_left s x e less = left_from (slice_index_or spans s x).span (slice_index_or spans s x).view.origin (parts_on plan s (slice_index_or spans s x).view.origin.made_at (lists_of jobs)) e s 0 run (λ w d low. let same : w ≡ 0 + w = omega arith in
+        subst (λ (k : ℕ). IsLeft (k + 1) (parts_on plan s (slice_index_or spans s x).view.origin.made_at (lists_of jobs) k) (slice_index_or spans s x).span (slice_index_or spans s x).view.origin (slice_index_or (slice_index_or run w d).left.items s e)) same (left_at s w x d e less (omega (arith, len_run, low))))
 
     span_at : (s : ℕ) → s < length spans → SharedHandle
     span_at s less = item spans s less
@@ -153,7 +153,7 @@ module _ {G : Type 0} (opening : G → List ℕ) (plan : Plan) (spans : List Sha
               let here : w < length jobs = omega (arith, len_run, low) in
               let n = left_len w y here in
               (omega (arith, n, less'), λ e. (left_at s w x y e less' here).span ∙ sym q.shared.span);
-          closes = span_closed (slice_index_or spans s x) q.handles r (parts_on plan s (slice_index_or spans s x).view.origin.made (lists_of jobs)) (column r s run) (length jobs) (parts_plain plan s (slice_index_or spans s x).view.origin.made jobs) q.len (column_len r s run ∙ len_run) q.shared (column_left s x r less');
+          closes = span_closed (slice_index_or spans s x) q.handles r (parts_on plan s (slice_index_or spans s x).view.origin.made_at (lists_of jobs)) (column r s run) (length jobs) (parts_plain plan s (slice_index_or spans s x).view.origin.made_at jobs) q.len (column_len r s run ∙ len_run) q.shared (column_left s x r less');
         }
 
     pub all_ended : (es : List Ended) → AreJoined rs run es → AllEnded plan spans (lists_of jobs) es
@@ -162,8 +162,8 @@ module _ {G : Type 0} (opening : G → List ℕ) (plan : Plan) (spans : List Sha
         let r = slice_index_or rs s d in
         let q = sh.shared s x d less in
         let k = j s d e (omega (arith, rlen, less)) in
-        subst (λ (n : ℕ). IsEnded (slice_index_or spans s x).span (slice_index_or spans s x).view.origin n (parts_on plan s (slice_index_or spans s x).view.origin.made (lists_of jobs)) (slice_index_or es s e)) (sym (lists_len jobs))
-        (span_ended (slice_index_or spans s x) q.handles r (parts_on plan s (slice_index_or spans s x).view.origin.made (lists_of jobs)) (column r s run) (length jobs) (parts_plain plan s (slice_index_or spans s x).view.origin.made jobs) q.len (column_len r s run ∙ len_run) q.shared (column_left s x r less) k.whole (slice_index_or es s e) k.met k.pass k.closed)
+        subst (λ (n : ℕ). IsEnded (slice_index_or spans s x).span (slice_index_or spans s x).view.origin n (parts_on plan s (slice_index_or spans s x).view.origin.made_at (lists_of jobs)) (slice_index_or es s e)) (sym (lists_len jobs))
+        (span_ended (slice_index_or spans s x) q.handles r (parts_on plan s (slice_index_or spans s x).view.origin.made_at (lists_of jobs)) (column r s run) (length jobs) (parts_plain plan s (slice_index_or spans s x).view.origin.made_at jobs) q.len (column_len r s run ∙ len_run) q.shared (column_left s x r less) k.whole (slice_index_or es s e) k.met k.pass k.closed)
       where
         item : (xs : List Released) (i : ℕ) → i < length xs → Released
         item [] i low = absurd (omega (arith, low))

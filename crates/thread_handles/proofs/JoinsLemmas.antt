@@ -12,7 +12,7 @@ use Rattle.thread_script.specs.Asks.{Ask, clone_entries}
 use Rattle.thread_handles.specs.Works.{IsLeft}
 use Rattle.thread_handles.specs.Shares.{IsShared}
 use Rattle.thread_handles.specs.Gathers.{IsMet, GathersReleases, MetAll}
-use Rattle.thread_handles.proofs.Gathering.{gathered_more}
+use Rattle.thread_handles.proofs.GatheredLemmas.{gathered_more}
 
 -- ---- the releases of all workers
 
@@ -22,7 +22,7 @@ LeftFrom t making parts n (o ∷ os) = IsLeft (n + 1) (parts n) t making o × Le
 
 met_one : (t : TableId) (making : Making) (count n : ℕ) (parts : ℕ → List Ask) (r o m : Released) → GathersReleases t making count n parts r → IsLeft (n + 1) (parts n) t making o → IsMet r o m → GathersReleases t making count (n + 1) parts m
 met_one t making count n parts r o m g left met =
-    gathered_more t making count n parts r o m g left (met.span ∙ g.span) (met.origin ∙ g.origin) (subst (λ (x : Making). IsLegal x.made (entries m.pass.view.seen)) g.origin met.legal) met.ours met.theirs met.closed
+    gathered_more t making count n parts r o m g left (met.span ∙ g.span) (met.origin ∙ g.origin) (subst (λ (x : Making). IsLegal x.made_at (entries m.pass.view.seen)) g.origin met.legal) met.ours met.theirs met.closed
 
 -- the release of the first handle and those of all workers, joined one after another
 pub met_all : (t : TableId) (making : Making) (count n k : ℕ) (parts : ℕ → List Ask) (os : List Released) (r u : Released) → k ≡ n + length os → GathersReleases t making count n parts r → LeftFrom t making parts n os → MetAll r os u → GathersReleases t making count k parts u
@@ -40,7 +40,7 @@ gathered_first h hs r count parts e s = record {
   legal = s.legal;
   longest = entries r.pass.view.seen;
   within = ([], append-nil (entries r.pass.view.seen));
-  begins = subst (λ (l : List Entry). IsPrefix (clone_entries h.view.origin.made count) l) (sym (s.log ∙ ap (clone_entries h.view.origin.made) e)) ([], append-nil (clone_entries h.view.origin.made count));
+  begins = subst (λ (l : List Entry). IsPrefix (clone_entries h.view.origin.made_at count) l) (sym (s.log ∙ ap (clone_entries h.view.origin.made_at) e)) ([], append-nil (clone_entries h.view.origin.made_at count));
   closed = s.closed;
   each = λ w low. absurd (omega (arith, low));
 }

@@ -25,7 +25,7 @@ use Rattle.thread_script.specs.declared.script.WorkerOp.{WorkerOp}
 use Rattle.thread_script.specs.Asks.{Ask, ask, FollowsAsks, is_balanced, balanced_by}
 use Rattle.thread_script.specs.Plans.{AreTimed, later_at, part_by, op_asked, asked_on, release_at, last_at}
 use Rattle.thread_handles.specs.Works.{DidCall, DidAt, DidAll, MayDo, IsAtWork, AllAtWork, part_of, AreMade, AreLow, WasReleased, AllReleased, IsLeft, AllLeft}
-use Rattle.thread_handles.proofs.Following.{follows_made}
+use Rattle.thread_handles.proofs.AsksLemmas.{follows_made}
 
 still_balanced : (n : ℕ) (m : Move) (left : List Ask) → balanced_by n m (is_balanced left) ≡ true → is_balanced left (opens_after n m) ≡ true
 still_balanced n enters left b = b
@@ -35,7 +35,7 @@ still_balanced n stays left b = b
 did_call : (k at : ℕ) (all left : List Ask) (op : Op) (h g f : SharedHandle) → IsAtWork k all (ask at (Call op) ∷ left) h g → DidCall g f at (Some op) → IsAtWork k all left h f
 did_call k at all left op h g f w d =
     let m : MakesEntry g.view f.view k at (Call op) = subst (λ (n : ℕ). MakesEntry g.view f.view n at (Call op)) w.number d.1 in
-    let before : FollowsAsks k g.view.origin.made w.asked (entries g.view.seen) = subst (λ (o : Making). FollowsAsks k o.made w.asked (entries g.view.seen)) (sym w.origin) w.follows in
+    let before : FollowsAsks k g.view.origin.made_at w.asked (entries g.view.seen) = subst (λ (o : Making). FollowsAsks k o.made_at w.asked (entries g.view.seen)) (sym w.origin) w.follows in
     let after = follows_made g.view f.view k w.asked (ask at (Call op)) m w.own before in
     record {
       span = d.0.0 ∙ w.span;
@@ -43,7 +43,7 @@ did_call k at all left op h g f w d =
       origin = m.same ∙ w.origin;
       asked = w.asked ++ ask at (Call op) ∷ [];
       whole = append_assoc w.asked (ask at (Call op) ∷ []) left ∙ w.whole;
-      follows = subst (λ (o : Making). FollowsAsks k o.made (w.asked ++ ask at (Call op) ∷ []) (entries f.view.seen)) w.origin after;
+      follows = subst (λ (o : Making). FollowsAsks k o.made_at (w.asked ++ ask at (Call op) ∷ []) (entries f.view.seen)) w.origin after;
       own = m.own;
       balanced = ap (is_balanced left) d.2 ∙ still_balanced (open_of g) (move_of op) left w.balanced;
     }
@@ -88,18 +88,18 @@ all_closed k at all h g w = none_open (open_of g) w.balanced
 pub is_left : (k at : ℕ) (all : List Ask) (h g : SharedHandle) (r : Released) → IsAtWork k all (ask at Release ∷ []) h g → WasReleased g r at → IsLeft k all h.span h.view.origin r
 is_left k at all h g r w d =
     let m : MakesEntry g.view r.pass.view k at Release = subst (λ (n : ℕ). MakesEntry g.view r.pass.view n at Release) w.number d.made in
-    let before : FollowsAsks k g.view.origin.made w.asked (entries g.view.seen) = subst (λ (o : Making). FollowsAsks k o.made w.asked (entries g.view.seen)) (sym w.origin) w.follows in
-    let after : FollowsAsks k g.view.origin.made (w.asked ++ ask at Release ∷ []) (entries r.pass.view.seen) = follows_made g.view r.pass.view k w.asked (ask at Release) m w.own before in
-    let whole : FollowsAsks k g.view.origin.made all (entries r.pass.view.seen) = subst (λ (l : List Ask). FollowsAsks k g.view.origin.made l (entries r.pass.view.seen)) w.whole after in
-    let x : Entry = written_entry g.view.origin.made (entries (g.view.seen ++ m.between)) k at Release in
+    let before : FollowsAsks k g.view.origin.made_at w.asked (entries g.view.seen) = subst (λ (o : Making). FollowsAsks k o.made_at w.asked (entries g.view.seen)) (sym w.origin) w.follows in
+    let after : FollowsAsks k g.view.origin.made_at (w.asked ++ ask at Release ∷ []) (entries r.pass.view.seen) = follows_made g.view r.pass.view k w.asked (ask at Release) m w.own before in
+    let whole : FollowsAsks k g.view.origin.made_at all (entries r.pass.view.seen) = subst (λ (l : List Ask). FollowsAsks k g.view.origin.made_at l (entries r.pass.view.seen)) w.whole after in
+    let x : Entry = written_entry g.view.origin.made_at (entries (g.view.seen ++ m.between)) k at Release in
     let hit : (k == k) ≡ true = grind (arith, nat_tests) in
     let ended : has_end k (entries r.pass.view.seen) ≡ true = ap (has_end k) (ap entries m.ends ∙ entries_some (g.view.seen ++ m.between) x) ∙ end_last k (entries (g.view.seen ++ m.between)) x hit in
     record {
       span = d.span ∙ w.span;
       origin = m.same ∙ w.origin;
-      follows = subst (λ (o : Making). FollowsAsks k o.made all (entries r.pass.view.seen)) w.origin whole;
+      follows = subst (λ (o : Making). FollowsAsks k o.made_at all (entries r.pass.view.seen)) w.origin whole;
       ended = ended;
-      legal = subst (λ (o : Making). IsLegal o.made (entries r.pass.view.seen)) w.origin m.legal;
+      legal = subst (λ (o : Making). IsLegal o.made_at (entries r.pass.view.seen)) w.origin m.legal;
       closed = subst (λ (o : Making). ClosedAs o (entries r.pass.view.seen) r.closed) w.origin d.closed;
     }
 
@@ -219,7 +219,7 @@ all_left plan k ops last hs gs rs is made len working released s d e low =
     let l : SharedLine = record { at = 0; site = 0 } in
     let h = slice_index_or hs s d in
     let g = slice_index_or gs s d in
-    let at = release_at h.view.origin.made (last_at ops) in
+    let at = release_at h.view.origin.made_at (last_at ops) in
     let w = working s d low in
     let r = released s d e l (omega (arith, len, low)) (all_closed k at (part_of plan (last_at ops) s h ops) h g w) in
     let r' : WasReleased g (slice_index_or rs s e) at = subst (WasReleased g (slice_index_or rs s e)) (λ i. release_at ((made.1 s d l low).0 i) (is i)) r in

@@ -8,7 +8,7 @@ use Rattle.trace_threads.specs.History.{Sum, start, entry, has, sum_after, may_d
 use Rattle.trace_threads.proofs.histories.HoldersLemmas.{both, has_back, in_without}
 use Rattle.trace_threads.proofs.histories.HistoriesLemmas.{tested}
 use Rattle.thread_script.specs.Asks.{Ask, ask, FollowsAsks, clones_asked, numbers_from, clone_entries, opening_from}
-use Rattle.thread_handles.proofs.Following.{NextIs}
+use Rattle.thread_handles.proofs.AsksLemmas.{NextIs}
 
 own_case : (e : Entry) (es : List Entry) (b : Bool) → (e.caller == e.caller) ≡ b → b ≡ true → entries_by e.caller (e ∷ es) ≡ [] → ⊥
 own_case e es true is eq none = let bad : e ∷ entries_by e.caller es ≡ [] = rw is at none in cc
