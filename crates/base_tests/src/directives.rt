@@ -66,27 +66,27 @@ fn fixed_pattern(directive: &Directive, wanted: &str) -> Result<ValueMatch, Fail
 }
 
 // A pattern made a fixed text, from a copy of its directive.
-fn fixed(alloc: Global) -> Result<ValueMatch, Fail> {
+fn pattern_of_copy(alloc: Global) -> Result<ValueMatch, Fail> {
     let directive = Directive::from_str(alloc, "[{f=a.c}]")?.clone_directive()?;
     fixed_pattern(&directive, "a.c")
 }
 
 // Whether a pattern that was made a fixed text is met by its own text, and by what it would match.
 fn fixed_is_met(alloc: Global) -> Result<[Result<bool, Memory>; 2], Fail> {
-    let fixed = fixed(alloc)?;
+    let fixed = pattern_of_copy(alloc)?;
     Ok([meets(alloc, &fixed, "a.c"), meets(alloc, &fixed, "abc")])
 }
 
 #[test]
 fn makes_fixed_texts_of_patterns(rt: HostRuntime) -> Result<(), Fail> {
     assert!(rt; fixed_is_met(rt.alloc())? == [Ok(true), Ok(false)]);
-    let told = fixed(rt.alloc())?.to_string(rt.alloc())?;
+    let told = pattern_of_copy(rt.alloc())?.to_string(rt.alloc())?;
     assert_eq!(rt; told.as_str(), "a.c");
     Ok(())
 }
 
 // Directives that are made of levels, as they print.
-fn made(alloc: Global) -> Result<String, Fail> {
+fn level_directives(alloc: Global) -> Result<String, Fail> {
     let level = Directive::from_level(alloc, Level::DEBUG);
     let filter = Directive::from_filter(alloc, LevelFilter::WARN);
     Ok(format!(in alloc; "{level} {filter}")?)
@@ -108,7 +108,7 @@ fn fault(alloc: Global) -> Result<String, Fail> {
 
 #[test]
 fn makes_directives_of_levels(rt: HostRuntime) -> Result<(), Fail> {
-    assert_eq!(rt; made(rt.alloc())?.as_str(), "debug warn");
+    assert_eq!(rt; level_directives(rt.alloc())?.as_str(), "debug warn");
     assert_eq!(rt; defaults(rt.alloc())?.as_str(), "off error");
     let fault = fault(rt.alloc())?;
     assert_eq!(rt;
@@ -130,7 +130,7 @@ const KEPT: [&str; 6] = [
 ];
 
 // A set of those, added in turn.
-fn kept(alloc: Global) -> Result<Set, Fail> {
+fn directive_set(alloc: Global) -> Result<Set, Fail> {
     let mut set = DirectiveSet::new(alloc);
     for text in KEPT {
         set.add(StaticDirective::from_str(alloc, text)?)?;
@@ -150,7 +150,7 @@ fn again(alloc: Global, set: &Set) -> Result<Set, Fail> {
 }
 
 // The directives of a set, each with a blank behind it, and the greatest level.
-fn listed(alloc: Global, set: &Set) -> Result<String, Fail> {
+fn set_text(alloc: Global, set: &Set) -> Result<String, Fail> {
     let mut told = String::new(alloc);
     for directive in set.iter() {
         write!(told, "{directive} ")?;
@@ -166,13 +166,13 @@ fn is_empty(set: &Set) -> (bool, LevelFilter) {
 
 // What is kept, and what a set of what that hands out keeps.
 fn kept_once(alloc: Global) -> Result<String, Fail> {
-    let kept = kept(alloc)?;
-    listed(alloc, &kept)
+    let kept = directive_set(alloc)?;
+    set_text(alloc, &kept)
 }
 
 fn kept_again(alloc: Global) -> Result<String, Fail> {
-    let again = again(alloc, &kept(alloc)?)?;
-    listed(alloc, &again)
+    let again = again(alloc, &directive_set(alloc)?)?;
+    set_text(alloc, &again)
 }
 
 #[test]
@@ -226,7 +226,7 @@ fn one_target(
 }
 
 // The level of targets where none is met, and how they print.
-fn printed(alloc: Global) -> Result<(Option<LevelFilter>, String), Fail> {
+fn targets_text(alloc: Global) -> Result<(Option<LevelFilter>, String), Fail> {
     let targets = with_four(alloc)?;
     Ok((targets.default_level(), targets.to_string(alloc)?))
 }
@@ -244,7 +244,7 @@ fn is_other(alloc: Global) -> Result<bool, Fail> {
 }
 
 // The pairs that targets give by value, each with a blank behind it.
-fn owned(alloc: Global) -> Result<String, Fail> {
+fn pairs_by_value(alloc: Global) -> Result<String, Fail> {
     let mut told = String::new(alloc);
     for (target, level) in Targets::from_str(alloc, FIVE)?.into_iter() {
         write!(told, "{}={level} ", target.as_str())?;
@@ -254,13 +254,13 @@ fn owned(alloc: Global) -> Result<String, Fail> {
 
 #[test]
 fn sets_targets(rt: HostRuntime) -> Result<(), Fail> {
-    let (level, told) = printed(rt.alloc())?;
+    let (level, told) = targets_text(rt.alloc())?;
     assert!(rt;
         level == Some(LevelFilter::DEBUG) && told.as_str() == "web=warn,app=info,db=off,debug"
     );
     assert!(rt; is_copied(rt.alloc())? && is_other(rt.alloc())?);
     assert_eq!(rt;
-        owned(rt.alloc())?.as_str(),
+        pairs_by_value(rt.alloc())?.as_str(),
         "crate1::mod2=trace crate1::mod1=error crate3=off crate2=debug "
     );
     Ok(())

@@ -53,7 +53,7 @@ fn values(alloc: Global) -> Result<ValueSet, Memory> {
 }
 
 // The measures that an event with these values tells.
-fn told(alloc: Global) -> Result<Vec<Measure>, Memory> {
+fn event_measures(alloc: Global) -> Result<Vec<Measure>, Memory> {
     let callsite = event(alloc, NAMES.as_slice())?;
     let values = values(alloc)?;
     measures(alloc, &callsite, &values)
@@ -76,7 +76,7 @@ fn takes(alloc: Global, names: &[&str]) -> Result<bool, Memory> {
 
 #[test]
 fn keeps_an_instrument_for_each_kind_and_name(rt: HostRuntime) -> Result<(), Fail> {
-    let told = told(rt.alloc())?;
+    let told = event_measures(rt.alloc())?;
     let mut instruments = Instruments::new(rt.alloc());
     for _ in 0..2 {
         let places = places(rt.alloc(), &mut instruments, told.as_slice())?;

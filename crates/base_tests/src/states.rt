@@ -29,7 +29,7 @@ const STACKS: [(&[(u64, &str)], &[u64], &str); 3] = [
 ];
 
 // What is popped after some pushes, with how many are left after each.
-fn popped(alloc: Global, pushes: &[(u64, &'static str)], pops: &[u64]) -> Result<String, Fail> {
+fn pops_text(alloc: Global, pushes: &[(u64, &'static str)], pops: &[u64]) -> Result<String, Fail> {
     let mut stack = IdValueStack::new(alloc);
     for (place, value) in pushes {
         if stack.push(id(*place), *value).is_err() {
@@ -51,13 +51,13 @@ fn id(place: u64) -> Id {
 #[test]
 fn pops_the_latest_of_a_span(rt: HostRuntime) -> Result<(), Fail> {
     for (pushes, pops, wanted) in STACKS {
-        assert_eq!(rt; popped(rt.alloc(), pushes, pops)?.as_str(), wanted);
+        assert_eq!(rt; pops_text(rt.alloc(), pushes, pops)?.as_str(), wanted);
     }
     Ok(())
 }
 
 // The status that a value writes at a place of a callsite with one field.
-fn written(alloc: Global, place: usize) -> Result<Option<Status>, Memory> {
+fn status_at(alloc: Global, place: usize) -> Result<Option<Status>, Memory> {
     let callsite = callsite(alloc, &["otel.status_code"])?;
     let mut pairs = Items::new(alloc);
     pairs.push((place, Value::Str(text(alloc, "okay")?)))?;
@@ -67,6 +67,6 @@ fn written(alloc: Global, place: usize) -> Result<Option<Status>, Memory> {
 
 #[test]
 fn writes_what_is_unset(rt: HostRuntime) {
-    assert!(rt; written(rt.alloc(), 0) == Ok(Some(Status::Unset)));
-    assert!(rt; written(rt.alloc(), 1) == Ok(None));
+    assert!(rt; status_at(rt.alloc(), 0) == Ok(Some(Status::Unset)));
+    assert!(rt; status_at(rt.alloc(), 1) == Ok(None));
 }

@@ -31,7 +31,7 @@ fn place_of<Q: AsField>(field: &Q, site: SiteId, callsite: &Callsite) -> Option<
 }
 
 // What a name, and fields of this site and of another, name at a site of two fields.
-fn named(alloc: Global, world: &mut World<Registry>) -> Result<[Option<usize>; 5], Memory> {
+fn named_places(alloc: Global, world: &mut World<Registry>) -> Result<[Option<usize>; 5], Memory> {
     let declared = callsite(alloc, &["a", "f"])?;
     let site = world.add_site(declared.clone()?)?;
     let other = world.add_site(callsite(alloc, &["a", "f"])?)?;
@@ -47,7 +47,7 @@ fn named(alloc: Global, world: &mut World<Registry>) -> Result<[Option<usize>; 5
 #[test]
 fn names_fields_at_their_own_callsite(rt: HostRuntime) {
     let mut world = World::new(rt.alloc());
-    let told = named(rt.alloc(), &mut world);
+    let told = named_places(rt.alloc(), &mut world);
     world.discard();
     assert_eq!(rt; told, Ok([Some(1), None, Some(1), None, None]));
 }
@@ -67,7 +67,7 @@ fn add(alloc: Global, world: &mut World<Registry>) -> Result<Dispatch, Memory>
 }
 
 // A default, another one inside it, and a third while a closure runs; the numbers of what serves the lane then.
-fn nested(alloc: Global, world: &mut World<Registry>) -> Result<[Option<u64>; 5], Memory> {
+fn nested_defaults(alloc: Global, world: &mut World<Registry>) -> Result<[Option<u64>; 5], Memory> {
     let first = add(alloc, world)?;
     let second = add(alloc, world)?;
     let third = add(alloc, world)?;
@@ -90,7 +90,7 @@ fn number(lane: &Lane) -> Option<u64> {
 #[test]
 fn puts_defaults_back_in_order(rt: HostRuntime) {
     let mut world = World::new(rt.alloc());
-    let told = nested(rt.alloc(), &mut world);
+    let told = nested_defaults(rt.alloc(), &mut world);
     world.discard();
     assert_eq!(rt; told, Ok([Some(1), Some(2), Some(1), Some(0), None]));
 }
@@ -116,7 +116,7 @@ fn globals(
 }
 
 // The same in a world with two registries.
-fn served(alloc: Global, world: &mut World<Registry>) -> Result<[bool; 5], Memory> {
+fn in_two_registries(alloc: Global, world: &mut World<Registry>) -> Result<[bool; 5], Memory> {
     let first = add(alloc, world)?;
     let second = add(alloc, world)?;
     Ok(globals(world, &mut lane(alloc), first, second))
@@ -125,7 +125,7 @@ fn served(alloc: Global, world: &mut World<Registry>) -> Result<[bool; 5], Memor
 #[test]
 fn sets_the_global_default_once(rt: HostRuntime) {
     let mut world = World::new(rt.alloc());
-    let told = served(rt.alloc(), &mut world);
+    let told = in_two_registries(rt.alloc(), &mut world);
     world.discard();
     assert_eq!(rt; told, Ok([true; 5]));
 }

@@ -7,7 +7,7 @@ use otel_base::memory::Memory;
 use std::alloc::Global;
 
 /// A line for each directive of a set, in order; `Memory` where memory is wanting.
-pub fn listed(alloc: Global, set: &DirectiveSet<Directive>) -> Result<String, Memory>
+pub fn directive_lines(alloc: Global, set: &DirectiveSet<Directive>) -> Result<String, Memory>
     ensures { IfOk result (λ told. string_bytes told ≡ flat_map directive_line set.now.directives) }
 {
     let mut told = String::new(alloc);

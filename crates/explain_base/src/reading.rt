@@ -21,7 +21,7 @@ pub enum Reading {
 
 impl Reading {
     /// The reading that a word names, or this one where it names none.
-    pub fn switched(self, word: &str) -> Reading
+    pub fn named_or_same(self, word: &str) -> Reading
         ensures { result ≡ reading_named self word.now }
     {
         match word {

@@ -1,7 +1,7 @@
 //! What a text is read as, in lines that are indented.
 use crate::answer::{answer_set, answer_targets, answer_value};
 use env_directives::{Directive, DirectiveSet, ParseError, Targets};
-use explain_base::directives::{listed, push_directive};
+use explain_base::directives::{directive_lines, push_directive};
 use explain_base::{Reading, push};
 use otel_base::memory::Memory;
 use std::alloc::Global;
@@ -74,7 +74,7 @@ fn level_filter(alloc: Global, text: &str) -> Result<String, Memory> {
 fn filter(alloc: Global, text: &str, asked: Option<&str>) -> Result<String, Memory> {
     let mut told = String::new(alloc);
     let set = read_pieces(alloc, text, &mut told)?;
-    push(&mut told, listed(alloc, &set))?;
+    push(&mut told, directive_lines(alloc, &set))?;
     if let Some(asked) = asked {
         push(&mut told, answer_set(alloc, &set, asked))?;
     }

@@ -21,7 +21,7 @@ fn main(rt: HostRuntime) -> io::Result<()> {
 fn explain_line(rt: &HostRuntime, reading: Reading, line: &str) -> io::Result<Reading> {
     println!(rt; "{line}")?;
     if let Some(words) = line.strip_prefix('#') {
-        return Ok(reading.switched(words.trim()));
+        return Ok(reading.named_or_same(words.trim()));
     }
     let told = explain(rt.alloc(), reading, line).map_err(|_| ErrorKind::OutOfMemory)?;
     print!(rt; "{told}")?;

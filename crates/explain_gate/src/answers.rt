@@ -8,20 +8,20 @@ use std::alloc::Global;
 use trace_base::callsite::Callsite;
 
 /// A line that is no call.
-pub fn unknown(alloc: Global) -> Result<String, Memory> {
+pub fn no_call_line(alloc: Global) -> Result<String, Memory> {
     Ok(String::from_str(alloc, "  no call\n")?)
 }
 
 /// The pieces that were left out.
-pub fn all_ignored(alloc: Global, pieces: &[Ignored]) -> Result<String, Memory> {
+pub fn ignored_lines(alloc: Global, pieces: &[Ignored]) -> Result<String, Memory> {
     let mut told = String::new(alloc);
     for piece in pieces {
-        push(&mut told, ignored(alloc, piece))?;
+        push(&mut told, ignored_line(alloc, piece))?;
     }
     Ok(told)
 }
 
-fn ignored(alloc: Global, piece: &Ignored) -> Result<String, Memory> {
+fn ignored_line(alloc: Global, piece: &Ignored) -> Result<String, Memory> {
     let number = piece.piece;
     let text = piece.text.as_str();
     let fault = piece.fault;
@@ -29,7 +29,7 @@ fn ignored(alloc: Global, piece: &Ignored) -> Result<String, Memory> {
 }
 
 /// The first piece that is no directive.
-pub fn refused(alloc: Global, piece: u64, fault: ParseError) -> Result<String, Memory> {
+pub fn refusal_line(alloc: Global, piece: u64, fault: ParseError) -> Result<String, Memory> {
     if fault == ParseError::Memory {
         return Err(Memory);
     }
@@ -37,7 +37,7 @@ pub fn refused(alloc: Global, piece: u64, fault: ParseError) -> Result<String, M
 }
 
 /// A text that has a piece that is no directive.
-pub fn faulty(alloc: Global, fault: ParseError) -> Result<String, Memory> {
+pub fn fault_line(alloc: Global, fault: ParseError) -> Result<String, Memory> {
     if fault == ParseError::Memory {
         return Err(Memory);
     }

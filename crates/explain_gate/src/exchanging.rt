@@ -7,15 +7,15 @@ use trace_base::callsite::Callsite;
 use trace_base::layer::Layer;
 
 /// What is in place once a filter was exchanged for another.
-pub fn exchanged(filter: EnvFilter, next: EnvFilter) -> Option<EnvFilter> {
+pub fn exchange(filter: EnvFilter, next: EnvFilter) -> Option<EnvFilter> {
     let mut layer = reload::Layer::new(filter);
-    let inner = reloaded(&mut layer, next);
+    let inner = reload_and_retire(&mut layer, next);
     drop(layer);
     inner
 }
 
 // The filter inside a layer after it was given another.
-fn reloaded(layer: &mut reload::Layer<EnvFilter>, next: EnvFilter) -> Option<EnvFilter> {
+fn reload_and_retire(layer: &mut reload::Layer<EnvFilter>, next: EnvFilter) -> Option<EnvFilter> {
     match layer.reload(next) {
         Ok(()) => layer.retire(),
         Err(_) => None,
@@ -23,40 +23,40 @@ fn reloaded(layer: &mut reload::Layer<EnvFilter>, next: EnvFilter) -> Option<Env
 }
 
 /// A copy of the filter inside a layer that can be exchanged.
-pub fn copied(filter: EnvFilter) -> Result<Option<EnvFilter>, Memory> {
+pub fn copy_current(filter: EnvFilter) -> Result<Option<EnvFilter>, Memory> {
     reload::Layer::new(filter).clone_current()
 }
 
 /// What a layer answers whose filter was changed in place and then taken out for good, and whether it says so when it is
 /// to lend a filter, to change it, or is given another.
-pub fn retired(alloc: Global, lane: u64, callsite: &Callsite) -> Result<String, Memory> {
+pub fn retirement_line(alloc: Global, lane: u64, callsite: &Callsite) -> Result<String, Memory> {
     let mut layer = reload::Layer::new(EnvFilter::new(alloc, "trace")?);
-    let told = changed_and_retired(alloc, &mut layer, lane, callsite);
+    let told = change_and_retire(alloc, &mut layer, lane, callsite);
     drop(layer);
     told
 }
 
-fn changed_and_retired(
+fn change_and_retire(
     alloc: Global,
     layer: &mut reload::Layer<EnvFilter>,
     lane: u64,
     callsite: &Callsite,
 ) -> Result<String, Memory> {
-    let mut told = changed(alloc, layer, lane, callsite)?;
+    let mut told = change_line(alloc, layer, lane, callsite)?;
     push_retired(alloc, &mut told, layer, lane, callsite)?;
     Ok(told)
 }
 
 // What a layer answers before and after its filter is changed in place for one that lets nothing through.
-fn changed(
+fn change_line(
     alloc: Global,
     layer: &mut reload::Layer<EnvFilter>,
     lane: u64,
     callsite: &Callsite,
 ) -> Result<String, Memory> {
-    let before = lent(layer, lane, callsite);
+    let before = lent_answer(layer, lane, callsite);
     let changed = changes(layer, EnvFilter::new(alloc, "off")?);
-    let after = lent(layer, lane, callsite);
+    let after = lent_answer(layer, lane, callsite);
     Ok(format!(in alloc; "  enabled {before:?}, changed {changed}, enabled {after:?}")?)
 }
 
@@ -93,7 +93,7 @@ fn retired_line(
 }
 
 // What the filter inside a layer answers, if there is one.
-fn lent(layer: &reload::Layer<EnvFilter>, lane: u64, callsite: &Callsite) -> Option<bool> {
+fn lent_answer(layer: &reload::Layer<EnvFilter>, lane: u64, callsite: &Callsite) -> Option<bool> {
     layer
         .with_current(|filter| filter.enabled(lane, callsite))
         .ok()
@@ -108,5 +108,5 @@ fn is_dropped(layer: &mut reload::Layer<EnvFilter>, lane: u64, callsite: &Callsi
     let refuses = layer
         .reload(filter)
         .is_err_and(|error| error.is_dropped() && !error.is_poisoned());
-    refuses && lent(layer, lane, callsite).is_none() && layer.modify(|_| ()).is_err()
+    refuses && lent_answer(layer, lane, callsite).is_none() && layer.modify(|_| ()).is_err()
 }

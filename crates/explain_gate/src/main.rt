@@ -31,12 +31,12 @@ fn answer(rt: &HostRuntime, session: &mut Session, line: &str) -> io::Result<()>
     if line.starts_with('#') {
         return Ok(());
     }
-    let told = told(rt, session, line).map_err(|_| ErrorKind::OutOfMemory)?;
+    let told = answer_text(rt, session, line).map_err(|_| ErrorKind::OutOfMemory)?;
     print!(rt; "{told}")?;
     Ok(())
 }
 
-fn told(rt: &HostRuntime, session: &mut Session, line: &str) -> Result<String, Memory> {
+fn answer_text(rt: &HostRuntime, session: &mut Session, line: &str) -> Result<String, Memory> {
     match line.strip_prefix("process ") {
         Some(words) => variables::of_process(rt.alloc(), rt, words),
         None => session.answer(line),

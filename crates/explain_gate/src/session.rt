@@ -36,9 +36,9 @@ impl Session {
         let (call, words) = line.split_once(' ').unwrap_or((line, ""));
         match call {
             "new" => self.renew(words),
-            "lossy" => self.lossy(words),
-            "strict" => self.strict(words, true),
-            "fixed" => self.strict(words, false),
+            "lossy" => self.renew_lossy(words),
+            "strict" => self.renew_strict(words, true),
+            "fixed" => self.renew_strict(words, false),
             "add" => self.add(words),
             "span" => self.declare(Kind::Span, words),
             "event" => self.declare(Kind::Event, words),
@@ -57,7 +57,7 @@ impl Session {
             "from_str" => self.put_read(EnvFilter::from_str(self.alloc, words)),
             "vars" => variables::in_memory(self.alloc, words),
             "vars_lossy" => variables::in_part(self.alloc, words),
-            "var" => variables::given(self.alloc, words),
+            "var" => variables::read_value(self.alloc, words),
             _ => self.answer_on(call, words),
         }
     }
@@ -66,7 +66,7 @@ impl Session {
     fn answer_on(&mut self, call: &str, words: &str) -> Result<String, Memory> {
         let (first, more) = words.split_once(' ').unwrap_or((words, ""));
         let Some(number) = words::number(first) else {
-            return answers::unknown(self.alloc);
+            return answers::no_call_line(self.alloc);
         };
         match call {
             "make" => self.make(Id::at(number), more),
@@ -75,9 +75,9 @@ impl Session {
             "exit" => self.exit(Id::at(number), more),
             "close" => self.close(Id::at(number)),
             "ask" => self.ask(number, more),
-            "retired" => self.retired(number, more),
+            "retired" => self.ask_retired(number, more),
             "targets" => self.by_targets(number, more),
-            _ => answers::unknown(self.alloc),
+            _ => answers::no_call_line(self.alloc),
         }
     }
 
@@ -98,9 +98,9 @@ impl Session {
     }
 
     // The same, and the other pieces are told.
-    fn lossy(&mut self, text: &str) -> Result<String, Memory> {
+    fn renew_lossy(&mut self, text: &str) -> Result<String, Memory> {
         let ignored = self.put_lossy(text)?;
-        let mut told = answers::all_ignored(self.alloc, ignored.as_slice())?;
+        let mut told = answers::ignored_lines(self.alloc, ignored.as_slice())?;
         push_filter(self.alloc, &mut told, &self.filter)?;
         Ok(told)
     }
@@ -113,10 +113,10 @@ impl Session {
     }
 
     // The filter of a text, or the first piece that is no directive.
-    fn strict(&mut self, text: &str, patterns: bool) -> Result<String, Memory> {
+    fn renew_strict(&mut self, text: &str, patterns: bool) -> Result<String, Memory> {
         match read_strict(self.alloc, text, patterns) {
             Ok(filter) => self.put(filter),
-            Err((piece, fault)) => answers::refused(self.alloc, piece, fault),
+            Err((piece, fault)) => answers::refusal_line(self.alloc, piece, fault),
         }
     }
 
@@ -124,23 +124,23 @@ impl Session {
     fn put_read(&mut self, read: Result<EnvFilter, ParseError>) -> Result<String, Memory> {
         match read {
             Ok(filter) => self.put(filter),
-            Err(fault) => answers::faulty(self.alloc, fault),
+            Err(fault) => answers::fault_line(self.alloc, fault),
         }
     }
 
     // The filter of the empty text, where that has a default directive.
     fn by_default(&mut self, text: &str) -> Result<String, Memory> {
         let Ok(directive) = Directive::parse(self.alloc, text, true) else {
-            return answers::unknown(self.alloc);
+            return answers::no_call_line(self.alloc);
         };
-        let filter = defaulted(self.alloc, directive)?;
+        let filter = default_filter(self.alloc, directive)?;
         self.put(filter)
     }
 
     // A directive more.
     fn add(&mut self, text: &str) -> Result<String, Memory> {
         let Ok(directive) = Directive::parse(self.alloc, text, true) else {
-            return answers::unknown(self.alloc);
+            return answers::no_call_line(self.alloc);
         };
         let filter = mem::replace(&mut self.filter, EnvFilter::default(self.alloc));
         match filter.add_directive(directive) {
@@ -161,9 +161,9 @@ impl Session {
     // Puts what a layer over the filter has as a copy of it in its place.
     fn copy_current(&mut self) -> Result<String, Memory> {
         let filter = mem::replace(&mut self.filter, EnvFilter::default(self.alloc));
-        match exchanging::copied(filter)? {
+        match exchanging::copy_current(filter)? {
             Some(copy) => self.put(copy),
-            None => answers::unknown(self.alloc),
+            None => answers::no_call_line(self.alloc),
         }
     }
 
@@ -171,16 +171,16 @@ impl Session {
     fn exchange(&mut self, text: &str) -> Result<String, Memory> {
         let next = EnvFilter::new(self.alloc, text)?;
         let filter = mem::replace(&mut self.filter, EnvFilter::default(self.alloc));
-        match exchanging::exchanged(filter, next) {
+        match exchanging::exchange(filter, next) {
             Some(filter) => self.put(filter),
-            None => answers::unknown(self.alloc),
+            None => answers::no_call_line(self.alloc),
         }
     }
 
     // Names a callsite, and asks the filter for its interest.
     fn declare(&mut self, kind: Kind, words: &str) -> Result<String, Memory> {
         let Some(callsite) = words::callsite(self.alloc, kind, words)? else {
-            return answers::unknown(self.alloc);
+            return answers::no_call_line(self.alloc);
         };
         let interest = self.filter.register_callsite(&callsite);
         let number = self.callsites.len();
@@ -191,8 +191,8 @@ impl Session {
     // A span is made at a callsite, with values.
     fn make(&mut self, span: Id, words: &str) -> Result<String, Memory> {
         let (first, more) = words.split_once(' ').unwrap_or((words, ""));
-        let Some(callsite) = named(self.callsites.as_slice(), first) else {
-            return answers::unknown(self.alloc);
+        let Some(callsite) = callsite_at(self.callsites.as_slice(), first) else {
+            return answers::no_call_line(self.alloc);
         };
         let values = words::values(self.alloc, callsite, more)?;
         let made = make_span(self.alloc, &mut self.filter, span, callsite, &values);
@@ -204,8 +204,8 @@ impl Session {
     // Values are recorded on a span of a callsite.
     fn record(&mut self, span: Id, words: &str) -> Result<String, Memory> {
         let (first, more) = words.split_once(' ').unwrap_or((words, ""));
-        let Some(callsite) = named(self.callsites.as_slice(), first) else {
-            return answers::unknown(self.alloc);
+        let Some(callsite) = callsite_at(self.callsites.as_slice(), first) else {
+            return answers::no_call_line(self.alloc);
         };
         let values = words::values(self.alloc, callsite, more)?;
         let recorded = record_on(&mut self.filter, span, callsite, &values);
@@ -217,7 +217,7 @@ impl Session {
     // A span is entered on a lane.
     fn enter(&mut self, span: Id, lane: &str) -> Result<String, Memory> {
         let Some(lane) = words::number(lane) else {
-            return answers::unknown(self.alloc);
+            return answers::no_call_line(self.alloc);
         };
         let mut at = words::lane(self.alloc, lane);
         // A filter attaches nothing to lanes, so an entry is refused for want of memory alone.
@@ -232,7 +232,7 @@ impl Session {
     // A span is exited on a lane.
     fn exit(&mut self, span: Id, lane: &str) -> Result<String, Memory> {
         let Some(lane) = words::number(lane) else {
-            return answers::unknown(self.alloc);
+            return answers::no_call_line(self.alloc);
         };
         self.filter
             .on_exit(span, &mut words::lane(self.alloc, lane), 0);
@@ -248,33 +248,33 @@ impl Session {
     // Whether the filter lets a callsite through on a lane.
     fn ask(&self, callsite: u64, lane: &str) -> Result<String, Memory> {
         let Some(lane) = words::number(lane) else {
-            return answers::unknown(self.alloc);
+            return answers::no_call_line(self.alloc);
         };
         match self.callsites.get(callsite as usize) {
             Some(callsite) => answers::gate(self.alloc, &self.filter, lane, callsite),
-            None => answers::unknown(self.alloc),
+            None => answers::no_call_line(self.alloc),
         }
     }
 
     // What a layer answers of a callsite on a lane once its filter was taken out.
-    fn retired(&self, callsite: u64, lane: &str) -> Result<String, Memory> {
+    fn ask_retired(&self, callsite: u64, lane: &str) -> Result<String, Memory> {
         let Some(lane) = words::number(lane) else {
-            return answers::unknown(self.alloc);
+            return answers::no_call_line(self.alloc);
         };
         match self.callsites.get(callsite as usize) {
-            Some(callsite) => exchanging::retired(self.alloc, lane, callsite),
-            None => answers::unknown(self.alloc),
+            Some(callsite) => exchanging::retirement_line(self.alloc, lane, callsite),
+            None => answers::no_call_line(self.alloc),
         }
     }
 
     // What targets answer of a callsite.
     fn by_targets(&self, callsite: u64, words: &str) -> Result<String, Memory> {
         let Some(callsite) = self.callsites.get(callsite as usize) else {
-            return answers::unknown(self.alloc);
+            return answers::no_call_line(self.alloc);
         };
-        match targets::answered(self.alloc, callsite, words)? {
+        match targets::answer_lines(self.alloc, callsite, words)? {
             Some(told) => Ok(told),
-            None => answers::unknown(self.alloc),
+            None => answers::no_call_line(self.alloc),
         }
     }
 }
@@ -326,7 +326,7 @@ fn record_on(
 }
 
 // The filter of the empty text, by a copy of a builder that takes no patterns and has a default directive.
-fn defaulted(alloc: Global, directive: Directive) -> Result<EnvFilter, Memory> {
+fn default_filter(alloc: Global, directive: Directive) -> Result<EnvFilter, Memory> {
     let builder = Builder::default(alloc)
         .with_regex(false)
         .with_default_directive(directive);
@@ -347,7 +347,7 @@ fn empty_text(builder: &Builder) -> Result<EnvFilter, Memory> {
 }
 
 // The callsite that a word is the number of.
-fn named<'c>(callsites: &'c [Callsite], word: &str) -> Option<&'c Callsite> {
+fn callsite_at<'c>(callsites: &'c [Callsite], word: &str) -> Option<&'c Callsite> {
     let number = words::number(word)?;
     callsites.get(number as usize)
 }

@@ -13,7 +13,11 @@ use trace_base::subscriber::Interest;
 
 /// What targets answer of a callsite: as a filter and as a layer, inside a layer that can be exchanged, and what the
 /// others answer for which they are exchanged there. None where one of two words is no text of targets.
-pub fn answered(alloc: Global, callsite: &Callsite, words: &str) -> Result<Option<String>, Memory> {
+pub fn answer_lines(
+    alloc: Global,
+    callsite: &Callsite,
+    words: &str,
+) -> Result<Option<String>, Memory> {
     let (first, next) = words.split_once(' ').unwrap_or((words, ""));
     let Ok(targets) = Targets::from_str(alloc, first) else {
         return Ok(None);
@@ -21,10 +25,10 @@ pub fn answered(alloc: Global, callsite: &Callsite, words: &str) -> Result<Optio
     let Ok(others) = Targets::from_str(alloc, next) else {
         return Ok(None);
     };
-    Ok(Some(told(alloc, callsite, targets, others)?))
+    Ok(Some(lines(alloc, callsite, targets, others)?))
 }
 
-fn told(
+fn lines(
     alloc: Global,
     callsite: &Callsite,
     targets: Targets,
@@ -32,12 +36,12 @@ fn told(
 ) -> Result<String, Memory> {
     let mut told = by_filter(alloc, &targets, callsite)?;
     push(&mut told, by_layer(alloc, "layer", &targets, callsite))?;
-    push(&mut told, exchanged(alloc, callsite, targets, others))?;
+    push(&mut told, exchange_lines(alloc, callsite, targets, others))?;
     Ok(told)
 }
 
 // What a layer answers with targets inside, and with others once they are exchanged.
-fn exchanged(
+fn exchange_lines(
     alloc: Global,
     callsite: &Callsite,
     targets: Targets,
@@ -46,22 +50,22 @@ fn exchanged(
     let mut layer = reload::Layer::new(targets);
     let mut told = by_layer(alloc, "inside", &layer, callsite)?;
     if layer.reload(others).is_err() {
-        return answers::unknown(alloc);
+        return answers::no_call_line(alloc);
     }
     push(&mut told, by_layer(alloc, "exchanged", &layer, callsite))?;
-    push(&mut told, copied(alloc, &layer, callsite))?;
+    push(&mut told, copy_line(alloc, &layer, callsite))?;
     Ok(told)
 }
 
 // What a copy of the targets inside answers.
-fn copied(
+fn copy_line(
     alloc: Global,
     layer: &reload::Layer<Targets>,
     callsite: &Callsite,
 ) -> Result<String, Memory> {
     match layer.clone_current()? {
         Some(targets) => by_layer(alloc, "copied", &targets, callsite),
-        None => answers::unknown(alloc),
+        None => answers::no_call_line(alloc),
     }
 }
 

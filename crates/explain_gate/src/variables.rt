@@ -31,7 +31,7 @@ fn push_required(alloc: Global, told: &mut String, vars: &MemVars) -> Result<(),
 pub fn in_part(alloc: Global, words: &str) -> Result<String, Memory> {
     let vars = MemVars::new(alloc, pairs(alloc, words)?);
     let (filter, ignored) = EnvFilter::builder(alloc).from_env_lossy(&vars)?;
-    let mut told = answers::all_ignored(alloc, ignored.as_slice())?;
+    let mut told = answers::ignored_lines(alloc, ignored.as_slice())?;
     push_filter(alloc, &mut told, &filter)?;
     Ok(told)
 }
@@ -54,13 +54,13 @@ fn push_pair(alloc: Global, pairs: &mut Items<(Text, Text)>, word: &str) -> Resu
 }
 
 /// What is read of what a variable gave; of none where there is no word.
-pub fn given(alloc: Global, words: &str) -> Result<String, Memory> {
-    let held = held(alloc, words)?;
+pub fn read_value(alloc: Global, words: &str) -> Result<String, Memory> {
+    let held = value_of(alloc, words)?;
     let builder = EnvFilter::builder(alloc);
     read_as(alloc, builder.from_var(held))
 }
 
-fn held(alloc: Global, words: &str) -> Result<Option<String>, Memory> {
+fn value_of(alloc: Global, words: &str) -> Result<Option<String>, Memory> {
     if words.is_empty() {
         return Ok(None);
     }
@@ -76,7 +76,7 @@ pub fn of_process<R: Env>(alloc: Global, rt: &R, words: &str) -> Result<String, 
         "try_from_env" => read_as(alloc, EnvFilter::try_from_env(alloc, name, &vars)),
         "builder.from_env" => read_by_builder(alloc, name, &vars),
         "builder.try_from_env" => required_by_builder(alloc, name, &vars),
-        _ => answers::unknown(alloc),
+        _ => answers::no_call_line(alloc),
     }
 }
 
@@ -104,11 +104,11 @@ fn builder(alloc: Global, name: &str) -> Result<Builder, Memory> {
 fn read_as(alloc: Global, read: Result<EnvFilter, FromEnvError>) -> Result<String, Memory> {
     match read {
         Ok(filter) => filter_line(alloc, &filter),
-        Err(fault) => refused(alloc, fault),
+        Err(fault) => fault_line(alloc, fault),
     }
 }
 
-fn refused(alloc: Global, fault: FromEnvError) -> Result<String, Memory> {
+fn fault_line(alloc: Global, fault: FromEnvError) -> Result<String, Memory> {
     if fault == FromEnvError::Memory {
         return Err(Memory);
     }

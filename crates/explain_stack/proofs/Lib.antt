@@ -1,8 +1,8 @@
 pub mod Around
-pub mod Asking
+pub mod AsksLemmas
 pub mod Begins
 pub mod Held
 pub mod Moves
-pub mod Polling
+pub mod PollsLemmas
 pub mod Quiet
 pub mod Steps

@@ -12,14 +12,14 @@ use Rattle.trace_base.specs.Spans.{Span, Spans, entries_on, times_in, is_in, pla
 use Rattle.trace_base.specs.Calls.{SubscriberCall, NewSpan, Enter, Exit, spans_after_call, with_span_entry, with_span_exit}
 use Rattle.trace_base.specs.Conditions.{HasOwnHold, MayExit}
 use Rattle.trace_base.specs.lanes.Contexts.{Lanes, KeepsAttached, attached_as}
-use Rattle.trace_base.proofs.Entering.{counted_if_any, length_held}
-use Rattle.trace_base.proofs.Holding.{first_if_in}
+use Rattle.trace_base.proofs.EntryLemmas.{counted_if_any, length_held}
+use Rattle.trace_base.proofs.HoldLemmas.{first_if_in}
 use Rattle.span_handles.specs.Worlds.{Replaced}
 use Rattle.span_handles.specs.Handles.{Held, IsKnown, HasOn, ReplacedOn}
 use Rattle.span_handles.specs.Entries.{LeavesLane}
-use Rattle.span_handles.proofs.Showing.{as_many, now_there}
+use Rattle.span_handles.proofs.ChangedSubscriberLemmas.{as_many, now_there}
 use Rattle.span_futures.specs.Lent.{all_kept, AreAllAttached}
-use Rattle.span_futures.proofs.Keeping.{keeps_all, others_same, same_kept, own_after, attached_after}
+use Rattle.span_futures.proofs.KeptLemmas.{keeps_all, others_same, same_kept, own_after, attached_after}
 use Rattle.explain_stack.specs.Order.{Stands}
 
 -- a span with its own hold may be exited where it has an entry
@@ -36,9 +36,9 @@ if_length : (b : Bool) (xs ys : List Span) (n : ℕ) → length xs ≡ n → len
 if_length true xs ys n x y = x
 if_length false xs ys n x y = y
 
-new_made : (x : Spans) (lane : Lane) (at : ℕ) (place : Parent) (site : ℕ) (callsite : Callsite) (values : ValueSet) → length (spans_after_call x (NewSpan lane at place site callsite values)).made ≡ length x.made + 1
-new_made x lane at place site callsite values =
-    let above = place_on (entries_on lane.id x.lanes) place in
+new_made : (x : Spans) (lane : Lane) (at : ℕ) (parent : Parent) (site : ℕ) (callsite : Callsite) (values : ValueSet) → length (spans_after_call x (NewSpan lane at parent site callsite values)).made ≡ length x.made + 1
+new_made x lane at parent site callsite values =
+    let above = place_on (entries_on lane.id x.lanes) parent in
     let more = length-append {A = Span} (held_by_child x.made above) (record { holds = 1; parent = above; site = site } ∷ []) in
     let same = length_held x.made above in
     omega (arith, more, same)
@@ -65,11 +65,11 @@ module _ {S : Type 0} (spans : S → Spans) (attaches : S → Bool) (kept : S �
     (shows : (s : S) (call : SubscriberCall) (t : S) → does s call t → spans t ≡ spans_after_call (spans s) call) (lanes : (s : S) (call : SubscriberCall) (t : S) → does s call t → Lanes (attaches s) (kept s) call (kept t))
     (keeps_whole : (s : S) (call : SubscriberCall) (t : S) → does s call t → is_whole s → is_whole t) (dispatch made sites : ℕ) where
   -- a span more
-  pub grown_stands : (old new : Worlds S) (d id : ℕ) (in_lane : Lane) (at : ℕ) (place : Parent) (site : ℕ) (callsite : Callsite) (values : ValueSet)
-      → Replaced (λ s t. (id ≡ length (spans s).made) × does s (NewSpan in_lane at place site callsite values) t) old new d
+  pub grown_stands : (old new : Worlds S) (d id : ℕ) (in_lane : Lane) (at : ℕ) (parent : Parent) (site : ℕ) (callsite : Callsite) (values : ValueSet)
+      → Replaced (λ s t. (id ≡ length (spans s).made) × does s (NewSpan in_lane at parent site callsite values) t) old new d
       → (lane other : Lane) → Stands spans kept is_whole dispatch made sites old lane other → Stands spans kept is_whole dispatch (made + 1) sites new lane other
-  grown_stands old new d id in_lane at place site callsite values r lane other stands =
-      let call : SubscriberCall = NewSpan in_lane at place site callsite values in
+  grown_stands old new d id in_lane at parent site callsite values r lane other stands =
+      let call : SubscriberCall = NewSpan in_lane at parent site callsite values in
       let R : S → S → Type 0 = λ s t. (id ≡ length (spans s).made) × does s call t in
       record {
         there = (let n = as_many R old new d r in omega (arith, n, stands.there));
@@ -78,7 +78,7 @@ module _ {S : Type 0} (spans : S → Spans) (attaches : S → Bool) (kept : S �
           | inl here ↦ (
               let same : Some r.later ≡ Some t = sym (now_there R old new d r) ∙ subst (λ (k : ℕ). slice_get new.subscribers k ≡ Some t) here there in
               let last : r.later ≡ t = cc same in
-              let one = ap (λ (x : Spans). length x.made) (shows r.before call r.later r.did.1) ∙ new_made (spans r.before) in_lane at place site callsite values in
+              let one = ap (λ (x : Spans). length x.made) (shows r.before call r.later r.did.1) ∙ new_made (spans r.before) in_lane at parent site callsite values in
               let was = stands.few d r.before r.there in
               subst (λ (s : S). length (spans s).made ≤ made + 1) last (omega (arith, one, was)))
           | inr apart ↦ (

@@ -10,31 +10,31 @@ use Rattle.explain_stack.proofs.Steps.{IsQuiet}
 
 -- a call that makes no span and leaves lanes
 abbrev pub IsQuietCall : SubscriberCall → Type 0
-IsQuietCall (NewSpan lane at place site callsite values) = ⊥
+IsQuietCall (NewSpan lane at parent site callsite values) = ⊥
 IsQuietCall (TryClose id at) = Unit {0}
 IsQuietCall (Records id at callsite values) = Unit {0}
 IsQuietCall (Follows id from at) = Unit {0}
-IsQuietCall (Event lane at place site callsite values) = Unit {0}
+IsQuietCall (Event lane at parent site callsite values) = Unit {0}
 IsQuietCall (Enter id at before later) = ⊥
 IsQuietCall (Exit id at before later) = ⊥
 IsQuietCall (CloneSpan id) = Unit {0}
 
 quiet_made : (x : Spans) (call : SubscriberCall) → IsQuietCall call → length (spans_after_call x call).made ≡ length x.made
-quiet_made x (NewSpan lane at place site callsite values) q = absurd q
+quiet_made x (NewSpan lane at parent site callsite values) q = absurd q
 quiet_made x (TryClose id at) q = length-set x.made id _
 quiet_made x (Records id at callsite values) q = refl
 quiet_made x (Follows id from at) q = refl
-quiet_made x (Event lane at place site callsite values) q = refl
+quiet_made x (Event lane at parent site callsite values) q = refl
 quiet_made x (Enter id at before later) q = absurd q
 quiet_made x (Exit id at before later) q = absurd q
 quiet_made x (CloneSpan id) q = length-set x.made id _
 
 quiet_kept : (attaches : Bool) (kept now : ℕ → ℕ → ℕ) (call : SubscriberCall) → IsQuietCall call → Lanes attaches kept call now → now ≡ kept
-quiet_kept attaches kept now (NewSpan lane at place site callsite values) q l = absurd q
+quiet_kept attaches kept now (NewSpan lane at parent site callsite values) q l = absurd q
 quiet_kept attaches kept now (TryClose id at) q l = l
 quiet_kept attaches kept now (Records id at callsite values) q l = l
 quiet_kept attaches kept now (Follows id from at) q l = l
-quiet_kept attaches kept now (Event lane at place site callsite values) q l = l
+quiet_kept attaches kept now (Event lane at parent site callsite values) q l = l
 quiet_kept attaches kept now (Enter id at before later) q l = absurd q
 quiet_kept attaches kept now (Exit id at before later) q l = absurd q
 quiet_kept attaches kept now (CloneSpan id) q l = l

@@ -5,8 +5,8 @@ use Rattle.trace_base.specs.Gate.{Worlds}
 use Rattle.trace_base.specs.Spans.{Spans}
 use Rattle.span_handles.specs.Worlds.{Replaced}
 use Rattle.span_handles.specs.Handles.{Held, ReplacedOn}
-use Rattle.span_handles.proofs.Showing.{as_many}
-use Rattle.span_futures.proofs.Keeping.{keeps_all, same_kept, own_after}
+use Rattle.span_handles.proofs.ChangedSubscriberLemmas.{as_many}
+use Rattle.span_futures.proofs.KeptLemmas.{keeps_all, same_kept, own_after}
 use Rattle.explain_stack.specs.Order.{Stands}
 
 module _ {S : Type 0} (spans : S → Spans) (kept : S → ℕ → ℕ → ℕ) (is_whole : S → Type 0) where

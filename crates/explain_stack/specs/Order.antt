@@ -22,7 +22,7 @@ pub record Stands {S : Type 0} (spans : S → Spans) (kept : S → ℕ → ℕ �
   pub apart : other.id ≡ lane.id → ⊥
 
 abbrev pub SceneInOrder : {S : Type 0} → (S → Spans) → (S → ℕ → ℕ → ℕ) → (S → Type 0) → Scene S → Type 0
-SceneInOrder spans kept is_whole scene = Stands spans kept is_whole scene.dispatch scene.made scene.sites scene.world scene.lane scene.other
+SceneInOrder spans kept is_whole scene = Stands spans kept is_whole scene.dispatch scene.span_count scene.sites scene.world scene.lane scene.other
 
 -- A call leaves the scene in order, with as many callsites, and in its world all handles are known that were.
 pub record KeepsScene {S : Type 0} (spans : S → Spans) (kept : S → ℕ → ℕ → ℕ) (is_whole : S → Type 0) (old new : Scene S) : Type 0 where

@@ -34,7 +34,7 @@ pub fn answer<S: Stack>(
     let (call, line) = line.split_once(' ').unwrap_or((line, ""));
     let (name, words) = line.split_once(' ').unwrap_or((line, ""));
     let Some(at) = words::number(at) else {
-        return told::refused(alloc);
+        return told::refused_line(alloc);
     };
     match call {
         "new" => make(alloc, scene, handles, at, name, words),
@@ -42,10 +42,10 @@ pub fn answer<S: Stack>(
         "close" => close(alloc, scene, handles, at, name),
         "admits" => admits(alloc, scene, name, words),
         "lane" => turn(alloc, scene, handles, name),
-        "fill" => polls::filled(alloc, scene),
+        "fill" => polls::fill(alloc, scene),
         "around" => polls::around(alloc, scene, handles, at, name),
-        "inside" => inside::told(alloc, scene.dispatch),
-        "poll" => polls::polled(alloc, scene, handles, at, name, words, cx),
+        "inside" => inside::line(alloc, scene.dispatch),
+        "poll" => polls::poll(alloc, scene, handles, at, name, words, cx),
         _ => on_handle::tell(alloc, scene, handles, at, call, name, words),
     }
 }
@@ -66,11 +66,11 @@ fn make<S: Stack>(
     let (parent, words) = words.split_once(' ').unwrap_or((words, ""));
     let (site, words) = words.split_once(' ').unwrap_or((words, ""));
     let Some(site) = scene.site_at(words::number(site).unwrap_or(0)) else {
-        return told::refused(alloc);
+        return told::refused_line(alloc);
     };
     if !scene.admits(alloc, scene.lanes().0, site) {
         handles.put(name, Slot::of(Span::none()));
-        return told::done(alloc, false);
+        return told::done_line(alloc, false);
     }
     make_at(alloc, scene, handles, at, name, parent, site, words)
 }
@@ -92,20 +92,20 @@ fn make_at<S: Stack>(
     ensures play { InPlay S.spans S.kept S.is_whole scene.new handles.new }
 {
     let values = words::values(alloc, words)?;
-    let made = made(scene, handles, at, parent, site, &values);
+    let made = new_span(scene, handles, at, parent, site, &values);
     drop(values);
     match made? {
         Some(span) => {
             handles.put(name, Slot::of(span));
-            told::done(alloc, true)
+            told::done_line(alloc, true)
         }
-        None => told::refused(alloc),
+        None => told::refused_line(alloc),
     }
 }
 
 // The span that is made.
 #[tactic(auto, using(crate::proofs::Held::named_held, crate::proofs::Held::still_held))]
-fn made<S: Stack>(
+fn new_span<S: Stack>(
     scene: &mut Scene<S>,
     handles: &Handles,
     at: u64,
@@ -143,7 +143,7 @@ fn admits<S: Stack>(
     requires order { SceneInOrder S.spans S.kept S.is_whole scene.now }
 {
     let Some(site) = scene.site_at(words::number(site).unwrap_or(0)) else {
-        return told::refused(alloc);
+        return told::refused_line(alloc);
     };
     let admits = scene.admits(alloc, words::number(lane).unwrap_or(0), site);
     told::answer(alloc, "admits", admits)
@@ -166,7 +166,7 @@ fn turn<S: Stack>(
         scene.turn();
         handles.turn();
     }
-    told::done(alloc, lane == here || lane == there)
+    told::done_line(alloc, lane == here || lane == there)
 }
 
 // A span follows from another, which may be itself.
@@ -187,7 +187,7 @@ fn follow<S: Stack>(
             scene.follow(at, slot.span(), from.span())?;
         }
     }
-    told::done(alloc, true)
+    told::done_line(alloc, true)
 }
 
 // A handle is closed, where no other is of its span and it isn't entered.
@@ -205,7 +205,7 @@ fn close<S: Stack>(
         ⊎ ClosesNamed S.spans S.does at name.now handles.old scene.old.world handles.new scene.new.world }
 {
     let Some(slot) = handles.take_last(name) else {
-        return told::refused(alloc);
+        return told::refused_line(alloc);
     };
     let closed = scene.close(at, slot.into_span());
     told::answer(alloc, "closed", closed)

@@ -35,7 +35,7 @@ pub struct Scene<S> {
     pub(crate) other: Lane,
     pub(crate) dispatch: Dispatch,
     // At least as many as were made.
-    pub(crate) made: u64,
+    pub(crate) span_count: u64,
     pub(crate) sites: u64,
 }
 
@@ -48,14 +48,14 @@ impl<S: Stack> Scene<S> {
         requires empty { length world.subscribers ≡ 0 }
         ensures { IfOk result (λ scene. SceneInOrder S.spans S.kept S.is_whole scene) }
     {
-        let sites = declared(&world, sites);
+        let sites = site_count(&world, sites);
         match world.add(stack) {
             Ok(dispatch) => Ok(Scene {
                 world,
                 lane: bare_lane(alloc, 1, Some(dispatch)),
                 other: bare_lane(alloc, 2, None),
                 dispatch,
-                made: 0,
+                span_count: 0,
                 sites,
             }),
             Err((stack, memory)) => {
@@ -111,7 +111,7 @@ impl<S: Stack> Scene<S> {
             lane: _,
             other: _,
             dispatch,
-            made: _,
+            span_count: _,
             sites: _,
         } = self;
         let done = world.subscriber_mut(dispatch).tell(alloc, told);
@@ -180,7 +180,7 @@ fn bare_lane(alloc: Global, id: u64, default: Option<Dispatch>) -> Lane
 }
 
 // So many callsites, if the world has them.
-fn declared<S: Subscriber>(world: &World<S>, sites: u64) -> u64
+fn site_count<S: Subscriber>(world: &World<S>, sites: u64) -> u64
     ensures { result ≤ length world.now.sites }
 {
     if sites > 0 && world.site_at(sites - 1).is_some() {

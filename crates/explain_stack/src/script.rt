@@ -38,12 +38,12 @@ pub fn run(
         "counting" => run_counting(alloc, EnvFilter::new(alloc, words)?, lines, cx),
         "targets" => match Targets::from_str(alloc, words) {
             Ok(targets) => run_counting(alloc, targets, lines, cx),
-            Err(_) => told::refused(alloc),
+            Err(_) => told::refused_line(alloc),
         },
         "filtered" => run_judged(alloc, EnvFilter::new(alloc, words)?, lines, cx),
         "below" => match Targets::from_str(alloc, words) {
             Ok(targets) => run_judged(alloc, targets, lines, cx),
-            Err(_) => told::refused(alloc),
+            Err(_) => told::refused_line(alloc),
         },
         "exchanged" => run_exchanged(alloc, words, lines, cx),
         _ => run_on(alloc, Registry::new(alloc), lines, cx),
@@ -101,14 +101,14 @@ fn run_exchanged(
 ) -> Result<String, Memory> {
     let (first, next) = words.split_once(' ').unwrap_or((words, ""));
     let Ok(first) = Targets::from_str(alloc, first) else {
-        return told::refused(alloc);
+        return told::refused_line(alloc);
     };
     let Ok(next) = Targets::from_str(alloc, next) else {
-        return told::refused(alloc);
+        return told::refused_line(alloc);
     };
     let mut judge = reload::Layer::new(first);
     if judge.reload(next).is_err() {
-        return told::refused(alloc);
+        return told::refused_line(alloc);
     }
     run_judged(alloc, judge, lines, cx)
 }

@@ -28,7 +28,7 @@ fn head(alloc: Global, record: &Record) -> Result<String, Memory> {
 fn status(alloc: Global, status: &Status) -> Result<String, Memory> {
     match status {
         Status::Unset => Ok(String::new(alloc)),
-        Status::Error { description } => quoted(alloc, "error", description.as_str()),
+        Status::Error { description } => quote(alloc, "error", description.as_str()),
         Status::Ok => Ok(String::from_str(alloc, "    ok\n")?),
     }
 }
@@ -61,7 +61,7 @@ fn attribute(alloc: Global, pair: &KeyValue) -> Result<String, Memory> {
     match &pair.value {
         OtelValue::Bool(value) => Ok(format!(in alloc; "    {key} {value}\n")?),
         OtelValue::I64(value) => Ok(format!(in alloc; "    {key} {value}\n")?),
-        OtelValue::Str(value) => quoted(alloc, key, value.as_str()),
+        OtelValue::Str(value) => quote(alloc, key, value.as_str()),
         OtelValue::List(values) => {
             let count = values.as_slice().len();
             Ok(format!(in alloc; "    {key} of {count} texts\n")?)
@@ -69,7 +69,7 @@ fn attribute(alloc: Global, pair: &KeyValue) -> Result<String, Memory> {
     }
 }
 
-fn quoted(alloc: Global, key: &str, value: &str) -> Result<String, Memory> {
+fn quote(alloc: Global, key: &str, value: &str) -> Result<String, Memory> {
     Ok(format!(in alloc; "    {key} `{value}`\n")?)
 }
 
@@ -80,21 +80,21 @@ pub fn add(told: &mut String, text: String) -> Result<(), Memory> {
 }
 
 /// A line that is no call, or one that can't be made now.
-pub fn refused(alloc: Global) -> Result<String, Memory>
+pub fn refused_line(alloc: Global) -> Result<String, Memory>
     ensures { IfOk result (λ told. string_bytes told ≡ done_line false) }
 {
     Ok(String::from_str(alloc, "  refused\n")?)
 }
 
 /// What a poll answers, if there was one: pending, ready with whether a subscriber serves the lane, or refused by a full lane.
-pub fn polled(
+pub fn poll_line(
     alloc: Global,
     polled: Option<Result<Poll<bool>, EnterError>>,
 ) -> Result<String, Memory>
     ensures { IfOk result (λ told. string_bytes told ≡ answer_line polled) }
 {
     match polled {
-        None => refused(alloc),
+        None => refused_line(alloc),
         Some(Ok(Poll::Pending)) => Ok(String::from_str(alloc, "  pending\n")?),
         Some(Ok(Poll::Ready(true))) => Ok(String::from_str(alloc, "  ready, served true\n")?),
         Some(Ok(Poll::Ready(false))) => Ok(String::from_str(alloc, "  ready, served false\n")?),
@@ -109,12 +109,12 @@ pub fn answer(alloc: Global, word: &str, is_so: bool) -> Result<String, Memory> 
 }
 
 /// That a call was made, if it was.
-pub fn done(alloc: Global, done: bool) -> Result<String, Memory>
+pub fn done_line(alloc: Global, done: bool) -> Result<String, Memory>
     ensures { IfOk result (λ told. string_bytes told ≡ done_line done) }
 {
     if done {
         Ok(String::from_str(alloc, "  done\n")?)
     } else {
-        refused(alloc)
+        refused_line(alloc)
     }
 }

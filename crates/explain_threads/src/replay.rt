@@ -20,7 +20,7 @@ pub struct Replay {
     // Of each span, the handles of the entries behind the maker's.
     callers: Vec<Vec<u64>>,
     // Of each span, how many of these entries were made.
-    made: Vec<AtomicU64>,
+    entry_counts: Vec<AtomicU64>,
     // Of each worker, the spans on which its calls and then its releases make entries.
     spans: Vec<Vec<Option<usize>>>,
     is_over: AtomicU64,
@@ -35,7 +35,7 @@ impl Replay {
             Err(_) => Vec::new(alloc),
         };
         Ok(Replay {
-            made: counts(alloc, callers.len())?,
+            entry_counts: counts(alloc, callers.len())?,
             callers,
             spans,
             is_over: AtomicU64::new(0),
@@ -49,10 +49,11 @@ impl Replay {
 
     // Whether the next entry of a span is a worker's.
     fn is_next(&self, span: usize, worker: u64) -> bool {
-        let (Some(callers), Some(made)) = (self.callers.get(span), self.made.get(span)) else {
+        let (Some(callers), Some(count)) = (self.callers.get(span), self.entry_counts.get(span))
+        else {
             return true;
         };
-        match callers.get(made.load(Ordering::SeqCst) as usize) {
+        match callers.get(count.load(Ordering::SeqCst) as usize) {
             Some(caller) => *caller == worker.saturating_add(1),
             None => true,
         }
@@ -77,8 +78,8 @@ impl Turnstile for Replay {
         let Some(span) = self.span(worker, call) else {
             return;
         };
-        if let Some(made) = self.made.get(span) {
-            made.fetch_add(1, Ordering::SeqCst);
+        if let Some(count) = self.entry_counts.get(span) {
+            count.fetch_add(1, Ordering::SeqCst);
         }
     }
 }

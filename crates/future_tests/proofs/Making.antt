@@ -12,12 +12,12 @@ use Rattle.trace_base.specs.lanes.Contexts.{Lanes}
 use Rattle.span_handles.specs.Worlds.{Replaced, spans_in, no_spans}
 use Rattle.span_handles.specs.Handles.{Held, Handle, MakesIf, ReplacedIf, ReplacedOn}
 use Rattle.span_handles.specs.Knowing.{KeepsKnown}
-use Rattle.span_handles.proofs.Showing.{seen_before, seen_later}
+use Rattle.span_handles.proofs.ChangedSubscriberLemmas.{seen_before, seen_later}
 use Rattle.span_futures.specs.Calling.{CallsBy}
 use Rattle.span_futures.specs.Lent.{KeepsLent}
-use Rattle.span_futures.proofs.Calling.{called_same, called_once, calls_none, calls_one}
+use Rattle.span_futures.proofs.CallsLemmas.{called_same, called_once, calls_none, calls_one}
 use Rattle.span_futures.proofs.Inside.{keeps_nothing}
-use Rattle.span_futures.proofs.Keeping.{others_same, keeps_parts, keeps_all, same_kept, own_after}
+use Rattle.span_futures.proofs.KeptLemmas.{others_same, keeps_parts, keeps_all, same_kept, own_after}
 
 module _ {S : Type 0} (spans : S → Spans) (kept : S → ℕ → ℕ → ℕ) (is_whole : S → Type 0) where
   -- a step that leaves entries and lanes, and keeps handles known
@@ -53,10 +53,10 @@ module _ {S : Type 0} (spans : S → Spans) (kept : S → ℕ → ℕ → ℕ) (
 
   pub made_lent : (attaches : S → Bool) (does : S → SubscriberCall → S → Type 0) → ((s : S) (call : SubscriberCall) (t : S) → does s call t → spans t ≡ spans_after_call (spans s) call)
       → ((s : S) (call : SubscriberCall) (t : S) → does s call t → Lanes (attaches s) (kept s) call (kept t)) → ((s : S) (call : SubscriberCall) (t : S) → does s call t → is_whole s → is_whole t)
-      → (old new : Worlds S) (lane : Lane) (at : ℕ) (place : Parent) (site : ℕ) (values : ValueSet) (dispatch : Option ℕ) (handle : Handle) → KeepsKnown spans old new → MakesIf spans does old new lane at place site values dispatch handle → KeepsLent spans kept is_whole old new lane lane
-  made_lent attaches does shows lanes keeps_whole old new lane at place site values None handle known made = subst (λ (w : Worlds S). KeepsLent spans kept is_whole old w lane lane) (sym made.1) (keeps_nothing spans kept is_whole old lane)
-  made_lent attaches does shows lanes keeps_whole old new lane at place site values (Some d) handle known made =
-      let call : SubscriberCall = NewSpan lane at place site made.callsite values in
+      → (old new : Worlds S) (lane : Lane) (at : ℕ) (parent : Parent) (site : ℕ) (values : ValueSet) (dispatch : Option ℕ) (handle : Handle) → KeepsKnown spans old new → MakesIf spans does old new lane at parent site values dispatch handle → KeepsLent spans kept is_whole old new lane lane
+  made_lent attaches does shows lanes keeps_whole old new lane at parent site values None handle known made = subst (λ (w : Worlds S). KeepsLent spans kept is_whole old w lane lane) (sym made.1) (keeps_nothing spans kept is_whole old lane)
+  made_lent attaches does shows lanes keeps_whole old new lane at parent site values (Some d) handle known made =
+      let call : SubscriberCall = NewSpan lane at parent site made.callsite values in
       stays_lent (λ s t. (made.id ≡ length (spans s).made) × does s call t)
       (λ s t did. record { stays_whole = keeps_whole s call t did.1; as_entered = ap (λ (x : Spans). x.lanes) (shows s call t did.1); as_kept = lanes s call t did.1 })
       old new d lane made.made known
@@ -79,10 +79,10 @@ module _ {S : Type 0} (spans : S → Spans) (kept : S → ℕ → ℕ → ℕ) (
 
 -- the calls that it came to
 module _ {S : Type 0} (does : S → SubscriberCall → S → Type 0) (besides : ℕ → S → S → Type 0) (same : S → S → Type 0) (same_refl : (s : S) → same s s) (same_trans : (s t u : S) → same s t → same t u → same s u) where
-  pub made_calls : (spans : S → Spans) (old new : Worlds S) (lane : Lane) (at : ℕ) (place : Parent) (site : ℕ) (values : ValueSet) (dispatch : Option ℕ) (handle : Handle) → MakesIf spans does old new lane at place site values dispatch handle → CallsBy does besides same at old new
-  made_calls spans old new lane at place site values None handle made = subst (λ (w : Worlds S). CallsBy does besides same at old w) (sym made.1) (calls_none does besides same same_refl same_trans at old)
-  made_calls spans old new lane at place site values (Some d) handle made =
-      let call : SubscriberCall = NewSpan lane at place site made.callsite values in
+  pub made_calls : (spans : S → Spans) (old new : Worlds S) (lane : Lane) (at : ℕ) (parent : Parent) (site : ℕ) (values : ValueSet) (dispatch : Option ℕ) (handle : Handle) → MakesIf spans does old new lane at parent site values dispatch handle → CallsBy does besides same at old new
+  made_calls spans old new lane at parent site values None handle made = subst (λ (w : Worlds S). CallsBy does besides same at old w) (sym made.1) (calls_none does besides same same_refl same_trans at old)
+  made_calls spans old new lane at parent site values (Some d) handle made =
+      let call : SubscriberCall = NewSpan lane at parent site made.callsite values in
       calls_one does besides same same_refl same_trans at (λ s t. (made.id ≡ length (spans s).made) × does s call t) old new d (λ s t did. called_once does besides same same_refl same_trans at s call t (omega arith) did.1) made.made
 
   pub unmade_calls : (at : ℕ) (old new : Worlds S) (dispatch : Option ℕ) → ReplacedIf same old new dispatch → CallsBy does besides same at old new

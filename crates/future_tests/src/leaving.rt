@@ -2,7 +2,7 @@
 ghost use Rattle.std.specs.Prelude.{◌≡◌, [], None};
 
 use crate::acts::{Leaves, has_room};
-use crate::plays::{Play, played};
+use crate::plays::{Play, play_in_new_world};
 use crate::polls::poll;
 use crate::records::records;
 use crate::stack::{Stack, context, current, first};
@@ -17,7 +17,7 @@ use trace_base::world::World;
 
 /// A poll that leaves an entry of its span open: its answer, the current span and the current context afterwards, how many
 /// contexts are live, how many holds the span has after the end of the future, and the records.
-pub fn left<S: Stack>(
+pub fn leave_open<S: Stack>(
     alloc: Global,
     world: &mut World<S>,
     lane: &mut Lane,
@@ -45,7 +45,7 @@ pub fn left<S: Stack>(
 
 #[test]
 fn leaves_an_entry_open(rt: HostRuntime) -> Result<(), Fail> {
-    let told = played(&rt, Play::Left)?;
+    let told = play_in_new_world(&rt, Play::Left)?;
     assert_eq!(rt; told.as_str(), "7 1 1 1 2: ");
     Ok(())
 }

@@ -1,9 +1,9 @@
 //! What the tests play, each in a world of its own.
 ghost use Rattle.std.specs.Prelude.{◌≡◌, [], None};
 
-use crate::leaving::left;
-use crate::polls::{ended, looked, polled_twice};
-use crate::scopes::scoped;
+use crate::leaving::leave_open;
+use crate::polls::{end_in_span, look_around, poll_twice};
+use crate::scopes::run_in_scope;
 use crate::served::{made_under, taken_default};
 use crate::stack::lane;
 use futures::task::Context;
@@ -31,20 +31,23 @@ pub enum Play {
 }
 
 /// Plays it in a new world on a new lane, and answers what is told of it.
-pub fn played<R: RandomSource + AllocGlobal>(rt: &R, play: Play) -> Result<String, Fail> {
+pub fn play_in_new_world<R: RandomSource + AllocGlobal>(
+    rt: &R,
+    play: Play,
+) -> Result<String, Fail> {
     let task = MockTask::new(rt)?;
     let alloc = rt.alloc();
     let told = task.enter(|cx| {
         let mut world = World::new(alloc);
         let mut lane = lane(alloc);
-        let told = told(alloc, &mut world, &mut lane, play, cx);
+        let told = play_text(alloc, &mut world, &mut lane, play, cx);
         world.discard();
         told
     });
     Ok(told?)
 }
 
-fn told(
+fn play_text(
     alloc: Global,
     world: &mut World<RecordedStack>,
     lane: &mut Lane,
@@ -55,12 +58,12 @@ fn told(
     requires own { lane.old.default ≡ None }
 {
     match play {
-        Play::Scoped => scoped(alloc, world, lane),
-        Play::Twice => polled_twice(alloc, world, lane, cx),
-        Play::Looked => looked(alloc, world, lane, false, cx),
-        Play::Refused => looked(alloc, world, lane, true, cx),
-        Play::Ended => ended(alloc, world, lane),
-        Play::Left => left(alloc, world, lane, cx),
+        Play::Scoped => run_in_scope(alloc, world, lane),
+        Play::Twice => poll_twice(alloc, world, lane, cx),
+        Play::Looked => look_around(alloc, world, lane, false, cx),
+        Play::Refused => look_around(alloc, world, lane, true, cx),
+        Play::Ended => end_in_span(alloc, world, lane),
+        Play::Left => leave_open(alloc, world, lane, cx),
         Play::MadeUnder => made_under(alloc, world, lane, cx),
         Play::TakenDefault => taken_default(alloc, world, lane, cx),
     }

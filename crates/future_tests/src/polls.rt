@@ -4,7 +4,7 @@ ghost use Rattle.span_handles.specs.Handles.{IsKnown};
 ghost use Rattle.future_tests.specs.Ready.{IsReady};
 
 use crate::acts::{Looks, Twice, has_room};
-use crate::plays::{Play, played};
+use crate::plays::{Play, play_in_new_world};
 use crate::records::records;
 use crate::stack::{Stack, context, current, first};
 use futures::task::{Context, Poll};
@@ -19,7 +19,7 @@ use trace_base::lane::Lane;
 use trace_base::world::World;
 
 /// What a poll answers: 1000 where it is pending, 1001 where it is refused as by a full lane.
-pub fn told(polled: Result<Poll<u64>, EnterError>) -> u64 {
+pub fn poll_number(polled: Result<Poll<u64>, EnterError>) -> u64 {
     match polled {
         Ok(Poll::Pending) => 1000,
         Ok(Poll::Ready(answer)) => answer,
@@ -50,11 +50,11 @@ pub fn poll<S: Stack, T: TracedFuture<S, Output = u64>>(
     if !has_room(world, future.span()) {
         return 1003;
     }
-    told(future.poll_in(world, lane, at, cx))
+    poll_number(future.poll_in(world, lane, at, cx))
 }
 
 /// Two polls of a future that is pending once, the current span afterwards, and the record of its span after its end at 30.
-pub fn polled_twice<S: Stack>(
+pub fn poll_twice<S: Stack>(
     alloc: Global,
     world: &mut World<S>,
     lane: &mut Lane,
@@ -78,7 +78,7 @@ pub fn polled_twice<S: Stack>(
 
 /// A poll that looks around, or is refused inside the span, the current span and the current context afterwards, and the
 /// record of its span after its end at 20.
-pub fn looked<S: Stack>(
+pub fn look_around<S: Stack>(
     alloc: Global,
     world: &mut World<S>,
     lane: &mut Lane,
@@ -98,7 +98,7 @@ pub fn looked<S: Stack>(
 }
 
 /// The current context after the end of a future in its span at 10, and the record of that span.
-pub fn ended<S: Stack>(
+pub fn end_in_span<S: Stack>(
     alloc: Global,
     world: &mut World<S>,
     lane: &mut Lane,
@@ -140,7 +140,7 @@ fn end<S: Stack>(
 
 #[test]
 fn instrumented_poll(rt: HostRuntime) -> Result<(), Fail> {
-    let told = played(&rt, Play::Twice)?;
+    let told = play_in_new_world(&rt, Play::Twice)?;
     let wanted =
         "1000 7 0: work 1 under 0, 0 to 20, thread.id 1, target tests, busy_ns 0, idle_ns 20";
     assert_eq!(rt; told.as_str(), wanted);
@@ -149,7 +149,7 @@ fn instrumented_poll(rt: HostRuntime) -> Result<(), Fail> {
 
 #[test]
 fn polls_inside_its_span(rt: HostRuntime) -> Result<(), Fail> {
-    let told = played(&rt, Play::Looked)?;
+    let told = play_in_new_world(&rt, Play::Looked)?;
     let wanted =
         "911 0 0: work 1 under 0, 0 to 10, thread.id 1, target tests, busy_ns 0, idle_ns 10";
     assert_eq!(rt; told.as_str(), wanted);
@@ -158,7 +158,7 @@ fn polls_inside_its_span(rt: HostRuntime) -> Result<(), Fail> {
 
 #[test]
 fn exits_after_a_refusal(rt: HostRuntime) -> Result<(), Fail> {
-    let told = played(&rt, Play::Refused)?;
+    let told = play_in_new_world(&rt, Play::Refused)?;
     let wanted =
         "1001 0 0: work 1 under 0, 0 to 10, thread.id 1, target tests, busy_ns 0, idle_ns 10";
     assert_eq!(rt; told.as_str(), wanted);
@@ -167,7 +167,7 @@ fn exits_after_a_refusal(rt: HostRuntime) -> Result<(), Fail> {
 
 #[test]
 fn ends_inside_its_span(rt: HostRuntime) -> Result<(), Fail> {
-    let told = played(&rt, Play::Ended)?;
+    let told = play_in_new_world(&rt, Play::Ended)?;
     let wanted = "0: work 1 under 0, 0 to 10, thread.id 1, target tests, busy_ns 0, idle_ns 10";
     assert_eq!(rt; told.as_str(), wanted);
     Ok(())

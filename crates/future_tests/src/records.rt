@@ -18,10 +18,10 @@ pub fn records<S: Stack>(
     requires { stack < length world.old.subscribers }
     ensures { length world.new.subscribers ≡ length world.old.subscribers }
 {
-    taken(alloc, world.subscriber_mut(stack))
+    take_texts(alloc, world.subscriber_mut(stack))
 }
 
-fn taken<S: Stack>(alloc: Global, stack: &mut S) -> Result<String, Memory> {
+fn take_texts<S: Stack>(alloc: Global, stack: &mut S) -> Result<String, Memory> {
     let mut told = String::new(alloc);
     for _ in 0..9 {
         let Some(record) = stack.take() else {

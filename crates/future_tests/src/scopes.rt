@@ -5,7 +5,7 @@ ghost use Rattle.span_futures.specs.Lent.{HasAll};
 ghost use Rattle.future_tests.specs.Ready.{IsReady};
 
 use crate::acts::has_room;
-use crate::plays::{Play, played};
+use crate::plays::{Play, play_in_new_world};
 use crate::records::records;
 use crate::stack::{Stack, context, current, first};
 use otel_base::enter_error::EnterError;
@@ -49,7 +49,7 @@ fn inside<S: Stack>(
 
 /// What the closure answers, the current span and the current context afterwards, and the record of the span, which is closed
 /// at 30.
-pub fn scoped<S: Stack>(
+pub fn run_in_scope<S: Stack>(
     alloc: Global,
     world: &mut World<S>,
     lane: &mut Lane,
@@ -70,7 +70,7 @@ pub fn scoped<S: Stack>(
 
 #[test]
 fn in_scope_call(rt: HostRuntime) -> Result<(), Fail> {
-    let told = played(&rt, Play::Scoped)?;
+    let told = play_in_new_world(&rt, Play::Scoped)?;
     let wanted =
         "7 1 1 0 0 true: work 1 under 0, 0 to 10, thread.id 1, target tests, busy_ns 0, idle_ns 10";
     assert_eq!(rt; told.as_str(), wanted);

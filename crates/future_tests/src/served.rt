@@ -5,10 +5,10 @@ ghost use Rattle.span_futures.specs.Lent.{HasAll};
 ghost use Rattle.future_tests.specs.Ready.{IsUnused};
 
 use crate::acts::{Looks, Makes, maker, number};
-use crate::plays::{Play, played};
-use crate::polls::told;
+use crate::plays::{Play, play_in_new_world};
+use crate::polls::poll_number;
 use crate::records::records;
-use crate::stack::{Stack, added, no_values, site};
+use crate::stack::{Stack, add_stack, no_values, site};
 use futures::task::{Context, Poll};
 use otel_base::memory::Memory;
 use span_futures::traced_future::TracedFuture;
@@ -35,8 +35,8 @@ fn two<S: Stack>(
     ensures default { OnOk result (lane.new.default ≡ Some 0) }
 {
     let site = site(alloc, world)?;
-    let first = added(alloc, world)?;
-    let second = added(alloc, world)?;
+    let first = add_stack(alloc, world)?;
+    let second = add_stack(alloc, world)?;
     lane.default = Some(first);
     Ok((site, second))
 }
@@ -56,7 +56,7 @@ pub fn made_under<S: Stack>(
         site,
         values: no_values(alloc),
     };
-    let span = made(world, lane, makes.with_subscriber(second), cx)?;
+    let span = make_span(world, lane, makes.with_subscriber(second), cx)?;
     let of = number(maker(&span));
     let after = number(get_default(world, lane));
     span.close(world, 30);
@@ -65,7 +65,7 @@ pub fn made_under<S: Stack>(
 }
 
 // The span that a future makes.
-fn made<S: Stack>(
+fn make_span<S: Stack>(
     world: &mut World<S>,
     lane: &mut Lane,
     future: WithDispatch<Makes>,
@@ -106,7 +106,7 @@ pub fn taken_default<S: Stack>(
     let first = lane.default.replace(second);
     let mut future = looks.with_current_subscriber(world, lane);
     lane.default = first;
-    let seen = told(future.poll_in(world, lane, 10, cx));
+    let seen = poll_number(future.poll_in(world, lane, 10, cx));
     let after = number(get_default(world, lane));
     let of = number(future.dispatcher());
     Ok(format!(in alloc; "{seen} {after} {of}")?)
@@ -114,7 +114,7 @@ pub fn taken_default<S: Stack>(
 
 #[test]
 fn with_dispatch_poll(rt: HostRuntime) -> Result<(), Fail> {
-    let told = played(&rt, Play::MadeUnder)?;
+    let told = play_in_new_world(&rt, Play::MadeUnder)?;
     let wanted = "1 0: work 1 under 0, 10 to 30, thread.id 1, target tests, busy_ns 0, idle_ns 0";
     assert_eq!(rt; told.as_str(), wanted);
     Ok(())
@@ -122,7 +122,7 @@ fn with_dispatch_poll(rt: HostRuntime) -> Result<(), Fail> {
 
 #[test]
 fn polls_under_the_default_that_was_taken(rt: HostRuntime) -> Result<(), Fail> {
-    let told = played(&rt, Play::TakenDefault)?;
+    let told = play_in_new_world(&rt, Play::TakenDefault)?;
     assert_eq!(rt; told.as_str(), "100 0 1");
     Ok(())
 }

@@ -86,7 +86,7 @@ pub fn lane(alloc: Global) -> Lane
 }
 
 /// Adds a stack that was just made.
-pub fn added<S: Stack>(alloc: Global, world: &mut World<S>) -> Result<Dispatch, Memory>
+pub fn add_stack<S: Stack>(alloc: Global, world: &mut World<S>) -> Result<Dispatch, Memory>
     requires { HasAll (IsUnused S.spans S.kept S.is_whole) world.old }
     ensures dispatch { IfOk result (λ dispatch. dispatch ≡ length world.old.subscribers) }
     ensures more { OnOk result (length world.new.subscribers ≡ length world.old.subscribers + 1) }
@@ -143,7 +143,7 @@ pub fn first<S: Stack>(
     ensures ready { OnOk result (IsReady S.kept S.is_whole world.new lane.now) }
 {
     let site = site(alloc, world)?;
-    let stack = added(alloc, world)?;
+    let stack = add_stack(alloc, world)?;
     let span = Span::new_root_with(world, lane, 0, site, &no_values(alloc), stack)?;
     Ok((stack, span))
 }

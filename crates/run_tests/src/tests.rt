@@ -52,7 +52,12 @@ fn script<R: AllocGlobal>(rt: &R, rest: &str) -> Result<String, Fail> {
 }
 
 // The first bytes of a text, and behind them a status.
-fn ended<R: AllocGlobal>(rt: &R, text: &str, size: usize, status: Status) -> Result<String, Fail> {
+fn front_and_status<R: AllocGlobal>(
+    rt: &R,
+    text: &str,
+    size: usize,
+    status: Status,
+) -> Result<String, Fail> {
     let front = text.get(..size).ok_or("a front")?;
     Ok(format!(in rt.alloc(); "{front}= {}\n", status.number())?)
 }
@@ -80,7 +85,7 @@ fn ran_as<H: Threads + Wait + Sync + RandomSource + AllocGlobal>(
     let mut sink = MemSink::new(rt.alloc(), writes);
     let status = run(rt, &mut source, &mut sink, word)?;
     let text = str::from_utf8(sink.as_slice()).ok().ok_or("no text")?;
-    ended(rt, text, text.len(), status)
+    front_and_status(rt, text, text.len(), status)
 }
 
 // The same by `run`.

@@ -76,9 +76,9 @@ fn span(alloc: Global, record: &Record, row: Row, scale: Scale) -> Result<String
     let name = escape(alloc, record.name.as_str())?;
     let lasts = duration(alloc, record.end.saturating_sub(record.start))?;
     let bar = bar(alloc, record, scale)?;
-    let opened = opened(alloc, record)?;
+    let details = details(alloc, record)?;
     Ok(format!(in alloc;
-        "<details{class}><summary style=\"--depth:{depth}\"><b><bdi>{name}</bdi></b><em>{lasts}</em>{bar}</summary>\n{opened}</details>\n"
+        "<details{class}><summary style=\"--depth:{depth}\"><b><bdi>{name}</bdi></b><em>{lasts}</em>{bar}</summary>\n{details}</details>\n"
     )?)
 }
 
@@ -112,7 +112,7 @@ fn percent(alloc: Global, steps: u64) -> Result<String, Fault> {
 }
 
 // What a click shows of a span.
-fn opened(alloc: Global, record: &Record) -> Result<String, Fault> {
+fn details(alloc: Global, record: &Record) -> Result<String, Fault> {
     let mut table = String::new(alloc);
     table.push_str("<table>\n")?;
     push_row(alloc, &mut table, "span", record.span.as_str())?;
@@ -152,7 +152,12 @@ fn push_attributes(
     pairs: &[(String, Plain)],
 ) -> Result<(), Fault> {
     for (key, value) in pairs.iter() {
-        push_row(alloc, table, key.as_str(), shown(alloc, value)?.as_str())?;
+        push_row(
+            alloc,
+            table,
+            key.as_str(),
+            value_text(alloc, value)?.as_str(),
+        )?;
     }
     Ok(())
 }
@@ -189,16 +194,16 @@ fn push_row(alloc: Global, table: &mut String, label: &str, text: &str) -> Resul
     Ok(())
 }
 
-fn shown(alloc: Global, value: &Plain) -> Result<String, Fault> {
+fn value_text(alloc: Global, value: &Plain) -> Result<String, Fault> {
     Ok(match value {
         Plain::Bool(given) => format!(in alloc; "{given}")?,
         Plain::Number(number) => format!(in alloc; "{number}")?,
         Plain::Text(text) => text.as_str().to_string(alloc)?,
-        Plain::List(texts) => joined(alloc, texts.as_slice())?,
+        Plain::List(texts) => join(alloc, texts.as_slice())?,
     })
 }
 
-fn joined(alloc: Global, texts: &[String]) -> Result<String, Fault> {
+fn join(alloc: Global, texts: &[String]) -> Result<String, Fault> {
     let mut line = String::new(alloc);
     for text in texts.iter() {
         if !line.as_str().is_empty() {

@@ -138,5 +138,5 @@ fn read_traces(rt: &HostRuntime) -> Result<Vec<Trace>, Fault> {
             traces.add(rt.alloc(), record)?;
         }
     }
-    traces.sorted()
+    traces.into_sorted()
 }

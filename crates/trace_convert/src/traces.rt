@@ -44,7 +44,7 @@ impl Traces {
     }
 
     /// The traces, the spans of each in the order of their starts, the longer one first.
-    pub fn sorted(mut self) -> Result<Vec<Trace>, Fault> {
+    pub fn into_sorted(mut self) -> Result<Vec<Trace>, Fault> {
         for trace in self.traces.iter_mut() {
             trace
                 .records

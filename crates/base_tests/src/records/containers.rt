@@ -18,7 +18,7 @@ fn is_kept(alloc: Global, made: &str) -> Result<bool, Memory> {
 
 // Whether a fixed word is given back as a string.
 fn is_fixed(alloc: Global) -> Result<bool, Memory> {
-    let fixed = Text::fixed(alloc, Word::Level);
+    let fixed = Text::from_word(alloc, Word::Level);
     Ok(fixed.into_string()?.as_str() == "level")
 }
 
@@ -31,7 +31,7 @@ fn gives_texts_back(rt: HostRuntime) {
 // Whether a text is before a fixed word, and whether it is behind it.
 fn beside_level(alloc: Global, made: &str) -> Result<(bool, bool), Memory> {
     let made = text(alloc, made)?;
-    let level = Text::fixed(alloc, Word::Level);
+    let level = Text::from_word(alloc, Word::Level);
     Ok((made < level, made > level))
 }
 

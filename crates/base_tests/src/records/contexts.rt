@@ -40,7 +40,7 @@ fn shows_the_ids_of_a_context(rt: HostRuntime) {
 
 // The current contexts and how many are live: with two attached above one that stays, with the lower of these detached, and
 // with both.
-fn detached(stack: &mut ContextStack) -> Result<[(u128, u64); 3], EnterError>
+fn after_detaches(stack: &mut ContextStack) -> Result<[(u128, u64); 3], EnterError>
     requires { stack.old.live ≡ [] }
 {
     stack.attach(context_of(9))?.discard();
@@ -69,7 +69,7 @@ fn top(stack: &ContextStack) -> (u128, u64) {
 fn detaches_out_of_order(rt: HostRuntime) {
     let mut stack = ContextStack::new(rt.alloc());
     assert_eq!(rt; top(&stack), (0, 0));
-    assert_eq!(rt; detached(&mut stack), Ok([(2, 3), (2, 2), (9, 1)]));
+    assert_eq!(rt; after_detaches(&mut stack), Ok([(2, 3), (2, 2), (9, 1)]));
 }
 
 // Attaches contexts of these numbers, which stay.

@@ -35,7 +35,7 @@ fn gives_ids_by_number(rt: HostRuntime) {
         ids(u128::MAX, 5),
     ];
     assert!(rt; told == wanted);
-    assert_eq!(rt; recorder.started(), 5);
+    assert_eq!(rt; recorder.spans_started(), 5);
 }
 
 // A finished span that began at this moment.
@@ -66,7 +66,7 @@ fn finish_both<T: Tracer>(alloc: Global, tracer: &mut T) -> Result<(), Memory>
 }
 
 // When the span of the oldest record began.
-fn taken(recorder: &mut Recorder) -> Option<u64>
+fn take_start(recorder: &mut Recorder) -> Option<u64>
     ensures { recorder.new.spare ≡ recorder.old.spare }
 {
     recorder.take().map(|record| record.start)
@@ -74,17 +74,17 @@ fn taken(recorder: &mut Recorder) -> Option<u64>
 
 // What is taken before two records, then one of these, and after another one the rest.
 fn all_taken(alloc: Global, recorder: &mut Recorder) -> Result<[Option<u64>; 5], Memory> {
-    let none = taken(recorder);
+    let none = take_start(recorder);
     finish_both(alloc, recorder)?;
     recorder.reserve()?;
-    let first = taken(recorder);
+    let first = take_start(recorder);
     recorder.finish(record(alloc, 8));
     Ok([
         none,
         first,
-        taken(recorder),
-        taken(recorder),
-        taken(recorder),
+        take_start(recorder),
+        take_start(recorder),
+        take_start(recorder),
     ])
 }
 
@@ -93,7 +93,7 @@ fn gives_the_oldest_first(rt: HostRuntime) {
     let mut recorder = Recorder::new(rt.alloc());
     let told = all_taken(rt.alloc(), &mut recorder);
     assert_eq!(rt; told, Ok([None, Some(5), Some(3), Some(8), None]));
-    assert_eq!(rt; recorder.started(), 0);
+    assert_eq!(rt; recorder.spans_started(), 0);
 }
 
 #[test]

@@ -18,7 +18,7 @@ use trace_base::span::Id;
 use trace_base::world::World;
 
 // Whether a span and a root are handles that are none, where no subscriber serves the lane.
-fn made(
+fn makes_none(
     world: &mut World<Registry>,
     lane: &Lane,
     site: SiteId,
@@ -69,7 +69,7 @@ fn is_none(span: Span) -> bool {
 }
 
 // What a disabled handle answers of itself.
-fn told(world: &World<Registry>, site: SiteId) -> [bool; 9]
+fn handle_answers(world: &World<Registry>, site: SiteId) -> [bool; 9]
     requires { site < length world.now.sites }
 {
     let span = Span::new_disabled(site);
@@ -89,7 +89,7 @@ fn told(world: &World<Registry>, site: SiteId) -> [bool; 9]
 }
 
 // Records on a disabled handle, and on a copy of it.
-fn recorded(
+fn record_on_both(
     world: &mut World<Registry>,
     span: &Span,
     copy: &Span,
@@ -108,7 +108,7 @@ fn recorded(
 fn closes_nothing(world: &mut World<Registry>, values: &ValueSet) -> bool {
     let span = Span::none();
     let copy = span.clone_handle(world);
-    let told = recorded(world, &span, &copy, values);
+    let told = record_on_both(world, &span, &copy, values);
     let closes = copy.close(world, 4);
     span.discard();
     told == Ok(()) && !closes
@@ -116,7 +116,7 @@ fn closes_nothing(world: &mut World<Registry>, values: &ValueSet) -> bool {
 
 // Entries of a disabled handle: the lane of the guards, what a closure answers, and that the owning guard gives its
 // handle back.
-fn entered(
+fn entry_answers(
     world: &mut World<Registry>,
     lane: &mut Lane,
     site: SiteId,
@@ -163,15 +163,15 @@ fn all(alloc: Global, world: &mut World<Registry>, lane: &Lane, site: SiteId) ->
     let values = ValueSet {
         pairs: Items::new(alloc),
     };
-    let told = told(world, site) == [true; 9];
-    let made = made(world, lane, site, &values) == Ok(true);
+    let told = handle_answers(world, site) == [true; 9];
+    let made = makes_none(world, lane, site, &values) == Ok(true);
     let child = child(world, lane, site, &values) == Ok(true);
     let currents = currents(world, lane, site);
     [told, made, child, currents, closes_nothing(world, &values)]
 }
 
 // The same, and their entries.
-fn answered(
+fn all_answers(
     alloc: Global,
     world: &mut World<Registry>,
 ) -> Result<([bool; 5], Result<[u64; 4], EnterError>), Memory>
@@ -180,13 +180,13 @@ fn answered(
     let site = world.add_site(bare(alloc))?;
     let mut lane = lane(alloc);
     let told = all(alloc, world, &lane, site);
-    Ok((told, entered(world, &mut lane, site)))
+    Ok((told, entry_answers(world, &mut lane, site)))
 }
 
 #[test]
 fn calls_nothing_on_disabled_handles(rt: HostRuntime) {
     let mut world = World::new(rt.alloc());
-    let told = answered(rt.alloc(), &mut world);
+    let told = all_answers(rt.alloc(), &mut world);
     world.discard();
     assert_eq!(rt; told, Ok(([true; 5], Ok([1, 7, 1, 1]))));
 }

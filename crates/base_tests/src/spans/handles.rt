@@ -30,7 +30,7 @@ struct Making {
 }
 
 // A registry as the world's global subscriber, and a callsite with a field.
-fn prepared(alloc: Global, world: &mut World<Registry>) -> Result<Making, Memory>
+fn prepare(alloc: Global, world: &mut World<Registry>) -> Result<Making, Memory>
     requires { world.old ≡ record { sites = []; subscribers = []; cached = []; global = None } }
     ensures made { IfOk result (λ making. (making.site ≡ 0) × (making.registry ≡ 0)) }
     ensures sites { OnOk result (length world.new.sites ≡ 1) }
@@ -66,7 +66,7 @@ fn number(id: Option<Id>) -> u64 {
 }
 
 // What a handle tells of itself, and that its records are taken.
-fn recorded(
+fn record_answers(
     world: &mut World<Registry>,
     lane: &Lane,
     making: &Making,
@@ -116,18 +116,18 @@ fn first(alloc: Global, world: &mut World<Registry>, lane: &Lane) -> Result<(Mak
     requires own { lane.now.default ≡ None }
     ensures { IfOk result (λ it. IsFirst world.new lane.now it.0.site it.0.registry it.1) }
 {
-    let making = prepared(alloc, world)?;
+    let making = prepare(alloc, world)?;
     let span = root(world, lane, &making)?;
     Ok((making, span))
 }
 
 // What the handle of a first span tells, in a world of its own; the span's hold is kept.
-fn told(alloc: Global) -> Result<Result<[bool; 9], Memory>, Memory> {
+fn first_span_answers(alloc: Global) -> Result<Result<[bool; 9], Memory>, Memory> {
     let mut world = World::new(alloc);
     let lane = lane(alloc);
     let told = match first(alloc, &mut world, &lane) {
         Ok((making, first)) => {
-            let told = recorded(&mut world, &lane, &making, &first);
+            let told = record_answers(&mut world, &lane, &making, &first);
             first.discard();
             Ok(told)
         }
@@ -139,5 +139,5 @@ fn told(alloc: Global) -> Result<Result<[bool; 9], Memory>, Memory> {
 
 #[test]
 fn tells_of_a_span_by_its_handle(rt: HostRuntime) {
-    assert_eq!(rt; told(rt.alloc()), Ok(Ok([true; 9])));
+    assert_eq!(rt; first_span_answers(rt.alloc()), Ok(Ok([true; 9])));
 }

@@ -4,7 +4,7 @@ ghost use Rattle.trace_base.specs.Calls.{with_span_entry};
 ghost use Rattle.trace_base.specs.Conditions.{HasFewHolds, IsLive};
 ghost use Rattle.span_registry.specs.Registering.{no_spans};
 
-use crate::spans::registries::{Making, prepared};
+use crate::spans::registries::{Making, bare_making};
 use crate::worlds::asked::{Asked, Notes};
 use otel_base::memory::Memory;
 use span_registry::layer::registry;
@@ -45,7 +45,7 @@ fn enter(
 }
 
 // What each call notes, and whether the last one closed the span.
-fn noted(
+fn call_notes(
     stack: &mut Layered<Asked, Layered<Asked, Registry>>,
     making: &mut Making,
     log: &Cell<u64>,
@@ -119,21 +119,21 @@ fn all_noted(alloc: Global, making: &mut Making) -> Result<[u64; 10], Memory> {
     let inner = layer(1, log.clone()?);
     let outer = layer(2, log.clone()?);
     let mut stack = registry(alloc).with(inner).with(outer);
-    let told = noted(&mut stack, making, &log);
+    let told = call_notes(&mut stack, making, &log);
     stack.discard();
     told
 }
 
 // The same by a callsite of a world.
-fn told(alloc: Global, sites: &mut World<Registry>) -> Result<[u64; 10], Memory> {
-    all_noted(alloc, &mut prepared(alloc, sites)?)
+fn notes_by_site(alloc: Global, sites: &mut World<Registry>) -> Result<[u64; 10], Memory> {
+    all_noted(alloc, &mut bare_making(alloc, sites)?)
 }
 
 // A layer takes its memory before what it lies over does, and its hook comes after.
 #[test]
 fn tells_layers_in_the_order_in_which_they_were_put_on(rt: HostRuntime) {
     let mut sites = World::new(rt.alloc());
-    let told = told(rt.alloc(), &mut sites);
+    let told = notes_by_site(rt.alloc(), &mut sites);
     sites.discard();
     let wanted = [
         20101121, 20101222, 20101323, 20101424, 20101525, 1626, 0, 0, 1727, 1,

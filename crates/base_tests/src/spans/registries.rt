@@ -33,7 +33,7 @@ pub struct Making {
 }
 
 /// What a span without a name or values is made of.
-pub fn prepared(alloc: Global, sites: &mut World<Registry>) -> Result<Making, Memory>
+pub fn bare_making(alloc: Global, sites: &mut World<Registry>) -> Result<Making, Memory>
     ensures { IfOk result (λ making. making.lane.id ≡ 1) }
 {
     let site = sites.add_site(bare(alloc))?;
@@ -121,7 +121,7 @@ fn number(id: Option<Id>) -> u64 {
 }
 
 // Three roots made, two of them closed, and one made again: its number and the slots.
-fn reused(registry: &mut Registry, making: &Making) -> Result<[u64; 2], Memory>
+fn after_reuse(registry: &mut Registry, making: &Making) -> Result<[u64; 2], Memory>
     requires { registry.old ≡ record { spans = no_spans; slots = 0 } }
 {
     let first = make(registry, making, Parent::Root)?;
@@ -159,7 +159,7 @@ fn enter(registry: &mut Registry, id: Id, lane: &mut Lane) -> Result<(), Memory>
 }
 
 // The holds of a span that is entered twice, after one exit, and after both.
-fn entered(registry: &mut Registry, making: &mut Making) -> Result<[u64; 3], Memory>
+fn entry_holds(registry: &mut Registry, making: &mut Making) -> Result<[u64; 3], Memory>
     requires initial { registry.old ≡ record { spans = no_spans; slots = 0 } }
     requires lane { making.old.lane.id ≡ 1 }
 {
@@ -174,19 +174,19 @@ fn entered(registry: &mut Registry, making: &mut Making) -> Result<[u64; 3], Mem
 }
 
 // What both come to, each in a registry of its own.
-fn held(
+fn all_holds(
     alloc: Global,
     sites: &mut World<Registry>,
 ) -> Result<(Result<[u64; 6], Memory>, Result<[u64; 3], Memory>), Memory> {
-    let mut making = prepared(alloc, sites)?;
+    let mut making = bare_making(alloc, sites)?;
     let chained = chain(&mut Registry::new(alloc), &making);
-    Ok((chained, entered(&mut Registry::new(alloc), &mut making)))
+    Ok((chained, entry_holds(&mut Registry::new(alloc), &mut making)))
 }
 
 #[test]
 fn holds_by_children_and_first_entries(rt: HostRuntime) {
     let mut sites = World::new(rt.alloc());
-    let told = held(rt.alloc(), &mut sites);
+    let told = all_holds(rt.alloc(), &mut sites);
     sites.discard();
     let wanted = (Ok([1, 2, 1, 0, 0, 3]), Ok([2, 2, 1]));
     assert_eq!(rt; told, Ok(wanted));
@@ -197,8 +197,8 @@ fn slots(
     alloc: Global,
     sites: &mut World<Registry>,
 ) -> Result<(Result<[u64; 2], Memory>, Result<u64, Memory>), Memory> {
-    let making = prepared(alloc, sites)?;
-    let reused = reused(&mut Registry::new(alloc), &making);
+    let making = bare_making(alloc, sites)?;
+    let reused = after_reuse(&mut Registry::new(alloc), &making);
     Ok((reused, many(&mut Registry::new(alloc), &making)))
 }
 

@@ -44,7 +44,7 @@ fn tells_interests_and_spans_apart(rt: HostRuntime) {
     assert!(rt; Interest::sometimes().is_sometimes() && always.is_always() && !always.is_never());
     let third = Id::at(2);
     assert!(rt; third.place() == 2 && third.into_u64() == 3 && Id::from_u64(3) == third);
-    assert!(rt; Parent::Of(third).same() == Parent::Of(third));
+    assert!(rt; Parent::Of(third) == Parent::Of(third) && Parent::Of(third) != Parent::Current);
 }
 
 // The places of some names, of which one is declared twice.
@@ -78,7 +78,7 @@ fn two_values(alloc: Global) -> Result<ValueSet, Memory> {
 }
 
 // Whether a copy has the same number, and the same error.
-fn copied(alloc: Global) -> Result<[bool; 2], Memory> {
+fn copy_is_same(alloc: Global) -> Result<[bool; 2], Memory> {
     let copy = two_values(alloc)?.clone()?;
     let [
         (first, Value::I128(number)),
@@ -94,5 +94,5 @@ fn copied(alloc: Global) -> Result<[bool; 2], Memory> {
 
 #[test]
 fn copies_values(rt: HostRuntime) {
-    assert_eq!(rt; copied(rt.alloc()), Ok([true; 2]));
+    assert_eq!(rt; copy_is_same(rt.alloc()), Ok([true; 2]));
 }

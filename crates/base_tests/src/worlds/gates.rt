@@ -38,7 +38,7 @@ fn add(
 type Answers = (Interest, bool, Option<LevelFilter>);
 
 // A layer that answers so.
-fn asked((interest, enables, hint): Answers) -> Asked {
+fn asked_layer((interest, enables, hint): Answers) -> Asked {
     Asked {
         interest,
         enables,
@@ -54,13 +54,13 @@ fn gate(
     answers: Answers,
 ) -> Result<bool, Memory> {
     let site = world.add_site(bare(alloc))?;
-    let dispatch = add(alloc, world, asked(answers))?;
+    let dispatch = add(alloc, world, asked_layer(answers))?;
     let mut lane = lane(alloc);
     lane.default = Some(dispatch);
     Ok(world.admits(&lane, site))
 }
 
-fn gated(alloc: Global, answers: Answers) -> Result<bool, Memory> {
+fn passes_gate(alloc: Global, answers: Answers) -> Result<bool, Memory> {
     let mut world = World::new(alloc);
     let answer = gate(alloc, &mut world, answers);
     world.discard();
@@ -79,7 +79,7 @@ fn admits_by_interest_hint_and_answer(rt: HostRuntime) {
         ((Interest::Always, false, Some(LevelFilter::WARN)), false),
         ((Interest::Always, false, Some(LevelFilter::DEBUG)), true),
     ] {
-        assert_eq!(rt; gated(rt.alloc(), answers), Ok(wanted));
+        assert_eq!(rt; passes_gate(rt.alloc(), answers), Ok(wanted));
     }
 }
 
@@ -97,7 +97,7 @@ fn rebuilt(
     let named = world.site_at(0) == Some(site) && world.site_at(1) == None;
     let found = world.site(site).level == Level::INFO;
     let none = world.admits(lane, site);
-    let dispatch = add(alloc, world, asked((Interest::Always, true, None)))?;
+    let dispatch = add(alloc, world, asked_layer((Interest::Always, true, None)))?;
     lane.default = Some(dispatch);
     let fresh = world.admits(lane, site);
     world.subscriber_mut(dispatch).layer_mut().interest = Interest::Never;

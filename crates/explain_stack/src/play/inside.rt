@@ -20,7 +20,7 @@ use trace_base::world::World;
 /// Whether a future is ready that lies under the current span of a lane without one, before and after it is changed there,
 /// and whether it lies under none; the same of one under a subscriber, once it is taken out; and what a tracer was asked for
 /// that was put inside a layer that counts.
-pub fn told(alloc: Global, dispatch: Dispatch) -> Result<String, Memory> {
+pub fn line(alloc: Global, dispatch: Dispatch) -> Result<String, Memory> {
     let (before, after, is_none) = under_no_span(alloc);
     let (first, next, out) = under_subscriber(dispatch);
     let (reserved, finished) = under_counting(alloc);

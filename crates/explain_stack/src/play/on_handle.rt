@@ -27,7 +27,7 @@ pub fn tell<S: Stack>(
     ensures back { handles.new ≡ handles.old }
 {
     let Some(slot) = handles.take(name) else {
-        return told::refused(alloc);
+        return told::refused_line(alloc);
     };
     let (slot, told) = act(alloc, scene, slot, at, call, words);
     handles.put(name, slot);
@@ -73,12 +73,12 @@ fn enter<S: Stack>(
     match entry {
         Some(entry) => {
             let entry = Some(entry);
-            (Slot { span, entry, other }, told::refused(alloc))
+            (Slot { span, entry, other }, told::refused_line(alloc))
         }
         None => match scene.enter(at, &span) {
             Ok(entry) => {
                 let entered = entry.is_some();
-                (Slot { span, entry, other }, told::done(alloc, entered))
+                (Slot { span, entry, other }, told::done_line(alloc, entered))
             }
             Err(memory) => (Slot { span, entry, other }, Err(memory)),
         },
@@ -102,8 +102,8 @@ fn exit<S: Stack>(
         Some(entry) => {
             let entry = scene.exit(at, &span, entry);
             let exited = entry.is_none();
-            (Slot { span, entry, other }, told::done(alloc, exited))
+            (Slot { span, entry, other }, told::done_line(alloc, exited))
         }
-        None => (Slot { span, entry, other }, told::refused(alloc)),
+        None => (Slot { span, entry, other }, told::refused_line(alloc)),
     }
 }

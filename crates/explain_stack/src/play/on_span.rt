@@ -31,7 +31,7 @@ pub fn tell<S: Stack>(
         "status" => scene.set_status(at, span, words::status(alloc, words)?),
         _ => return ask(alloc, scene, span, at, call, words),
     }
-    told::done(alloc, true)
+    told::done_line(alloc, true)
 }
 
 // Values of words.
@@ -109,7 +109,7 @@ fn ask<S: Stack>(
     match call {
         "context" => context(alloc, scene, span, at),
         "parent" => set_parent(alloc, scene, span, at, words),
-        _ => told::refused(alloc),
+        _ => told::refused_line(alloc),
     }
 }
 
@@ -145,7 +145,7 @@ fn set_parent<S: Stack>(
         span: Some(words::ids(words)),
     };
     match scene.set_parent(at, span, context) {
-        Ok(()) => told::done(alloc, true),
+        Ok(()) => told::done_line(alloc, true),
         Err(error) => Ok(format!(in alloc; "  {error}\n")?),
     }
 }

@@ -13,14 +13,14 @@ use otel_base::memory::Memory;
 use std::alloc::Global;
 
 /// Fills the lane on which calls are made.
-pub fn filled<S: Stack>(alloc: Global, scene: &mut Scene<S>) -> Result<String, Memory>
+pub fn fill<S: Stack>(alloc: Global, scene: &mut Scene<S>) -> Result<String, Memory>
     requires order { SceneInOrder S.spans S.kept S.is_whole scene.old }
     ensures order { SceneInOrder S.spans S.kept S.is_whole scene.new }
     ensures world { scene.new.world ≡ scene.old.world }
     ensures sites { scene.new.sites ≡ scene.old.sites }
 {
     scene.fill()?;
-    told::done(alloc, true)
+    told::done_line(alloc, true)
 }
 
 /// Whether a future under the lane's current span is under that of a handle.
@@ -36,18 +36,18 @@ pub fn around<S: Stack>(
     ensures play { InPlay S.spans S.kept S.is_whole scene.new handles.now }
 {
     let Some(slot) = handles.get(name) else {
-        return told::refused(alloc);
+        return told::refused_line(alloc);
     };
     match scene.is_around(at, slot.span()) {
         Some(is_around) => told::answer(alloc, "around", is_around),
-        None => told::refused(alloc),
+        None => told::refused_line(alloc),
     }
 }
 
 /// Polls a future under the span of a handle: one that is pending, one that is ready, or one that is ready and served by the
 /// stack.
 #[tactic(auto, using(crate::proofs::Held::named_held, crate::proofs::Held::put_back, crate::proofs::Held::still_held))]
-pub fn polled<S: Stack>(
+pub fn poll<S: Stack>(
     alloc: Global,
     scene: &mut Scene<S>,
     handles: &mut Handles,
@@ -61,7 +61,7 @@ pub fn polled<S: Stack>(
     ensures back { handles.new ≡ handles.old }
 {
     let Some(slot) = handles.take(name) else {
-        return told::refused(alloc);
+        return told::refused_line(alloc);
     };
     let Slot { span, entry, other } = slot;
     let future = Looks {
@@ -69,5 +69,5 @@ pub fn polled<S: Stack>(
     };
     let (span, polled) = scene.poll(at, span, future, word == "served", cx);
     handles.put(name, Slot { span, entry, other });
-    told::polled(alloc, polled)
+    told::poll_line(alloc, polled)
 }

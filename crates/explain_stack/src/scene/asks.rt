@@ -80,7 +80,7 @@ impl<S: Stack> Scene<S> {
         if !self.has_room(span) {
             return Ok(());
         }
-        let place = match span.id() {
+        let parent = match span.id() {
             Some(id) => Parent::Of(id),
             None => Parent::Current,
         };
@@ -89,32 +89,32 @@ impl<S: Stack> Scene<S> {
             self.dispatch,
             &self.lane,
             at,
-            place,
+            parent,
             site,
             values,
         )
     }
 }
 
-// Tells an event at a place.
+// Tells an event under a parent.
 fn tell<S: Subscriber>(
     world: &mut World<S>,
     dispatch: Dispatch,
     lane: &Lane,
     at: u64,
-    place: Parent,
+    parent: Parent,
     site: SiteId,
     values: &ValueSet,
 ) -> Result<(), Memory>
     requires there { dispatch < length world.old.subscribers }
     requires site { site < length world.old.sites }
     requires whole { Has S.is_whole world.old dispatch }
-    requires live { Has (λ s. IsLivePlace (S.spans s).made place) world.old dispatch }
+    requires live { Has (λ s. IsLivePlace (S.spans s).made parent) world.old dispatch }
     ensures did { OnOk result ((callsite : _)
-        × Replaced (λ s t. S.does s (Event lane.now at place site callsite values.now) t) world.old world.new
+        × Replaced (λ s t. S.does s (Event lane.now at parent site callsite values.now) t) world.old world.new
         dispatch) }
     ensures memory_leaves { OnErr result (Replaced S.same world.old world.new dispatch) }
 {
     let (subscriber, callsite) = world.subscriber_and_site(dispatch, site);
-    subscriber.event(lane, at, place, site, callsite, values)
+    subscriber.event(lane, at, parent, site, callsite, values)
 }

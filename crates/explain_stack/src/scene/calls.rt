@@ -35,7 +35,7 @@ impl<S: Stack> Scene<S> {
             (Makes S.spans S.does self.old.world self.new.world self.old.lane at (place_under parent.now.held) site
             values.now self.old.dispatch)) }
     {
-        if self.made >= 1000 || !self.has_room(parent) {
+        if self.span_count >= 1000 || !self.has_room(parent) {
             return Ok(None);
         }
         let span = Span::child_of_with(
@@ -47,7 +47,7 @@ impl<S: Stack> Scene<S> {
             values,
             self.dispatch,
         )?;
-        self.made += 1;
+        self.span_count += 1;
         Ok(Some(span))
     }
 
@@ -66,11 +66,11 @@ impl<S: Stack> Scene<S> {
             (Makes S.spans S.does self.old.world self.new.world self.old.lane at parent.Current site values.now
             self.old.dispatch)) }
     {
-        if self.made >= 1000 || !self.has_room_around() {
+        if self.span_count >= 1000 || !self.has_room_around() {
             return Ok(None);
         }
         let span = Span::new_with(&mut self.world, &self.lane, at, site, values, self.dispatch)?;
-        self.made += 1;
+        self.span_count += 1;
         Ok(Some(span))
     }
 

@@ -211,7 +211,7 @@ fn fill(lane: &mut Lane) -> Result<(), Memory>
 }
 
 // Attaches an empty context to a lane for good.
-#[tactic(auto, using(crate::proofs::Polling::attached_more, crate::proofs::Polling::attached_same))]
+#[tactic(auto, using(crate::proofs::PollsLemmas::attached_more, crate::proofs::PollsLemmas::attached_same))]
 fn attach_empty(lane: &mut Lane) -> Result<(), EnterError>
     ensures id { lane.new.id ≡ lane.old.id }
     ensures default { lane.new.default ≡ lane.old.default }

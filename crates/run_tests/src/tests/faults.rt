@@ -1,5 +1,5 @@
 //! Reads and writes that fail, one after another, and inputs that are too long.
-use crate::tests::{ANSWERS, FIRST, SETTINGS, ended, ran, ran_as, script};
+use crate::tests::{ANSWERS, FIRST, SETTINGS, front_and_status, ran, ran_as, script};
 use std::random::RandomSource;
 use std::sync::Wait;
 use std::test::Fail;
@@ -30,13 +30,13 @@ fn goes<H: Threads + Wait + Sync + RandomSource + AllocGlobal>(
 ) -> Result<bool, Fail> {
     let input = script(rt, FIRST)?;
     let got = ran(rt, input.as_bytes(), reads, writes)?;
-    let wanted = ended(rt, ANSWERS, size, status)?;
+    let wanted = front_and_status(rt, ANSWERS, size, status)?;
     Ok(got.as_str() == wanted.as_str())
 }
 
 // How many bytes the whole lines are answered that end within the first bytes of the script. The settings line is answered
 // nothing, and the last line a record too.
-fn answered(input: &[u8], size: usize) -> usize {
+fn answered_size(input: &[u8], size: usize) -> usize {
     let mut lines = 0usize;
     for byte in input.iter().take(size) {
         if *byte == b'\n' {
@@ -61,7 +61,7 @@ fn wrong_read<H: Threads + Wait + Sync + RandomSource + AllocGlobal>(
     let mut turns = vec![in rt.alloc(); Turn::Moves { most: 1 }; reads]?;
     for at in 0..reads {
         turns[at] = Turn::Fails;
-        let size = answered(input.as_bytes(), at);
+        let size = answered_size(input.as_bytes(), at);
         if !goes(rt, turns.as_slice(), &[], size, Status::ReadFault)? {
             return Ok(Some(at));
         }
@@ -109,7 +109,7 @@ fn breaks_off(rt: HostRuntime) -> Result<(), Fail> {
 }
 
 // What the command of a word writes of a script behind whose second line the reading fails.
-fn broken<H: Threads + Wait + Sync + RandomSource + AllocGlobal>(
+fn broken_run<H: Threads + Wait + Sync + RandomSource + AllocGlobal>(
     rt: &H,
     word: &str,
     rest: &str,
@@ -125,8 +125,8 @@ fn broken<H: Threads + Wait + Sync + RandomSource + AllocGlobal>(
 fn writes_nothing_of_a_broken_input(rt: HostRuntime) -> Result<(), Fail> {
     let refused = "{\"line\":2,\"refused\":\"BadLine\"}\n= 2\n";
     for (word, rest) in [("tree", FIRST), ("threads", SHARED)] {
-        assert_eq!(rt; broken(&rt, word, rest)?.as_str(), "= 3\n");
-        assert_eq!(rt; broken(&rt, word, "7\n8\n")?.as_str(), refused);
+        assert_eq!(rt; broken_run(&rt, word, rest)?.as_str(), "= 3\n");
+        assert_eq!(rt; broken_run(&rt, word, "7\n8\n")?.as_str(), refused);
     }
     Ok(())
 }

@@ -20,7 +20,7 @@ fn text<R: AllocGlobal>(rt: &R, text: &str) -> Result<Text, Fail> {
 }
 
 // A record with attributes of each kind, an event, a link and an error.
-fn finished<R: AllocGlobal>(rt: &R) -> Result<Record, Fail> {
+fn whole_record<R: AllocGlobal>(rt: &R) -> Result<Record, Fail> {
     let alloc = rt.alloc();
     let told = Value::from_str(alloc, r#"[["b",true],["n",-7],["t","\""],["l",["u",""]]]"#)?;
     let mut events = Items::new(alloc);
@@ -56,7 +56,7 @@ fn finished<R: AllocGlobal>(rt: &R) -> Result<Record, Fail> {
 #[test]
 fn the_object_of_a_record_is_that_of_its_line(rt: HostRuntime) -> Result<(), Fail> {
     let alloc = rt.alloc();
-    let record = finished(&rt)?;
+    let record = whole_record(&rt)?;
     let on_lane = record_object(alloc, 3, Some(1), &record)?.to_string(alloc)?;
     let wanted = format!(in alloc; "{FRONT}\"lane\":1,{REST}")?;
     assert_eq!(rt; on_lane.as_str(), wanted.as_str());

@@ -1,6 +1,6 @@
 //! Tables of scripts, and whether each goes as is written there: `#` leads its title, `P` stands for the settings line, `<` leads
 //! an input line, and `>` an output line.
-use crate::tests::steps::{STEPS, stepped};
+use crate::tests::steps::{STEPS, step_texts};
 use crate::tests::whole_runs::{WHOLE_RUNS, at_once};
 use crate::tests::{SETTINGS, add_line};
 use std::process::Abort;
@@ -44,9 +44,13 @@ impl Row {
 }
 
 // What is written for a script that a line ends. None where the line ends none.
-fn written<R: AllocGlobal>(rt: &R, script: &str, line: &str) -> Result<Option<String>, Fail> {
+fn output_with_line<R: AllocGlobal>(
+    rt: &R,
+    script: &str,
+    line: &str,
+) -> Result<Option<String>, Fail> {
     match line {
-        "~" => Ok(Some(stepped(rt, script)?)),
+        "~" => Ok(Some(step_texts(rt, script)?)),
         "^" => Ok(Some(at_once(rt, script)?)),
         _ => Ok(None),
     }
@@ -56,7 +60,7 @@ fn written<R: AllocGlobal>(rt: &R, script: &str, line: &str) -> Result<Option<St
 fn differing<R: AllocGlobal>(rt: &R, scripts: &str) -> Result<Option<String>, Fail> {
     let mut row = Row::new(rt);
     for line in scripts.lines() {
-        match written(rt, row.input.as_str(), line)? {
+        match output_with_line(rt, row.input.as_str(), line)? {
             Some(got) if got.as_str() != row.wanted.as_str() => return Ok(Some(got)),
             Some(_) => row.clear(),
             None => row.take(line)?,

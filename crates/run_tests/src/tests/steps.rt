@@ -132,7 +132,7 @@ fn step_all<R: AllocGlobal>(
 }
 
 /// What is written for the settings line of a script and for each step behind it.
-pub fn stepped<R: AllocGlobal>(rt: &R, script: &str) -> Result<String, Fail> {
+pub fn step_texts<R: AllocGlobal>(rt: &R, script: &str) -> Result<String, Fail> {
     let (settings, requests) = script.split_once('\n').ok_or("a settings line")?;
     let mut written = Written::new(rt.alloc());
     match open(

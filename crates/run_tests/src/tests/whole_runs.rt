@@ -80,7 +80,7 @@ fn last_line<R: AllocGlobal>(rt: &R, outcome: &Outcome) -> Result<String, Fail> 
 }
 
 // All lines of a run.
-fn told<R: AllocGlobal>(rt: &R, outcome: &Outcome) -> Result<String, Fail> {
+fn outcome_text<R: AllocGlobal>(rt: &R, outcome: &Outcome) -> Result<String, Fail> {
     let mut text = String::new(rt.alloc());
     add_answers(rt, &mut text, outcome)?;
     text.push_str(last_line(rt, outcome)?.as_str())?;
@@ -99,7 +99,7 @@ fn requests<R: AllocGlobal>(rt: &R, lines: &str) -> Result<Items<Request>, Fail>
 // What is told of a run.
 fn ran<R: AllocGlobal>(rt: &R, ran: Result<Outcome, OpenError>) -> Result<String, Fail> {
     match ran {
-        Ok(outcome) => told(rt, &outcome),
+        Ok(outcome) => outcome_text(rt, &outcome),
         Err(OpenError::Directive { counting, piece }) => {
             let told = Told::Directive { counting, piece };
             Ok(refusal_line(rt.alloc(), 1, &told)?)

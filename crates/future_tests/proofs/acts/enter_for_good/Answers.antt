@@ -1,5 +1,5 @@
 -- An entry keeps all, and a refused one does.
-use Rattle.span_futures.proofs.Calling.{calls_enter, calls_refused}
+use Rattle.span_futures.proofs.CallsLemmas.{calls_enter, calls_refused}
 use Rattle.span_futures.proofs.Inside.{begun, refused}
 use Rattle.future_tests.proofs.acts.enter_for_good.Goals as goal
 

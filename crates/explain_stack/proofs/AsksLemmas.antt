@@ -18,7 +18,7 @@ use Rattle.otel_state.specs.declared.op.OpReply.{OpReply}
 use Rattle.span_handles.specs.Worlds.{Replaced}
 use Rattle.span_handles.specs.Handles.{Held, RecordsAt, FollowsOn}
 use Rattle.span_handles.specs.Knowing.{KeepsKnown}
-use Rattle.span_handles.proofs.Knowing.{keeps_call, keeps_same}
+use Rattle.span_handles.proofs.KnownHandlesLemmas.{keeps_call, keeps_same}
 use Rattle.otel_layer.specs.Parts.{PartCall, Applies, Shows, StaysStack}
 use Rattle.otel_layer.specs.Asking.{AppliesOn, AsksDone, ShowsOn}
 use Rattle.explain_stack.specs.Order.{Stands}
@@ -75,15 +75,15 @@ pub event_goes : {S : Type 0} (spans : S → Spans) (attaches : S → Bool) (kep
     (shows : (s : S) (call : SubscriberCall) (t : S) → does s call t → spans t ≡ spans_after_call (spans s) call) (lanes : (s : S) (call : SubscriberCall) (t : S) → does s call t → Lanes (attaches s) (kept s) call (kept t))
     (keeps_whole : (s : S) (call : SubscriberCall) (t : S) → does s call t → is_whole s → is_whole t)
     (same : S → S → Type 0) → ((s t : S) → same s t → spans t ≡ spans s) → ((s t : S) → same s t → kept t ≡ kept s) → ((s t : S) → same s t → is_whole s → is_whole t)
-    → (old new : Worlds S) (d : ℕ) (lane : Lane) (at : ℕ) (place : Parent) (site : ℕ) (values : ValueSet) (result : Result (Unit {0}) Memory)
-    → OnOk result ((callsite : Callsite) × Replaced (λ s t. does s (Event lane at place site callsite values) t) old new d) → OnErr result (Replaced same old new d) → Goes spans kept is_whole old new
-event_goes spans attaches kept is_whole does sound allowed shows lanes keeps_whole same same_spans same_kept same_whole old new d lane at place site values (Ok x) did left =
-    let call : SubscriberCall = Event lane at place site did.0 values in
+    → (old new : Worlds S) (d : ℕ) (lane : Lane) (at : ℕ) (parent : Parent) (site : ℕ) (values : ValueSet) (result : Result (Unit {0}) Memory)
+    → OnOk result ((callsite : Callsite) × Replaced (λ s t. does s (Event lane at parent site callsite values) t) old new d) → OnErr result (Replaced same old new d) → Goes spans kept is_whole old new
+event_goes spans attaches kept is_whole does sound allowed shows lanes keeps_whole same same_spans same_kept same_whole old new d lane at parent site values (Ok x) did left =
+    let call : SubscriberCall = Event lane at parent site did.0 values in
     record {
       stands = λ dispatch made sites on other stands. quiet_stands spans kept is_whole (λ s t. does s call t) (quiet_call spans attaches kept is_whole does shows lanes keeps_whole call tt) old new d dispatch made sites on other did.1 stands;
       known = keeps_call spans does sound allowed shows old new d call did.1 tt;
     }
-event_goes spans attaches kept is_whole does sound allowed shows lanes keeps_whole same same_spans same_kept same_whole old new d lane at place site values (Err e) did left = record {
+event_goes spans attaches kept is_whole does sound allowed shows lanes keeps_whole same same_spans same_kept same_whole old new d lane at parent site values (Err e) did left = record {
   stands = λ dispatch made sites on other stands. quiet_stands spans kept is_whole same (quiet_same spans kept is_whole same same_spans same_kept same_whole) old new d dispatch made sites on other left stands;
   known = keeps_same spans same same_spans old new d left;
 }

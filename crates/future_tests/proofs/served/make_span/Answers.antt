@@ -1,7 +1,7 @@
 -- A span may be made in a poll under a stack that was just made.
 use Rattle.std.proofs.Common.{arith}
 use Rattle.future_tests.proofs.Starting.{none_kept, room_under}
-use Rattle.future_tests.proofs.served.made.Goals as goal
+use Rattle.future_tests.proofs.served.make_span.Goals as goal
 
 pub poll_in-requires-clause-room : goal.poll_in-requires-clause-room
 poll_in-requires-clause-room g c =

@@ -1,7 +1,7 @@
 -- Another handle of a span leaves what a poll needs.
 use Rattle.future_tests.proofs.Lasting.{goes_on}
 use Rattle.future_tests.proofs.Making.{copied_lent}
-use Rattle.future_tests.proofs.leaving.left.Goals as goal
+use Rattle.future_tests.proofs.leaving.leave_open.Goals as goal
 
 pub poll-answer-requires-clause-ready : goal.poll-answer-requires-clause-ready
 poll-answer-requires-clause-ready g c =

@@ -1,6 +1,6 @@
 -- One more that was just made.
 use Rattle.future_tests.proofs.Starting.{unused_more}
-use Rattle.future_tests.proofs.stack.added.Goals as goal
+use Rattle.future_tests.proofs.stack.add_stack.Goals as goal
 
 pub returns-in-Ok-clause-unused : goal.returns-in-Ok-clause-unused
 returns-in-Ok-clause-unused g c =

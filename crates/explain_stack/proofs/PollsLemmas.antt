@@ -8,7 +8,7 @@ use Rattle.trace_base.specs.Gate.{Worlds, IsOwn}
 use Rattle.trace_base.specs.Spans.{Spans}
 use Rattle.trace_base.specs.Calls.{SubscriberCall, Exit, spans_after_call}
 use Rattle.trace_base.specs.lanes.Contexts.{Lanes, attached_as}
-use Rattle.trace_base.proofs.Entering.{count_push}
+use Rattle.trace_base.proofs.EntryLemmas.{count_push}
 use Rattle.span_handles.specs.Handles.{Held, ReplacedOn}
 use Rattle.span_handles.specs.Entries.{BeginsInside}
 use Rattle.span_futures.specs.declared.instrument.Instrumented.{Instrumented}
