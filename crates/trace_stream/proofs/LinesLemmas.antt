@@ -9,8 +9,8 @@ use Rattle.trace_stream.specs.reading.Breaks.{has_feed, whole_part, whole_lines}
 -- ---- the first line
 
 -- the first line feed ends the first line
-pub fed_at : (bytes : List ℕ) (at : ℕ) → at < length bytes → get_or bytes at 0 ≡ 10 → bytes ≡ take at bytes ++ 10 ∷ take (length bytes - (at + 1)) (drop (at + 1) bytes)
-fed_at bytes at within feed =
+pub split_at_feed : (bytes : List ℕ) (at : ℕ) → at < length bytes → get_or bytes at 0 ≡ 10 → bytes ≡ take at bytes ++ 10 ∷ take (length bytes - (at + 1)) (drop (at + 1) bytes)
+split_at_feed bytes at within feed =
     rw (take_rest bytes (at + 1)) (sym (take-append-drop at bytes) ∙ ap (λ (r : List ℕ). take at bytes ++ r) (drop_more bytes at 0 within ∙ ap (λ (b : ℕ). b ∷ drop (at + 1) bytes) feed))
 
 onto_front : (b : ℕ) (front more : List (List ℕ)) → 0 < length front → onto b (front ++ more) ≡ onto b front ++ more
