@@ -2,7 +2,7 @@
 //!
 //! All turns on `run_tasks`, which polls the tasks of a script over any subscriber: it carries out the requests of a flat
 //! list (`specs/Flat`), each by exactly its call (`specs/Carrying`), and where it is refused a front of that list
-//! (`specs/Stops`). Over a new tape the list itself is left (`run_on_tape`).
+//! (`specs/Stops`). Over a new tape the list itself is handed on, as it is spelled (`run_on_tape`).
 #![tactic(auto)]
 
 mod acts;
