@@ -4,7 +4,7 @@ use Rattle.std.specs.List.{filter}
 use Rattle.serde_json.specs.Written.{compact_text}
 use Rattle.otel_base.specs.declared.record.Record.{Record}
 use Rattle.trace_batch.specs.declared.item.Item.{Item}
-use Rattle.trace_pipeline.specs.values.RecordData.{record_object}
+use Rattle.trace_lines.specs.values.RecordData.{record_object}
 use Rattle.batch_lines.specs.declared.finished.FinishedSpan.{FinishedSpan}
 
 -- the text of the record with a number, on a lane

@@ -3,7 +3,7 @@ use Rattle.std.specs.Prelude.{◌≡◌, ℕ, ◌+◌, List, [], ◌∷◌, ◌+
 use Rattle.serde_json.specs.Data.{Data, boolean, object}
 use Rattle.serde_json.specs.Written.{comma_if}
 use Rattle.otel_base.specs.declared.record.Record.{Record}
-use Rattle.trace_pipeline.specs.reading.Object.{by_name, whole_number, line_of}
+use Rattle.trace_lines.specs.reading.Object.{by_name, whole_number, line_of}
 use Rattle.trace_batch.specs.declared.item.Sent.{Sent}
 use Rattle.trace_batch.specs.Cuts.{IsCut}
 use Rattle.trace_batch.specs.Merges.{of_lane, sent_of}

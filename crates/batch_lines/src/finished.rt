@@ -5,7 +5,7 @@ use otel_base::memory::Memory;
 use otel_base::record::Record;
 use std::alloc::Global;
 use trace_batch::Finished;
-use trace_pipeline::write::record::add_record;
+use trace_lines::write::record::add_record;
 
 // The bytes that most records need.
 const LONG: usize = 512;

@@ -1,12 +1,12 @@
 //! The lines of batches and of the end, each with its line feed.
 ghost use Rattle.std.specs.Prelude.{◌≡◌, ◌++◌, OnOk, false};
-ghost use Rattle.trace_pipeline.specs.text.Writes.{Writes};
+ghost use Rattle.trace_lines.specs.text.Writes.{Writes};
 ghost use Rattle.batch_lines.specs.Texts.{listed_texts, batch_text, batches_end_data, batches_end_text};
 ghost use Rattle.serde_json.specs.Written.{compact_text};
 
 use std::alloc::AllocError;
 use trace_batch::Sent;
-use trace_pipeline::write::pieces::{add, add_number, separator};
+use trace_lines::write::pieces::{add, add_number, separator};
 
 // Adds the text of an item.
 fn add_sent(out: &mut Vec<u8>, front: &str, sent: &Sent) -> Result<(), AllocError>

@@ -1,29 +1,44 @@
-//! Explains texts of directives: reads texts, one a line, and prints behind each what it was read as, or its fault.
+//! Explains what filters let through: reads calls, one a line, and prints behind each what the filter answers to it.
 #![tactic(auto)]
 
-mod answer;
-mod asked;
-mod explain;
+mod answers;
+mod exchanging;
+mod session;
+mod targets;
+mod variables;
+mod words;
 
-use crate::explain::explain;
-use explain_base::Reading;
+use crate::session::Session;
+use otel_base::memory::Memory;
 use std::io::{self, ErrorKind};
 
 fn main(rt: HostRuntime) -> io::Result<()> {
-    let mut reading = Reading::Filter;
+    let mut session = Session::new(rt.alloc());
+    run(&rt, &mut session)
+}
+
+// Answers each line.
+fn run(rt: &HostRuntime, session: &mut Session) -> io::Result<()> {
     for line in rt.lines(rt.alloc()) {
-        reading = explain_line(&rt, reading, line?.as_str())?;
+        answer(rt, session, line?.as_str())?;
     }
     Ok(())
 }
 
-// Prints a line, and behind it what it is read as. What the next line is read as comes back.
-fn explain_line(rt: &HostRuntime, reading: Reading, line: &str) -> io::Result<Reading> {
+// Prints a line, and behind it what is answered to it if it is a call.
+fn answer(rt: &HostRuntime, session: &mut Session, line: &str) -> io::Result<()> {
     println!(rt; "{line}")?;
-    if let Some(words) = line.strip_prefix('#') {
-        return Ok(reading.named_or_same(words.trim()));
+    if line.starts_with('#') {
+        return Ok(());
     }
-    let told = explain(rt.alloc(), reading, line).map_err(|_| ErrorKind::OutOfMemory)?;
+    let told = answer_text(rt, session, line).map_err(|_| ErrorKind::OutOfMemory)?;
     print!(rt; "{told}")?;
-    Ok(reading)
+    Ok(())
+}
+
+fn answer_text(rt: &HostRuntime, session: &mut Session, line: &str) -> Result<String, Memory> {
+    match line.strip_prefix("process ") {
+        Some(words) => variables::of_process(rt.alloc(), rt, words),
+        None => session.answer(line),
+    }
 }

@@ -1,7 +1,7 @@
 //! Whether an output fits a script.
 ghost use Rattle.std.specs.Prelude.{◌≡◌, IfOk, true};
 ghost use Rattle.thread_run.specs.Inputs.{TellsThreads};
-ghost use Rattle.trace_pipeline.specs.Lines.{lines_of};
+ghost use Rattle.trace_lines.specs.Lines.{lines_of};
 
 use crate::replay::Replay;
 use otel_base::memory::Memory;

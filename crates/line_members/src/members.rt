@@ -2,9 +2,9 @@
 ghost use Rattle.std.specs.Prelude.{◌≡◌, option_map};
 ghost use Rattle.serde_json.specs.Find.{as_array, as_object, as_str, get_member};
 ghost use Rattle.serde_json.specs.View.{view, items_view};
-ghost use Rattle.trace_pipeline.specs.forms.Forms.{array, as_whole, member, no_more, text, natural, without_member};
-ghost use Rattle.trace_pipeline.specs.reading.Gives.{Gives};
-ghost use Rattle.trace_pipeline.specs.forms.RequestForm.{fields_form};
+ghost use Rattle.trace_lines.specs.forms.Forms.{array, as_whole, member, no_more, text, natural, without_member};
+ghost use Rattle.trace_lines.specs.reading.Gives.{Gives};
+ghost use Rattle.trace_lines.specs.forms.RequestForm.{fields_form};
 ghost use Rattle.line_members.specs.Left.{members_left};
 
 use otel_base::list::Items;
@@ -13,7 +13,7 @@ use serde_json::Value as Json;
 use serde_json::value::Map;
 use std::alloc::Global;
 use trace_base::field::Value;
-use trace_pipeline::{LineError, read_fields};
+use trace_lines::{LineError, read_fields};
 
 /// The members that an object has left.
 #[derive(Drop)]
@@ -60,7 +60,7 @@ impl Members {
     }
 
     /// Takes a member, if it is there.
-    #[tactic(auto, using(trace_pipeline::proofs::readings::MembersLemmas::found, trace_pipeline::proofs::readings::MembersLemmas::kept))]
+    #[tactic(auto, using(trace_lines::proofs::readings::MembersLemmas::found, trace_lines::proofs::readings::MembersLemmas::kept))]
     pub fn optional(&mut self, name: &str) -> Option<Json>
         ensures found { option_map view result ≡ get_member name.now (members_left self.old) }
         ensures left { members_left self.new ≡ without_member name.now (members_left self.old) }
@@ -111,7 +111,7 @@ impl Members {
     }
 
     /// Makes sure that no member is left.
-    #[tactic(auto, using(trace_pipeline::proofs::readings::MembersLemmas::nothing_left, trace_pipeline::proofs::readings::MembersLemmas::something_left))]
+    #[tactic(auto, using(trace_lines::proofs::readings::MembersLemmas::nothing_left, trace_lines::proofs::readings::MembersLemmas::something_left))]
     pub fn end(&self) -> Result<(), LineError>
         ensures { Gives (λ u. u) result (no_more (members_left self.now)) }
     {

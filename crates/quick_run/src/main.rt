@@ -5,7 +5,7 @@
 use std::io::{self, ErrorKind};
 use std::process::ExitCode;
 use std::{env, fs};
-use trace_pipeline::Signal;
+use trace_lines::Signal;
 use trace_stream::run::run;
 use trace_stream::{Status, StdSink, StdSource};
 

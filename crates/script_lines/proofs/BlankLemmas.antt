@@ -2,7 +2,7 @@
 use Rattle.std.proofs.Common.{◌≡◌, ℕ, List, [], ◌∷◌, ◌++◌, refl, ◌∙◌}
 use Rattle.std.specs.Prelude.{true, false}
 use Rattle.std.proofs.lemmas.List.Folds.{list_all-append}
-use Rattle.trace_pipeline.specs.Lines.{is_blank}
+use Rattle.trace_lines.specs.Lines.{is_blank}
 use Rattle.script_lines.specs.Refusals.{are_blank}
 
 -- lines are not all blank where one isn't

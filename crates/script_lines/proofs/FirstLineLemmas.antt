@@ -2,7 +2,7 @@
 use Rattle.std.proofs.Common.{◌≡◌, ℕ, List, [], ◌∷◌, ◌++◌, refl, sym, ap, ◌∙◌, take, drop, length, get_or, ◌+◌, ◌-◌, ◌<◌, ◌≤◌, ◌==◌, arith, zero, suc, Bool, true, false}
 use Rattle.std.proofs.lemmas.List.{take-append-drop, drop_more, take_rest}
 use Rattle.memchr.specs.Find.{Nowhere, Passes, is_byte}
-use Rattle.trace_pipeline.specs.Lines.{onto, lines_of}
+use Rattle.trace_lines.specs.Lines.{onto, lines_of}
 
 -- no byte is a line feed
 abbrev pub NoFeed : List ℕ → Type 0

@@ -2,9 +2,9 @@
 use Rattle.std.specs.Prelude.{◌≡◌, ◌≢◌, ℕ, List, ◌++◌, ◌⊎◌, Bool, true, false}
 use Rattle.std.specs.List.{list_all}
 use Rattle.span_script.specs.declared.reply.Refusal.TheVariants as refusal
-use Rattle.trace_pipeline.specs.declared.told.Told.{Told}
-use Rattle.trace_pipeline.specs.declared.told.Told.TheVariants as told
-use Rattle.trace_pipeline.specs.Lines.{is_blank}
+use Rattle.trace_lines.specs.declared.told.Told.{Told}
+use Rattle.trace_lines.specs.declared.told.Told.TheVariants as told
+use Rattle.trace_lines.specs.Lines.{is_blank}
 
 -- a refusal has a line that tells it
 abbrev pub IsTold : Told → Type 0

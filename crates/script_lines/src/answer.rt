@@ -1,11 +1,11 @@
 //! What is written for a whole input.
 ghost use Rattle.std.specs.Prelude.{◌≡◌, ◌≢◌, true, IfOk};
-ghost use Rattle.trace_pipeline.specs.text.Texts.{refusal_text};
+ghost use Rattle.trace_lines.specs.text.Texts.{refusal_text};
 
 use crate::refused_line::RefusedLine;
 use otel_base::memory::Memory;
 use std::alloc::Global;
-use trace_pipeline::{Refusal, Told, add_refusal_line};
+use trace_lines::{Refusal, Told, add_refusal_line};
 
 /// All that is written for an input.
 #[derive(Drop)]

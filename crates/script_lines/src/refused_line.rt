@@ -1,6 +1,6 @@
 //! A line that is refused.
 
-use trace_pipeline::Told;
+use trace_lines::Told;
 
 /// A line that is refused, by its number, from 1.
 #[derive(Drop)]

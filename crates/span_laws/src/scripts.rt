@@ -6,7 +6,7 @@ ghost use Rattle.span_script.specs.Setups.{Setup};
 ghost use Rattle.span_laws.specs.Laws.{IsHistory};
 
 /// The history that a script's requests make is legal, whichever they are: so each law here speaks of all that
-/// `span_pipeline::Pipeline::run` gives.
+/// `trace_pipeline::Pipeline::run` gives.
 pub fn scripts()
     ensures { (setup : Setup) (requests : List Request) → IsHistory setup (history_of setup requests) }
 {}

@@ -3,7 +3,7 @@
 //!
 //! All turns on `specs/Effects`, which resolves a request once to its effect, or to the first refusal that applies, and on
 //! `specs/Fits`, which says when what a pipeline keeps stands for a history. The lemmas in `proofs/` carry that over one
-//! effect more, for each kind of request; `span_pipeline` serves requests by them.
+//! effect more, for each kind of request; `trace_pipeline` serves requests by them.
 #![tactic(auto)]
 
 pub mod contexts;

@@ -11,13 +11,13 @@ use Rattle.serde_json.specs.Read.{read}
 use Rattle.serde_json.specs.Written.{compact_text}
 use Rattle.serde_json.proofs.Numbers.{number_of-decimal}
 use Rattle.trace_base.specs.declared.field.Value.{Value}
-use Rattle.trace_pipeline.specs.declared.told.Told.TheVariants.{BadLine}
-use Rattle.trace_pipeline.specs.forms.AttributeForm.{otel_value_of}
-use Rattle.trace_pipeline.specs.forms.FieldForm.{fields_of}
-use Rattle.trace_pipeline.specs.forms.Forms.{all_of, each}
-use Rattle.trace_pipeline.specs.text.Compact.{ReadsValue, BeginsWithValue}
-use Rattle.trace_pipeline.proofs.readings.CompactLemmas.{Pair, read_items, read_compact}
-use Rattle.trace_pipeline.proofs.readings.LinesLemmas.{read_value}
+use Rattle.trace_lines.specs.declared.told.Told.TheVariants.{BadLine}
+use Rattle.trace_lines.specs.forms.AttributeForm.{otel_value_of}
+use Rattle.trace_lines.specs.forms.FieldForm.{fields_of}
+use Rattle.trace_lines.specs.forms.Forms.{all_of, each}
+use Rattle.trace_lines.specs.text.Compact.{ReadsValue, BeginsWithValue}
+use Rattle.trace_lines.proofs.readings.CompactLemmas.{Pair, read_items, read_compact}
+use Rattle.trace_lines.proofs.readings.LinesLemmas.{read_value}
 use Rattle.trace_tasks.specs.declared.script.Step.{Step}
 use Rattle.trace_tasks.specs.declared.script.Step.TheVariants as step
 use Rattle.trace_tasks.specs.declared.script.Task.{Task}

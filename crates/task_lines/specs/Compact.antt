@@ -1,9 +1,9 @@
 -- What a compact text begins with: a step, or the steps of a task.
 use Rattle.std.specs.Prelude.{◌≡◌, ℕ, ◌+◌, List, [], ◌∷◌, ◌++◌, Some, codes, decimal}
 use Rattle.serde_json.specs.Data.{Data, Items, array}
-use Rattle.trace_pipeline.specs.declared.read.syntax.scan.TheConstants.{DEEPEST}
-use Rattle.trace_pipeline.specs.forms.Forms.{each}
-use Rattle.trace_pipeline.specs.text.Compact.{BeginsWithValue}
+use Rattle.trace_lines.specs.declared.read.syntax.scan.TheConstants.{DEEPEST}
+use Rattle.trace_lines.specs.forms.Forms.{each}
+use Rattle.trace_lines.specs.text.Compact.{BeginsWithValue}
 use Rattle.trace_tasks.specs.declared.script.Step.{Step}
 use Rattle.task_lines.specs.TaskForm.{step_of}
 

@@ -1,13 +1,13 @@
 -- The form of a task line, and of a step, with a row for each word of `do`.
 use Rattle.std.specs.Prelude.{ℕ, List, Option, Some, None, Result, ok_or, if◌then◌else◌, codes, bytes_eq}
 use Rattle.serde_json.specs.Data.{Data}
-use Rattle.trace_pipeline.specs.declared.told.Told.{Told}
-use Rattle.trace_pipeline.specs.declared.told.Told.TheVariants.{BadLine}
-use Rattle.trace_pipeline.specs.forms.AttributeForm.{otel_value_of}
-use Rattle.trace_pipeline.specs.forms.FieldForm.{fields_of}
-use Rattle.trace_pipeline.specs.forms.Forms.{Form, ◌>>=◌, give, when, natural, text, member, array, each, object_of, all_of}
-use Rattle.trace_pipeline.specs.forms.RequestForm.{fields_form}
-use Rattle.trace_pipeline.specs.reading.Spelled.{value_on_line}
+use Rattle.trace_lines.specs.declared.told.Told.{Told}
+use Rattle.trace_lines.specs.declared.told.Told.TheVariants.{BadLine}
+use Rattle.trace_lines.specs.forms.AttributeForm.{otel_value_of}
+use Rattle.trace_lines.specs.forms.FieldForm.{fields_of}
+use Rattle.trace_lines.specs.forms.Forms.{Form, ◌>>=◌, give, when, natural, text, member, array, each, object_of, all_of}
+use Rattle.trace_lines.specs.forms.RequestForm.{fields_form}
+use Rattle.trace_lines.specs.reading.Spelled.{value_on_line}
 use Rattle.trace_tasks.specs.declared.script.Step.{Step}
 use Rattle.trace_tasks.specs.declared.script.Step.TheVariants as step
 use Rattle.trace_tasks.specs.declared.script.Task.{Task}

@@ -2,10 +2,10 @@
 //! pass. None says nothing of what a text is.
 ghost use Rattle.std.specs.Prelude.{◌≡◌, ◌<◌, ◌^◌, ◌+◌, ◌++◌, [], ◌∷◌, Some, Ok, IfSome, decimal};
 ghost use Rattle.serde_json.specs.Data.{Data};
-ghost use Rattle.trace_pipeline.specs.forms.AttributeForm.{otel_value_of};
-ghost use Rattle.trace_pipeline.specs.forms.FieldForm.{fields_of};
-ghost use Rattle.trace_pipeline.specs.reading.Left.{value_data};
-ghost use Rattle.trace_pipeline.specs.text.Compact.{BeginsWithValue};
+ghost use Rattle.trace_lines.specs.forms.AttributeForm.{otel_value_of};
+ghost use Rattle.trace_lines.specs.forms.FieldForm.{fields_of};
+ghost use Rattle.trace_lines.specs.reading.Left.{value_data};
+ghost use Rattle.trace_lines.specs.text.Compact.{BeginsWithValue};
 ghost use Rattle.task_lines.specs.Compact.{BeginsStep, BeginsSteps, EndsTask};
 ghost use Rattle.task_lines.specs.TaskForm.{task_spelled};
 
@@ -14,9 +14,9 @@ use otel_base::text::Text;
 use otel_base::value::OtelValue;
 use std::alloc::Global;
 use trace_base::field::Value as FieldValue;
-use trace_pipeline::read::syntax::scan::{DEEPEST, number, text, value, word};
-use trace_pipeline::read::{closes, is_text, leading_fields};
-use trace_pipeline::{Value, otel_value_of};
+use trace_lines::read::syntax::scan::{DEEPEST, number, text, value, word};
+use trace_lines::read::{closes, is_text, leading_fields};
+use trace_lines::{Value, otel_value_of};
 use trace_tasks::script::{Step, Task};
 
 // The most steps that are read so.

@@ -1,17 +1,17 @@
 //! Reading task lines.
 ghost use Rattle.std.specs.Prelude.{◌≡◌, Ok, Err, IfOk, IsErrOf};
-ghost use Rattle.trace_pipeline.specs.forms.Forms.{all_of, each};
-ghost use Rattle.trace_pipeline.specs.reading.Gives.{Gives};
-ghost use Rattle.trace_pipeline.specs.reading.Left.{value_data, members_left};
-ghost use Rattle.trace_pipeline.specs.reading.Object.{items};
-ghost use Rattle.trace_pipeline.specs.reading.Spelled.{value_on_line};
-ghost use Rattle.trace_pipeline.specs.declared.told.Told.TheVariants as told;
+ghost use Rattle.trace_lines.specs.forms.Forms.{all_of, each};
+ghost use Rattle.trace_lines.specs.reading.Gives.{Gives};
+ghost use Rattle.trace_lines.specs.reading.Left.{value_data, members_left};
+ghost use Rattle.trace_lines.specs.reading.Object.{items};
+ghost use Rattle.trace_lines.specs.reading.Spelled.{value_on_line};
+ghost use Rattle.trace_lines.specs.declared.told.Told.TheVariants as told;
 ghost use Rattle.task_lines.specs.TaskForm.{step_word, word_form, event_form, record_form, set_attribute_form, step_form_of, step_form, step_of, task_form, task_spelled};
 
 use crate::quick::quick_task;
 use otel_base::list::Items;
 use std::alloc::Global;
-use trace_pipeline::{LineError, Object, Value, fields_of, given_fields, otel_value_of};
+use trace_lines::{LineError, Object, Value, fields_of, given_fields, otel_value_of};
 use trace_tasks::script::{Step, Task};
 
 /// The words of `do` that steps have.

@@ -1,7 +1,7 @@
 -- What is written for a script of tasks is of what its lines come to.
 use Rattle.std.proofs.Common.{◌≡◌, ℕ, List, refl, sym, ap, ◌∙◌, inl, inr, Vec, Global}
 use Rattle.std.specs.Prelude.{Option, Some, None, Result, Ok, Err, true, false, not, is_ok, IfOk, IfSome}
-use Rattle.trace_pipeline.specs.text.Texts.{refusal_text}
+use Rattle.trace_lines.specs.text.Texts.{refusal_text}
 use Rattle.script_lines.specs.declared.answer.Answer.{Answer}
 use Rattle.script_lines.specs.declared.refused_line.RefusedLine.{RefusedLine}
 use Rattle.script_lines.specs.Refusals.{Refuses, NoneRefused}

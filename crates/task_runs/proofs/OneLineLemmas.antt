@@ -5,9 +5,9 @@ use Rattle.span_script.specs.declared.reply.Refusal.TheVariants as refusal
 use Rattle.span_script.specs.declared.reply.What.{What}
 use Rattle.span_script.specs.declared.settings.Settings.{Settings}
 use Rattle.span_script.specs.Admission.{opening_read}
-use Rattle.trace_pipeline.specs.declared.told.Told.{Told}
-use Rattle.trace_pipeline.specs.declared.told.Told.TheVariants as told
-use Rattle.trace_pipeline.specs.reading.Spelled.{settings_spelled}
+use Rattle.trace_lines.specs.declared.told.Told.{Told}
+use Rattle.trace_lines.specs.declared.told.Told.TheVariants as told
+use Rattle.trace_lines.specs.reading.Spelled.{settings_spelled}
 use Rattle.trace_tasks.specs.declared.script.Task.{Task}
 use Rattle.task_lines.specs.Fit.{missing_name}
 use Rattle.task_lines.specs.TaskForm.{task_spelled}

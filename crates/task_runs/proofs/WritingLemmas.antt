@@ -14,8 +14,8 @@ use Rattle.span_script.specs.calls.Spans.{open_spans}
 use Rattle.span_script.specs.Fits.{State, StandsFor, ServedByHistory}
 use Rattle.span_script.specs.Outcomes.{history_from, history_of, records_of_history, refusal_at, refused_behind, outcome_of}
 use Rattle.span_script.proofs.runs.RunLemmas.{records_push, goes_on_with}
-use Rattle.trace_pipeline.specs.Report.{record_lines}
-use Rattle.trace_pipeline.specs.text.Texts.{record_text, end_text}
+use Rattle.trace_lines.specs.Report.{record_lines}
+use Rattle.trace_lines.specs.text.Texts.{record_text, end_text}
 use Rattle.trace_records.specs.Following.{without_taken}
 use Rattle.trace_records.proofs.FollowingLemmas.{stands_beside}
 use Rattle.trace_tasks.specs.TapeTurns.{TakesAll}

@@ -4,7 +4,7 @@ use Rattle.std.specs.List.{All}
 use Rattle.span_script.specs.declared.settings.Settings.{Settings}
 use Rattle.span_script.specs.Admission.{opening_read}
 use Rattle.span_script.specs.Setups.{HasOwnIds}
-use Rattle.trace_pipeline.specs.declared.told.Told.{Told}
+use Rattle.trace_lines.specs.declared.told.Told.{Told}
 use Rattle.script_lines.specs.declared.refused_line.RefusedLine.{RefusedLine}
 use Rattle.script_lines.specs.Refusals.{IsTold, are_blank}
 use Rattle.trace_tasks.specs.declared.script.Task.{Task}

@@ -4,8 +4,8 @@ use Rattle.span_script.specs.declared.outcome.Outcome.{Outcome}
 use Rattle.span_script.specs.Outcomes.{outcome_of}
 use Rattle.span_script.specs.Setups.{setup_by}
 use Rattle.task_runs.specs.Scripts.{Lines, tasks_of}
-use Rattle.trace_pipeline.specs.Report.{record_lines}
-use Rattle.trace_pipeline.specs.text.Texts.{refusal_text, end_text}
+use Rattle.trace_lines.specs.Report.{record_lines}
+use Rattle.trace_lines.specs.text.Texts.{refusal_text, end_text}
 use Rattle.trace_tasks.specs.declared.script.TaskScript.{TaskScript}
 use Rattle.trace_tasks.specs.Flat.{flat}
 

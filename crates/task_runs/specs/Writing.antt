@@ -5,7 +5,7 @@ use Rattle.span_script.specs.Setups.{Setup}
 use Rattle.span_script.specs.Tables.{History, tables}
 use Rattle.span_script.specs.Fits.{State, StandsFor}
 use Rattle.span_script.specs.Outcomes.{history_from, history_of, records_of_history}
-use Rattle.trace_pipeline.specs.Report.{record_lines}
+use Rattle.trace_lines.specs.Report.{record_lines}
 use Rattle.task_runs.specs.declared.runner.Runner.{Runner}
 use Rattle.task_runs.specs.declared.text.RecordLines.{RecordLines}
 

@@ -8,11 +8,11 @@ ghost use Rattle.task_runs.specs.Writing.{WrittenSoFar, RunsRequest};
 
 use crate::text::RecordLines;
 use otel_base::memory::Memory;
-use span_pipeline::pipeline::Pipeline;
 use span_script::request::Request;
 use span_script::settings::Settings;
 use std::alloc::Global;
 use trace_base::discard::Discard;
+use trace_pipeline::pipeline::Pipeline;
 use trace_tasks::request_sink::RequestSink;
 
 /// A pipeline that runs requests as they come, and the lines of the records so far.

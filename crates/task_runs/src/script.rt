@@ -5,13 +5,13 @@ ghost use Rattle.task_runs.specs.Reading.{HasReadLines, ReadsSettings, ReadsTask
 use otel_base::list::Items;
 use otel_base::memory::Memory;
 use script_lines::{RefusedLine, is_blank};
-use span_pipeline::read_texts;
 use span_script::open_error::OpenError;
 use span_script::reply::Refusal;
 use span_script::settings::Settings;
 use std::alloc::Global;
 use task_lines::{missing_name, read_task};
-use trace_pipeline::{LineError, Told, read_settings};
+use trace_lines::{LineError, Told, read_settings};
+use trace_pipeline::read_texts;
 use trace_tasks::script::{Task, TaskScript};
 
 /// Where a reader stands between two lines.

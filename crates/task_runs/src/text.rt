@@ -1,13 +1,13 @@
 //! What is written of the records of a run.
 ghost use Rattle.std.specs.Prelude.{◌≡◌, ◌+◌, ◌++◌, [], length, OnOk, IfOk};
-ghost use Rattle.trace_pipeline.specs.Report.{record_lines};
-ghost use Rattle.trace_pipeline.specs.text.Texts.{end_text};
+ghost use Rattle.trace_lines.specs.Report.{record_lines};
+ghost use Rattle.trace_lines.specs.text.Texts.{end_text};
 ghost use Rattle.trace_records.specs.Following.{without_taken};
 
 use otel_base::memory::Memory;
-use span_pipeline::pipeline::Pipeline;
 use std::alloc::Global;
-use trace_pipeline::{add_end_line, add_record_line};
+use trace_lines::{add_end_line, add_record_line};
+use trace_pipeline::pipeline::Pipeline;
 
 /// The lines of the records so far, which are numbered from 1.
 #[derive(Drop)]

@@ -12,7 +12,7 @@ use Rattle.otel_state.specs.declared.times.TheConstants.{GREATEST}
 use Rattle.trace_base.specs.declared.callsite.Callsite.{Callsite}
 use Rattle.trace_base.specs.declared.field.Value.{Value}
 use Rattle.trace_base.specs.declared.field.ValueSet.{ValueSet}
-use Rattle.trace_pipeline.specs.declared.told.Told.{Told}
+use Rattle.trace_lines.specs.declared.told.Told.{Told}
 use Rattle.trace_threads.specs.Moves.{Move, enters, exits, stays, move_of, opens_after}
 use Rattle.span_script.specs.Effects.{is_bad_moment}
 use Rattle.thread_script.specs.declared.plan.Plan.{Plan}

@@ -1,8 +1,8 @@
 -- A line that is refused stays so, whatever lines follow.
 use Rattle.std.proofs.Common.{◌≡◌, ℕ, ◌+◌, List, [], ◌∷◌, ◌++◌, Bool, true, false, Ok, Err, refl}
 use Rattle.std.specs.Prelude.{Result, if◌then◌else◌}
-use Rattle.trace_pipeline.specs.declared.told.Told.{Told}
-use Rattle.trace_pipeline.specs.Lines.{is_blank}
+use Rattle.trace_lines.specs.declared.told.Told.{Told}
+use Rattle.trace_lines.specs.Lines.{is_blank}
 use Rattle.script_lines.specs.Refusals.{are_blank}
 use Rattle.thread_script.specs.declared.script.ThreadScript.{ThreadScript}
 use Rattle.script_lines.specs.declared.refused_line.RefusedLine.{RefusedLine}

@@ -3,8 +3,8 @@ use Rattle.std.proofs.Common.{◌≡◌, ℕ, zero, suc, take, arith, List, [], 
 use Rattle.std.specs.Prelude.{Result, ⊤, ◌==◌, nat_lt}
 use Rattle.std.specs.List.{list_all}
 use Rattle.span_script.specs.declared.reply.Refusal.TheVariants as refusal
-use Rattle.trace_pipeline.specs.declared.told.Told.{Told}
-use Rattle.trace_pipeline.specs.declared.told.Told.TheVariants as told
+use Rattle.trace_lines.specs.declared.told.Told.{Told}
+use Rattle.trace_lines.specs.declared.told.Told.TheVariants as told
 use Rattle.thread_script.specs.declared.script.ThreadScript.{ThreadScript}
 use Rattle.thread_script.specs.declared.script.WorkerOp.{WorkerOp}
 use Rattle.thread_lines.specs.declared.line.ThreadOp.{ThreadOp}

@@ -12,8 +12,8 @@ use Rattle.env_filter.specs.texts.Pieces.{is_memory, ReadsPiece, ReadsAll, Reads
 use Rattle.span_script.specs.Admission.{TextRead, OpeningRead, text_read, fault_in, counting_read, first_fault, opening_read}
 use Rattle.span_script.specs.declared.open_error.OpenError.TheVariants as errors
 use Rattle.span_script.proofs.filter.TextsLemmas.{read_filter_is, unread_is}
-use Rattle.trace_pipeline.specs.declared.told.Told.{Told}
-use Rattle.trace_pipeline.specs.declared.told.Told.TheVariants as told
+use Rattle.trace_lines.specs.declared.told.Told.{Told}
+use Rattle.trace_lines.specs.declared.told.Told.TheVariants as told
 use Rattle.thread_lines.specs.declared.stop.Stop.{Stop}
 use Rattle.thread_lines.specs.declared.stop.Stop.TheVariants as stop
 use Rattle.thread_lines.specs.Answers.{AnswersTest}

@@ -11,11 +11,11 @@ use Rattle.span_script.specs.declared.settings.Settings.{Settings}
 use Rattle.span_script.specs.Admission.{OpeningRead, opening_read}
 use Rattle.span_script.specs.Effects.{is_bad_moment}
 use Rattle.span_script.specs.Setups.{span_site}
-use Rattle.trace_pipeline.specs.declared.told.Told.{Told}
-use Rattle.trace_pipeline.specs.declared.told.Told.TheVariants as told
-use Rattle.trace_pipeline.specs.forms.Forms.{all_of}
-use Rattle.trace_pipeline.specs.Lines.{is_blank}
-use Rattle.trace_pipeline.specs.reading.Spelled.{value_on_line, settings_spelled}
+use Rattle.trace_lines.specs.declared.told.Told.{Told}
+use Rattle.trace_lines.specs.declared.told.Told.TheVariants as told
+use Rattle.trace_lines.specs.forms.Forms.{all_of}
+use Rattle.trace_lines.specs.Lines.{is_blank}
+use Rattle.trace_lines.specs.reading.Spelled.{value_on_line, settings_spelled}
 use Rattle.thread_script.specs.declared.script.ThreadScript.{ThreadScript}
 use Rattle.thread_script.specs.declared.script.SharedLine.{SharedLine}
 use Rattle.thread_lines.specs.declared.limits.TheConstants.{MOST_WORKERS}

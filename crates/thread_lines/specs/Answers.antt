@@ -1,9 +1,9 @@
 -- What is answered for what comes of a test. Want of memory says nothing.
 use Rattle.std.specs.Prelude.{◌≡◌, Result, Ok, Err}
-use Rattle.trace_pipeline.specs.declared.told.Told.{Told}
-use Rattle.trace_pipeline.specs.declared.read.LineError.{LineError}
-use Rattle.trace_pipeline.specs.declared.read.LineError.TheVariants as unread
-use Rattle.trace_pipeline.specs.declared.told.Told.TheVariants as told
+use Rattle.trace_lines.specs.declared.told.Told.{Told}
+use Rattle.trace_lines.specs.declared.read.LineError.{LineError}
+use Rattle.trace_lines.specs.declared.read.LineError.TheVariants as unread
+use Rattle.trace_lines.specs.declared.told.Told.TheVariants as told
 use Rattle.thread_script.specs.declared.script.ThreadScript.{ThreadScript}
 use Rattle.thread_lines.specs.declared.stop.Stop.{Stop}
 use Rattle.thread_lines.specs.declared.stop.Stop.TheVariants as stop

@@ -13,12 +13,12 @@ use Rattle.thread_lines.specs.declared.line.ThreadCall.TheVariants as calls
 use Rattle.thread_lines.specs.declared.line.ThreadOp.{ThreadOp}
 use Rattle.thread_lines.specs.declared.line.ThreadLine.{ThreadLine}
 use Rattle.thread_lines.specs.declared.line.ThreadLine.TheVariants as line
-use Rattle.trace_pipeline.specs.forms.AttributeForm.{otel_value_of, attributes_form, status_spelled}
-use Rattle.trace_pipeline.specs.forms.ExtensionForm.{time_form}
-use Rattle.trace_pipeline.specs.forms.FieldForm.{fields_of}
-use Rattle.trace_pipeline.specs.forms.Forms.{Form, ◌>>=◌, give, when, natural, text, member, optional, each, object_of}
-use Rattle.trace_pipeline.specs.text.Hex.{id_word, long_id_word}
-use Rattle.trace_pipeline.specs.forms.RequestForm.{fields_form}
+use Rattle.trace_lines.specs.forms.AttributeForm.{otel_value_of, attributes_form, status_spelled}
+use Rattle.trace_lines.specs.forms.ExtensionForm.{time_form}
+use Rattle.trace_lines.specs.forms.FieldForm.{fields_of}
+use Rattle.trace_lines.specs.forms.Forms.{Form, ◌>>=◌, give, when, natural, text, member, optional, each, object_of}
+use Rattle.trace_lines.specs.text.Hex.{id_word, long_id_word}
+use Rattle.trace_lines.specs.forms.RequestForm.{fields_form}
 
 -- the words of `do` that workers have
 abbrev pub word_of_op : List ℕ → Option OpWord

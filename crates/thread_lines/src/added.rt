@@ -18,7 +18,7 @@ use otel_base::record::Moment;
 use otel_base::text::Text;
 use std::alloc::Global;
 use thread_script::{SharedLine, ThreadScript};
-use trace_pipeline::{LineError, Settings, Told, read_settings};
+use trace_lines::{LineError, Settings, Told, read_settings};
 
 // Why nothing was read of a line.
 fn unread(error: LineError) -> Stop

@@ -1,7 +1,7 @@
 //! Reading the lines of scripts for threads.
-ghost use Rattle.trace_pipeline.specs.forms.Forms.{all_of};
-ghost use Rattle.trace_pipeline.specs.reading.Gives.{Gives};
-ghost use Rattle.trace_pipeline.specs.reading.Spelled.{value_on_line};
+ghost use Rattle.trace_lines.specs.forms.Forms.{all_of};
+ghost use Rattle.trace_lines.specs.reading.Gives.{Gives};
+ghost use Rattle.trace_lines.specs.reading.Spelled.{value_on_line};
 ghost use Rattle.line_members.specs.Left.{members_left};
 ghost use Rattle.thread_lines.specs.ThreadForm.{shared_form, thread_form, worker_of};
 ghost use Rattle.serde_json.specs.View.{view};
@@ -13,7 +13,7 @@ use crate::line::ThreadLine;
 use line_members::Members;
 use serde_json::Value as Json;
 use std::alloc::Global;
-use trace_pipeline::{LineError, read_value};
+use trace_lines::{LineError, read_value};
 
 // A worker, as the value of its member spells it.
 fn worker_of(alloc: Global, value: Json) -> Result<ThreadLine, LineError>

@@ -9,7 +9,7 @@ use crate::stop::Stop;
 use otel_base::record::Moment;
 use thread_script::ThreadScript;
 use trace_base::callsite::{Callsite, Kind};
-use trace_pipeline::{LAST_MOMENT, Refusal, Told, What};
+use trace_lines::{LAST_MOMENT, Refusal, Told, What};
 
 /// Refuses unless this holds.
 pub(crate) fn require(told: Told, holds: bool) -> Result<(), Stop>

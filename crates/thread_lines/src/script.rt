@@ -1,6 +1,6 @@
 //! The script that lines come to.
 ghost use Rattle.std.specs.Prelude.{◌≡◌, ◌+◌, IfErr, IfOk};
-ghost use Rattle.trace_pipeline.specs.Lines.{lines_of};
+ghost use Rattle.trace_lines.specs.Lines.{lines_of};
 ghost use Rattle.script_lines.specs.Refusals.{IsTold};
 ghost use Rattle.thread_lines.specs.Runnable.{IsRunnable};
 ghost use Rattle.thread_lines.specs.Steps.{script_of, script_from, lines_added};
@@ -11,7 +11,7 @@ use otel_base::memory::Memory;
 use script_lines::{RefusedLine, first_line, is_blank};
 use std::alloc::Global;
 use thread_script::ThreadScript;
-use trace_pipeline::Told;
+use trace_lines::Told;
 
 // A line's number, so many lines having come before. No input has so many that the sum wraps.
 fn next_number(number: u64) -> Result<u64, Memory>

@@ -4,7 +4,7 @@ ghost use Rattle.thread_lines.specs.declared.stop.Stop.TheVariants as stop;
 
 use otel_base::memory;
 use std::alloc::AllocError;
-use trace_pipeline::Told;
+use trace_lines::Told;
 
 /// Why a script isn't gone on with.
 #[derive(Clone, Copy)]

@@ -19,7 +19,7 @@ use std::alloc::Global;
 use thread_script::{ThreadScript, WorkerCall, WorkerOp, values_of};
 use trace_base::callsite::Callsite;
 use trace_base::field::{Value, ValueSet};
-use trace_pipeline::{Refusal, Told, What};
+use trace_lines::{Refusal, Told, What};
 
 // Tests that there is a shared span at a place.
 fn test_span(script: &ThreadScript, span: u64) -> Result<(), Stop>

@@ -1,7 +1,7 @@
 -- What is written for a script for threads, and for one that breaks off.
 use Rattle.std.proofs.Common.{◌≡◌, ℕ, List, [], ◌++◌, Bool, true, false, refl, sym, ap, subst, ◌∙◌, inl, inr}
 use Rattle.std.specs.Prelude.{Result, Ok, Err, is_ok, not, IfOk, IfErr}
-use Rattle.trace_pipeline.specs.text.Texts.{refusal_text}
+use Rattle.trace_lines.specs.text.Texts.{refusal_text}
 use Rattle.script_lines.specs.declared.refused_line.RefusedLine.{RefusedLine}
 use Rattle.script_lines.specs.Refusals.{IsTold, are_blank, Refuses, NoneRefused}
 use Rattle.thread_script.specs.declared.script.ThreadScript.{ThreadScript}

@@ -3,8 +3,8 @@ use Rattle.std.proofs.Common.{◌≡◌, ℕ, ◌+◌, ◌<◌, List, [], ◌∷
 use Rattle.std.specs.Prelude.{slice_index_or, Result, Ok, Err, IfOk}
 use Rattle.std.proofs.lemmas.List.{drop_more}
 use Rattle.thread_handles.specs.declared.gather.Ended.{Ended}
-use Rattle.trace_pipeline.specs.text.Texts.{record_text, end_text}
-use Rattle.trace_pipeline.specs.text.Writes.{AddsText}
+use Rattle.trace_lines.specs.text.Texts.{record_text, end_text}
+use Rattle.trace_lines.specs.text.Writes.{AddsText}
 use Rattle.trace_threads.specs.declared.history.Entry.{Entry}
 use Rattle.thread_run.specs.declared.entry.EntryText.{EntryText}
 use Rattle.thread_run.specs.Texts.{entries_after, told_text, history_text, spans_text, all_text}

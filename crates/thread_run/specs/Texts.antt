@@ -2,8 +2,8 @@
 use Rattle.std.specs.Prelude.{◌≡◌, ℕ, ◌+◌, ◌==◌, slice_index_or, if◌then◌else◌, List, [], ◌∷◌, ◌++◌, codes, length}
 use Rattle.serde_json.specs.Data.{Data, string, object, array, item, no_items}
 use Rattle.otel_base.specs.declared.record.Record.{Record}
-use Rattle.trace_pipeline.specs.reading.Object.{by_name, whole_number, line_of, array_of}
-use Rattle.trace_pipeline.specs.text.Texts.{record_text, end_text}
+use Rattle.trace_lines.specs.reading.Object.{by_name, whole_number, line_of, array_of}
+use Rattle.trace_lines.specs.text.Texts.{record_text, end_text}
 use Rattle.trace_threads.specs.declared.history.Entry.{Entry}
 use Rattle.trace_threads.specs.declared.history.What.{What}
 use Rattle.trace_threads.specs.declared.history.What.TheVariants.{Clone, Call, Join, Release}

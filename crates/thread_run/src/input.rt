@@ -1,6 +1,6 @@
 //! What is written for a whole input.
 ghost use Rattle.std.specs.Prelude.{◌≡◌, not, None, IfSome, IfOk};
-ghost use Rattle.trace_pipeline.specs.Lines.{lines_of};
+ghost use Rattle.trace_lines.specs.Lines.{lines_of};
 ghost use Rattle.script_lines.specs.Refusals.{Refuses, NoneRefused};
 ghost use Rattle.thread_run.specs.Inputs.{TellsEnded, TellsThreads, accepts_threads};
 

@@ -1,17 +1,17 @@
 //! The lines of what came of a script for threads.
 ghost use Rattle.std.specs.Prelude.{◌≡◌, ◌++◌, ◌+◌, ◌<◌, ◌^◌, IfOk};
 ghost use Rattle.serde_json.specs.Written.{compact_text};
-ghost use Rattle.trace_pipeline.specs.reading.Object.{array_of};
-ghost use Rattle.trace_pipeline.specs.text.Texts.{record_text};
-ghost use Rattle.trace_pipeline.specs.text.Writes.{Writes};
+ghost use Rattle.trace_lines.specs.reading.Object.{array_of};
+ghost use Rattle.trace_lines.specs.text.Texts.{record_text};
+ghost use Rattle.trace_lines.specs.text.Writes.{Writes};
 ghost use Rattle.thread_run.specs.Texts.{deed_data, entry_data, history_text, told_text, spans_text, all_text};
 
 use crate::entry::{Deed, EntryText, entry_texts};
 use otel_base::memory::Memory;
 use std::alloc::{AllocError, Global};
 use thread_handles::Ended;
-use trace_pipeline::write::pieces::{add, add_number, add_text, separator};
-use trace_pipeline::{add_end_line, add_record_line};
+use trace_lines::write::pieces::{add, add_number, add_text, separator};
+use trace_lines::{add_end_line, add_record_line};
 
 // Adds what a handle did.
 fn add_deed(out: &mut Vec<u8>, front: &str, deed: Deed) -> Result<(), AllocError>

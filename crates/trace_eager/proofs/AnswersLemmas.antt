@@ -10,11 +10,11 @@ use Rattle.span_script.specs.Outcomes.{followed_by, history_from, outcome_of}
 use Rattle.span_script.specs.Setups.{Setup}
 use Rattle.span_script.specs.Tables.{Effect, History, Tables, after_effect, no_tables, records_of, tables}
 use Rattle.span_eager.specs.Early.{answers, answers_from}
-use Rattle.trace_pipeline.specs.declared.signal.Signal.TheVariants as signal
-use Rattle.trace_pipeline.specs.declared.told.Told.{Told}
-use Rattle.trace_pipeline.specs.Lines.{is_blank}
-use Rattle.trace_pipeline.specs.Report.{Report, with_text_before, told_step, effect_of_line, effect_of_request, report_on_effect, report_on, answer_text, answer_count}
-use Rattle.trace_pipeline.specs.reading.Spelled.{request_spelled}
+use Rattle.trace_lines.specs.declared.signal.Signal.TheVariants as signal
+use Rattle.trace_lines.specs.declared.told.Told.{Told}
+use Rattle.trace_lines.specs.Lines.{is_blank}
+use Rattle.trace_lines.specs.Report.{Report, with_text_before, told_step, effect_of_line, effect_of_request, report_on_effect, report_on, answer_text, answer_count}
+use Rattle.trace_lines.specs.reading.Spelled.{request_spelled}
 use Rattle.trace_eager.specs.Written.{answers_text, in_front, numbers_of, requests_of}
 
 module _ (setup : Setup) where

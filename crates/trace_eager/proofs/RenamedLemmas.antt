@@ -8,11 +8,11 @@ use Rattle.span_script.specs.declared.settings.Settings.{Settings}
 use Rattle.span_script.specs.Admission.{OpeningRead, opening_read}
 use Rattle.span_script.specs.Setups.{setup_by}
 use Rattle.span_eager.proofs.SameOutcomes.{each_early_is_late, early_is_late}
-use Rattle.trace_pipeline.specs.declared.signal.Signal.TheVariants as signal
-use Rattle.trace_pipeline.specs.declared.told.Told.{Told}
-use Rattle.trace_pipeline.specs.Lines.{is_blank}
-use Rattle.trace_pipeline.specs.Report.{Report, accepts, report_on_opening, report_on_settings, report_from, report_on}
-use Rattle.trace_pipeline.specs.reading.Spelled.{settings_spelled}
+use Rattle.trace_lines.specs.declared.signal.Signal.TheVariants as signal
+use Rattle.trace_lines.specs.declared.told.Told.{Told}
+use Rattle.trace_lines.specs.Lines.{is_blank}
+use Rattle.trace_lines.specs.Report.{Report, accepts, report_on_opening, report_on_settings, report_from, report_on}
+use Rattle.trace_lines.specs.reading.Spelled.{settings_spelled}
 use Rattle.trace_eager.specs.Renamed.{IsRenamed, RenamesIds, Script, script_by, script_from}
 use Rattle.trace_eager.specs.Written.{answers_text, numbers_of, requests_of}
 use Rattle.trace_eager.proofs.AnswersLemmas.{text_of_answers}

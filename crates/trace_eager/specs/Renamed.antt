@@ -5,9 +5,9 @@ use Rattle.span_script.specs.Outcomes.{outcome_of}
 use Rattle.span_script.specs.Setups.{setup_by}
 use Rattle.span_eager.specs.Early.{MayStartEarly, answers, eager_id, lazy}
 use Rattle.span_eager.specs.Renaming.{answer_by}
-use Rattle.trace_pipeline.specs.declared.told.Told.{Told}
-use Rattle.trace_pipeline.specs.Lines.{is_blank}
-use Rattle.trace_pipeline.specs.reading.Spelled.{settings_spelled}
+use Rattle.trace_lines.specs.declared.told.Told.{Told}
+use Rattle.trace_lines.specs.Lines.{is_blank}
+use Rattle.trace_lines.specs.reading.Spelled.{settings_spelled}
 use Rattle.trace_eager.specs.Written.{answers_text, numbers_of, requests_of}
 
 -- the settings of a script, the number of their line, and the lines behind it

@@ -3,11 +3,11 @@ use Rattle.std.specs.Prelude.{ℕ, ◌+◌, List, [], ◌∷◌, ◌++◌, lengt
 use Rattle.otel_base.specs.declared.record.Record.{Record}
 use Rattle.span_script.specs.declared.reply.Reply.{Reply}
 use Rattle.span_script.specs.declared.request.Request.{Request}
-use Rattle.trace_pipeline.specs.declared.told.Told.{Told}
-use Rattle.trace_pipeline.specs.Lines.{is_blank}
-use Rattle.trace_pipeline.specs.Report.{record_lines}
-use Rattle.trace_pipeline.specs.reading.Spelled.{request_spelled}
-use Rattle.trace_pipeline.specs.text.Texts.{end_text, reply_text}
+use Rattle.trace_lines.specs.declared.told.Told.{Told}
+use Rattle.trace_lines.specs.Lines.{is_blank}
+use Rattle.trace_lines.specs.Report.{record_lines}
+use Rattle.trace_lines.specs.reading.Spelled.{request_spelled}
+use Rattle.trace_lines.specs.text.Texts.{end_text, reply_text}
 
 -- a request in front of others, where one is spelled
 abbrev pub in_front : Result Request Told → List Request → List Request

@@ -3,8 +3,8 @@ ghost use Rattle.std.specs.Prelude.{◌≡◌, ℕ, List, [], true};
 ghost use Rattle.span_script.specs.Outcomes.{outcome_of};
 ghost use Rattle.span_script.specs.Setups.{Setup};
 ghost use Rattle.span_eager.specs.Early.{answers};
-ghost use Rattle.trace_pipeline.specs.Report.{accepts, report_from, report_on};
-ghost use Rattle.trace_pipeline.specs.declared.signal.Signal.TheVariants as signal;
+ghost use Rattle.trace_lines.specs.Report.{accepts, report_from, report_on};
+ghost use Rattle.trace_lines.specs.declared.signal.Signal.TheVariants as signal;
 ghost use Rattle.trace_eager.specs.Written.{answers_text, numbers_of, requests_of};
 ghost use Rattle.trace_eager.specs.Renamed.{IsRenamed};
 

@@ -2,7 +2,7 @@
 use Rattle.std.proofs.Common.{◌≡◌, ℕ, suc, ◌+◌, List, [], ◌∷◌, ◌++◌, length, fold, Bool, true, false, Option, Some, None, Result, Ok, Err, refl, sym, ap, ◌∙◌, arith, append_assoc, if◌then◌else◌, slice_get, option_and_then}
 use Rattle.std.proofs.lemmas.List.{length-append}
 use Rattle.trace_laws.proofs.Common.{fold_push, Refusal, Request, Resolved, effect_of, open_spans, followed_by, history_from, records_from, refusal_at, Setup, Effect, History, Tables, after_effect, no_tables, records_of, tables, answers_from, in_front, numbers_of, requests_of, Told, is_blank, Report, with_text_before, told_step, effect_of_line, effect_of_request, report_on_effect, report_on, answer_text, answer_count, request_spelled, answer_lines, last_line, unread_from, unread_or}
-use Rattle.trace_pipeline.specs.declared.signal.Signal.TheVariants as signal
+use Rattle.trace_lines.specs.declared.signal.Signal.TheVariants as signal
 
 module _ (setup : Setup) where
   -- what stands on lines, behind a history, after so many lines and records

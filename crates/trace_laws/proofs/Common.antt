@@ -16,14 +16,14 @@ pub use Rattle.span_script.specs.declared.request.Request.{Request}
 pub use Rattle.span_laws.specs.Laws.{IsHistory, more, none, occurrences}
 pub use Rattle.span_laws.specs.Records.{EachRecord}
 pub use Rattle.span_eager.specs.Early.{answers, answers_from}
-pub use Rattle.trace_pipeline.specs.Lines.{is_blank, lines_of}
-pub use Rattle.trace_pipeline.specs.Report.{IsValid, Report, accepts, answer_count, answer_text, effect_of_request, output, record_lines, report_from, report_on, report_on_effect, report_on_opening, report_on_settings, told_step, with_text_before}
-unfoldable pub use Rattle.trace_pipeline.specs.Report.{effect_of_line}
-pub use Rattle.trace_pipeline.specs.declared.told.Told.{Told}
-pub use Rattle.trace_pipeline.specs.reading.Spelled.{value_on_line}
-unfoldable pub use Rattle.trace_pipeline.specs.reading.Spelled.{request_spelled, settings_spelled}
-pub use Rattle.trace_pipeline.specs.text.Texts.{end_data, reply_data}
-unfoldable pub use Rattle.trace_pipeline.specs.text.Texts.{end_text, record_text, refusal_text, reply_text}
+pub use Rattle.trace_lines.specs.Lines.{is_blank, lines_of}
+pub use Rattle.trace_lines.specs.Report.{IsValid, Report, accepts, answer_count, answer_text, effect_of_request, output, record_lines, report_from, report_on, report_on_effect, report_on_opening, report_on_settings, told_step, with_text_before}
+unfoldable pub use Rattle.trace_lines.specs.Report.{effect_of_line}
+pub use Rattle.trace_lines.specs.declared.told.Told.{Told}
+pub use Rattle.trace_lines.specs.reading.Spelled.{value_on_line}
+unfoldable pub use Rattle.trace_lines.specs.reading.Spelled.{request_spelled, settings_spelled}
+pub use Rattle.trace_lines.specs.text.Texts.{end_data, reply_data}
+unfoldable pub use Rattle.trace_lines.specs.text.Texts.{end_text, record_text, refusal_text, reply_text}
 pub use Rattle.trace_eager.specs.Renamed.{Script, script_by, script_from}
 pub use Rattle.trace_eager.specs.Written.{in_front, numbers_of, requests_of}
 pub use Rattle.trace_laws.specs.Headline.{AnswersEach, AreAnswers, HoldsCalls, TellsScript, TellsSpans, closed_by}

@@ -9,8 +9,8 @@ use Rattle.std.proofs.lemmas.List.Folds.{list_all-append}
 use Rattle.json.specs.Print.{escape, escape_byte, escape_letter, quoted}
 use Rattle.serde_json.specs.Data.{Num, unsigned, negative, float, Data, null, boolean, number, string, array, object, Items, no_items, item, Members, no_members, member}
 use Rattle.serde_json.specs.Written.{comma_if, compact_text, items_text, members_text, number_text}
-use Rattle.trace_pipeline.specs.reading.Object.{line_of}
-use Rattle.trace_pipeline.specs.values.RecordData.{record_data}
+use Rattle.trace_lines.specs.reading.Object.{line_of}
+use Rattle.trace_lines.specs.values.RecordData.{record_data}
 
 abbrev is_inner : ℕ → Bool
 is_inner b = not (b == 10)

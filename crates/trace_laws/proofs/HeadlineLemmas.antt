@@ -10,7 +10,7 @@ use Rattle.span_laws.proofs.spans.RequestedSpansLemmas.{if_admitted}
 use Rattle.span_laws.proofs.records.OwnContextsLemmas.{is_under}
 use Rattle.span_laws.proofs.steps.LegalLemmas.{scripts_are_legal}
 use Rattle.trace_base.specs.Spans.{is_in}
-use Rattle.trace_pipeline.specs.declared.signal.Signal.TheVariants as signal
+use Rattle.trace_lines.specs.declared.signal.Signal.TheVariants as signal
 use Rattle.trace_laws.proofs.FrontsLemmas.{answers_each, closed_is, front_legal, front_step, is_refused, records_are, replies_are}
 use Rattle.trace_laws.proofs.OutputLemmas.{is_output}
 

@@ -2,10 +2,10 @@
 use Rattle.std.proofs.Common.{◌≡◌, ℕ, ◌+◌, List, [], ◌∷◌, ◌++◌, length, Bool, true, false, Option, Some, None, Ok, Err, suc, refl, ap, subst, ◌∙◌, arith, if◌then◌else◌, ok_or, slice_index_or}
 use Rattle.span_script.specs.declared.settings.Settings.{Settings}
 use Rattle.trace_laws.proofs.Common.{OpeningRead, opening_read, outcome_of, setup_by, answers, script_by, script_from, numbers_of, requests_of, is_blank, lines_of, report_on_opening, report_on_settings, output, report_from, report_on, settings_spelled, value_on_line, refusal_text, IsOutput, first_line, answer_lines, last_line, opened_text, unread_from}
-use Rattle.trace_pipeline.specs.declared.signal.Signal.TheVariants as signal
-use Rattle.trace_pipeline.specs.declared.told.Told.TheVariants.{BadLine}
-use Rattle.trace_pipeline.specs.forms.Forms.{all_of}
-use Rattle.trace_pipeline.specs.forms.SettingsForm.{settings_form}
+use Rattle.trace_lines.specs.declared.signal.Signal.TheVariants as signal
+use Rattle.trace_lines.specs.declared.told.Told.TheVariants.{BadLine}
+use Rattle.trace_lines.specs.forms.Forms.{all_of}
+use Rattle.trace_lines.specs.forms.SettingsForm.{settings_form}
 use Rattle.trace_laws.proofs.AnswersLemmas.{text_is}
 
 by_read : (read : OpeningRead) (settings : Settings) (n : ℕ) (lines : List (List ℕ))

@@ -6,10 +6,10 @@ use Rattle.std.proofs.lemmas.List.{length-append}
 use Rattle.std.proofs.lemmas.List.FromFn.{length-range_with_len}
 use Rattle.std.proofs.lemmas.Option.{slice_get_past}
 use Rattle.span_script.proofs.runs.RunLemmas.{goes_on_with}
-use Rattle.trace_pipeline.specs.declared.signal.Signal.TheVariants as signal
-use Rattle.trace_pipeline.specs.Generated.{made_lines, made_requests, made_script, made_settings, made_setup, request_line}
-use Rattle.trace_pipeline.specs.Replay.{busy_of, events_of, history_unless_refused, history_after, summary_of}
-use Rattle.trace_pipeline.proofs.made.LinesLemmas.{Each, HasLine, made_each, script_lines, settings_read}
+use Rattle.trace_lines.specs.declared.signal.Signal.TheVariants as signal
+use Rattle.trace_lines.specs.Generated.{made_lines, made_requests, made_script, made_settings, made_setup, request_line}
+use Rattle.trace_lines.specs.Replay.{busy_of, events_of, history_unless_refused, history_after, summary_of}
+use Rattle.trace_lines.proofs.made.LinesLemmas.{Each, HasLine, made_each, script_lines, settings_read}
 use Rattle.trace_laws.proofs.FeedsLemmas.{all_lines, end_line}
 use Rattle.trace_laws.proofs.FrontsLemmas.{records_are}
 use Rattle.trace_laws.proofs.OutputLemmas.{is_output}

@@ -3,10 +3,10 @@ use Rattle.std.specs.Prelude.{◌≡◌, ℕ, List, ◌++◌, flat_map, length}
 use Rattle.std.specs.List.{range_with_len, sum_by}
 use Rattle.otel_base.specs.declared.record.Record.{Record}
 use Rattle.span_script.specs.declared.reply.Reply.{Reply}
-use Rattle.trace_pipeline.specs.declared.write.summary.Summary.{Summary}
-use Rattle.trace_pipeline.specs.Lines.{lines_of}
-use Rattle.trace_pipeline.specs.Replay.{busy_of, events_of}
-use Rattle.trace_pipeline.specs.text.Texts.{end_text}
+use Rattle.trace_lines.specs.declared.write.summary.Summary.{Summary}
+use Rattle.trace_lines.specs.Lines.{lines_of}
+use Rattle.trace_lines.specs.Replay.{busy_of, events_of}
+use Rattle.trace_lines.specs.text.Texts.{end_text}
 use Rattle.trace_laws.specs.Written.{answer_lines}
 
 -- the records of answers

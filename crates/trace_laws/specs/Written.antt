@@ -11,12 +11,12 @@ use Rattle.span_script.specs.Setups.{setup_by}
 use Rattle.span_eager.specs.Early.{answers}
 use Rattle.trace_eager.specs.Renamed.{Script}
 use Rattle.trace_eager.specs.Written.{numbers_of, requests_of}
-use Rattle.trace_pipeline.specs.declared.told.Told.{Told}
-use Rattle.trace_pipeline.specs.declared.told.Told.TheVariants as told
-use Rattle.trace_pipeline.specs.Lines.{is_blank}
-use Rattle.trace_pipeline.specs.Report.{record_lines}
-use Rattle.trace_pipeline.specs.reading.Spelled.{request_spelled}
-use Rattle.trace_pipeline.specs.text.Texts.{end_text, refusal_text, reply_text}
+use Rattle.trace_lines.specs.declared.told.Told.{Told}
+use Rattle.trace_lines.specs.declared.told.Told.TheVariants as told
+use Rattle.trace_lines.specs.Lines.{is_blank}
+use Rattle.trace_lines.specs.Report.{record_lines}
+use Rattle.trace_lines.specs.reading.Spelled.{request_spelled}
+use Rattle.trace_lines.specs.text.Texts.{end_text, refusal_text, reply_text}
 
 -- the number of a line and why it spells no request, else those of a later line
 abbrev pub unread_or : Result Request Told → ℕ → Option (ℕ × Told) → Option (ℕ × Told)

@@ -7,12 +7,12 @@ ghost use Rattle.trace_eager.specs.Renamed.{Script, script_from};
 ghost use Rattle.trace_laws.specs.Headline.{TellsScript};
 ghost use Rattle.trace_laws.specs.Sums.{Counts};
 ghost use Rattle.trace_laws.specs.Written.{IsOutput, first_line};
-ghost use Rattle.trace_pipeline.specs.Lines.{lines_of};
-ghost use Rattle.trace_pipeline.specs.Generated.{made_requests, made_script, made_setup};
-ghost use Rattle.trace_pipeline.specs.Replay.{history_after, summary_of};
-ghost use Rattle.trace_pipeline.specs.Report.{output, IsValid};
-ghost use Rattle.trace_pipeline.specs.declared.generated.TheConstants.{MOST_ROUNDS};
-ghost use Rattle.trace_pipeline.specs.declared.signal.Signal.TheVariants as signal;
+ghost use Rattle.trace_lines.specs.Lines.{lines_of};
+ghost use Rattle.trace_lines.specs.Generated.{made_requests, made_script, made_setup};
+ghost use Rattle.trace_lines.specs.Replay.{history_after, summary_of};
+ghost use Rattle.trace_lines.specs.Report.{output, IsValid};
+ghost use Rattle.trace_lines.specs.declared.generated.TheConstants.{MOST_ROUNDS};
+ghost use Rattle.trace_lines.specs.declared.signal.Signal.TheVariants as signal;
 
 /// What is written for some bytes: where their settings are read, the lines of the outcome of their requests, and behind
 /// them the refusal line of the first line that is refused, or the end line; else the refusal of the settings line alone.

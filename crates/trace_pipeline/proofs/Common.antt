@@ -1,76 +1,29 @@
 -- Names of other modules that proofs of the crate import, passed on from one place. Declares nothing.
-pub use Rattle.json.proofs.Printed.Decimals.{IsNumber-decimal, IsNumber-signed_decimal}
-pub use Rattle.json.proofs.Printed.Utf8.{IsUtf8-are_ascii, IsUtf8-quoted, are_ascii}
-pub use Rattle.json.specs.Print.{escape, quoted}
-unfoldable pub use Rattle.json.specs.Print.{escape_byte}
-pub use Rattle.json.specs.Tree.{HasNumbers, ItemsHaveNumbers, MembersHaveNumbers, depth, items_depth, json_tokens, members_depth}
-pub use Rattle.serde_json.proofs.Numbers.{number_of-decimal, number_of-negative}
-unfoldable pub use Rattle.serde_json.proofs.OnLiterals.{serde_json_on_literals}
-pub use Rattle.serde_json.proofs.Views.{Entry, view-Array, view-lookup}
-pub use Rattle.serde_json.specs.Data.{Data, Items, Members, Num, array, boolean, float, item, member, negative, no_items, no_members, null, number, object, put, string, unsigned}
-pub use Rattle.serde_json.specs.Find.{as_array, as_bool, as_object, as_str, get_member, of_integer}
-pub use Rattle.serde_json.specs.Read.{max_depth, of_items, of_json, of_members, read}
-pub use Rattle.serde_json.specs.View.{items_of, items_view, members_view, view}
-pub use Rattle.serde_json.specs.Written.{comma_if, compact_text, items_outline, items_text, members_outline, members_text, number_text, outline}
-pub use Rattle.std.proofs.Math.Nat.{pow-le-pow_right, pow-succ'}
-pub use Rattle.std.proofs.lemmas.Bool.{and_parts, both_ways, eqb-false, false_from_ne_true, not-true, or_parts}
-pub use Rattle.std.proofs.lemmas.Bool.Decides.{Decides-eqb, nat_tests}
-pub use Rattle.std.proofs.lemmas.Cmp.{nat_list_cmp_total, tied_itself}
-pub use Rattle.std.proofs.lemmas.Fmt.{IsAscii-decimal, decimal_by_steps, decimal_digit, decimal_is_IsNumeral_wide, decimal_step, length-decimal-le, parse-decimal_wide}
-pub use Rattle.std.proofs.lemmas.List.{drop-set, drop_more, set-append_right, take_rest}
-pub use Rattle.std.proofs.lemmas.List.Folds.{list_all-append, list_any-append}
-pub use Rattle.std.proofs.lemmas.Slice.Eq.{bytes_eq-Decides, strip_prefix_is}
-pub use Rattle.std.proofs.lemmas.Str.{IsUtf8-append, IsUtf8-from_ascii, IsUtf8-from_is_utf8, IsUtf8-nil, is_utf8-from_IsUtf8}
-pub use Rattle.std.specs.BTreeMap.{is_at}
-pub use Rattle.std.specs.BTreeSet.{contains}
-pub use Rattle.std.specs.Cmp.Lexicographic.{pointwise, slice_cmp}
-pub use Rattle.std.specs.Fmt.{digit_glyph, digits_onto, signed_decimal}
-unfoldable pub use Rattle.std.specs.Fmt.{digits}
-pub use Rattle.std.specs.List.{list_all, list_any}
-pub use Rattle.std.specs.Ordering.{match_ordering, ordering_reverse, ordering_then}
-unfoldable pub use Rattle.std.specs.Str.{is_utf8}
-pub use Rattle.std.specs.Str.Parse.{AllDigits, IsNumeral, ParsesUnsigned, digits_value, starts_with_minus}
-pub use Rattle.std.specs.Vec.Iter.{into_iter_items}
-pub use Rattle.otel_base.specs.declared.record.Record.{Record}
-pub use Rattle.trace_base.specs.declared.field.Value.{Value}
-pub use Rattle.span_script.specs.Admission.{OpeningRead, opening_read}
-pub use Rattle.span_script.specs.Effects.{effect_of, effect_of_call, is_bad_moment}
-pub use Rattle.span_script.specs.Setups.{HasOwnIds, Setup, id_at, setup_by}
-pub use Rattle.span_script.specs.Tables.{Attached, Effect, EntryOf, History, Scope, ScopeGuard, Tables, after_effect, is_by, records_of, scope_of, slot_at, tables, with_attached, with_detached}
-pub use Rattle.span_script.specs.calls.Here.{Resolved, here_at}
-pub use Rattle.span_script.specs.declared.request.Call.{Call}
-pub use Rattle.span_script.specs.declared.request.Request.{Request}
-pub use Rattle.span_script.specs.declared.request.TheConstants.{LAST_MOMENT}
-pub use Rattle.trace_pipeline.specs.Generated.{made_lines, made_requests, made_script, made_settings, made_setup, made_site, request_line, request_members, root_fields, round, rounds, row_fields, settings_line}
-pub use Rattle.trace_pipeline.specs.Lines.{is_blank, lines_of}
-pub use Rattle.trace_pipeline.specs.Replay.{history_after, history_unless_refused}
-unfoldable pub use Rattle.trace_pipeline.specs.Replay.{summary_text}
-pub use Rattle.trace_pipeline.specs.Report.{IsValid, Report, accepts, answer_count, answer_text, effect_of_request, report_from, report_on, report_on_effect, report_on_opening, report_on_settings, told_step, with_text_before}
-unfoldable pub use Rattle.trace_pipeline.specs.Report.{effect_of_line}
-pub use Rattle.trace_pipeline.specs.declared.read.syntax.scan.TheConstants.{DEEPEST}
-pub use Rattle.trace_pipeline.specs.declared.told.Told.TheVariants.{BadLine}
-pub use Rattle.trace_pipeline.specs.forms.AttributeForm.{attribute_spelled, key_value, list_of, otel_value_of, status_spelled}
-unfoldable pub use Rattle.trace_pipeline.specs.forms.AttributeForm.{error_status_form}
-pub use Rattle.trace_pipeline.specs.forms.FieldForm.{field_data, field_of, fields_of, value_spelled}
-unfoldable pub use Rattle.trace_pipeline.specs.forms.FieldForm.{error_form, typed_form}
-pub use Rattle.trace_pipeline.specs.forms.Forms.{all_of, as_whole, at_most, each, no_more, object_of, pair_with, unit_if, without_member}
-unfoldable pub use Rattle.trace_pipeline.specs.forms.RequestForm.{attach_form, clone_form, context_form, detach_form, drop_form, enabled_form, enter_form, entered_form, event_form, exit_form, has_field_form, new_form, or_current_form, record_form, reload_form, remote_form, request_form}
-pub use Rattle.trace_pipeline.specs.forms.SettingsForm.{Lane, all_differ, lane_ids}
-unfoldable pub use Rattle.trace_pipeline.specs.forms.SettingsForm.{callsite_form, error_flags, lane_form, layer_form, settings_form, span_flags}
-pub use Rattle.trace_pipeline.specs.reading.Left.{members_left, value_data}
-pub use Rattle.trace_pipeline.specs.reading.Object.{array_of, by_name, items}
-unfoldable pub use Rattle.trace_pipeline.specs.reading.Object.{line_of}
-pub use Rattle.trace_pipeline.specs.reading.Placed.{Before, FindsMember, FitsIn, GoesLast, MembersInOrder}
-pub use Rattle.trace_pipeline.specs.reading.Spelled.{line_members, line_value}
-unfoldable pub use Rattle.trace_pipeline.specs.reading.Spelled.{request_spelled, settings_spelled}
-pub use Rattle.trace_pipeline.specs.text.Compact.{BeginsItems, BeginsMembers, BeginsNested, BeginsWithValue, ReadsValue, members_of, nested_value, onto, plain_data}
-pub use Rattle.trace_pipeline.specs.text.Decimals.{below_zero, from_zero, i128_word, if_decimal}
-unfoldable pub use Rattle.trace_pipeline.specs.text.Decimals.{u128_word}
-pub use Rattle.trace_pipeline.specs.text.Hex.{digit_value, go_on, hex32}
-unfoldable pub use Rattle.trace_pipeline.specs.text.Hex.{hex16, hex_word}
-unfoldable pub use Rattle.trace_pipeline.specs.text.Texts.{end_text, measure_text, measures_end_text, record_text, refusal_text, reply_text}
-pub use Rattle.trace_pipeline.specs.text.Writes.{AddsText}
-pub use Rattle.trace_pipeline.specs.values.Building.{with_lane}
-pub use Rattle.trace_pipeline.specs.values.FieldData.{AreAttributesInRange, AreValuesInRange, HasBits, IsOtelValueInRange, IsValueInRange, written_field, written_value}
-pub use Rattle.trace_pipeline.specs.values.RecordData.{attribute_data, attribute_value, attributes_data, event_data, kind_name, lane_members, lane_text, link_data, status_data}
-unfoldable pub use Rattle.trace_pipeline.specs.values.RecordData.{record_object}
+pub use Rattle.span_handles.specs.Handles.{HasOn, Held, place_under}
+pub use Rattle.env_filter.specs.Filtering.{plain}
+pub use Rattle.span_stack.specs.Reading.{StackWorlds, stack_interest}
+pub use Rattle.span_script.proofs.entries.EntriesLemmas.{alone_at, by_view_opens, by_view_opens_refused, entered_is, entered_ok, entered_refused, keeps_entered, keeps_exited, refuses_shared, refuses_wrong_lane, serves_entered, serves_exited}
+pub use Rattle.span_script.proofs.fields.FieldsLemmas.{all_given, keeps_asked, keeps_recorded, needs_site, not_given, refuses_event, refuses_new, refuses_place, serves_asked, serves_recorded}
+pub use Rattle.span_script.proofs.filter.CounterLemmas.{stack_same}
+pub use Rattle.span_script.proofs.filter.FilterLemmas.{stack_shows}
+pub use Rattle.span_script.proofs.filter.GateLemmas.{is_current}
+pub use Rattle.span_script.proofs.filter.ReloadsLemmas.{keeps_enabled, keeps_reloaded, serves_enabled, serves_reloaded}
+pub use Rattle.span_script.proofs.lane_contexts.ContextsLemmas.{keeps_context, keeps_remote, serves_context, serves_remote}
+pub use Rattle.span_script.proofs.links.ExtensionLemmas.{keeps_link, keeps_op, keeps_parent, keeps_status, left_kept, left_link_kept, left_link_state, left_state, refuses_context, serves_event, serves_link, serves_op, serves_parent, serves_status}
+pub use Rattle.span_script.proofs.runs.RefusalsLemmas.{effect_is, refuses_unknown, steps_ok, steps_refused}
+pub use Rattle.span_script.proofs.runs.RunLemmas.{Reached, opened_outcome, opened_replies, outcome_is, reached_next}
+pub use Rattle.span_script.proofs.runs.TakeLemmas.{kept_taken, oldest_by, state_taken}
+pub use Rattle.span_script.proofs.spans.CurrentsLemmas.{keeps_current, keeps_exchanged, refuses_in_use, serves_current, serves_exchanged}
+pub use Rattle.span_script.proofs.spans.MakingsLemmas.{keeps_new, made_alike, made_alike_own, make_may, make_may_own, serves_new, tell_live}
+pub use Rattle.span_script.proofs.spans.OpenCountLemmas.{counts_held, counts_none, open_counted}
+pub use Rattle.span_script.proofs.steps.BalanceLemmas.{set_none}
+pub use Rattle.span_script.proofs.steps.LanesLemmas.{has_own, on_err, own_has, own_lane, own_there, refused_kept, refused_state, same_kept, same_state, within_view}
+pub use Rattle.span_script.proofs.steps.RequiresLemmas.{exit_may, exit_still, guard_entry, guard_named, needs_few, needs_known, needs_there, needs_whole}
+pub use Rattle.span_script.proofs.steps.ServesLemmas.{by_view, by_view_refused, serves_refusal}
+pub use Rattle.span_script.proofs.steps.SlotsLemmas.{found_parent}
+pub use Rattle.span_script.specs.Fields.{Fields, all_values, declared_value}
+pub use Rattle.span_script.specs.Fits.{StandsFor, State, held_by, held_of, stack_views, without_first, without_first_measure}
+pub use Rattle.span_script.specs.Setups.{event_site, id_at, setup_by, span_site}
+pub use Rattle.span_script.specs.Slots.{names_handle, parent_for}
+pub use Rattle.span_script.specs.Tables.{Scope, Tables, slot_at, tables}
+pub use Rattle.trace_pipeline.specs.Parts.{parts_of}

@@ -1,6 +1,3 @@
-pub mod Common
--- Reading and writing.
-pub mod texts
-pub mod readings
-pub mod made
-pub mod ids
+mod Common
+mod NamedHandlesLemmas
+mod PlacesLemmas

@@ -1,9 +1,3 @@
-pub mod Lines
-pub mod Report
-pub mod Laws
-pub mod Generated
-pub mod Replay
-pub mod forms
-pub mod values
-pub mod text
-pub mod reading
+pub mod Contexts
+pub mod Guards
+pub mod Parts

@@ -1,28 +1,24 @@
-//! Lines of scripts of span calls: reading their settings and requests, and writing what these give.
+//! Scripts of span calls on the stack of a registry, the OpenTelemetry layer, the layer of metrics and a filter.
 //!
-//! What requests do is in `span_script`.
+//! All turns on `Pipeline::step`, which appends a request to the history that the pipeline stands for. It serves each kind
+//! of `Call`, in every place, on every lane and with any number of open guards. The bodies stand in `calls`, by subject.
 #![tactic(auto)]
 
-pub mod generated;
-pub mod laws;
-mod level_words;
-pub mod limits;
-pub mod read;
-pub mod signal;
-pub mod told;
-pub mod write;
+mod calls;
+mod contexts;
+mod fields;
+mod filters;
+mod guards;
+mod laws;
+mod names;
+mod opening;
+pub mod pipeline;
+mod records;
+mod runs;
 
-pub use limits::MAX_INPUT;
-pub use read::{
-    LineError, Object, Value, fields_of, given_fields, otel_value_of, read_attribute_value,
-    read_attributes, read_fields, read_request, read_settings, read_span_id, read_status,
-    read_trace_id, read_value,
-};
-pub use signal::Signal;
-pub use span_script::{Call, LAST_MOMENT, Place, Refusal, Reply, Request, Settings, What};
-pub use told::Told;
-pub use write::{
-    add_end_line, add_measure_line, add_measures_end_line, add_record_line, add_refusal_line,
-    add_reply_line, end_line, measure_line, measures_end_line, record_line, record_object,
-    refusal_line, reply_line,
+pub use filters::read_texts;
+pub use opening::world_of;
+pub use pipeline::Pipeline;
+pub use span_script::{
+    Call, LAST_MOMENT, OpenError, Outcome, Place, Refusal, Reply, Request, Settings, What,
 };

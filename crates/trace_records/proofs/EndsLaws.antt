@@ -9,12 +9,12 @@ use Rattle.span_script.specs.Outcomes.{records_of_history}
 use Rattle.span_script.specs.Setups.{Setup, setup_by}
 use Rattle.span_script.specs.Tables.{History, Effect, no_tables, tables, records_of}
 use Rattle.span_script.proofs.runs.RunLemmas.{records_push}
-use Rattle.trace_pipeline.specs.declared.signal.Signal.TheVariants as signal
-use Rattle.trace_pipeline.specs.declared.told.Told.{Told}
-use Rattle.trace_pipeline.specs.Lines.{is_blank}
-use Rattle.trace_pipeline.specs.reading.Spelled.{settings_spelled}
-use Rattle.trace_pipeline.specs.text.Texts.{end_text}
-use Rattle.trace_pipeline.specs.Report.{Report, report_on_effect, effect_of_line, answer_text, report_on, report_from, report_on_settings, report_on_opening}
+use Rattle.trace_lines.specs.declared.signal.Signal.TheVariants as signal
+use Rattle.trace_lines.specs.declared.told.Told.{Told}
+use Rattle.trace_lines.specs.Lines.{is_blank}
+use Rattle.trace_lines.specs.reading.Spelled.{settings_spelled}
+use Rattle.trace_lines.specs.text.Texts.{end_text}
+use Rattle.trace_lines.specs.Report.{Report, report_on_effect, effect_of_line, answer_text, report_on, report_from, report_on_settings, report_on_opening}
 use Rattle.trace_records.specs.Scripts.{Run, run_unless_refused, setup_read, setup_of, setup_of_line, lanes_on, script_on, script_from, script_of}
 use Rattle.trace_records.specs.Inputs.{EndsWith, last_of}
 

@@ -9,8 +9,8 @@ use Rattle.span_script.specs.calls.Spans.{open_spans}
 use Rattle.span_script.specs.Outcomes.{records_of_history}
 use Rattle.span_script.specs.Fits.{State, StandsFor}
 use Rattle.span_script.proofs.runs.RunLemmas.{records_push}
-use Rattle.trace_pipeline.specs.declared.told.Told.TheVariants as told
-use Rattle.trace_pipeline.specs.Lines.{is_blank}
+use Rattle.trace_lines.specs.declared.told.Told.TheVariants as told
+use Rattle.trace_lines.specs.Lines.{is_blank}
 use Rattle.script_lines.proofs.BlankLemmas.{some_before, one_not_blank}
 use Rattle.trace_records.specs.declared.finished.FinishedSpans.{FinishedSpans}
 use Rattle.script_lines.specs.declared.refused_line.RefusedLine.{RefusedLine}

@@ -7,10 +7,10 @@ use Rattle.span_script.specs.declared.settings.Settings.{Settings}
 use Rattle.span_script.specs.Admission.{OpeningRead, opening_read}
 use Rattle.span_script.specs.Setups.{Setup, setup_by}
 use Rattle.span_script.specs.Tables.{History, tables, records_of}
-use Rattle.trace_pipeline.specs.declared.told.Told.{Told}
-use Rattle.trace_pipeline.specs.Lines.{is_blank}
-use Rattle.trace_pipeline.specs.reading.Spelled.{settings_spelled}
-use Rattle.trace_pipeline.specs.Report.{effect_of_line}
+use Rattle.trace_lines.specs.declared.told.Told.{Told}
+use Rattle.trace_lines.specs.Lines.{is_blank}
+use Rattle.trace_lines.specs.reading.Spelled.{settings_spelled}
+use Rattle.trace_lines.specs.Report.{effect_of_line}
 use Rattle.trace_records.specs.Scripts.{ScriptRan, Run, run_unless_refused, takes, setup_read, setup_of, setup_of_line, lanes_on, script_on, script_from, script_of}
 use Rattle.trace_records.proofs.ScriptsLaws.{going_either}
 

@@ -12,10 +12,10 @@ use Rattle.span_script.specs.Tables.{History, Effect, Tables, tables}
 use Rattle.span_script.specs.Effects.{effect_of}
 use Rattle.span_script.specs.Fits.{State, StandsFor, ServedByHistory, is_for_memory}
 use Rattle.span_script.specs.Admission.{opening_read}
-use Rattle.trace_pipeline.specs.declared.told.Told.{Told}
-use Rattle.trace_pipeline.specs.declared.told.Told.TheVariants as told
-use Rattle.trace_pipeline.specs.reading.Spelled.{settings_spelled, request_spelled}
-use Rattle.trace_pipeline.specs.Report.{effect_of_line, effect_of_request}
+use Rattle.trace_lines.specs.declared.told.Told.{Told}
+use Rattle.trace_lines.specs.declared.told.Told.TheVariants as told
+use Rattle.trace_lines.specs.reading.Spelled.{settings_spelled, request_spelled}
+use Rattle.trace_lines.specs.Report.{effect_of_line, effect_of_request}
 use Rattle.script_lines.specs.Refusals.{IsTold}
 use Rattle.trace_records.specs.declared.line.Opened.{Opened}
 use Rattle.trace_records.specs.declared.line.Answered.{Answered}

@@ -20,11 +20,11 @@ use Rattle.span_script.specs.Effects.{is_bad_moment, effect_of_call, effect_of}
 use Rattle.span_script.specs.Outcomes.{records_of_history}
 use Rattle.span_script.proofs.runs.RunLemmas.{records_push}
 use Rattle.span_laws.specs.Laws.{IsHistory, none, more}
-use Rattle.trace_pipeline.specs.declared.signal.Signal.TheVariants as signal
-use Rattle.trace_pipeline.specs.declared.told.Told.{Told}
-use Rattle.trace_pipeline.specs.Lines.{is_blank}
-use Rattle.trace_pipeline.specs.reading.Spelled.{settings_spelled, request_spelled}
-use Rattle.trace_pipeline.specs.Report.{Report, report_on_effect, effect_of_line, effect_of_request, told_step, report_on, report_from, report_on_settings, report_on_opening, accepts, answer_count}
+use Rattle.trace_lines.specs.declared.signal.Signal.TheVariants as signal
+use Rattle.trace_lines.specs.declared.told.Told.{Told}
+use Rattle.trace_lines.specs.Lines.{is_blank}
+use Rattle.trace_lines.specs.reading.Spelled.{settings_spelled, request_spelled}
+use Rattle.trace_lines.specs.Report.{Report, report_on_effect, effect_of_line, effect_of_request, told_step, report_on, report_from, report_on_settings, report_on_opening, accepts, answer_count}
 use Rattle.trace_records.specs.Scripts.{ScriptRan, Run, run_unless_refused, setup_read, setup_of, setup_of_line, lane_spelled, lanes_on, script_on, script_from, script_of}
 
 -- ---- the same lines are accepted

@@ -2,9 +2,9 @@
 use Rattle.std.specs.Prelude.{◌≡◌, ℕ, List, [], ◌∷◌, ◌++◌, length, Option, Result, Ok, Err}
 use Rattle.span_script.specs.Tables.{History, Effect, tables, records_of}
 use Rattle.span_script.specs.Fits.{State, StandsFor}
-use Rattle.trace_pipeline.specs.declared.told.Told.{Told}
-use Rattle.trace_pipeline.specs.reading.Spelled.{request_spelled}
-use Rattle.trace_pipeline.specs.Report.{effect_of_line}
+use Rattle.trace_lines.specs.declared.told.Told.{Told}
+use Rattle.trace_lines.specs.reading.Spelled.{request_spelled}
+use Rattle.trace_lines.specs.Report.{effect_of_line}
 use Rattle.script_lines.specs.Refusals.{IsTold}
 use Rattle.trace_records.specs.declared.line.Opened.{Opened}
 use Rattle.trace_records.specs.declared.line.Answered.{Answered}

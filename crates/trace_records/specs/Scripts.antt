@@ -6,11 +6,11 @@ use Rattle.span_script.specs.declared.request.Request.{Request}
 use Rattle.span_script.specs.Admission.{OpeningRead, opening_read}
 use Rattle.span_script.specs.Setups.{Setup, setup_by}
 use Rattle.span_script.specs.Tables.{History, tables, records_of}
-use Rattle.trace_pipeline.specs.declared.told.Told.{Told}
-use Rattle.trace_pipeline.specs.declared.told.Told.TheVariants as told
-use Rattle.trace_pipeline.specs.Lines.{is_blank}
-use Rattle.trace_pipeline.specs.reading.Spelled.{settings_spelled, request_spelled}
-use Rattle.trace_pipeline.specs.Report.{effect_of_line}
+use Rattle.trace_lines.specs.declared.told.Told.{Told}
+use Rattle.trace_lines.specs.declared.told.Told.TheVariants as told
+use Rattle.trace_lines.specs.Lines.{is_blank}
+use Rattle.trace_lines.specs.reading.Spelled.{settings_spelled, request_spelled}
+use Rattle.trace_lines.specs.Report.{effect_of_line}
 use Rattle.script_lines.specs.declared.refused_line.RefusedLine.{RefusedLine}
 
 -- A script that ran: what its settings fix, the history of its requests, and for each record of that the lane of the drop

@@ -4,8 +4,8 @@ ghost use Rattle.trace_records.specs.Following.{without_taken};
 
 use crate::kept::Kept;
 use otel_base::memory::Memory;
-use span_pipeline::pipeline::Pipeline;
 use std::alloc::Global;
+use trace_pipeline::pipeline::Pipeline;
 
 /// The finished spans of a script.
 #[derive(Drop)]

@@ -1,6 +1,6 @@
 //! Following the lines of a whole script.
 ghost use Rattle.std.specs.Prelude.{◌≡◌, None, IfSome, IfOk};
-ghost use Rattle.trace_pipeline.specs.Lines.{lines_of};
+ghost use Rattle.trace_lines.specs.Lines.{lines_of};
 ghost use Rattle.script_lines.specs.Refusals.{NoneRefused};
 ghost use Rattle.trace_records.specs.Following.{HasFollowed};
 ghost use Rattle.trace_records.specs.Inputs.{AreRefused, accepts_within};

@@ -1,7 +1,7 @@
 //! What holds of each script, whatever its lines.
 ghost use Rattle.std.specs.Prelude.{◌≡◌, ◌<◌, ◌≤◌, ◌↔◌, ℕ, List, Option, Some, None, Ok, All, is_ok, length};
-ghost use Rattle.trace_pipeline.specs.Report.{accepts, report_from};
-ghost use Rattle.trace_pipeline.specs.declared.signal.Signal.TheVariants.{Traces};
+ghost use Rattle.trace_lines.specs.Report.{accepts, report_from};
+ghost use Rattle.trace_lines.specs.declared.signal.Signal.TheVariants.{Traces};
 ghost use Rattle.span_laws.specs.Laws.{IsHistory};
 ghost use Rattle.span_script.specs.Outcomes.{records_of_history};
 ghost use Rattle.trace_records.specs.Inputs.{EndsWith, last_of};

@@ -7,12 +7,12 @@ ghost use Rattle.trace_records.specs.Scripts.{takes};
 ghost use Rattle.trace_records.specs.Lines.{OpensLine, AnswersLine};
 
 use otel_base::memory::Memory;
-use span_pipeline::pipeline::Pipeline;
 use span_script::open_error::OpenError;
 use std::alloc::Global;
 use trace_base::discard::Discard;
-use trace_pipeline::read::{LineError, read_request, read_settings};
-use trace_pipeline::{Refusal, Reply, Told};
+use trace_lines::read::{LineError, read_request, read_settings};
+use trace_lines::{Refusal, Reply, Told};
+use trace_pipeline::pipeline::Pipeline;
 
 /// What a settings line opens.
 pub struct Opened {

@@ -7,11 +7,11 @@ use crate::kept::Kept;
 use crate::line::{Opened, answer_line, open_line};
 use otel_base::memory::Memory;
 use script_lines::{RefusedLine, is_blank};
-use span_pipeline::pipeline::Pipeline;
 use std::alloc::Global;
 use std::mem;
 use trace_base::discard::Discard;
-use trace_pipeline::Told;
+use trace_lines::Told;
+use trace_pipeline::pipeline::Pipeline;
 
 /// Where a script stands between two lines.
 pub enum Stage {

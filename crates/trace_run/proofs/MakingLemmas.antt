@@ -12,10 +12,10 @@ use Rattle.span_script.specs.Fits.{State, StandsFor, ServedByHistory}
 use Rattle.span_script.specs.Outcomes.{records_of_history}
 use Rattle.span_script.specs.Setups.{Setup}
 use Rattle.span_script.specs.Tables.{History, Tables, no_tables, tables, records_of}
-use Rattle.trace_pipeline.specs.Generated.{made_setup, made_requests, made_script, round, rounds}
-use Rattle.trace_pipeline.specs.Replay.{history_unless_refused, history_after, busy_of, events_of}
-use Rattle.trace_pipeline.specs.Report.{IsValid}
-use Rattle.trace_pipeline.specs.declared.write.summary.Summary.{Summary}
+use Rattle.trace_lines.specs.Generated.{made_setup, made_requests, made_script, round, rounds}
+use Rattle.trace_lines.specs.Replay.{history_unless_refused, history_after, busy_of, events_of}
+use Rattle.trace_lines.specs.Report.{IsValid}
+use Rattle.trace_lines.specs.declared.write.summary.Summary.{Summary}
 use Rattle.trace_records.specs.Following.{without_taken}
 use Rattle.trace_run.specs.Making.{SumsUp, with_records, of_requests, Counts, ServesRequests}
 use Rattle.trace_run.specs.declared.make.Totals.{Totals}

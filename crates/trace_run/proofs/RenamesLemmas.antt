@@ -3,8 +3,8 @@ use Rattle.std.proofs.Common.{ℕ, List, Option, Some, None, sym, subst}
 use Rattle.std.specs.Prelude.{IfSome}
 use Rattle.trace_eager.specs.Renamed.{IsRenamed}
 use Rattle.trace_eager.proofs.RenamedLemmas.{is_renamed}
-use Rattle.trace_pipeline.specs.Lines.{lines_of}
-use Rattle.trace_pipeline.specs.declared.signal.Signal.TheVariants as signal
+use Rattle.trace_lines.specs.Lines.{lines_of}
+use Rattle.trace_lines.specs.declared.signal.Signal.TheVariants as signal
 use Rattle.trace_stream.specs.Carries.{Carries}
 use Rattle.trace_run.specs.Commands.{meaning_by}
 use Rattle.trace_stream.specs.Runs.{answering_of_run, runs}

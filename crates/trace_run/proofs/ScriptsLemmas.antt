@@ -12,8 +12,8 @@ use Rattle.span_script.specs.Outcomes.{records_of_history}
 use Rattle.span_script.specs.Setups.{Setup}
 use Rattle.span_script.specs.Tables.{History}
 use Rattle.trace_batch.specs.declared.relay.TheConstants.{MOST_LANES}
-use Rattle.trace_pipeline.specs.Report.{accepts}
-use Rattle.trace_pipeline.specs.text.Texts.{refusal_text}
+use Rattle.trace_lines.specs.Report.{accepts}
+use Rattle.trace_lines.specs.text.Texts.{refusal_text}
 use Rattle.script_lines.specs.declared.answer.Answer.{Answer}
 use Rattle.trace_records.specs.declared.finished.FinishedSpans.{FinishedSpans}
 use Rattle.script_lines.specs.declared.refused_line.RefusedLine.{RefusedLine}

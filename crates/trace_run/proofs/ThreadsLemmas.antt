@@ -2,7 +2,7 @@
 use Rattle.std.proofs.Common.{◌≡◌, ℕ, List, [], ◌⊎◌, inl, inr, refl}
 use Rattle.std.specs.Prelude.{Bool, true, false, not}
 use Rattle.std.specs.Io.KnownBytes.{IsAtEnd}
-use Rattle.trace_pipeline.specs.Lines.{lines_of}
+use Rattle.trace_lines.specs.Lines.{lines_of}
 use Rattle.thread_run.proofs.InputLemmas.{none_refused}
 use Rattle.thread_run.specs.Inputs.{accepts_threads, TellsThreads}
 use Rattle.thread_run.specs.declared.input.Outcome.{Outcome}

@@ -6,10 +6,10 @@ use Rattle.span_script.specs.declared.request.Request.{Request}
 use Rattle.span_script.specs.Tables.{History, tables}
 use Rattle.span_script.specs.Fits.{State, StandsFor}
 use Rattle.span_script.specs.Outcomes.{records_of_history}
-use Rattle.trace_pipeline.specs.Generated.{made_setup, made_requests, made_script}
-use Rattle.trace_pipeline.specs.Replay.{history_after, busy_of, events_of, summary_of}
-use Rattle.trace_pipeline.specs.Report.{IsValid}
-use Rattle.trace_pipeline.specs.declared.write.summary.Summary.{Summary}
+use Rattle.trace_lines.specs.Generated.{made_setup, made_requests, made_script}
+use Rattle.trace_lines.specs.Replay.{history_after, busy_of, events_of, summary_of}
+use Rattle.trace_lines.specs.Report.{IsValid}
+use Rattle.trace_lines.specs.declared.write.summary.Summary.{Summary}
 use Rattle.trace_run.specs.Commands.Make.{made_line}
 use Rattle.trace_run.specs.declared.make.Totals.{Totals}
 

@@ -1,8 +1,8 @@
 -- What `run` writes where spans start early.
 use Rattle.std.specs.Prelude.{◌≡◌, ℕ, List, IfSome}
 use Rattle.trace_eager.specs.Renamed.{IsRenamed}
-use Rattle.trace_pipeline.specs.Lines.{lines_of}
-use Rattle.trace_pipeline.specs.declared.signal.Signal.TheVariants as signal
+use Rattle.trace_lines.specs.Lines.{lines_of}
+use Rattle.trace_lines.specs.declared.signal.Signal.TheVariants as signal
 use Rattle.trace_stream.specs.Streams.{Streams, Puts}
 use Rattle.trace_run.specs.declared.invocation.Invocation.{Invocation}
 use Rattle.trace_run.specs.declared.invocation.Invocation.TheVariants as invocation

@@ -4,9 +4,9 @@ use Rattle.trace_run.specs.declared.batch.TheConstants.{MOST_ITEMS}
 use Rattle.trace_run.specs.declared.invocation.Invocation.{Invocation}
 use Rattle.trace_run.specs.declared.invocation.Invocation.TheVariants.{Script, Batch, Threads}
 use Rattle.trace_run.specs.declared.script.Command.TheVariants.{Run, Make, Tree, Tasks}
-use Rattle.trace_pipeline.specs.declared.generated.TheConstants.{MOST_ROUNDS}
-use Rattle.trace_pipeline.specs.text.Decimals.{u128_word}
-use Rattle.trace_pipeline.specs.declared.signal.Signal.TheVariants.{Traces, Metrics}
+use Rattle.trace_lines.specs.declared.generated.TheConstants.{MOST_ROUNDS}
+use Rattle.trace_lines.specs.text.Decimals.{u128_word}
+use Rattle.trace_lines.specs.declared.signal.Signal.TheVariants.{Traces, Metrics}
 
 -- a number from 1 to a greatest one, by its decimal
 abbrev pub number_up_to : ℕ → List ℕ → Option ℕ

@@ -3,7 +3,7 @@
 //! Its answers are made in threads, so it may wait, which an `AllLines` may not; it goes the same way as `answer_all`.
 ghost use Rattle.std.specs.Prelude.{◌≡◌, ◌<◌, ℕ, not, Some, IfOk};
 ghost use Rattle.trace_batch.specs.declared.relay.TheConstants.{MOST_LANES};
-ghost use Rattle.trace_pipeline.specs.Lines.{lines_of};
+ghost use Rattle.trace_lines.specs.Lines.{lines_of};
 ghost use Rattle.trace_stream.specs.reading.AllLines.{AnswersCut, WritesAnswer};
 ghost use Rattle.trace_stream.specs.Carries.{Carries, StopsAtFault};
 ghost use Rattle.trace_run.specs.Commands.Batch.{TellsAll, accepts_few, batches};
@@ -17,7 +17,7 @@ use std::alloc::Global;
 use std::sync::Wait;
 use std::thread::Threads;
 use trace_batch::relay::MOST_LANES;
-use trace_pipeline::limits::MAX_INPUT;
+use trace_lines::limits::MAX_INPUT;
 use trace_records::{FinishedSpans, follow_lines, refusal_of};
 use trace_stream::all_lines::status_of;
 use trace_stream::failed::Failed;

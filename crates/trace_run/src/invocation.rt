@@ -4,9 +4,9 @@ ghost use Rattle.trace_run.specs.Words.{number_up_to, invocation_by, invocation_
 
 use crate::batch::MOST_ITEMS;
 use crate::script::Command;
-use trace_pipeline::Signal;
-use trace_pipeline::generated::MOST_ROUNDS;
-use trace_pipeline::read::u128_of;
+use trace_lines::Signal;
+use trace_lines::generated::MOST_ROUNDS;
+use trace_lines::read::u128_of;
 
 /// What an invocation of the program asks for.
 #[derive(Clone, Copy, Debug, PartialEq, Eq)]

@@ -11,7 +11,7 @@ use crate::tasks::Tasks;
 use crate::tree::Tree;
 use std::alloc::{AllocGlobal, Global};
 use std::random::RandomSource;
-use trace_pipeline::Signal;
+use trace_lines::Signal;
 use trace_stream::all_lines::answer_all;
 use trace_stream::run::run;
 use trace_stream::sink::Sink;

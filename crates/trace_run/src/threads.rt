@@ -4,7 +4,7 @@
 //! It waits for its threads, which an `AllLines` may not; it goes the same way as `answer_all`.
 ghost use Rattle.std.specs.Prelude.{IfOk};
 ghost use Rattle.thread_run.specs.Inputs.{TellsThreads, accepts_threads};
-ghost use Rattle.trace_pipeline.specs.Lines.{lines_of};
+ghost use Rattle.trace_lines.specs.Lines.{lines_of};
 ghost use Rattle.trace_stream.specs.reading.AllLines.{AnswersCut, WritesAnswer};
 ghost use Rattle.trace_stream.specs.Carries.{Carries, StopsAtFault};
 ghost use Rattle.trace_run.specs.Commands.Threads.{AnswersEnded, ComesOf, works};
@@ -17,7 +17,7 @@ use std::sync::Wait;
 use std::thread::Threads;
 use thread_handles::Ended;
 use thread_run::{Outcome, threads_answer, threads_refusal};
-use trace_pipeline::limits::MAX_INPUT;
+use trace_lines::limits::MAX_INPUT;
 use trace_stream::all_lines::status_of;
 use trace_stream::failed::Failed;
 use trace_stream::input::{End, Input, read_all};

@@ -1,6 +1,6 @@
 //! The command `tree`: a script is run, and its finished spans are written as trees.
 ghost use Rattle.std.specs.Prelude.{None};
-ghost use Rattle.trace_pipeline.specs.Report.{accepts};
+ghost use Rattle.trace_lines.specs.Report.{accepts};
 ghost use Rattle.trace_run.specs.Commands.Tree.{TellsTrees};
 
 use otel_base::memory::Memory;

@@ -4,8 +4,8 @@ use Rattle.std.specs.Prelude.{Bool, true, false, not, min, Option, Some, None, I
 use Rattle.std.specs.Io.KnownBytes.{IsAtEnd}
 use Rattle.std.proofs.lemmas.Bool.{cases_lt}
 use Rattle.std.proofs.lemmas.List.{append-nil, take_all}
-use Rattle.trace_pipeline.specs.Lines.{lines_of}
-use Rattle.trace_pipeline.specs.declared.limits.TheConstants.{MAX_INPUT}
+use Rattle.trace_lines.specs.Lines.{lines_of}
+use Rattle.trace_lines.specs.declared.limits.TheConstants.{MAX_INPUT}
 use Rattle.script_lines.specs.declared.answer.Answer.{Answer}
 use Rattle.trace_stream.specs.declared.input.End.{End}
 use Rattle.trace_stream.specs.declared.input.End.TheVariants as end

@@ -10,14 +10,14 @@ use Rattle.span_script.specs.Tables.{History, Tables, tables, records_of}
 use Rattle.span_script.specs.calls.Spans.{open_spans}
 use Rattle.span_script.specs.Fits.{State, StandsFor}
 use Rattle.span_script.specs.Admission.{OpeningRead, opening_read}
-use Rattle.trace_pipeline.specs.declared.signal.Signal.{Signal}
-use Rattle.trace_pipeline.specs.declared.told.Told.{Told}
-use Rattle.trace_pipeline.specs.declared.told.Told.TheVariants as told
-use Rattle.trace_pipeline.specs.Lines.{is_blank}
-use Rattle.trace_pipeline.specs.reading.Spelled.{settings_spelled}
-use Rattle.trace_pipeline.specs.text.Texts.{refusal_text}
-use Rattle.trace_pipeline.specs.Report as report
-use Rattle.trace_pipeline.specs.Report.{Report, with_text_before, refused_report, effect_of_line, answer_text, answer_count, last_text, report_on, report_from}
+use Rattle.trace_lines.specs.declared.signal.Signal.{Signal}
+use Rattle.trace_lines.specs.declared.told.Told.{Told}
+use Rattle.trace_lines.specs.declared.told.Told.TheVariants as told
+use Rattle.trace_lines.specs.Lines.{is_blank}
+use Rattle.trace_lines.specs.reading.Spelled.{settings_spelled}
+use Rattle.trace_lines.specs.text.Texts.{refusal_text}
+use Rattle.trace_lines.specs.Report as report
+use Rattle.trace_lines.specs.Report.{Report, with_text_before, refused_report, effect_of_line, answer_text, answer_count, last_text, report_on, report_from}
 use Rattle.trace_records.specs.declared.line.Opened.{Opened}
 use Rattle.trace_records.specs.declared.line.Answered.{Answered}
 use Rattle.trace_records.specs.Scripts.{setup_read, setup_of, setup_of_line}

@@ -3,11 +3,11 @@ use Rattle.std.proofs.Common.{◌≡◌, ℕ, List, [], ◌++◌, refl, sym, ap,
 use Rattle.std.specs.Prelude.{Bool, true, false, Option, Some, None, IfSome}
 use Rattle.std.specs.Io.KnownBytes.{IsAtEnd}
 use Rattle.std.proofs.lemmas.List.{append-nil, take_all}
-use Rattle.trace_pipeline.specs.Lines.{lines_of}
-use Rattle.trace_pipeline.specs.declared.signal.Signal.{Signal}
-use Rattle.trace_pipeline.specs.Report.{Report, report_from, report, output, accepts}
-use Rattle.trace_pipeline.proofs.laws.OutputsLaws.{alike}
-use Rattle.trace_pipeline.specs.declared.limits.TheConstants.{MAX_INPUT}
+use Rattle.trace_lines.specs.Lines.{lines_of}
+use Rattle.trace_lines.specs.declared.signal.Signal.{Signal}
+use Rattle.trace_lines.specs.Report.{Report, report_from, report, output, accepts}
+use Rattle.trace_lines.proofs.laws.OutputsLaws.{alike}
+use Rattle.trace_lines.specs.declared.limits.TheConstants.{MAX_INPUT}
 use Rattle.trace_stream.specs.declared.progress.Progress.{Progress}
 use Rattle.trace_stream.specs.declared.status.Status.{Status}
 use Rattle.trace_stream.specs.declared.status.Status.TheVariants as ends

@@ -2,7 +2,7 @@
 use Rattle.std.proofs.Common.{◌≡◌, ℕ, List, [], ◌∷◌, ◌++◌, refl, sym, ap, ◌∙◌, append_assoc, take, drop, length, get_or, ◌+◌, ◌-◌, ◌<◌, ◌==◌, arith, Bool, true, false, inl, inr}
 use Rattle.std.proofs.lemmas.Bool.{cases_Bool}
 use Rattle.std.proofs.lemmas.List.{take-append-drop, take_more, drop_more, take_rest}
-use Rattle.trace_pipeline.specs.Lines.{onto, lines_of}
+use Rattle.trace_lines.specs.Lines.{onto, lines_of}
 use Rattle.script_lines.proofs.FirstLineLemmas.{NoFeed, ended_line}
 use Rattle.trace_stream.specs.reading.Breaks.{has_feed, whole_part, whole_lines}
 

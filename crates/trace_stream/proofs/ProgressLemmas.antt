@@ -3,9 +3,9 @@ use Rattle.std.proofs.Common.{◌≡◌, ℕ, List, [], ◌∷◌, ◌++◌, ref
 use Rattle.std.specs.Prelude.{Bool, true, false, min, Option, Result, Ok, Err, OnOk}
 use Rattle.std.proofs.lemmas.Bool.{cases_lt}
 use Rattle.std.proofs.lemmas.List.{append-nil, take_all, take-take, length-append, length-take-le}
-use Rattle.trace_pipeline.specs.Lines.{lines_of}
-use Rattle.trace_pipeline.specs.declared.signal.Signal.{Signal}
-use Rattle.trace_pipeline.specs.Report.{Report, report_from, report, output}
+use Rattle.trace_lines.specs.Lines.{lines_of}
+use Rattle.trace_lines.specs.declared.signal.Signal.{Signal}
+use Rattle.trace_lines.specs.Report.{Report, report_from, report, output}
 use Rattle.trace_stream.specs.Streams.{IsFrontOf, Puts, PutsFront}
 use Rattle.trace_stream.specs.reading.Breaks.{has_feed, whole_part, whole_lines}
 use Rattle.trace_stream.specs.reading.Answers.{AnswersTo, Stops, Cuts, is_refused}

@@ -1,7 +1,7 @@
 -- How a run stands between two pieces of its input.
 use Rattle.std.specs.Prelude.{◌≡◌, ℕ, List, ◌++◌, Bool, true, false, Option, Result, Ok, Err}
-use Rattle.trace_pipeline.specs.declared.signal.Signal.{Signal}
-use Rattle.trace_pipeline.specs.Report.{report, output}
+use Rattle.trace_lines.specs.declared.signal.Signal.{Signal}
+use Rattle.trace_lines.specs.Report.{report, output}
 use Rattle.trace_stream.specs.Streams.{Puts, PutsFront}
 use Rattle.trace_stream.specs.reading.Breaks.{has_feed, whole_part, whole_lines}
 use Rattle.trace_stream.specs.reading.Answers.{AnswersTo}

@@ -1,7 +1,7 @@
 -- What `run` and `metrics` do: they run a script, and answer its lines as they come.
 use Rattle.std.specs.Prelude.{◌≡◌}
-use Rattle.trace_pipeline.specs.Report.{report_from, accepts}
-use Rattle.trace_pipeline.specs.declared.signal.Signal.{Signal}
+use Rattle.trace_lines.specs.Report.{report_from, accepts}
+use Rattle.trace_lines.specs.declared.signal.Signal.{Signal}
 use Rattle.trace_stream.specs.reading.Breaks.{AnswersAll}
 use Rattle.trace_stream.specs.Meaning.{Meaning}
 use Rattle.trace_stream.specs.reading.Reading.{Answering, meaning_of_reading}

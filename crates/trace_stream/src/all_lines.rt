@@ -1,6 +1,6 @@
 //! Commands that read all lines before they write.
 ghost use Rattle.std.specs.Prelude.{◌≡◌, ℕ, List, Bool, not, None, IfSome, IfOk};
-ghost use Rattle.trace_pipeline.specs.Lines.{lines_of};
+ghost use Rattle.trace_lines.specs.Lines.{lines_of};
 ghost use Rattle.script_lines.specs.Refusals.{Refuses, NoneRefused};
 ghost use Rattle.trace_stream.specs.reading.AllLines.{all_lines, AnswersCut, WritesAnswer, status_at_end};
 ghost use Rattle.trace_stream.specs.Carries.{Carries, StopsAtFault};
@@ -15,7 +15,7 @@ use crate::status::Status;
 use otel_base::memory::Memory;
 use script_lines::Answer;
 use std::alloc::Global;
-use trace_pipeline::limits::MAX_INPUT;
+use trace_lines::limits::MAX_INPUT;
 
 /// A command that reads all lines before it writes.
 pub trait AllLines {

@@ -1,17 +1,17 @@
 //! Answering lines one after another, whichever lines follow them.
 ghost use Rattle.std.specs.Prelude.{◌≡◌, ℕ, List, [], ◌∷◌, ◌++◌, ◌+◌, false, true, IfOk, OnOk};
-ghost use Rattle.trace_pipeline.specs.Lines.{is_blank};
-ghost use Rattle.trace_pipeline.specs.Report.{report_from};
+ghost use Rattle.trace_lines.specs.Lines.{is_blank};
+ghost use Rattle.trace_lines.specs.Report.{report_from};
 ghost use Rattle.trace_stream.specs.reading.Answers.{Opens, Runs, AnswersAt, Goes, AnswersTo, is_refused};
 
 use crate::written::Written;
 use otel_base::memory::Memory;
 use script_lines::is_blank;
-use span_pipeline::pipeline::Pipeline;
 use std::alloc::Global;
 use std::mem;
 use trace_base::discard::Discard;
-use trace_pipeline::{Signal, Told};
+use trace_lines::{Signal, Told};
+use trace_pipeline::pipeline::Pipeline;
 use trace_records::line::{Opened, answer_line, open_line};
 
 /// Where a run stands between two lines.

@@ -7,7 +7,7 @@ use crate::failed::Failed;
 use crate::source::Source;
 use otel_base::memory::Memory;
 use std::alloc::{AllocError, Global};
-use trace_pipeline::limits::MAX_INPUT;
+use trace_lines::limits::MAX_INPUT;
 
 /// How many bytes are asked for at once.
 pub const BLOCK: usize = 65_536;

@@ -1,6 +1,6 @@
 //! Answering an input piece by piece, as it is read.
 ghost use Rattle.std.specs.Prelude.{◌≡◌, ◌++◌, ◌∷◌, ℕ, List, Option, [], false, IfOk, IfErr, OnOk, OnErr};
-ghost use Rattle.trace_pipeline.specs.Report.{report};
+ghost use Rattle.trace_lines.specs.Report.{report};
 ghost use Rattle.trace_stream.specs.reading.Answers.{is_refused};
 ghost use Rattle.trace_stream.specs.reading.Breaks.{has_feed};
 ghost use Rattle.trace_stream.specs.Streams.{CountsFault, StopsWriting};
@@ -13,7 +13,7 @@ use crate::sink::Sink;
 use otel_base::memory::Memory;
 use std::alloc::Global;
 use trace_base::discard::Discard;
-use trace_pipeline::Signal;
+use trace_lines::Signal;
 
 // How many bytes are kept before they are written.
 const FULL: usize = 65_536;

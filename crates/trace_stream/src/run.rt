@@ -16,8 +16,8 @@ use crate::source::Source;
 use crate::status::Status;
 use std::alloc::Global;
 use trace_base::discard::Discard;
-use trace_pipeline::Signal;
-use trace_pipeline::limits::MAX_INPUT;
+use trace_lines::Signal;
+use trace_lines::limits::MAX_INPUT;
 
 /// Runs a script: each line is answered once it is whole, and all answers are written before more is read.
 pub fn run<R: Source, W: Sink>(

@@ -1,7 +1,7 @@
 //! What a run writes, line by line.
 ghost use Rattle.std.specs.Prelude.{◌≡◌, ◌≢◌, ◌++◌, ◌+◌, ◌≤◌, [], length, OnOk, OnErr};
-ghost use Rattle.trace_pipeline.specs.Report.{record_lines, measure_lines, last_text};
-ghost use Rattle.trace_pipeline.specs.text.Texts.{reply_text, refusal_text};
+ghost use Rattle.trace_lines.specs.Report.{record_lines, measure_lines, last_text};
+ghost use Rattle.trace_lines.specs.text.Texts.{reply_text, refusal_text};
 ghost use Rattle.trace_records.specs.Following.{without_taken};
 ghost use Rattle.trace_stream.specs.reading.Answers.{IsAnswered};
 ghost use Rattle.trace_stream.specs.Streams.{CountsFault, Puts, PutsFront, StopsWriting};
@@ -9,12 +9,12 @@ ghost use Rattle.trace_stream.specs.Streams.{CountsFault, Puts, PutsFront, Stops
 use crate::failed::Failed;
 use crate::sink::{Sink, write_all};
 use otel_base::memory::Memory;
-use span_pipeline::pipeline::Pipeline;
 use std::alloc::Global;
-use trace_pipeline::{
+use trace_lines::{
     Refusal, Reply, Signal, Told, add_end_line, add_measure_line, add_measures_end_line,
     add_record_line, add_refusal_line, add_reply_line,
 };
+use trace_pipeline::pipeline::Pipeline;
 use trace_records::finished::drop_measures;
 
 /// What is written so far.

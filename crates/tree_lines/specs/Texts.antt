@@ -2,8 +2,8 @@
 use Rattle.std.specs.Prelude.{◌≡◌, ℕ, List, [], ◌∷◌, ◌++◌, codes, decimal, length, true, unwrap_or, option_map, slice_get}
 use Rattle.std.specs.List.{flat_map}
 use Rattle.serde_json.specs.Data.{Data, boolean, string, object}
-use Rattle.trace_pipeline.specs.text.Hex.{hex16, hex32}
-use Rattle.trace_pipeline.specs.reading.Object.{by_name, whole_number, line_of}
+use Rattle.trace_lines.specs.text.Hex.{hex16, hex32}
+use Rattle.trace_lines.specs.reading.Object.{by_name, whole_number, line_of}
 use Rattle.trace_tree.specs.declared.node.Node.{Node}
 use Rattle.trace_tree.specs.declared.span.TreeSpan.{TreeSpan}
 use Rattle.trace_tree.specs.declared.totals.TraceTotal.{TraceTotal}

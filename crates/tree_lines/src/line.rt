@@ -1,13 +1,13 @@
 //! The lines of nodes, of totals and of the end, each with its line feed.
 ghost use Rattle.std.specs.Prelude.{◌++◌, decimal};
 ghost use Rattle.json.specs.Print.{quoted};
-ghost use Rattle.trace_pipeline.specs.text.Writes.{Writes};
+ghost use Rattle.trace_lines.specs.text.Writes.{Writes};
 ghost use Rattle.tree_lines.specs.Texts.{node_text, total_text, tree_end_text};
 
 use itoa::Buffer;
 use std::alloc::AllocError;
-use trace_pipeline::write::hex::{add_id, add_long_id};
-use trace_pipeline::write::pieces::{add, add_number, add_text};
+use trace_lines::write::hex::{add_id, add_long_id};
+use trace_lines::write::pieces::{add, add_number, add_text};
 use trace_tree::{TraceTotal, TreeSpan};
 
 // Adds a whole number as a text, since it may pass 64 bits.

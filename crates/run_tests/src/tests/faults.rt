@@ -4,7 +4,7 @@ use std::random::RandomSource;
 use std::sync::Wait;
 use std::test::Fail;
 use std::thread::Threads;
-use trace_pipeline::limits::MAX_INPUT;
+use trace_lines::limits::MAX_INPUT;
 use trace_stream::status::Status;
 use trace_stream::turns::Turn;
 

@@ -3,7 +3,7 @@ use otel_base::list::Items;
 use otel_base::text::Text;
 use otel_metrics::measure::{Measure, MetricKind};
 use std::test::Fail;
-use trace_pipeline::{measure_line, measures_end_line};
+use trace_lines::{measure_line, measures_end_line};
 
 // The line of a measure.
 fn line<R: AllocGlobal>(rt: &R) -> Result<String, Fail> {

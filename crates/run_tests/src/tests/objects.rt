@@ -6,7 +6,7 @@ use otel_base::status::Status;
 use otel_base::text::Text;
 use serde_json::Value;
 use std::test::Fail;
-use trace_pipeline::{read_attributes, record_line, record_object};
+use trace_lines::{read_attributes, record_line, record_object};
 
 // What stands around the lane, if that is told.
 const FRONT: &str =

@@ -1,8 +1,8 @@
 //! Scripts whose refused requests don't end them, so that what a refused step leaves shows in the steps behind it.
-use span_pipeline::Pipeline;
 use std::test::Fail;
 use trace_base::discard::Discard;
-use trace_pipeline::Signal;
+use trace_lines::Signal;
+use trace_pipeline::Pipeline;
 use trace_stream::answers::{Stage, answer, open};
 use trace_stream::written::Written;
 

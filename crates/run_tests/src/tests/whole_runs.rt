@@ -1,13 +1,13 @@
 //! Scripts that are run at once, by `Pipeline::run`.
 use otel_base::list::Items;
-use span_pipeline::Pipeline;
 use span_script::open_error::OpenError;
 use span_script::outcome::Outcome;
 use std::test::Fail;
-use trace_pipeline::{
+use trace_lines::{
     Refusal, Request, Told, end_line, read_request, read_settings, record_line, refusal_line,
     reply_line,
 };
+use trace_pipeline::Pipeline;
 
 /// Scripts, each ended by `^`. Replies come first, then records, and then the refusal of the first refused request or,
 /// where none is, the end line.

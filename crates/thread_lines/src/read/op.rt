@@ -1,9 +1,9 @@
 //! What a call of a worker spells.
 ghost use Rattle.std.specs.Prelude.{◌≡◌};
 ghost use Rattle.serde_json.specs.View.{view};
-ghost use Rattle.trace_pipeline.specs.forms.AttributeForm.{attributes_form};
-ghost use Rattle.trace_pipeline.specs.forms.ExtensionForm.{as_moment, time_form};
-ghost use Rattle.trace_pipeline.specs.reading.Gives.{Gives};
+ghost use Rattle.trace_lines.specs.forms.AttributeForm.{attributes_form};
+ghost use Rattle.trace_lines.specs.forms.ExtensionForm.{as_moment, time_form};
+ghost use Rattle.trace_lines.specs.reading.Gives.{Gives};
 ghost use Rattle.line_members.specs.Left.{members_left};
 ghost use Rattle.thread_lines.specs.ThreadForm.{word_of_op, word_form, record_op_form, event_op_form, attribute_op_form, status_op_form, added_event_form, valid_context, link_op_form, call_form, op_form};
 
@@ -17,7 +17,7 @@ use otel_base::value::KeyValue;
 use otel_state::Op;
 use serde_json::Value as Json;
 use std::alloc::Global;
-use trace_pipeline::{
+use trace_lines::{
     LAST_MOMENT, LineError, read_attribute_value, read_attributes, read_fields, read_span_id,
     read_status, read_trace_id,
 };

@@ -2,8 +2,8 @@
 ghost use Rattle.std.specs.Prelude.{option_and_then};
 ghost use Rattle.serde_json.specs.Find.{as_array};
 ghost use Rattle.serde_json.specs.View.{view, items_view};
-ghost use Rattle.trace_pipeline.specs.forms.Forms.{each};
-ghost use Rattle.trace_pipeline.specs.reading.Gives.{Gives};
+ghost use Rattle.trace_lines.specs.forms.Forms.{each};
+ghost use Rattle.trace_lines.specs.reading.Gives.{Gives};
 ghost use Rattle.thread_lines.specs.ThreadForm.{op_of};
 
 use crate::line::ThreadOp;
@@ -12,7 +12,7 @@ use line_members::Members;
 use otel_base::list::Items;
 use serde_json::Value as Json;
 use std::alloc::Global;
-use trace_pipeline::LineError;
+use trace_lines::LineError;
 
 // The call that a value spells.
 fn op_of(alloc: Global, value: Json) -> Result<ThreadOp, LineError>

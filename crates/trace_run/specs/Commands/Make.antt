@@ -2,10 +2,10 @@
 use Rattle.std.specs.Prelude.{◌≡◌, ℕ, ◌≤◌, List, [], Option, Some, None, false}
 use Rattle.std.proofs.Common.{◌⊎◌}
 use Rattle.span_script.specs.Tables.{History}
-use Rattle.trace_pipeline.specs.declared.generated.TheConstants.{MOST_ROUNDS}
-use Rattle.trace_pipeline.specs.Generated.{made_setup, made_requests, made_script}
-use Rattle.trace_pipeline.specs.Replay.{history_after, summary_of, summary_text}
-use Rattle.trace_pipeline.specs.Report.{IsValid}
+use Rattle.trace_lines.specs.declared.generated.TheConstants.{MOST_ROUNDS}
+use Rattle.trace_lines.specs.Generated.{made_setup, made_requests, made_script}
+use Rattle.trace_lines.specs.Replay.{history_after, summary_of, summary_text}
+use Rattle.trace_lines.specs.Report.{IsValid}
 use Rattle.trace_stream.specs.Meaning.{Meaning}
 use Rattle.trace_stream.specs.Streams.{Streams, IsQuiet, Puts, PutsFront}
 use Rattle.trace_stream.specs.declared.status.Status.{Status}

@@ -3,7 +3,7 @@ use Rattle.std.specs.Prelude.{◌≡◌, ℕ, List, []}
 use Rattle.std.specs.Io.KnownBytes.{IsAtEnd}
 use Rattle.thread_run.specs.Inputs.{accepts_threads, TellsEnded, TellsThreads}
 use Rattle.thread_handles.specs.declared.gather.Ended.{Ended}
-use Rattle.trace_pipeline.specs.Lines.{lines_of}
+use Rattle.trace_lines.specs.Lines.{lines_of}
 use Rattle.trace_stream.specs.reading.AllLines.{all_lines}
 use Rattle.trace_stream.specs.Meaning.{Meaning}
 use Rattle.trace_stream.specs.Streams.{Streams, Takes, Puts}

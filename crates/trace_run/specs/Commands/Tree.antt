@@ -3,7 +3,7 @@ use Rattle.std.specs.Prelude.{ℕ, List, map, None}
 use Rattle.span_script.specs.calls.Spans.{open_spans}
 use Rattle.span_script.specs.Outcomes.{records_of_history}
 use Rattle.span_script.specs.Tables.{tables}
-use Rattle.trace_pipeline.specs.Report.{accepts}
+use Rattle.trace_lines.specs.Report.{accepts}
 use Rattle.trace_records.specs.Inputs.{TellsRun}
 use Rattle.trace_records.specs.Scripts.{ScriptRan, script_of}
 use Rattle.trace_stream.specs.reading.AllLines.{all_lines}

@@ -1,7 +1,7 @@
 -- What a command does that reads all lines before it writes.
 use Rattle.std.specs.Prelude.{◌≡◌, ℕ, List, [], take, Bool, true, false, not}
-use Rattle.trace_pipeline.specs.Lines.{lines_of}
-use Rattle.trace_pipeline.specs.declared.limits.TheConstants.{MAX_INPUT}
+use Rattle.trace_lines.specs.Lines.{lines_of}
+use Rattle.trace_lines.specs.declared.limits.TheConstants.{MAX_INPUT}
 use Rattle.script_lines.specs.declared.answer.Answer.{Answer}
 use Rattle.script_lines.specs.Refusals.{Refuses, NoneRefused}
 use Rattle.trace_stream.specs.reading.Breaks.{whole_lines}

@@ -1,10 +1,10 @@
 -- What lines are answered, whichever lines follow them.
 use Rattle.std.specs.Prelude.{◌≡◌, ℕ, List, [], ◌++◌, ◌+◌, Bool, true, false}
-use Rattle.trace_pipeline.specs.declared.signal.Signal.{Signal}
+use Rattle.trace_lines.specs.declared.signal.Signal.{Signal}
 use Rattle.span_script.specs.declared.reply.Reply.{Reply}
 use Rattle.span_script.specs.Tables.{History, tables}
 use Rattle.span_script.specs.Fits.{State, StandsFor}
-use Rattle.trace_pipeline.specs.Report.{with_text_before, answer_text, answer_count, report_on, report_from}
+use Rattle.trace_lines.specs.Report.{with_text_before, answer_text, answer_count, report_on, report_from}
 use Rattle.script_lines.specs.Refusals.{are_blank}
 use Rattle.trace_records.specs.Following.{without_taken}
 use Rattle.trace_stream.specs.Streams.{IsFrontOf}

@@ -2,9 +2,9 @@
 use Rattle.std.specs.Prelude.{◌≡◌, ℕ, List, [], ◌∷◌, ◌++◌, Bool, true, ◌==◌, if◌then◌else◌}
 use Rattle.std.specs.List.{list_any}
 use Rattle.std.proofs.Common.{◌⊎◌}
-use Rattle.trace_pipeline.specs.Lines.{lines_of}
-use Rattle.trace_pipeline.specs.declared.signal.Signal.{Signal}
-use Rattle.trace_pipeline.specs.Report.{last_text, report_from}
+use Rattle.trace_lines.specs.Lines.{lines_of}
+use Rattle.trace_lines.specs.declared.signal.Signal.{Signal}
+use Rattle.trace_lines.specs.Report.{last_text, report_from}
 use Rattle.script_lines.specs.Refusals.{are_blank}
 
 -- whether a line feed is among the bytes

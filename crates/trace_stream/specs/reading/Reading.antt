@@ -1,8 +1,8 @@
 -- What a command that reads lines does, by how it answers them.
 use Rattle.std.specs.Prelude.{◌≡◌, ℕ, ◌<◌, ◌≤◌, List, [], length, take, Bool, true, false, Option, Some, IfSome}
 use Rattle.std.proofs.Common.{◌⊎◌}
-use Rattle.trace_pipeline.specs.Lines.{lines_of}
-use Rattle.trace_pipeline.specs.declared.limits.TheConstants.{MAX_INPUT}
+use Rattle.trace_lines.specs.Lines.{lines_of}
+use Rattle.trace_lines.specs.declared.limits.TheConstants.{MAX_INPUT}
 use Rattle.script_lines.specs.Refusals.{are_blank}
 use Rattle.trace_stream.specs.Meaning.{Meaning}
 use Rattle.trace_stream.specs.Streams.{Streams, MeetsEnd, IsQuiet, Takes, Puts, PutsFront}

@@ -1,7 +1,7 @@
 -- The pieces, one after another, are the object of the end line.
 use Rattle.std.proofs.Common.{refl}
 use Rattle.json.specs.Print.{escape_byte}
-use Rattle.trace_pipeline.proofs.texts.AddsLemmas.{then, retold}
+use Rattle.trace_lines.proofs.texts.AddsLemmas.{then, retold}
 use Rattle.batch_lines.proofs.line.add_counts.Goals as goal
 
 pub returns : goal.returns

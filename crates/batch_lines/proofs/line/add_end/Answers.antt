@@ -1,7 +1,7 @@
 -- The object, and a line feed.
 use Rattle.std.proofs.Common.{refl}
-use Rattle.trace_pipeline.specs.reading.Object.{line_of}
-use Rattle.trace_pipeline.proofs.texts.AddsLemmas.{then, retold}
+use Rattle.trace_lines.specs.reading.Object.{line_of}
+use Rattle.trace_lines.proofs.texts.AddsLemmas.{then, retold}
 use Rattle.batch_lines.specs.Texts.{batches_end_text}
 use Rattle.batch_lines.proofs.line.add_end.Goals as goal
 

@@ -1,5 +1,5 @@
 use Rattle.std.proofs.Common.{◌≡◌, ◌&&◌, Bool, length, sym, ap, ◌∙◌, eqb-true}
-use Rattle.trace_pipeline.specs.Lines.{lines_of}
+use Rattle.trace_lines.specs.Lines.{lines_of}
 use Rattle.script_lines.specs.Refusals.{are_blank}
 use Rattle.script_lines.proofs.FirstLineLemmas.{none_left}
 use Rattle.script_lines.proofs.lines.are_blank.Goals as goal

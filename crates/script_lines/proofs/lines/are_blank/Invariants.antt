@@ -1,6 +1,6 @@
 -- All lines so far are blank.
 use Rattle.std.proofs.Common.{◌≡◌, length}
-use Rattle.trace_pipeline.specs.Lines.{lines_of}
+use Rattle.trace_lines.specs.Lines.{lines_of}
 use Rattle.script_lines.specs.Refusals.{are_blank}
 use Rattle.script_lines.proofs.lines.are_blank.Given as goal
 

@@ -1,5 +1,5 @@
 use Rattle.std.proofs.Common.{◌≡◌, drop}
-use Rattle.trace_pipeline.specs.Lines.{is_blank}
+use Rattle.trace_lines.specs.Lines.{is_blank}
 use Rattle.script_lines.proofs.lines.is_blank.Given as goal
 
 abbrev pub invariant-loop-byte : goal.invariant-loop-byte

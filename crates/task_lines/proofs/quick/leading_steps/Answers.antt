@@ -1,7 +1,7 @@
 use Rattle.std.proofs.Common.{◌+◌, ◌++◌, [], ◌∷◌, Some, ap, sym, ◌∙◌}
 use Rattle.serde_json.specs.Data.{no_items}
-use Rattle.trace_pipeline.specs.declared.read.syntax.scan.TheConstants.{DEEPEST}
-use Rattle.trace_pipeline.proofs.readings.CompactLemmas.{Pair, AllRead-push, items_first, items_on, items_text_end, array_front, read_items}
+use Rattle.trace_lines.specs.declared.read.syntax.scan.TheConstants.{DEEPEST}
+use Rattle.trace_lines.proofs.readings.CompactLemmas.{Pair, AllRead-push, items_first, items_on, items_text_end, array_front, read_items}
 use Rattle.task_lines.proofs.StepsLemmas.{step_more}
 use Rattle.task_lines.proofs.quick.leading_steps.Goals as goal
 

@@ -1,8 +1,8 @@
 -- the steps that were read, as they stand in the text and as they are kept
 use Rattle.std.proofs.Common.{◌≡◌, ◌+◌, List, Some}
-use Rattle.trace_pipeline.specs.forms.Forms.{each}
-use Rattle.trace_pipeline.specs.declared.read.syntax.scan.TheConstants.{DEEPEST}
-use Rattle.trace_pipeline.proofs.readings.CompactLemmas.{Pair, AllRead, GoesItems, read_items}
+use Rattle.trace_lines.specs.forms.Forms.{each}
+use Rattle.trace_lines.specs.declared.read.syntax.scan.TheConstants.{DEEPEST}
+use Rattle.trace_lines.proofs.readings.CompactLemmas.{Pair, AllRead, GoesItems, read_items}
 use Rattle.task_lines.specs.TaskForm.{step_of}
 use Rattle.task_lines.proofs.quick.leading_steps.Given as goal
 

@@ -1,5 +1,5 @@
 use Rattle.std.proofs.Common.{List, ℕ, sym, subst}
-use Rattle.trace_pipeline.specs.text.Compact.{plain_data}
+use Rattle.trace_lines.specs.text.Compact.{plain_data}
 use Rattle.trace_tasks.specs.declared.script.Step.TheVariants as step
 use Rattle.task_lines.specs.Compact.{BeginsStep}
 use Rattle.task_lines.proofs.StepsLemmas.{attribute_begins}

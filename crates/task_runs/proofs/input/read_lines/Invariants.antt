@@ -1,6 +1,6 @@
 -- The lines so far were read.
 use Rattle.std.proofs.Common.{◌≡◌, ◌++◌, length, List, ℕ}
-use Rattle.trace_pipeline.specs.Lines.{lines_of}
+use Rattle.trace_lines.specs.Lines.{lines_of}
 use Rattle.task_runs.specs.Reading.{HasReadLines}
 use Rattle.task_runs.proofs.input.read_lines.Given as goal
 

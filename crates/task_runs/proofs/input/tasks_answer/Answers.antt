@@ -1,7 +1,7 @@
 -- What the lines come to is written.
 use Rattle.std.proofs.Common.{subst}
 use Rattle.std.specs.Prelude.{Ok, Err}
-use Rattle.trace_pipeline.specs.Lines.{lines_of}
+use Rattle.trace_lines.specs.Lines.{lines_of}
 use Rattle.task_runs.specs.Reading.{EndsAs}
 use Rattle.task_runs.proofs.InputLemmas.{tells_outcome, accepted, answer_text, answer_refused}
 use Rattle.task_runs.proofs.input.tasks_answer.Goals as goal

@@ -1,6 +1,6 @@
 -- A line that is refused whatever lines follow.
 use Rattle.std.proofs.Common.{subst}
-use Rattle.trace_pipeline.specs.Lines.{lines_of}
+use Rattle.trace_lines.specs.Lines.{lines_of}
 use Rattle.task_runs.specs.Reading.{IsRefusedBy}
 use Rattle.task_runs.proofs.InputLemmas.{refuses, none_refused}
 use Rattle.task_runs.proofs.input.tasks_refusal.Goals as goal

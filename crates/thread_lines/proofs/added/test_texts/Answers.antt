@@ -2,7 +2,7 @@ use Rattle.std.proofs.Common.{◌≡◌, List, ℕ, Some, sym, ap, subst, ◌∙
 use Rattle.std.specs.Prelude.{Result, Option, ⊤}
 use Rattle.std.proofs.lemmas.Result.{err_from_is_err_and}
 use Rattle.span_script.specs.Admission.{counting_read}
-use Rattle.trace_pipeline.specs.declared.told.Told.{Told}
+use Rattle.trace_lines.specs.declared.told.Told.{Told}
 use Rattle.thread_lines.specs.Answers.{AnswersTest}
 use Rattle.thread_lines.specs.Steps.{directives}
 use Rattle.thread_lines.proofs.TextLemmas.{filter_stops, counting_decides}

@@ -1,6 +1,6 @@
 use Rattle.std.proofs.Common.{◌≡◌, List, ℕ, length, Ok, sym, ap, ◌∙◌, eqb-true}
 use Rattle.std.specs.Prelude.{⊤}
-use Rattle.trace_pipeline.specs.Lines.{lines_of}
+use Rattle.trace_lines.specs.Lines.{lines_of}
 use Rattle.thread_lines.specs.Steps.{text_added, lines_added}
 use Rattle.thread_lines.proofs.RunnableLemmas.{text_runs}
 use Rattle.script_lines.proofs.FirstLineLemmas.{none_left}

@@ -1,6 +1,6 @@
 -- The lines that are left add what all lines add.
 use Rattle.std.proofs.Common.{◌≡◌, length}
-use Rattle.trace_pipeline.specs.Lines.{lines_of}
+use Rattle.trace_lines.specs.Lines.{lines_of}
 use Rattle.thread_lines.specs.Runnable.{IsRunnable}
 use Rattle.thread_lines.specs.Steps.{lines_added}
 use Rattle.thread_lines.proofs.script.add_lines.Given as goal

@@ -1,6 +1,6 @@
 -- All lines so far are blank.
 use Rattle.std.proofs.Common.{◌≡◌, length}
-use Rattle.trace_pipeline.specs.Lines.{lines_of}
+use Rattle.trace_lines.specs.Lines.{lines_of}
 use Rattle.thread_lines.specs.Steps.{script_from, script_of}
 use Rattle.thread_lines.proofs.script.read_script.Given as goal
 

@@ -1,8 +1,8 @@
 use Rattle.std.proofs.Common.{◌++◌, [], ◌∷◌, false, refl, ap, arith}
 use Rattle.std.specs.Prelude.{slice_index_or}
 use Rattle.serde_json.specs.Written.{compact_text, comma_if, items_text}
-use Rattle.trace_pipeline.specs.reading.Object.{items}
-use Rattle.trace_pipeline.proofs.texts.AddsLemmas.{begun, then, retold, item_added, items_added}
+use Rattle.trace_lines.specs.reading.Object.{items}
+use Rattle.trace_lines.proofs.texts.AddsLemmas.{begun, then, retold, item_added, items_added}
 use Rattle.thread_run.specs.declared.entry.EntryText.{EntryText}
 use Rattle.thread_run.specs.declared.entry.Deed.TheVariants as deed
 use Rattle.thread_run.specs.Texts.{entry_data}

@@ -1,8 +1,8 @@
 -- what is written, and the rest, are all
 use Rattle.std.proofs.Common.{◌≡◌, ◌++◌, ℕ, List, drop, false}
 use Rattle.serde_json.specs.Written.{items_text}
-use Rattle.trace_pipeline.specs.reading.Object.{items}
-use Rattle.trace_pipeline.specs.text.Writes.{AddsText}
+use Rattle.trace_lines.specs.reading.Object.{items}
+use Rattle.trace_lines.specs.text.Writes.{AddsText}
 use Rattle.thread_run.specs.Texts.{entry_data}
 use Rattle.thread_run.proofs.text.add_entries.Given as goal
 

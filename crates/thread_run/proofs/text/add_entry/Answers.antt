@@ -1,5 +1,5 @@
 use Rattle.std.proofs.Common.{refl}
-use Rattle.trace_pipeline.proofs.texts.AddsLemmas.{then, retold}
+use Rattle.trace_lines.proofs.texts.AddsLemmas.{then, retold}
 use Rattle.thread_run.proofs.text.add_entry.Goals as goal
 
 pub returns : goal.returns

@@ -1,8 +1,8 @@
 use Rattle.std.proofs.Common.{refl}
 use Rattle.json.specs.Print.{escape_byte}
 use Rattle.serde_json.specs.Written.{compact_text}
-use Rattle.trace_pipeline.specs.reading.Object.{line_of}
-use Rattle.trace_pipeline.proofs.texts.AddsLemmas.{then, retold}
+use Rattle.trace_lines.specs.reading.Object.{line_of}
+use Rattle.trace_lines.proofs.texts.AddsLemmas.{then, retold}
 use Rattle.thread_run.specs.Texts.{history_data, told_text}
 use Rattle.thread_run.proofs.text.add_history.Goals as goal
 

@@ -1,6 +1,6 @@
 -- The lines so far were followed.
 use Rattle.std.proofs.Common.{◌≡◌, ◌++◌, length, List, ℕ}
-use Rattle.trace_pipeline.specs.Lines.{lines_of}
+use Rattle.trace_lines.specs.Lines.{lines_of}
 use Rattle.trace_records.specs.Following.{HasFollowed}
 use Rattle.trace_records.proofs.follow.follow_lines.Given as goal
 

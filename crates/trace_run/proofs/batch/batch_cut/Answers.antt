@@ -1,7 +1,7 @@
 use Rattle.std.proofs.Common.{subst}
 use Rattle.std.specs.Prelude.{Some, IfSome}
 use Rattle.trace_batch.specs.declared.relay.TheConstants.{MOST_LANES}
-use Rattle.trace_pipeline.specs.Lines.{lines_of}
+use Rattle.trace_lines.specs.Lines.{lines_of}
 use Rattle.trace_records.specs.Inputs.{AreRefused}
 use Rattle.trace_records.proofs.InputsLemmas.{refuses}
 use Rattle.trace_run.specs.Commands.Batch.{TellsBatchesOf}

@@ -1,6 +1,6 @@
 use Rattle.std.proofs.Common.{subst}
 use Rattle.std.specs.Prelude.{IfSome}
-use Rattle.trace_pipeline.specs.Lines.{lines_of}
+use Rattle.trace_lines.specs.Lines.{lines_of}
 use Rattle.script_lines.specs.Refusals.{Refuses}
 use Rattle.thread_run.specs.Inputs.{accepts_threads, TellsThreads}
 use Rattle.trace_run.proofs.threads.threads_cut.Goals as goal

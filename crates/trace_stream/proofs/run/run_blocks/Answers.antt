@@ -1,6 +1,6 @@
 use Rattle.std.proofs.Common.{rules, ◌≡◌, ◌<◌, ◌≤◌, ◌++◌, ◌∙◌, sym, subst, ℕ, List, length, take, false, true, inr}
 use Rattle.std.specs.Io.KnownBytes.{IsAtEnd}
-use Rattle.trace_pipeline.specs.declared.limits.TheConstants.{MAX_INPUT}
+use Rattle.trace_lines.specs.declared.limits.TheConstants.{MAX_INPUT}
 use Rattle.trace_stream.specs.Streams.{MeetsEnd, Takes, streams_of}
 use Rattle.trace_stream.specs.Progress.{IsMidway, HasFront}
 use Rattle.trace_stream.proofs.StreamsLemmas.{takes_more, takes_still}

@@ -1,5 +1,5 @@
 use Rattle.std.proofs.Common.{◌≡◌, ◌+◌, ◌-◌, [], List, ℕ, false, length, take}
-use Rattle.trace_pipeline.specs.declared.limits.TheConstants.{MAX_INPUT}
+use Rattle.trace_lines.specs.declared.limits.TheConstants.{MAX_INPUT}
 use Rattle.trace_stream.specs.reading.Answers.{is_refused}
 use Rattle.trace_stream.specs.Progress.{IsMidway}
 use Rattle.trace_stream.specs.Streams.{Takes}

@@ -1,8 +1,8 @@
 use Rattle.std.proofs.Common.{refl}
 use Rattle.json.specs.Print.{escape_byte}
 use Rattle.serde_json.specs.Written.{compact_text}
-use Rattle.trace_pipeline.specs.reading.Object.{line_of}
-use Rattle.trace_pipeline.proofs.texts.AddsLemmas.{then, retold}
+use Rattle.trace_lines.specs.reading.Object.{line_of}
+use Rattle.trace_lines.proofs.texts.AddsLemmas.{then, retold}
 use Rattle.tree_lines.specs.Texts.{node_data, node_text}
 use Rattle.tree_lines.proofs.line.add_node.Goals as goal
 

@@ -1,6 +1,6 @@
 -- The lines so far, and those of the records that wait.
 use Rattle.std.proofs.Common.{◌≡◌, ◌+◌, ◌++◌, length}
-use Rattle.trace_pipeline.specs.Report.{record_lines}
+use Rattle.trace_lines.specs.Report.{record_lines}
 use Rattle.trace_records.specs.Following.{without_taken}
 use Rattle.task_runs.proofs.text.RecordLines.take_records.Given as goal
 

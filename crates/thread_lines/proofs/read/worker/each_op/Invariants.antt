@@ -1,8 +1,8 @@
 -- The calls that were read, in front of those that are to be read.
 use Rattle.std.proofs.Common.{◌≡◌}
 use Rattle.serde_json.specs.View.{items_view}
-use Rattle.trace_pipeline.specs.forms.Forms.{each}
-use Rattle.trace_pipeline.proofs.readings.ItemsLemmas.{with_front}
+use Rattle.trace_lines.specs.forms.Forms.{each}
+use Rattle.trace_lines.proofs.readings.ItemsLemmas.{with_front}
 use Rattle.thread_lines.specs.ThreadForm.{op_of}
 use Rattle.thread_lines.proofs.read.worker.each_op.Given as goal
 

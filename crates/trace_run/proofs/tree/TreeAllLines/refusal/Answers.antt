@@ -1,6 +1,6 @@
 use Rattle.std.specs.Prelude.{None}
-use Rattle.trace_pipeline.specs.Lines.{lines_of}
-use Rattle.trace_pipeline.specs.Report.{accepts}
+use Rattle.trace_lines.specs.Lines.{lines_of}
+use Rattle.trace_lines.specs.Report.{accepts}
 use Rattle.trace_records.proofs.ScriptsLaws.{accepts_same}
 use Rattle.trace_run.specs.Commands.Tree.{TellsTreeOf}
 use Rattle.trace_run.proofs.ScriptsLemmas.{refusal_some, refusal_none}

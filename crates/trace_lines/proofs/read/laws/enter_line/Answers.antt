@@ -1,0 +1,12 @@
+use Rattle.std.proofs.Common.{refl}
+use Rattle.trace_lines.proofs.Common.{is_utf8, serde_json_on_literals, request_form, enter_form, request_spelled}
+use Rattle.std.specs.Str.{chars}
+use Rattle.trace_lines.proofs.read.laws.enter_line.Goals as goal
+
+pub returns-clause-read : goal.returns-clause-read
+unfolding serde_json_on_literals request_spelled request_form enter_form is_utf8 chars
+returns-clause-read c = refl
+
+pub returns-clause-refused : goal.returns-clause-refused
+unfolding serde_json_on_literals request_spelled request_form enter_form is_utf8 chars
+returns-clause-refused c = refl

@@ -1,0 +1,8 @@
+use Rattle.std.proofs.Common.{refl}
+use Rattle.trace_lines.proofs.Common.{is_utf8, serde_json_on_literals, settings_form, callsite_form, lane_form, error_flags, span_flags, layer_form, settings_spelled}
+use Rattle.std.specs.Str.{chars}
+use Rattle.trace_lines.proofs.read.laws.settings_line.Goals as goal
+
+pub returns : goal.returns
+unfolding serde_json_on_literals settings_spelled settings_form callsite_form lane_form error_flags span_flags layer_form is_utf8 chars
+returns c = refl

@@ -1,0 +1,12 @@
+use Rattle.trace_lines.proofs.readings.QuickLinesLemmas.{exit_read, exit_read_late}
+use Rattle.trace_lines.proofs.read.quick.exit_line.Goals as goal
+
+pub returns-in-Some : goal.returns-in-Some
+returns-in-Some c =
+    let is = c.in-Some.ensures in
+    exit_read c.args.line.now c.args.rest.now c.args.at c.in-Some.guard c.in-Some.lane c.requires.fits is.one is.other c.requires.front is.text
+
+pub returns-in_ok-lane-in-None : goal.returns-in_ok-lane-in-None
+returns-in_ok-lane-in-None c =
+    let is = c.in_ok-lane-in-None.ensures in
+    exit_read_late c.args.line.now c.args.rest.now c.args.at c.in_ok-lane-in-None.lane c.in_ok-lane-in-None.guard c.requires.fits is.one is.other c.requires.front is.text

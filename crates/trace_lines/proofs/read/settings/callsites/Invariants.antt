@@ -1,0 +1,7 @@
+use Rattle.std.proofs.Common.{◌≡◌}
+use Rattle.trace_lines.proofs.Common.{into_iter_items, callsite_form, items, value_data, object_of, each}
+use Rattle.trace_lines.proofs.readings.ItemsLemmas.{with_front}
+use Rattle.trace_lines.proofs.read.settings.callsites.Given as goal
+
+abbrev pub invariant-loop-value : goal.invariant-loop-value
+invariant-loop-value l = with_front l.callsites (each (object_of callsite_form) (items value_data (into_iter_items l.value-iterator))) ≡ each (object_of callsite_form) (items value_data l.fn.values.items)

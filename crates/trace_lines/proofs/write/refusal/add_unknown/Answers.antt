@@ -1,0 +1,10 @@
+use Rattle.std.proofs.Common.{refl}
+use Rattle.trace_lines.proofs.Common.{escape_byte}
+use Rattle.trace_lines.proofs.texts.AddsLemmas.{then, retold}
+use Rattle.trace_lines.proofs.write.refusal.add_unknown.Goals as goal
+
+pub returns : goal.returns
+unfolding escape_byte
+returns c =
+    retold _ _ _ _ (then _ _ _ _ _ c.in_ok-add_number.ensures (then _ _ _ _ _ c.in_ok-add_text.ensures c.in_ok-add.ensures))
+    (rw (c.name_of.ensures) refl)

@@ -1,0 +1,16 @@
+use Rattle.std.proofs.Common.{◌≡◌, ◌++◌, ℕ, Bool, true, false, codes, decimal, refl}
+use Rattle.trace_lines.proofs.Common.{boolean, compact_text, escape_byte}
+use Rattle.trace_lines.proofs.texts.AddsLemmas.{then, retold}
+use Rattle.trace_lines.specs.text.Texts.{reply_data}
+use Rattle.span_script.specs.declared.reply.Reply.TheVariants as reply
+use Rattle.trace_lines.proofs.write.reply.add_enabled.Goals as goal
+
+whole : (enabled : Bool) (line : ℕ) → ((codes "{\"enabled\":" ++ (compact_text (boolean enabled) ++ codes ",\"reply\":")) ++ decimal line) ++ codes "}" ≡ compact_text (reply_data line (reply.Enabled enabled))
+unfolding escape_byte
+whole true line = refl
+whole false line = refl
+
+pub returns : goal.returns
+returns c =
+    retold _ _ _ _ (then _ _ _ _ _ c.in_ok-add_number.ensures c.in_ok-add.ensures)
+    (rw c.enabled_front.ensures (whole c.args.enabled c.args.line))

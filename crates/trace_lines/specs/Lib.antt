@@ -1,0 +1,9 @@
+pub mod Lines
+pub mod Report
+pub mod Laws
+pub mod Generated
+pub mod Replay
+pub mod forms
+pub mod values
+pub mod text
+pub mod reading

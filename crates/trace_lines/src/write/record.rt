@@ -1,0 +1,156 @@
+//! Records as JSON.
+ghost use Rattle.std.specs.Prelude.{◌≡◌, ◌++◌, codes};
+ghost use Rattle.json.specs.Print.{quoted};
+ghost use Rattle.serde_json.specs.Written.{compact_text};
+ghost use Rattle.trace_lines.specs.reading.Object.{array_of};
+ghost use Rattle.trace_lines.specs.values.RecordData.{event_data, link_data, kind_name, status_data, lane_text, record_object};
+ghost use Rattle.trace_lines.specs.text.Writes.{Writes};
+
+use super::attribute::add_attributes;
+use super::hex::{add_id, add_long_id};
+use super::pieces::{add, add_number, add_text, separator};
+use otel_base::record::{Link, OtelEvent, Record, SpanKind};
+use otel_base::status::Status;
+use std::alloc::AllocError;
+
+/// Adds the record with a number, and its lane, if that is told.
+#[tactic(auto, unfolding(crate::specs::values::RecordData::record_object))]
+pub fn add_record(
+    out: &mut Vec<u8>,
+    number: u64,
+    lane: Option<u64>,
+    finished: &Record,
+) -> Result<(), AllocError>
+    ensures { Writes result out.old out.new (compact_text (record_object lane number finished.now)) }
+{
+    add_attributes(out, "{\"attributes\":", finished.attributes.as_slice())?;
+    add_number(out, ",\"end\":", finished.end)?;
+    add_events(out, ",\"events\":", finished.events.as_slice())?;
+    add_kind(out, finished.kind)?;
+    add_lane(out, lane)?;
+    add_links(out, ",\"links\":", finished.links.as_slice())?;
+    add_text(out, ",\"name\":", finished.name.as_str())?;
+    add_id(out, ",\"parent\":", finished.parent)?;
+    add_number(out, ",\"record\":", number)?;
+    add_id(out, ",\"span\":", finished.context.span)?;
+    add_number(out, ",\"start\":", finished.start)?;
+    add_status(out, &finished.status)?;
+    add_long_id(out, ",\"trace\":", finished.context.trace)?;
+    add(out, "}")?;
+    Ok(())
+}
+
+fn add_lane(out: &mut Vec<u8>, lane: Option<u64>) -> Result<(), AllocError>
+    ensures { Writes result out.old out.new (lane_text lane) }
+{
+    match lane {
+        Some(lane) => add_number(out, ",\"lane\":", lane),
+        None => Ok(()),
+    }
+}
+
+/// The name of a kind.
+pub(crate) fn name_of(kind: SpanKind) -> &'static str
+    ensures { result.now ≡ kind_name kind }
+{
+    match kind {
+        SpanKind::Server => "server",
+        SpanKind::Client => "client",
+        SpanKind::Producer => "producer",
+        SpanKind::Consumer => "consumer",
+        SpanKind::Internal => "internal",
+    }
+}
+
+// The member of a kind, whose name needs no escape.
+#[tactic(auto, unfolding(json::specs::Print::escape_byte))]
+fn kind_member(kind: SpanKind) -> &'static str
+    ensures { result.now ≡ codes ",\"kind\":" ++ quoted (kind_name kind) }
+{
+    match kind {
+        SpanKind::Server => ",\"kind\":\"server\"",
+        SpanKind::Client => ",\"kind\":\"client\"",
+        SpanKind::Producer => ",\"kind\":\"producer\"",
+        SpanKind::Consumer => ",\"kind\":\"consumer\"",
+        SpanKind::Internal => ",\"kind\":\"internal\"",
+    }
+}
+
+fn add_kind(out: &mut Vec<u8>, kind: SpanKind) -> Result<(), AllocError>
+    ensures { Writes result out.old out.new (codes ",\"kind\":" ++ quoted (kind_name kind)) }
+{
+    add(out, kind_member(kind))?;
+    Ok(())
+}
+
+fn add_error(out: &mut Vec<u8>, front: &str, description: &str) -> Result<(), AllocError>
+    ensures { Writes result out.old out.new
+        (front.now ++ compact_text (status_data (Status.Error description.now))) }
+{
+    add(out, front)?;
+    add_text(out, "{\"error\":", description)?;
+    add(out, "}")?;
+    Ok(())
+}
+
+#[tactic(auto, unfolding(json::specs::Print::escape_byte))]
+fn add_status(out: &mut Vec<u8>, status: &Status) -> Result<(), AllocError>
+    ensures { Writes result out.old out.new
+        (codes ",\"status\":" ++ compact_text (status_data status.now)) }
+{
+    match status {
+        Status::Unset => add(out, ",\"status\":\"unset\""),
+        Status::Error { description } => add_error(out, ",\"status\":", description.as_str()),
+        Status::Ok => add(out, ",\"status\":\"ok\""),
+    }
+}
+
+fn add_events(out: &mut Vec<u8>, front: &str, events: &[OtelEvent]) -> Result<(), AllocError>
+    ensures { Writes result out.old out.new (front.now ++ compact_text (array_of event_data events.now)) }
+{
+    add(out, front)?;
+    add(out, "[")?;
+    let mut later = false;
+    for event in events {
+        add_event(out, separator(later), event)?;
+        later = true;
+    }
+    add(out, "]")?;
+    Ok(())
+}
+
+fn add_event(out: &mut Vec<u8>, front: &str, event: &OtelEvent) -> Result<(), AllocError>
+    ensures { Writes result out.old out.new (front.now ++ compact_text (event_data event.now)) }
+{
+    add(out, front)?;
+    add_attributes(out, "{\"attributes\":", event.attributes.as_slice())?;
+    add_text(out, ",\"name\":", event.name.as_str())?;
+    add_number(out, ",\"time\":", event.time)?;
+    add(out, "}")?;
+    Ok(())
+}
+
+fn add_links(out: &mut Vec<u8>, front: &str, links: &[Link]) -> Result<(), AllocError>
+    ensures { Writes result out.old out.new (front.now ++ compact_text (array_of link_data links.now)) }
+{
+    add(out, front)?;
+    add(out, "[")?;
+    let mut later = false;
+    for link in links {
+        add_link(out, separator(later), link)?;
+        later = true;
+    }
+    add(out, "]")?;
+    Ok(())
+}
+
+fn add_link(out: &mut Vec<u8>, front: &str, link: &Link) -> Result<(), AllocError>
+    ensures { Writes result out.old out.new (front.now ++ compact_text (link_data link.now)) }
+{
+    add(out, front)?;
+    add_attributes(out, "{\"attributes\":", link.attributes.as_slice())?;
+    add_id(out, ",\"span\":", link.context.span)?;
+    add_long_id(out, ",\"trace\":", link.context.trace)?;
+    add(out, "}")?;
+    Ok(())
+}

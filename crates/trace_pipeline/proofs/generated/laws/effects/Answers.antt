@@ -1,5 +1,0 @@
-use Rattle.trace_pipeline.proofs.made.StepsLemmas.{made_replays}
-use Rattle.trace_pipeline.proofs.generated.laws.effects.Goals as goal
-
-pub returns : goal.returns
-returns c = made_replays

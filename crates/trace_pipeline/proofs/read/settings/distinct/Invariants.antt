@@ -1,7 +1,0 @@
-use Rattle.std.proofs.Common.{◌≡◌, drop, nat_cmp}
-use Rattle.trace_pipeline.proofs.Common.{contains, lane_ids, all_differ}
-use Rattle.trace_pipeline.proofs.ids.DistinctLemmas.{still_differ}
-use Rattle.trace_pipeline.proofs.read.settings.distinct.Given as goal
-
-abbrev pub invariant-loop-lane : goal.invariant-loop-lane
-invariant-loop-lane l = still_differ (contains nat_cmp l.seen) (lane_ids (drop l.lane-index l.lanes)) ≡ all_differ (lane_ids l.lanes)

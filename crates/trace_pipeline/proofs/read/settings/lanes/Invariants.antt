@@ -1,7 +1,0 @@
-use Rattle.std.proofs.Common.{◌≡◌}
-use Rattle.trace_pipeline.proofs.Common.{into_iter_items, lane_form, items, value_data, object_of, each}
-use Rattle.trace_pipeline.proofs.readings.ItemsLemmas.{with_front}
-use Rattle.trace_pipeline.proofs.read.settings.lanes.Given as goal
-
-abbrev pub invariant-loop-value : goal.invariant-loop-value
-invariant-loop-value l = with_front l.lanes (each (object_of lane_form) (items value_data (into_iter_items l.value-iterator))) ≡ each (object_of lane_form) (items value_data l.fn.values.items)

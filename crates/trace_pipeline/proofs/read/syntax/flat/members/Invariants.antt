@@ -1,8 +1,0 @@
--- the members that were read, as they stand in the text and as they are kept
-use Rattle.std.proofs.Common.{◌≡◌, List}
-use Rattle.trace_pipeline.proofs.Common.{no_members, members_of, DEEPEST}
-use Rattle.trace_pipeline.proofs.readings.CompactLemmas.{Named, AllNamed, GoesMembers, held}
-use Rattle.trace_pipeline.proofs.read.syntax.flat.members.Given as goal
-
-abbrev pub invariant-loop : goal.invariant-loop
-invariant-loop l = (ns : List Named) × AllNamed DEEPEST ns × GoesMembers l.initial.rest ns l.rest × (members_of l.members.items ≡ held ns no_members)

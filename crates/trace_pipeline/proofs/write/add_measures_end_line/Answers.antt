@@ -1,8 +1,0 @@
-use Rattle.std.proofs.Common.{refl}
-use Rattle.trace_pipeline.proofs.Common.{line_of, measures_end_text}
-use Rattle.trace_pipeline.proofs.texts.AddsLemmas.{then, retold}
-use Rattle.trace_pipeline.proofs.write.add_measures_end_line.Goals as goal
-
-pub returns : goal.returns
-unfolding measures_end_text line_of
-returns c = retold _ _ _ _ (then _ _ _ _ _ c.in_ok-add_measures_end.ensures c.in_ok-add.ensures) refl

@@ -1,8 +1,0 @@
-use Rattle.std.proofs.Common.{refl}
-use Rattle.trace_pipeline.proofs.Common.{escape_byte}
-use Rattle.trace_pipeline.proofs.texts.AddsLemmas.{then, retold}
-use Rattle.trace_pipeline.proofs.write.end.add_measures_end.Goals as goal
-
-pub returns : goal.returns
-unfolding escape_byte
-returns c = retold _ _ _ _ (then _ _ _ _ _ c.in_ok-add_number.ensures c.in_ok-add.ensures) refl

@@ -1,9 +1,0 @@
-use Rattle.std.proofs.Common.{◌≡◌, refl, rules}
-use Rattle.trace_pipeline.proofs.Common.{signed_decimal}
-use Rattle.trace_pipeline.proofs.texts.AddsLemmas.{then, retold}
-use Rattle.trace_pipeline.proofs.write.pieces.add_long_integer.Goals as goal
-
-pub returns : goal.returns
-returns c =
-    let digits : c.format-digits.result.now ≡ signed_decimal c.args.number = search rules in
-    retold _ _ _ _ (then _ _ _ _ _ c.in_ok-add.ensures c.in_ok-add-2.ensures) (rw digits refl)

@@ -1,0 +1,17 @@
+-- The parts that a pipeline is made of.
+use Rattle.span_stack.specs.Reading.{Stacks}
+use Rattle.span_script.specs.Fits.{Parts}
+use Rattle.trace_pipeline.specs.Contexts.{named_in}
+use Rattle.trace_pipeline.specs.declared.pipeline.Pipeline.TheInside.{Inside}
+
+abbrev pub parts_of : Inside → Parts Stacks
+parts_of p = record {
+  world = p.world;
+  dispatch = p.dispatch;
+  opening = p.opening;
+  lanes = p.lanes.items;
+  handles = p.handles.items;
+  guards = p.guards.items;
+  contexts = named_in p.contexts;
+  moment = p.moment;
+}
