@@ -10,13 +10,13 @@ pub data TracerCall : Type 0 where
   Finish : (span : Record) → TracerCall
 
 -- the spares before and after a call: a start doesn't lower them, a reserve adds one, a finish uses one
-abbrev pub Spares : ℕ → TracerCall → ℕ → Type 0
-Spares before (Start parent given) now = before ≤ now
-Spares before Reserve now = now ≡ before + 1
-Spares before (Finish span) now = before ≡ now + 1
+abbrev pub CountsSpares : ℕ → TracerCall → ℕ → Type 0
+CountsSpares before (Start parent given) now = before ≤ now
+CountsSpares before Reserve now = now ≡ before + 1
+CountsSpares before (Finish span) now = before ≡ now + 1
 
 -- the counted starts before and after a call: a start adds one at most, and the other calls none
-abbrev pub Starts : ℕ → TracerCall → ℕ → Type 0
-Starts before (Start parent given) now = now ≤ before + 1
-Starts before Reserve now = now ≡ before
-Starts before (Finish span) now = now ≡ before
+abbrev pub CountsStarts : ℕ → TracerCall → ℕ → Type 0
+CountsStarts before (Start parent given) now = now ≤ before + 1
+CountsStarts before Reserve now = now ≡ before
+CountsStarts before (Finish span) now = now ≡ before

@@ -19,11 +19,11 @@ word_text words.Exception = codes "exception"
 word_text words.ExceptionMessage = codes "exception.message"
 word_text words.ExceptionStacktrace = codes "exception.stacktrace"
 word_text words.Error = codes "error"
-word_text words.AtError = codes "ERROR"
-word_text words.AtWarn = codes "WARN"
-word_text words.AtInfo = codes "INFO"
-word_text words.AtDebug = codes "DEBUG"
-word_text words.AtTrace = codes "TRACE"
+word_text words.ErrorLevel = codes "ERROR"
+word_text words.WarnLevel = codes "WARN"
+word_text words.InfoLevel = codes "INFO"
+word_text words.DebugLevel = codes "DEBUG"
+word_text words.TraceLevel = codes "TRACE"
 
 -- the bytes of a text: those of its word if it is one, else its own
 abbrev pub text_bytes : (own : List ℕ) → Option Word → List ℕ

@@ -1,7 +1,7 @@
 //! Tracers: what gives started spans their ids and takes finished ones.
 ghost use Rattle.std.specs.Prelude.{◌≡◌, ℕ, ◌<◌, ◌^◌, OnOk, OnErr};
 ghost use Rattle.otel_base.specs.Ids.{ids_of};
-ghost use Rattle.otel_base.specs.Tracer.{TracerCall, Start, Reserve, Finish, Spares, Starts};
+ghost use Rattle.otel_base.specs.Tracer.{TracerCall, Start, Reserve, Finish, CountsSpares, CountsStarts};
 
 use crate::context::{Context, SpanContext};
 use crate::memory::Memory;
@@ -35,5 +35,5 @@ pub trait Tracer {
         ensures { does self.old (Finish span) self.new };
 
     /// How its counts go with each call.
-    ghost counts: { (s : Self) (call : TracerCall) (t : Self) → does s call t → Spares (spare s) call (spare t) × Starts (started s) call (started t) };
+    ghost counts: { (s : Self) (call : TracerCall) (t : Self) → does s call t → CountsSpares (spare s) call (spare t) × CountsStarts (started s) call (started t) };
 }

@@ -35,15 +35,15 @@ pub enum Word {
     /// The key of an error that is no exception: `error`.
     Error,
     /// The word of a level: `ERROR`.
-    AtError,
+    ErrorLevel,
     /// The word of a level: `WARN`.
-    AtWarn,
+    WarnLevel,
     /// The word of a level: `INFO`.
-    AtInfo,
+    InfoLevel,
     /// The word of a level: `DEBUG`.
-    AtDebug,
+    DebugLevel,
     /// The word of a level: `TRACE`.
-    AtTrace,
+    TraceLevel,
 }
 
 impl Word {
@@ -66,11 +66,11 @@ impl Word {
             Word::ExceptionMessage => "exception.message",
             Word::ExceptionStacktrace => "exception.stacktrace",
             Word::Error => "error",
-            Word::AtError => "ERROR",
-            Word::AtWarn => "WARN",
-            Word::AtInfo => "INFO",
-            Word::AtDebug => "DEBUG",
-            Word::AtTrace => "TRACE",
+            Word::ErrorLevel => "ERROR",
+            Word::WarnLevel => "WARN",
+            Word::InfoLevel => "INFO",
+            Word::DebugLevel => "DEBUG",
+            Word::TraceLevel => "TRACE",
         }
     }
 }

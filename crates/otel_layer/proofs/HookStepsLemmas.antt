@@ -2,8 +2,7 @@
 use Rattle.std.proofs.Common.{◌≡◌, ℕ, ◌+◌, ◌<◌, ◌^◌, List, [], ◌∷◌, ◌++◌, length, Bool, true, cond, ◌-◌, Option, Some, None, refl, sym, ap, subst, ◌∙◌, arith, if◌then◌else◌, IfSome, ◌==◌, ◌&&◌}
 use Rattle.otel_layer.proofs.Common.{remove_entry, and_parts, and_from, cond-true, Context, Record, empty_context, Lane, AreAttached, attached_as, Op, LayerSettings, first_attributes, last_passing, SpanData, Room, HasRoom, data_at_making, after_op, record_of, data_at, with_span_data, with_op, own_or, is_id, RoomFor, Core, is_token, is_number, keeps_as, kept_by, IsWholeCore, StartsSpan, StartsAny, parent_source, around, context_from, new_span_data, MakesSpan, EntersLane, EntersSpan, ClosesSpan, with_moment, last_passes, last_counted}
 use Rattle.std.proofs.lemmas.Bool.{eq-eqb}
-use Rattle.otel_base.specs.Tracer.{TracerCall, Finish, Spares}
-use Rattle.otel_base.specs.Tracer.{Starts as CountsStarts}
+use Rattle.otel_base.specs.Tracer.{TracerCall, Finish, CountsSpares, CountsStarts}
 use Rattle.trace_base.specs.declared.callsite.Callsite.{Callsite}
 use Rattle.trace_base.specs.declared.field.ValueSet.{ValueSet}
 use Rattle.trace_base.specs.declared.span.Parent.{Parent}
@@ -65,7 +64,7 @@ leaves_still active tokens token id lane still last is =
     kept_still token.attached tokens token id lane refl (subst (λ (b : Bool). AreAttached (kept_by b tokens) lane) is still) last
 
 -- a close
-module _ {T : Type 0} (does : T → TracerCall → T → Type 0) (spare started : T → ℕ) (counts : (s : T) (call : TracerCall) (t : T) → does s call t → Spares (spare s) call (spare t) × CountsStarts (started s) call (started t)) where
+module _ {T : Type 0} (does : T → TracerCall → T → Type 0) (spare started : T → ℕ) (counts : (s : T) (call : TracerCall) (t : T) → does s call t → CountsSpares (spare s) call (spare t) × CountsStarts (started s) call (started t)) where
   pub close_spare : (c between : Core T) (id at : ℕ) (told : SpanData) → IsWholeCore spare started c → StartsSpan does id at c between → data_at id between.spans ≡ Some told → (0 < spare between.tracer) × (0 < between.reserved)
   close_spare c between id at told whole starts is =
       let w = whole_kin does spare started counts c between (starts_kin does spare started counts id at c between starts) whole in

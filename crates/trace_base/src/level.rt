@@ -80,11 +80,11 @@ impl Level {
         ensures { word_text result ≡ level_text self }
     {
         match self {
-            Level::ERROR => Word::AtError,
-            Level::WARN => Word::AtWarn,
-            Level::INFO => Word::AtInfo,
-            Level::DEBUG => Word::AtDebug,
-            Level::TRACE => Word::AtTrace,
+            Level::ERROR => Word::ErrorLevel,
+            Level::WARN => Word::WarnLevel,
+            Level::INFO => Word::InfoLevel,
+            Level::DEBUG => Word::DebugLevel,
+            Level::TRACE => Word::TraceLevel,
         }
     }
 }

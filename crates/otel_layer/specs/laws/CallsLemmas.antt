@@ -6,8 +6,7 @@ use Rattle.std.specs.Map.{keys_of}
 use Rattle.otel_base.specs.declared.context.Context.{Context}
 use Rattle.otel_base.specs.declared.context.SpanContext.{SpanContext}
 use Rattle.otel_base.specs.declared.memory.Memory.{Memory}
-use Rattle.otel_base.specs.Tracer.{TracerCall, Spares}
-use Rattle.otel_base.specs.Tracer.{Starts as CountsStarts}
+use Rattle.otel_base.specs.Tracer.{TracerCall, CountsSpares, CountsStarts}
 use Rattle.trace_base.specs.layers.Hooks.{KnownSpans}
 use Rattle.trace_base.specs.Spans.{Spans}
 use Rattle.span_registry.specs.declared.layered.Layered.{Layered}
@@ -61,7 +60,7 @@ quiet_seen c d q = ap (λ ks. seen_by ks d.tokens) q.keys ∙ ap (λ ts. seen_by
 quiet_kept : {T : Type 0} (c d : Core T) → Quiet c d → kept_in d ≡ kept_in c
 quiet_kept {T} c d q = ap (λ s. kept_in (let x : Core T = record d { settings = s } in x)) q.settings ∙ ap (λ ts. kept_in (let x : Core T = record d { settings = c.settings; tokens = ts } in x)) q.tokens
 
-module _ {T : Type 0} (does : T → TracerCall → T → Type 0) (spare started : T → ℕ) (counts : (s : T) (call : TracerCall) (t : T) → does s call t → Spares (spare s) call (spare t) × CountsStarts (started s) call (started t)) where
+module _ {T : Type 0} (does : T → TracerCall → T → Type 0) (spare started : T → ℕ) (counts : (s : T) (call : TracerCall) (t : T) → does s call t → CountsSpares (spare s) call (spare t) × CountsStarts (started s) call (started t)) where
   touched : (c : Core T) (call : PartCall) (d : Core T) → Touches does c call d → Kin spare started c d × Quiet c d
   touched c (Applies id at op answer) d h =
       let same = applied_keeps (data_at id c.spans) c.spans d.spans id at op answer h.1 h.0 in

@@ -7,8 +7,7 @@ use Rattle.std.proofs.lemmas.Bool.{true≢false, cases_Bool, eqb-true, or_cases,
 use Rattle.otel_base.specs.declared.context.Context.{Context}
 use Rattle.otel_base.specs.declared.context.SpanContext.{SpanContext}
 use Rattle.otel_base.specs.Ids.{ids_of}
-use Rattle.otel_base.specs.Tracer.{TracerCall, Start, Reserve, Finish, Spares}
-use Rattle.otel_base.specs.Tracer.{Starts as CountsStarts}
+use Rattle.otel_base.specs.Tracer.{TracerCall, Start, Reserve, Finish, CountsSpares, CountsStarts}
 use Rattle.trace_base.specs.declared.callsite.Callsite.{Callsite}
 use Rattle.trace_base.specs.declared.lane.Lane.{Lane}
 use Rattle.trace_base.specs.declared.span.Parent.{Parent}
@@ -135,7 +134,7 @@ pub record Kin {T : Type 0} (spare started : T → ℕ) (c d : Core T) : Type 0 
   pub budget : started d.tracer + waiting_in d.spans ≤ started c.tracer + waiting_in c.spans
 
 Counts : {T : Type 0} → (T → TracerCall → T → Type 0) → (spare started : T → ℕ) → Type 0
-Counts {T} does spare started = (s : T) (call : TracerCall) (t : T) → does s call t → Spares (spare s) call (spare t) × CountsStarts (started s) call (started t)
+Counts {T} does spare started = (s : T) (call : TracerCall) (t : T) → does s call t → CountsSpares (spare s) call (spare t) × CountsStarts (started s) call (started t)
 
 kin_same : {T : Type 0} (spare started : T → ℕ) (c d : Core T) → d ≡ c → Kin spare started c d
 kin_same spare started c d e = record {
@@ -176,7 +175,7 @@ waits_some : (o : Option SpanData) (under : Context) → waits o ≡ Some under 
 waits_some None under h = absurd (cc)
 waits_some (Some told) under h = (told, refl, waits_none told.own told.parent under h)
 
-module _ {T : Type 0} (does : T → TracerCall → T → Type 0) (spare started : T → ℕ) (counts : (s : T) (call : TracerCall) (t : T) → does s call t → Spares (spare s) call (spare t) × CountsStarts (started s) call (started t)) where
+module _ {T : Type 0} (does : T → TracerCall → T → Type 0) (spare started : T → ℕ) (counts : (s : T) (call : TracerCall) (t : T) → does s call t → CountsSpares (spare s) call (spare t) × CountsStarts (started s) call (started t)) where
   starts_if_kin : (under : Option Context) (id at : ℕ) (c d : Core T) → waits (data_at id c.spans) ≡ under → StartsIf does under id at c d → Kin spare started c d
   starts_if_kin None id at c d is h = kin_same spare started c d h
   starts_if_kin (Some under) id at c d is h =
