@@ -14,13 +14,13 @@ pub use Rattle.std.specs.Str.{drop_trailing_whitespace, skip_leading_whitespace,
 unfoldable pub use Rattle.std.specs.Str.{trim_end, trim_start}
 pub use Rattle.trace_base.proofs.InterestLemmas.{fresh_admits}
 pub use Rattle.trace_base.specs.Gate.{AdmitsFresh, Worlds, dispatch_on, gate}
-pub use Rattle.trace_base.specs.Spans.{Span, Spans, current_of, entries_on, held_by_child, is_in, less_hold, place_on, span_at, times_in, with_hold, without_hold, without_last}
+pub use Rattle.trace_base.specs.Spans.{Span, Spans, current_of, entries_on, with_hold_of_child, is_in, less_hold, parent_on, span_at, times_in, with_hold, without_hold, without_last}
 pub use Rattle.trace_base.specs.declared.callsite.Callsite.{Callsite}
 pub use Rattle.trace_base.specs.declared.field.Value.{Value}
 pub use Rattle.trace_base.specs.declared.level.Level.{Level}
 pub use Rattle.trace_base.specs.declared.level.LevelFilter.{LevelFilter}
 pub use Rattle.trace_base.specs.declared.level.LevelFilter.TheVariants.{OFF}
-pub use Rattle.trace_base.specs.lanes.Contexts.{AreAttached, Lanes}
+pub use Rattle.trace_base.specs.lanes.Contexts.{AreAttached, CallLanes}
 pub use Rattle.trace_base.specs.layers.Hooks.{Hook, OnClose, OnEnter, OnEvent, OnExit, OnFollows, OnNewSpan, OnRecord}
 pub use Rattle.trace_base.specs.layers.Unseeing.{LeavesLanes, no_known_spans}
 pub use Rattle.trace_base.specs.words.Level.{filter_text, greatest_verbosity, is_within}
@@ -37,9 +37,9 @@ pub use Rattle.env_directives.specs.orders.Table.{IsTableOf, Table, empty_table,
 pub use Rattle.env_directives.specs.printed.Printed.{HasNoMinusZero, bracket_text, directive_text, equals_text, fields_text, has_bracket, match_text, text_if_any, value_text}
 pub use Rattle.env_directives.specs.printed.StaticPrinted.{comma_joined, static_text}
 pub use Rattle.env_directives.specs.reading.Cuts.{is_among, lacks, pieces_at}
-pub use Rattle.env_directives.specs.reading.Forms.{DirectiveForm, Front, IsDirective, IsDirectiveFront, IsField, IsForm, alone, bare, begins, directive_at, directive_of_form, each_with_comma, fielded, form_text, front_text, head_alone, head_comma, level_behind, level_or_target, leveled, leveled_comma, spanned, target_at, unless_empty}
+pub use Rattle.env_directives.specs.reading.Forms.{DirectiveForm, Front, IsDirective, IsDirectiveFront, IsFieldText, IsForm, alone, bare, begins, directive_at, directive_of_form, each_with_comma, fielded, form_text, front_text, head_alone, head_comma, level_behind, level_or_target, leveled, leveled_comma, spanned, target_at, unless_empty}
 pub use Rattle.env_directives.specs.reading.Separators.{comma_pieces}
-pub use Rattle.env_filter.specs.Filtering.{AreWhole, DoesFilter, Each, FilterState, FilterWithRoom, IsAtMostLevel, IsNewFilter, after_hook, asks_value, enables_in, fresh, hint_in, interest_in, levels_admit, plain, span_level}
+pub use Rattle.env_filter.specs.Filtering.{AreWhole, DoesFilter, Each, FilterState, FilterWithRoom, IsAtMostLevel, IsNewFilter, after_hook, asks_value, enables_in, fresh_filter, hint_in, interest_in, levels_admit, plain_filter, span_level}
 pub use Rattle.env_filter.specs.Gating.{first_below, gate_is_admitted, second_below}
 pub use Rattle.env_filter.specs.Reloading.{Both, IsLent, layer_or, never_enabled, none_kept, sometimes}
 pub use Rattle.env_filter.specs.Tables.{all_static, dynamics_of, filter_of, fixed_directive, fixed_field, has_none, is_dynamic, is_static, or_default, placed_in, static_of, statics_of, with_directive, with_tables}
@@ -47,7 +47,7 @@ pub use Rattle.env_filter.specs.Worlds.{AdmitsBy, EachSubscriber, GateFollows, I
 pub use Rattle.env_filter.specs.declared.pieces.Ignored.{Ignored}
 pub use Rattle.env_filter.specs.declared.watch.Ask.{Ask}
 pub use Rattle.env_filter.specs.declared.watch.Care.{Care}
-pub use Rattle.env_filter.specs.spans.Histories.{AreInOrder, HasNoCalls, IsNext, NeverFalls, all_values_given, is_close_of, is_ended, is_met, level_by, level_by_calls, level_if, levels_after_call, levels_by_calls, levels_from, made_by, makes_of, most_from, values_given_by}
+pub use Rattle.env_filter.specs.spans.Histories.{AreInOrder, HasNoCalls, IsNext, NeverFalls, all_values_given, is_close_of, is_ended, is_met, level_by, level_by_calls, level_if, levels_after_call, levels_by_calls, levels_from, callsite_by_calls, callsite_if_made, most_from, values_given_by}
 pub use Rattle.env_filter.specs.spans.Levels.{LaneLevels, OpenLevel, is_of_span, open_levels}
 pub use Rattle.env_filter.specs.spans.Watching.{MatchState, all_asks, asks_of, cares_of, found_in, is_given, level_from, level_of_match, match_state_by, more_met, new_match_state, with_note, with_values}
 pub use Rattle.env_filter.specs.texts.Building.{HasFilterFault, HasFilterFaultAt, IsFilterOf}

@@ -1,6 +1,6 @@
 -- A filter over a subscriber that takes everything admits by the rule of the gate.
 use Rattle.std.proofs.Common.{◌≡◌, ℕ, Bool, true, false, Option, None, Some, refl, ap, ◌∙◌, ◌&&◌}
-use Rattle.env_filter.proofs.Common.{Callsite, Level, LevelFilter, Worlds, gate, AdmitsFresh, joint_interest, hint_both, FilterWithRoom, plain, AreWhole, interest_in, hint_in, enables_in, gate_is_admitted, layer_or, sometimes, never_enabled, GateFollows, filter_rule, in_place_rule, IsWholeInPlace, EachSubscriber, AdmitsBy}
+use Rattle.env_filter.proofs.Common.{Callsite, Level, LevelFilter, Worlds, gate, AdmitsFresh, joint_interest, hint_both, FilterWithRoom, plain_filter, AreWhole, interest_in, hint_in, enables_in, gate_is_admitted, layer_or, sometimes, never_enabled, GateFollows, filter_rule, in_place_rule, IsWholeInPlace, EachSubscriber, AdmitsBy}
 use Rattle.trace_base.specs.declared.subscriber.Interest.{Interest}
 use Rattle.trace_base.specs.declared.subscriber.Interest.TheVariants as interests
 
@@ -28,13 +28,13 @@ gate_alone i under h below e takes l a n t =
     ∙ ap (λ (x : Option LevelFilter). gate i x (e && true) l) (hint_alone h)
     ∙ ap (λ (x : Bool). gate i h x l) (and_true e)
 
-pub over_all : (f : FilterWithRoom) (under : Interest) (below : Option LevelFilter) (takes : Bool) (lane : ℕ) (c : Callsite) → under ≡ interests.Always → below ≡ None → takes ≡ true → AreWhole (plain f)
-    → gate (joint_interest (interest_in (plain f) c) under) (hint_both (Some (hint_in (plain f))) below) (enables_in (plain f) lane c && takes) c.level ≡ filter_rule f lane c
+pub over_all : (f : FilterWithRoom) (under : Interest) (below : Option LevelFilter) (takes : Bool) (lane : ℕ) (c : Callsite) → under ≡ interests.Always → below ≡ None → takes ≡ true → AreWhole (plain_filter f)
+    → gate (joint_interest (interest_in (plain_filter f) c) under) (hint_both (Some (hint_in (plain_filter f))) below) (enables_in (plain_filter f) lane c && takes) c.level ≡ filter_rule f lane c
 over_all f under below takes lane c a n t w =
-    gate_alone (interest_in (plain f) c) under (Some (hint_in (plain f))) below (enables_in (plain f) lane c) takes c.level a n t ∙ gate_is_admitted (plain f) lane c w
+    gate_alone (interest_in (plain_filter f) c) under (Some (hint_in (plain_filter f))) below (enables_in (plain_filter f) lane c) takes c.level a n t ∙ gate_is_admitted (plain_filter f) lane c w
 
 pub over_all_in_place : (o : Option FilterWithRoom) (under : Interest) (below : Option LevelFilter) (takes : Bool) (lane : ℕ) (c : Callsite) → under ≡ interests.Always → below ≡ None → takes ≡ true → IsWholeInPlace o
-    → gate (joint_interest (layer_or sometimes (λ f. interest_in (plain f)) o c) under) (hint_both (layer_or None (λ f. Some (hint_in (plain f))) o) below) (layer_or never_enabled (λ f. enables_in (plain f)) o lane c && takes) c.level ≡ in_place_rule o lane c
+    → gate (joint_interest (layer_or sometimes (λ f. interest_in (plain_filter f)) o c) under) (hint_both (layer_or None (λ f. Some (hint_in (plain_filter f))) o) below) (layer_or never_enabled (λ f. enables_in (plain_filter f)) o lane c && takes) c.level ≡ in_place_rule o lane c
 over_all_in_place None under below takes lane c a n t w = gate_alone interests.Sometimes under None below false takes c.level a n t
 over_all_in_place (Some f) under below takes lane c a n t w = over_all f under below takes lane c a n t w
 

@@ -43,12 +43,12 @@ pub record FilterWithRoom : Type 0 where
   pub span_room : ℕ
 
 -- the same without room
-abbrev pub plain : FilterWithRoom → FilterState
-plain s = record { patterns = s.patterns; statics = s.statics; dynamics = s.dynamics; spans = match_state_in s.watches; lanes = levels_in s.lanes }
+abbrev pub plain_filter : FilterWithRoom → FilterState
+plain_filter s = record { patterns = s.patterns; statics = s.statics; dynamics = s.dynamics; spans = match_state_in s.watches; lanes = levels_in s.lanes }
 
 -- the same tables, with no span and no level
-abbrev pub fresh : FilterState → FilterState
-fresh f = record f { spans = λ id. None; lanes = λ lane. [] }
+abbrev pub fresh_filter : FilterState → FilterState
+fresh_filter f = record f { spans = λ id. None; lanes = λ lane. [] }
 
 abbrev pub span_level : FilterState → ℕ → Option LevelFilter
 span_level f id = option_map level_of_match (f.spans id)
@@ -83,15 +83,15 @@ Given f (OnExit id at before later) = (later ≡ before) × (knows_in f id ≡ t
 Given f (OnClose id at) = Unit {0}
 
 pub record DoesFilter (s : FilterWithRoom) (hook : Hook) (t : FilterWithRoom) : Type 0 where
-  pub given : Given (plain s) hook
-  pub now : (plain t) ≡ after_hook (plain s) hook
+  pub given : Given (plain_filter s) hook
+  pub now : (plain_filter t) ≡ after_hook (plain_filter s) hook
 
 abbrev pub IsReadyFilter : FilterWithRoom → Preparation → Ready → Type 0
-IsReadyFilter s (ForNewSpan lane callsite values) r = (r.made ≡ new_match_state (plain s).dynamics.directives callsite values.pairs) × (0 < s.span_room)
-IsReadyFilter s (ForRecord id callsite values) r = (w : MatchState) → (plain s).spans id ≡ Some w → r.found ≡ found_in values.pairs w.cares
+IsReadyFilter s (ForNewSpan lane callsite values) r = (r.matches ≡ new_match_state (plain_filter s).dynamics.directives callsite values.pairs) × (0 < s.span_room)
+IsReadyFilter s (ForRecord id callsite values) r = (w : MatchState) → (plain_filter s).spans id ≡ Some w → r.found ≡ found_in values.pairs w.cares
 IsReadyFilter s (ForFollows id from) r = Unit {0}
 IsReadyFilter s (ForEvent reached callsite values) r = Unit {0}
-IsReadyFilter s (ForEnter id lane) r = knows_in (plain s) id ≡ true → 0 < room_in s.lanes lane
+IsReadyFilter s (ForEnter id lane) r = knows_in (plain_filter s) id ≡ true → 0 < room_in s.lanes lane
 
 -- The gate.
 abbrev pub is_cared : FilterState → Callsite → Bool
@@ -147,4 +147,4 @@ pub record AreWhole (f : FilterState) : Type 0 where
 pub record IsNewFilter (f : FilterState) : Type 0 where
   pub whole : AreWhole f
   pub none : KnowsNone (seen_in f)
-  pub alone : f ≡ fresh f
+  pub alone : f ≡ fresh_filter f

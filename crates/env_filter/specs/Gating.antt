@@ -61,8 +61,8 @@ second_below f g = elim (cases_Bool (nat_le (greatest_verbosity g) (greatest_ver
   | inr more ↦ subst (λ (m : LevelFilter). IsAtMostLevel m g) (sym (cond-false {A = LevelFilter} (nat_le (greatest_verbosity g) (greatest_verbosity f)) f g more)) (omega arith)
 ]
 
-hinted : (f : FilterState) (l : Level) → is_within l (more_verbose f.statics.greatest f.dynamics.greatest) ≡ true → is_within l (hint_in f) ≡ true
-hinted f l is = elim (cases_Bool (asks_values f.dynamics.directives)) [
+within_hint : (f : FilterState) (l : Level) → is_within l (more_verbose f.statics.greatest f.dynamics.greatest) ≡ true → is_within l (hint_in f) ≡ true
+within_hint f l is = elim (cases_Bool (asks_values f.dynamics.directives)) [
   | inl asks ↦ ap (λ (h : LevelFilter). is_within l h) (cond-true {A = LevelFilter} (asks_values f.dynamics.directives) _ _ asks) ∙ within_trace l
   | inr asks_none ↦ ap (λ (h : LevelFilter). is_within l h) (cond-false {A = LevelFilter} (asks_values f.dynamics.directives) _ _ asks_none) ∙ is
 ]
@@ -71,22 +71,22 @@ or_false : (b : Bool) → b ≡ (b || false)
 or_false true = refl
 or_false false = refl
 
-decided : (cared admitted some opens most_dynamic most_static : Bool) (hint : LevelFilter) (l : Level) → (admitted ≡ true → is_within l hint ≡ true) → (opens ≡ true → is_within l hint ≡ true) → (opens ≡ true → most_dynamic ≡ true)
+gate_decides : (cared admitted some opens most_dynamic most_static : Bool) (hint : LevelFilter) (l : Level) → (admitted ≡ true → is_within l hint ≡ true) → (opens ≡ true → is_within l hint ≡ true) → (opens ≡ true → most_dynamic ≡ true)
     → (some ≡ false → opens ≡ false)
     → gate (if cared || admitted then interests.Always else if some then interests.Sometimes else interests.Never) (Some hint) ((some && (most_dynamic && (cared || opens))) || (most_static && admitted)) l
     ≡ (admitted || ((cared && is_within l hint) || opens))
-decided true true some opens d s hint l a o h n = a refl
-decided true false some true d s hint l a o h n = o refl ∙ sym (ap (λ (b : Bool). b || true) (o refl))
-decided true false some false d s hint l a o h n = or_false (is_within l hint)
-decided false true some opens d s hint l a o h n = a refl
-decided false false true true true true hint l a o h n = ap (λ (b : Bool). b && true) (o refl)
-decided false false true true true false hint l a o h n = ap (λ (b : Bool). b && true) (o refl)
-decided false false true true false s hint l a o h n = absurd (true≢false (sym (h refl)))
-decided false false true false true true hint l a o h n = and_right (is_within l hint) false refl
-decided false false true false true false hint l a o h n = and_right (is_within l hint) false refl
-decided false false true false false true hint l a o h n = and_right (is_within l hint) false refl
-decided false false true false false false hint l a o h n = and_right (is_within l hint) false refl
-decided false false false opens d s hint l a o h n = sym (n refl)
+gate_decides true true some opens d s hint l a o h n = a refl
+gate_decides true false some true d s hint l a o h n = o refl ∙ sym (ap (λ (b : Bool). b || true) (o refl))
+gate_decides true false some false d s hint l a o h n = or_false (is_within l hint)
+gate_decides false true some opens d s hint l a o h n = a refl
+gate_decides false false true true true true hint l a o h n = ap (λ (b : Bool). b && true) (o refl)
+gate_decides false false true true true false hint l a o h n = ap (λ (b : Bool). b && true) (o refl)
+gate_decides false false true true false s hint l a o h n = absurd (true≢false (sym (h refl)))
+gate_decides false false true false true true hint l a o h n = and_right (is_within l hint) false refl
+gate_decides false false true false true false hint l a o h n = and_right (is_within l hint) false refl
+gate_decides false false true false false true hint l a o h n = and_right (is_within l hint) false refl
+gate_decides false false true false false false hint l a o h n = and_right (is_within l hint) false refl
+gate_decides false false false opens d s hint l a o h n = sym (n refl)
 
 not_false : (b : Bool) → not b ≡ false → b ≡ true
 not_false true e = refl
@@ -104,8 +104,8 @@ none_open f lane l w none = elim (cases_Bool (levels_admit l (f.lanes lane))) [
 -- the rule of the gate
 pub gate_is_admitted : (f : FilterState) (lane : ℕ) (c : Callsite) → AreWhole f → gate (interest_in f c) (Some (hint_in f)) (enables_in f lane c) c.level ≡ is_admitted f lane c
 gate_is_admitted f lane c w =
-    decided (is_cared f c) (admits f.statics.directives c) (has_dynamics f) (levels_admit c.level (f.lanes lane)) (is_within c.level f.dynamics.greatest) (is_within c.level f.statics.greatest) (hint_in f) c.level
-    (λ is. hinted f c.level (within_below c.level f.statics.greatest (more_verbose f.statics.greatest f.dynamics.greatest) (admitted_within c f.statics.greatest f.statics.directives w.statics is) (first_below f.statics.greatest f.dynamics.greatest)))
-    (λ is. hinted f c.level (within_below c.level f.dynamics.greatest (more_verbose f.statics.greatest f.dynamics.greatest) (open_within c.level f.dynamics.greatest (f.lanes lane) (w.lanes lane) is) (second_below f.statics.greatest f.dynamics.greatest)))
+    gate_decides (is_cared f c) (admits f.statics.directives c) (has_dynamics f) (levels_admit c.level (f.lanes lane)) (is_within c.level f.dynamics.greatest) (is_within c.level f.statics.greatest) (hint_in f) c.level
+    (λ is. within_hint f c.level (within_below c.level f.statics.greatest (more_verbose f.statics.greatest f.dynamics.greatest) (admitted_within c f.statics.greatest f.statics.directives w.statics is) (first_below f.statics.greatest f.dynamics.greatest)))
+    (λ is. within_hint f c.level (within_below c.level f.dynamics.greatest (more_verbose f.statics.greatest f.dynamics.greatest) (open_within c.level f.dynamics.greatest (f.lanes lane) (w.lanes lane) is) (second_below f.statics.greatest f.dynamics.greatest)))
     (λ is. open_within c.level f.dynamics.greatest (f.lanes lane) (w.lanes lane) is)
     (λ none. none_open f lane c.level w none)

@@ -85,6 +85,11 @@ both_lanes attaches kept does hook lanes None (Some m) h = absurd h
 both_lanes attaches kept does hook lanes (Some l) None h = absurd h
 both_lanes attaches kept does hook lanes (Some l) (Some m) h = lanes l m h
 
+pub kept_through : {L : Type 0} (seen : L → KnownSpans) (kept : L → ℕ → ℕ → ℕ) (lane number : ℕ) → ((l : L) → ((id : ℕ) → (seen l).entries lane id ≡ 0) → kept l lane number ≡ 0) → (o : Option L)
+    → ((id : ℕ) → (layer_or no_known_spans seen o).entries lane id ≡ 0) → layer_or none_kept kept o lane number ≡ 0
+kept_through seen kept lane number by_entries None none = refl
+kept_through seen kept lane number by_entries (Some l) none = by_entries l none
+
 -- an entry that a retired layer is told of leaves the lane as it is
 pub both_passive : {L : Type 0} (seen : L → KnownSpans) (does : L → Hook → L → Type 0) (id at : ℕ) (before later : Lane) → ((l m : L) → does l (OnEnter id at before later) m → (seen l).knows id ≡ false → later.contexts.live ≡ before.contexts.live) → (o p : Option L)
     → Both (λ l m. does l (OnEnter id at before later) m) (later ≡ before) o p → (layer_or no_known_spans seen o).knows id ≡ false → later.contexts.live ≡ before.contexts.live

@@ -5,7 +5,7 @@ use Rattle.trace_base.specs.Spans.{Spans}
 use Rattle.trace_base.specs.Calls.{SubscriberCall, spans_after_call}
 use Rattle.trace_base.specs.layers.Hooks.{Hook}
 use Rattle.span_registry.specs.Hearing.{HearsCall}
-use Rattle.env_filter.specs.Filtering.{FilterState, FilterWithRoom, plain, after_hook, span_level}
+use Rattle.env_filter.specs.Filtering.{FilterState, FilterWithRoom, plain_filter, after_hook, span_level}
 use Rattle.env_filter.specs.spans.Histories.{AreInOrder, level_by_calls, levels_by_calls}
 
 -- a hook comes behind those before
@@ -38,5 +38,5 @@ pub record HearsCalls (spans : Spans) (calls : List SubscriberCall) (f g : Filte
 -- the same of a filter that can be exchanged, and is in place
 pub record HearsInPlace (spans : Spans) (calls : List SubscriberCall) (f : FilterState) (later : Option FilterWithRoom) : Type 0 where
   pub filter : FilterState
-  pub in_place : option_map plain later ≡ Some filter
+  pub in_place : option_map plain_filter later ≡ Some filter
   pub heard : HearsCalls spans calls f filter

@@ -5,7 +5,7 @@ use Rattle.trace_base.specs.declared.level.LevelFilter.{LevelFilter}
 use Rattle.trace_base.specs.declared.subscriber.Interest.{Interest}
 use Rattle.trace_base.specs.declared.subscriber.Interest.TheVariants as interests
 use Rattle.trace_base.specs.Gate.{Worlds, gate}
-use Rattle.env_filter.specs.Filtering.{FilterWithRoom, plain, AreWhole, is_admitted}
+use Rattle.env_filter.specs.Filtering.{FilterWithRoom, plain_filter, AreWhole, is_admitted}
 
 -- interest, hint and `enabled` come to a rule, where something holds
 abbrev pub GateFollows : {S : Type 0} → (S → Callsite → Interest) → (S → Option LevelFilter) → (S → ℕ → Callsite → Bool) → (S → Type 0) → (S → ℕ → Callsite → Bool) → Type 0
@@ -20,7 +20,7 @@ pub record TakesAll {S : Type 0} (interest : S → Callsite → Interest) (hint 
 
 -- the rule of a filter, and of one that can be exchanged: a retired one admits nothing
 abbrev pub filter_rule : FilterWithRoom → ℕ → Callsite → Bool
-filter_rule f lane c = is_admitted (plain f) lane c
+filter_rule f lane c = is_admitted (plain_filter f) lane c
 
 abbrev pub in_place_rule : Option FilterWithRoom → ℕ → Callsite → Bool
 in_place_rule None lane c = false
@@ -28,7 +28,7 @@ in_place_rule (Some f) lane c = filter_rule f lane c
 
 abbrev pub IsWholeInPlace : Option FilterWithRoom → Type 0
 IsWholeInPlace None = Unit {0}
-IsWholeInPlace (Some f) = AreWhole (plain f)
+IsWholeInPlace (Some f) = AreWhole (plain_filter f)
 
 -- each subscriber of a world
 abbrev pub EachSubscriber : {S : Type 0} → (S → Type 0) → Worlds S → Type 0

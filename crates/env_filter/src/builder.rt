@@ -1,7 +1,7 @@
 //! What filters are built by.
 ghost use Rattle.std.specs.Prelude.{◌≡◌, [], List, ℕ, Some, IfOk, IfErr, OnOk, string_bytes};
 ghost use Rattle.env_filter.specs.texts.Building.{BuilderValue, default_builder, filter_by, IsFilterOf, IsSomeFilterOf, HasFilterFault, HasFilterFaultAt};
-ghost use Rattle.env_filter.specs.Filtering.{plain, IsNewFilter};
+ghost use Rattle.env_filter.specs.Filtering.{plain_filter, IsNewFilter};
 ghost use Rattle.env_filter.specs.Tables.{or_default, with_directive};
 
 use crate::filter::EnvFilter;
@@ -78,8 +78,8 @@ impl Builder {
     /// The filter of a text, each piece of which has to be a directive; `Builder::parse`. The error is the fault of the
     /// first piece that is none.
     pub fn parse(&self, dirs: &str) -> Result<EnvFilter, ParseError>
-        ensures ok { IfOk result (λ f. IsFilterOf self.now dirs.now [] (plain f)) }
-        ensures new { IfOk result (λ f. IsNewFilter (plain f)) }
+        ensures ok { IfOk result (λ f. IsFilterOf self.now dirs.now [] (plain_filter f)) }
+        ensures new { IfOk result (λ f. IsNewFilter (plain_filter f)) }
         ensures refused { IfErr result (HasFilterFault self.now.patterns dirs.now) }
     {
         match self.parse_pieces(dirs) {
@@ -90,8 +90,8 @@ impl Builder {
 
     /// The same, with the number of the piece that has the fault, from 1, and 0 for `Memory`. Empty pieces count.
     pub fn parse_pieces(&self, dirs: &str) -> Result<EnvFilter, (u64, ParseError)>
-        ensures ok { IfOk result (λ f. IsFilterOf self.now dirs.now [] (plain f)) }
-        ensures new { IfOk result (λ f. IsNewFilter (plain f)) }
+        ensures ok { IfOk result (λ f. IsFilterOf self.now dirs.now [] (plain_filter f)) }
+        ensures new { IfOk result (λ f. IsNewFilter (plain_filter f)) }
         ensures refused { IfErr result (λ e. HasFilterFaultAt self.now.patterns dirs.now e.0 e.1) }
     {
         match self.parse_lossy(dirs) {
@@ -102,8 +102,8 @@ impl Builder {
 
     /// The filter of those pieces of a text that are directives, and the others; `Builder::parse_lossy`.
     pub fn parse_lossy(&self, dirs: &str) -> Result<(EnvFilter, Vec<Ignored>), Memory>
-        ensures ok { IfOk result (λ r. IsFilterOf self.now dirs.now r.1.items (plain r.0)) }
-        ensures new { IfOk result (λ r. IsNewFilter (plain r.0)) }
+        ensures ok { IfOk result (λ r. IsFilterOf self.now dirs.now r.1.items (plain_filter r.0)) }
+        ensures new { IfOk result (λ r. IsNewFilter (plain_filter r.0)) }
     {
         let (directives, ignored) = pieces::read(self.alloc, dirs, self.patterns)?;
         Ok((self.from_directives(directives)?, ignored))
@@ -111,8 +111,8 @@ impl Builder {
 
     // The filter of those pieces of a text that are directives.
     pub(crate) fn parse_some(self, dirs: &str) -> Result<EnvFilter, Memory>
-        ensures ok { IfOk result (λ f. IsSomeFilterOf self dirs.now (plain f)) }
-        ensures new { IfOk result (λ f. IsNewFilter (plain f)) }
+        ensures ok { IfOk result (λ f. IsSomeFilterOf self dirs.now (plain_filter f)) }
+        ensures new { IfOk result (λ f. IsNewFilter (plain_filter f)) }
     {
         let read = self.parse_lossy(dirs);
         drop(self);
@@ -149,8 +149,8 @@ impl Builder {
 
     // The filter of some directives.
     fn from_directives(&self, directives: Vec<Directive>) -> Result<EnvFilter, Memory>
-        ensures is { IfOk result (λ f. plain f ≡ filter_by self.now directives.items) }
-        ensures new { IfOk result (λ f. IsNewFilter (plain f)) }
+        ensures is { IfOk result (λ f. plain_filter f ≡ filter_by self.now directives.items) }
+        ensures new { IfOk result (λ f. IsNewFilter (plain_filter f)) }
     {
         let statics = tables::statics(self.alloc, directives.as_slice())?;
         let dynamics = tables::dynamics(self.alloc, directives)?;
@@ -166,7 +166,7 @@ impl Builder {
 
     // Adds the default directive to a filter that would have none.
     fn complete(&self, filter: &mut EnvFilter) -> Result<(), Memory>
-        ensures { OnOk result (plain filter.new ≡ or_default self.now.default (plain filter.old)) }
+        ensures { OnOk result (plain_filter filter.new ≡ or_default self.now.default (plain_filter filter.old)) }
     {
         match &self.default_directive {
             Some(directive) => or_default(filter, directive),
@@ -177,7 +177,7 @@ impl Builder {
 
 // Adds a directive to a filter that would have none.
 fn or_default(filter: &mut EnvFilter, directive: &Directive) -> Result<(), Memory>
-    ensures { OnOk result (plain filter.new ≡ or_default (Some directive.now) (plain filter.old)) }
+    ensures { OnOk result (plain_filter filter.new ≡ or_default (Some directive.now) (plain_filter filter.old)) }
 {
     if filter.has_none() {
         add_copy(filter, directive)
@@ -187,7 +187,7 @@ fn or_default(filter: &mut EnvFilter, directive: &Directive) -> Result<(), Memor
 }
 
 fn add_copy(filter: &mut EnvFilter, directive: &Directive) -> Result<(), Memory>
-    ensures { OnOk result (plain filter.new ≡ with_directive (plain filter.old) directive.now) }
+    ensures { OnOk result (plain_filter filter.new ≡ with_directive (plain_filter filter.old) directive.now) }
 {
     let directive = directive.clone_directive()?;
     filter.add(directive)
@@ -195,10 +195,10 @@ fn add_copy(filter: &mut EnvFilter, directive: &Directive) -> Result<(), Memory>
 
 // The filter where no piece was left out, else the number and the fault of the first one.
 fn unless_ignored(filter: EnvFilter, ignored: &[Ignored]) -> Result<EnvFilter, (u64, ParseError)>
-    ensures ok { (b : BuilderValue) (text : List ℕ) → IsFilterOf b text ignored.now (plain filter)
-        → IfOk result (λ f. IsFilterOf b text [] (plain f)) }
-    ensures new { IsNewFilter (plain filter) → IfOk result (λ f. IsNewFilter (plain f)) }
-    ensures refused { (b : BuilderValue) (text : List ℕ) → IsFilterOf b text ignored.now (plain filter)
+    ensures ok { (b : BuilderValue) (text : List ℕ) → IsFilterOf b text ignored.now (plain_filter filter)
+        → IfOk result (λ f. IsFilterOf b text [] (plain_filter f)) }
+    ensures new { IsNewFilter (plain_filter filter) → IfOk result (λ f. IsNewFilter (plain_filter f)) }
+    ensures refused { (b : BuilderValue) (text : List ℕ) → IsFilterOf b text ignored.now (plain_filter filter)
         → IfErr result (λ e. HasFilterFaultAt b.patterns text e.0 e.1) }
 {
     match ignored.first() {

@@ -4,7 +4,7 @@ ghost use Rattle.std.specs.List.{list_any};
 ghost use Rattle.trace_base.specs.words.Level.{is_within};
 ghost use Rattle.env_directives.specs.Cares.{cares_for_span, is_span};
 ghost use Rattle.env_filter.specs.spans.Levels.{levels_of};
-ghost use Rattle.env_filter.specs.Filtering.{FilterWithRoom, plain, span_level, is_cared, has_dynamics, interest_in, asks_values, hint_in, levels_admit, enables_in};
+ghost use Rattle.env_filter.specs.Filtering.{FilterWithRoom, plain_filter, span_level, is_cared, has_dynamics, interest_in, asks_values, hint_in, levels_admit, enables_in};
 ghost use Rattle.env_filter.specs.spans.Histories.{IsLevelByCalls, AreLevelsByCalls};
 
 use crate::levels::Levels;
@@ -55,7 +55,7 @@ impl EnvFilter {
     /// for spans that some dynamic directive cares for, and for what the static ones admit; else sometimes, where there
     /// are dynamic ones.
     pub fn register_callsite(&self, callsite: &Callsite) -> Interest
-        ensures { result ≡ interest_in (plain self.now) callsite.now }
+        ensures { result ≡ interest_in (plain_filter self.now) callsite.now }
     {
         if self.is_cared(callsite) || self.statics.enabled(callsite) {
             Interest::Always
@@ -69,7 +69,7 @@ impl EnvFilter {
     /// Whether it lets a callsite through on a lane now; `EnvFilter::enabled`. The greatest level of the dynamic
     /// directives counts here for a span that one of them cares for too; the gate of a world doesn't ask for it.
     pub fn enabled(&self, lane: u64, callsite: &Callsite) -> bool
-        ensures { result ≡ enables_in (plain self.now) lane callsite.now }
+        ensures { result ≡ enables_in (plain_filter self.now) lane callsite.now }
     {
         let level = callsite.level;
         (self.has_dynamics()
@@ -81,7 +81,7 @@ impl EnvFilter {
     /// The level past which it lets nothing through; `EnvFilter::max_level_hint`. TRACE where a dynamic directive asks
     /// for a value, since the filter then has to see every span; else the greatest level that was ever added.
     pub fn max_level_hint(&self) -> Option<LevelFilter>
-        ensures { result ≡ Some (hint_in (plain self.now)) }
+        ensures { result ≡ Some (hint_in (plain_filter self.now)) }
     {
         if asks_values(self.dynamics.as_slice()) {
             Some(LevelFilter::TRACE)
@@ -93,8 +93,8 @@ impl EnvFilter {
     /// The level of a live span that was made under this filter and that some dynamic directive cared for: the greatest
     /// of those directives each of whose values was met by some value given so far, else OFF.
     pub fn level(&self, id: Id) -> Option<LevelFilter>
-        ensures value { result ≡ span_level (plain self.now) id }
-        ensures told { IsLevelByCalls (plain self.now) id result }
+        ensures value { result ≡ span_level (plain_filter self.now) id }
+        ensures told { IsLevelByCalls (plain_filter self.now) id result }
     {
         spans::level_of(&self.spans, id)
     }
@@ -102,29 +102,29 @@ impl EnvFilter {
     /// The levels of a lane: each entry of a span that has a level appended that of its moment, and each exit took off
     /// the newest that an entry of its own span appended.
     pub fn levels(&self, lane: u64) -> &[LevelFilter]
-        ensures value { result.now ≡ levels_of ((plain self.now).lanes lane) }
-        ensures told { AreLevelsByCalls (plain self.now) lane result.now }
+        ensures value { result.now ≡ levels_of ((plain_filter self.now).lanes lane) }
+        ensures told { AreLevelsByCalls (plain_filter self.now) lane result.now }
     {
         lanes::levels_on(&self.lanes, lane)
     }
 
     // Whether there are dynamic directives.
     fn has_dynamics(&self) -> bool
-        ensures { result ≡ has_dynamics (plain self.now) }
+        ensures { result ≡ has_dynamics (plain_filter self.now) }
     {
         !self.dynamics.is_empty()
     }
 
     // Whether the callsite makes spans that some dynamic directive cares for.
     fn is_cared(&self, callsite: &Callsite) -> bool
-        ensures { result ≡ is_cared (plain self.now) callsite.now }
+        ensures { result ≡ is_cared (plain_filter self.now) callsite.now }
     {
         callsite.kind == Kind::Span && some_cares(self.dynamics.as_slice(), callsite)
     }
 
     // Whether a level is within one of the lane's levels.
     fn is_open(&self, lane: u64, level: Level) -> bool
-        ensures { result ≡ levels_admit level ((plain self.now).lanes lane) }
+        ensures { result ≡ levels_admit level ((plain_filter self.now).lanes lane) }
     {
         is_open(self.levels(lane), level)
     }
@@ -160,11 +160,11 @@ fn asks_values(directives: &[Directive]) -> bool
 
 /// It decides as the layer does.
 impl Filter for EnvFilter {
-    ghost interest = { λ s. interest_in (plain s) };
+    ghost interest = { λ s. interest_in (plain_filter s) };
 
-    ghost enables = { λ s. enables_in (plain s) };
+    ghost enables = { λ s. enables_in (plain_filter s) };
 
-    ghost hint = { λ s. Some (hint_in (plain s)) };
+    ghost hint = { λ s. Some (hint_in (plain_filter s)) };
 
     fn enabled(&self, lane: u64, callsite: &Callsite) -> bool {
         self.enabled(lane, callsite)

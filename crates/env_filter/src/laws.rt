@@ -2,14 +2,14 @@
 ghost use Rattle.std.specs.Prelude.{◌≡◌, ◌<◌, length, ◌++◌, [], ℕ, List, None, Some, is_some, true, false, option_map};
 ghost use Rattle.std.specs.Str.{IsUtf8};
 ghost use Rattle.trace_base.specs.Calls.{SubscriberCall};
-ghost use Rattle.trace_base.specs.Gate.{IsFresh, IsOwn, dispatch_on};
+ghost use Rattle.trace_base.specs.Gate.{IsFresh, IsInWorld, dispatch_on};
 ghost use Rattle.trace_base.specs.layers.Hooks.{Hook};
 ghost use Rattle.span_registry.specs.History.{Runs};
 ghost use Rattle.env_directives.specs.declared.directive.StaticDirective.{StaticDirective};
 ghost use Rattle.env_directives.specs.declared.env.directive.Directive.{Directive};
 ghost use Rattle.env_filter.specs.declared.pieces.Ignored.{Ignored};
 ghost use Rattle.env_filter.specs.texts.Building.{IsFilterOf};
-ghost use Rattle.env_filter.specs.Filtering.{Each, FilterState, plain, AreWhole, IsNewFilter, is_admitted};
+ghost use Rattle.env_filter.specs.Filtering.{Each, FilterState, plain_filter, AreWhole, IsNewFilter, is_admitted};
 ghost use Rattle.env_filter.specs.spans.Histories.{level_by_calls, is_ended, NeverFalls};
 ghost use Rattle.env_filter.specs.texts.Pieces.{ReadsText};
 ghost use Rattle.env_filter.specs.texts.Printing.{HaveNoMinusZero, HaveOwnGreatest, IsReadBack, filter_text, fixed_builder, printed_directives, printed_of, text_of};
@@ -29,7 +29,7 @@ use trace_base::world::World;
 /// Interest, hint and `enabled` together are the rule of the gate.
 pub fn gates()
     ensures { GateFollows ⟦<EnvFilter as Layer>⟧.interest ⟦<EnvFilter as Layer>⟧.hint ⟦<EnvFilter as Layer>⟧.enables
-        (λ f. AreWhole (plain f)) filter_rule }
+        (λ f. AreWhole (plain_filter f)) filter_rule }
 {}
 
 /// While a filter is in force no calls lower the level of a span, and a span that has a level keeps one until it closes.
@@ -66,15 +66,15 @@ pub fn reads_back()
 /// A filter that had no span hears the hooks of all calls of the subscriber below it, each span's making once and
 /// first; so the levels of spans and lanes are what the rules say of these calls.
 pub fn hears<S: Subscriber>()
-    ensures { (s : _) (calls : List SubscriberCall) (t : _) → IsNewFilter (plain s.layer)
+    ensures { (s : _) (calls : List SubscriberCall) (t : _) → IsNewFilter (plain_filter s.layer)
         → Runs ⟦<Layered<EnvFilter, S> as Subscriber>⟧.does ⟦<Layered<EnvFilter, S> as Subscriber>⟧.same s calls t
-        → HearsCalls (S.spans s.inner) calls (plain s.layer) (plain t.layer) }
+        → HearsCalls (S.spans s.inner) calls (plain_filter s.layer) (plain_filter t.layer) }
 {}
 
 /// The same of a filter that can be exchanged, from the moment at which it was put in place.
 pub fn hears_in_place<S: Subscriber>()
     ensures { (s : _) (calls : List SubscriberCall) (t : _) (f : FilterState)
-        → option_map plain s.layer.inner ≡ Some f → IsNewFilter f
+        → option_map plain_filter s.layer.inner ≡ Some f → IsNewFilter f
         → Runs ⟦<Layered<reload::Layer<EnvFilter>, S> as Subscriber>⟧.does
         ⟦<Layered<reload::Layer<EnvFilter>, S> as Subscriber>⟧.same s calls t
         → HearsInPlace (S.spans s.inner) calls f t.layer.inner }
@@ -88,9 +88,9 @@ pub fn admits<S: Subscriber>(
     site: SiteId,
 ) -> bool
     requires site { site < length world.now.sites }
-    requires own { IsOwn world.now lane.now.default }
+    requires own { IsInWorld world.now lane.now.default }
     requires fresh { IsFresh ⟦<Layered<EnvFilter, S> as Subscriber>⟧.interest world.now }
-    requires whole { EachSubscriber (λ s. AreWhole (plain s.layer)) world.now }
+    requires whole { EachSubscriber (λ s. AreWhole (plain_filter s.layer)) world.now }
     requires below { TakesAll S.interest S.hint S.enables }
     ensures { AdmitsBy (λ s. filter_rule s.layer) world.now lane.now.id site
         (dispatch_on lane.now.default world.now.global) result }
@@ -105,7 +105,7 @@ pub fn admits_in_place<S: Subscriber>(
     site: SiteId,
 ) -> bool
     requires site { site < length world.now.sites }
-    requires own { IsOwn world.now lane.now.default }
+    requires own { IsInWorld world.now lane.now.default }
     requires fresh { IsFresh ⟦<Layered<reload::Layer<EnvFilter>, S> as Subscriber>⟧.interest world.now }
     requires whole { EachSubscriber (λ s. IsWholeInPlace s.layer.inner) world.now }
     requires below { TakesAll S.interest S.hint S.enables }

@@ -2,7 +2,7 @@
 ghost use Rattle.std.specs.Prelude.{◌≡◌, true, false, Some, None, is_some, OnOk, OnErr, IfOk, codes};
 ghost use Rattle.std.specs.Fn.{FnOnceReturnsAt, FnOnceReturnsAtMut};
 ghost use Rattle.env_directives.specs.declared.targets.Targets.{Targets};
-ghost use Rattle.env_filter.specs.Filtering.{plain, fresh};
+ghost use Rattle.env_filter.specs.Filtering.{plain_filter, fresh_filter};
 ghost use Rattle.env_filter.specs.Reloading.{Swaps, Both, IsLent, IsChanged};
 
 use crate::filter::EnvFilter;
@@ -133,7 +133,7 @@ pub trait CloneLayer: Drop {
 
 /// The same tables, with no span and no level.
 impl CloneLayer for EnvFilter {
-    ghost is_copy = { λ s t. plain t ≡ fresh (plain s) };
+    ghost is_copy = { λ s t. plain_filter t ≡ fresh_filter (plain_filter s) };
 
     fn clone_layer(&self) -> Result<EnvFilter, Memory> {
         self.clone_filter()

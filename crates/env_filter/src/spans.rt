@@ -36,7 +36,7 @@ pub(crate) fn found_for(
         → found ≡ found_in values.now.pairs w.cares) }
 {
     match spans.get(&id.place()) {
-        Some(matches) => Ok(Items::from(matches.found(alloc, values)?)),
+        Some(matches) => Ok(Items::from(matches.asks_met(alloc, values)?)),
         None => Ok(Items::new(alloc)),
     }
 }

@@ -144,10 +144,10 @@ fn fix(fields: &mut Vec<Match>)
 fn fix_field(field: &mut Match)
     ensures { field.new ≡ fixed_field field.old }
 {
-    field.value = field.value.take().map(fixed);
+    field.value = field.value.take().map(fixed_value);
 }
 
-fn fixed(value: ValueMatch) -> ValueMatch
+fn fixed_value(value: ValueMatch) -> ValueMatch
     ensures { result ≡ as_fixed_text value }
 {
     match value {

@@ -47,7 +47,7 @@ impl Vars for MemVars {
     ghost told = { λ v. Some (first_named v) };
 
     fn read(&self, name: &str) -> Result<Option<String>, Memory> {
-        match named(self.pairs.as_slice(), name) {
+        match named_text(self.pairs.as_slice(), name) {
             Some(text) => Ok(Some(String::from_str(self.alloc, text)?)),
             None => Ok(None),
         }
@@ -55,7 +55,7 @@ impl Vars for MemVars {
 }
 
 // The text of the first pair with a name.
-fn named<'p>(pairs: &'p [(Text, Text)], name: &str) -> Option<&'p str>
+fn named_text<'p>(pairs: &'p [(Text, Text)], name: &str) -> Option<&'p str>
     ensures { option_map (λ text. text.now) result ≡ first_named pairs.now name.now }
 {
     pairs

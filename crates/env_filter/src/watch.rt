@@ -60,10 +60,10 @@ impl Matches {
     }
 
     /// Which of the values that are asked for are met by some of these.
-    pub fn found(&self, alloc: Global, values: &ValueSet) -> Result<Vec<bool>, Memory>
+    pub fn asks_met(&self, alloc: Global, values: &ValueSet) -> Result<Vec<bool>, Memory>
         ensures { IfOk result (λ found. found.items ≡ found_in values.now.pairs self.now.cares) }
     {
-        found(alloc, self.cares.as_slice(), values.pairs.as_slice())
+        asks_met(alloc, self.cares.as_slice(), values.pairs.as_slice())
     }
 
     /// Notes what was found met: what was met stays met.
@@ -88,7 +88,7 @@ pub fn watch(
     if cares.is_empty() {
         return Ok(None);
     }
-    let met = found(alloc, cares.as_slice(), values.pairs.as_slice())?;
+    let met = asks_met(alloc, cares.as_slice(), values.pairs.as_slice())?;
     Ok(Some(Matches {
         cares: Items::from(cares),
         met,
@@ -233,13 +233,13 @@ fn is_met_by(alloc: Global, ask: &Ask, pair: &(usize, Value)) -> Result<bool, Me
     ensures { IfOk result (λ given. given ≡ (pair.now.0 == ask.now.place && meets ask.now.value pair.now.1)) }
 {
     if pair.0 == ask.place {
-        ask.value.met(alloc, &pair.1)
+        ask.value.is_met_by(alloc, &pair.1)
     } else {
         Ok(false)
     }
 }
 
-fn found(alloc: Global, cares: &[Care], values: &[(usize, Value)]) -> Result<Vec<bool>, Memory>
+fn asks_met(alloc: Global, cares: &[Care], values: &[(usize, Value)]) -> Result<Vec<bool>, Memory>
     ensures { IfOk result (λ found. found.items ≡ found_in values.now cares.now) }
 {
     let mut found = Vec::new(alloc);

@@ -2,13 +2,13 @@
 use Rattle.std.specs.Prelude.{ℕ, List, ◌++◌, Option, None, Some, codes, flat_map}
 use Rattle.trace_base.specs.declared.level.LevelFilter.{LevelFilter}
 use Rattle.trace_base.specs.words.Level.{filter_text}
-use Rattle.env_filter.specs.Filtering.{FilterWithRoom, plain, hint_in}
+use Rattle.env_filter.specs.Filtering.{FilterWithRoom, plain_filter, hint_in}
 use Rattle.env_filter.specs.texts.Printing as printing
 
 -- how a filter prints, and its hint
 abbrev pub filter_line : FilterWithRoom → List ℕ
 filter_line f =
-    codes "  prints `" ++ (printing.filter_text f.statics.directives f.dynamics.directives ++ (codes "`, hint " ++ (filter_text (hint_in (plain f)) ++ codes "\n")))
+    codes "  prints `" ++ (printing.filter_text f.statics.directives f.dynamics.directives ++ (codes "`, hint " ++ (filter_text (hint_in (plain_filter f)) ++ codes "\n")))
 
 -- the level of a span, if it has one
 abbrev pub level_line : Option LevelFilter → List ℕ

@@ -32,7 +32,7 @@ fn push_met(
     value: &Value,
 ) -> Result<(), Memory> {
     let met = match &field.value {
-        Some(wanted) => wanted.met(alloc, value)?,
+        Some(wanted) => wanted.is_met_by(alloc, value)?,
         None => true,
     };
     told.push_str(format!(in alloc; "  {field} met: {met}\n")?.as_str())?;

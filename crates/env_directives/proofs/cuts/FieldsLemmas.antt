@@ -1,6 +1,6 @@
 -- Fields that are read one cut after the other.
 use Rattle.std.proofs.Common.{◌≡◌, ℕ, ◌<◌, Bool, true, false, true≢false, List, [], ◌∷◌, ◌++◌, length, Some, None, Option, Result, Ok, Err, refl, sym, ap, ◌∙◌, arith, subst, append-nil, append_assoc, codes, ◌==◌, IfSome}
-use Rattle.env_directives.proofs.Common.{AllByRecursion, nat_tests, flat_map-append, pieces_at, is_among, lacks, each_with_comma, unless_empty, IsField, FieldsRead, field_ends, more_fields, read_fields, LeadsToNoPattern, AnswersRead, field_of, IsNoPatternField, MayFail, Match, Shape, Level, Field, Pattern, Equals, Fields, Memory, ParseError}
+use Rattle.env_directives.proofs.Common.{AllByRecursion, nat_tests, flat_map-append, pieces_at, is_among, lacks, each_with_comma, unless_empty, IsFieldText, FieldsRead, field_ends, more_fields, read_fields, LeadsToNoPattern, AnswersRead, field_of, IsNoPatternField, MayFail, Match, Shape, Level, Field, Pattern, Equals, Fields, Memory, ParseError}
 use Rattle.std.proofs.lemmas.List.{length-append}
 use Rattle.env_directives.proofs.cuts.CutsLemmas.{cut_joined, cut_front, cut_stop, cut_off}
 
@@ -36,14 +36,14 @@ after_none (Err e) = refl
 
 -- a piece of a text that isn't empty is a field, and the text goes on with what it was cut at
 pub field_piece : (text : List ℕ) (stop : ℕ) → (pieces_at (codes ",}") text).stop ≡ Some stop → (0 < length (pieces_at (codes ",}") text).front) →
-    IsField (pieces_at (codes ",}") text).front × (text ≡ (pieces_at (codes ",}") text).front ++ stop ∷ (pieces_at (codes ",}") text).rest) × (is_among (codes ",}") stop ≡ true)
+    IsFieldText (pieces_at (codes ",}") text).front × (text ≡ (pieces_at (codes ",}") text).front ++ stop ∷ (pieces_at (codes ",}") text).rest) × (is_among (codes ",}") stop ≡ true)
 field_piece text stop at some = (
   is_field (pieces_at (codes ",}") text).front some (cut_front (codes ",}") text),
   (rw at at (cut_joined (codes ",}") text)),
   rw at at (cut_stop (codes ",}") text),
 )
   where
-    is_field : (f : List ℕ) → 0 < length f → lacks (codes ",}") f ≡ true → IsField f
+    is_field : (f : List ℕ) → 0 < length f → lacks (codes ",}") f ≡ true → IsFieldText f
     is_field [] some lacking = absurd (omega arith)
     is_field (b ∷ bs) some lacking = lacking
 
@@ -73,10 +73,10 @@ module _ (patterns : Bool) (whole text front rest : List ℕ) (fields : List Mat
     stops : is_among (codes ",}") stop ≡ true
     stops = subst (λ (o : Option ℕ). IfSome o (λ s. is_among (codes ",}") s ≡ true)) (sym is_stop) (cut_stop (codes ",}") text)
 
-    part : IsField front
+    part : IsFieldText front
     part = is_field front some (subst (λ (f : List ℕ). lacks (codes ",}") f ≡ true) (sym is_front) (cut_front (codes ",}") text))
       where
-        is_field : (f : List ℕ) → false ≡ (length f == 0) → lacks (codes ",}") f ≡ true → IsField f
+        is_field : (f : List ℕ) → false ≡ (length f == 0) → lacks (codes ",}") f ≡ true → IsFieldText f
         is_field [] some lacking = absurd (true≢false (sym some))
         is_field (b ∷ bs) some lacking = lacking
 
@@ -89,7 +89,7 @@ module _ (patterns : Bool) (whole text front rest : List ℕ) (fields : List Mat
     text_shorter = rw joined (simp (length-append) (omega arith))
 
     -- a value is no pattern
-    pub text_left : (done : List (List ℕ)) → AllByRecursion IsField done → whole ≡ each_with_comma done ++ text → IsNoPatternField front → LeadsToNoPattern whole
+    pub text_left : (done : List (List ℕ)) → AllByRecursion IsFieldText done → whole ≡ each_with_comma done ++ text → IsNoPatternField front → LeadsToNoPattern whole
     text_left done parts so value = record {
       earlier = done;
       field = front;
@@ -116,11 +116,11 @@ module _ (patterns : Bool) (whole text front rest : List ℕ) (fields : List Mat
         let went_on : at_cut patterns front (Some stop) rest ≡ more_fields field (read_fields patterns [] rest) = at_some front some ∙ rw (comma, is_field) refl in
         same ∙ ap (after_fields fields) (now_cut (Some stop) is_stop ∙ went_on) ∙ after_more fields field (read_fields patterns [] rest)
 
-    pub earlier_more : (stop ≡ 125 → ⊥) → (done : List (List ℕ)) × AllByRecursion IsField done × (whole ≡ each_with_comma done ++ text) →
-        (done : List (List ℕ)) × AllByRecursion IsField done × (whole ≡ each_with_comma done ++ rest)
+    pub earlier_more : (stop ≡ 125 → ⊥) → (done : List (List ℕ)) × AllByRecursion IsFieldText done × (whole ≡ each_with_comma done ++ text) →
+        (done : List (List ℕ)) × AllByRecursion IsFieldText done × (whole ≡ each_with_comma done ++ rest)
     earlier_more other (done, parts, so) = (done ++ front ∷ [], all_more done parts, so ∙ ap (λ (t : List ℕ). each_with_comma done ++ t) joined ∙ with_comma stop stops other)
       where
-        all_more : (fs : List (List ℕ)) → AllByRecursion IsField fs → AllByRecursion IsField (fs ++ front ∷ [])
+        all_more : (fs : List (List ℕ)) → AllByRecursion IsFieldText fs → AllByRecursion IsFieldText (fs ++ front ∷ [])
         all_more [] all = (part, tt)
         all_more (f ∷ fs) all = (all.0, all_more fs all.1)
 

@@ -1,6 +1,6 @@
 -- What is read has a form, and what is refused has the fault that is told.
 use Rattle.std.proofs.Common.{◌≡◌, ℕ, Bool, true, false, List, [], ◌∷◌, ◌++◌, Some, None, Option, Result, Ok, Err, refl, sym, ap, ◌∙◌, arith, subst, append_assoc, append-nil, codes, ◌⊎◌, inl, inr, not, ◌&&◌, if◌then◌else◌, ◌==◌, IfSome, map}
-use Rattle.env_directives.proofs.Common.{AllByRecursion, nat_tests, LevelFilter, pieces_at, is_among, lacks, IsEnd, unless_empty, IsField, IsLevelText, each_with_comma, level_behind, FieldsRead, at_level, read_last, read_behind, read_leveled, read_level, read_end, read_close, more_fields, field_ends, read_fields, field_of, ParseError, Shape, Level, Field, Pattern, Equals, Fields, Memory, Directive, Match}
+use Rattle.env_directives.proofs.Common.{AllByRecursion, nat_tests, LevelFilter, pieces_at, is_among, lacks, IsEnd, unless_empty, IsFieldText, IsLevelText, each_with_comma, level_behind, FieldsRead, at_level, read_last, read_behind, read_leveled, read_level, read_end, read_close, more_fields, field_ends, read_fields, field_of, ParseError, Shape, Level, Field, Pattern, Equals, Fields, Memory, Directive, Match}
 use Rattle.std.proofs.lemmas.Bool.{eqb-true}
 use Rattle.env_directives.proofs.cuts.CutsLemmas.{cut_joined, cut_front, cut_stop, cut_off}
 
@@ -116,8 +116,8 @@ close_explained d (b ∷ rest) = go (b == 93) refl (end_explained d rest)
 pub record FieldsMade (patterns : Bool) (text : List ℕ) (read : List Match × List ℕ) : Type 0 where
   pub earlier : List (List ℕ)
   pub last : List ℕ
-  pub parts : AllByRecursion IsField earlier
-  pub part : IsField last
+  pub parts : AllByRecursion IsFieldText earlier
+  pub part : IsFieldText last
   pub whole : text ≡ each_with_comma earlier ++ (last ++ 125 ∷ read.1)
   pub made : read.0 ≡ map (field_of patterns) (earlier ++ last ∷ [])
 
@@ -126,12 +126,12 @@ pub record FieldsEmpty (text : List ℕ) : Type 0 where
   pub earlier : List (List ℕ)
   pub stop : ℕ
   pub more : List ℕ
-  pub parts : AllByRecursion IsField earlier
+  pub parts : AllByRecursion IsFieldText earlier
   pub stops : is_among (codes ",}") stop ≡ true
   pub whole : text ≡ each_with_comma earlier ++ stop ∷ more
 
 -- a field more in front
-fields_with : (field text : List ℕ) → IsField field → (patterns : Bool) (r : FieldsRead) → Explained (FieldsMade patterns text) ⊥ (FieldsEmpty text) r →
+fields_with : (field text : List ℕ) → IsFieldText field → (patterns : Bool) (r : FieldsRead) → Explained (FieldsMade patterns text) ⊥ (FieldsEmpty text) r →
     Explained (FieldsMade patterns (field ++ 44 ∷ text)) ⊥ (FieldsEmpty (field ++ 44 ∷ text)) (more_fields (field_of patterns field) r)
 fields_with field text part patterns (Ok read) h = record {
   earlier = field ∷ h.earlier;

@@ -1,6 +1,6 @@
 -- What is read is the grammar: each form is read as what it means, and what is read has a form.
 use Rattle.std.proofs.Common.{◌≡◌, ℕ, Bool, true, List, [], ◌∷◌, ◌++◌, Some, None, Option, Ok, Err, refl, ap, ◌∙◌, subst, append_assoc, append-nil, codes, map}
-use Rattle.env_directives.proofs.Common.{AllByRecursion, LevelFilter, TRACE, is_among, HasNoLevel, HasEmptyField, IsEnd, begins, unless_empty, target_at, text_up_to_fields, Front, bare, spanned, fielded, DirectiveForm, alone, head_comma, leveled, leveled_comma, front_text, form_text, IsHead, IsSpan, IsField, IsOpened, IsDirectiveFront, IsForm, IsLevelText, each_with_comma, directive_at, directive_alone, head_alone, level_behind, directive_of_form, HasForm, at_level, read_last, read_level, read_end, read_close, more_fields, field_ends, read_fields, read_fielded, read_bracket, reading, field_of, Level, Field, Directive}
+use Rattle.env_directives.proofs.Common.{AllByRecursion, LevelFilter, TRACE, is_among, HasNoLevel, HasEmptyField, IsEnd, begins, unless_empty, target_at, text_up_to_fields, Front, bare, spanned, fielded, DirectiveForm, alone, head_comma, leveled, leveled_comma, front_text, form_text, IsHead, IsSpanName, IsFieldText, IsOpened, IsDirectiveFront, IsForm, IsLevelText, each_with_comma, directive_at, directive_alone, head_alone, level_behind, directive_of_form, HasForm, at_level, read_last, read_level, read_end, read_close, more_fields, field_ends, read_fields, read_fielded, read_bracket, reading, field_of, Level, Field, Directive}
 use Rattle.std.specs.Option.{option_map}
 use Rattle.env_directives.proofs.cuts.CutsLemmas.{cut_whole, cut_at}
 use Rattle.env_directives.proofs.cuts.FieldsLemmas.{fields_cut}
@@ -20,14 +20,14 @@ level_unread d level [] lacking ends reads = rw (append-nil level, cut_whole (co
 level_unread d level (b ∷ bs) lacking ends reads = rw (ends, cut_at (codes ",") level 44 bs lacking refl, reads) refl
 
 -- how one field is read, up to what ends it
-field_then : (patterns : Bool) (field : List ℕ) (stop : ℕ) (rest : List ℕ) → IsField field → is_among (codes ",}") stop ≡ true →
+field_then : (patterns : Bool) (field : List ℕ) (stop : ℕ) (rest : List ℕ) → IsFieldText field → is_among (codes ",}") stop ≡ true →
     read_fields patterns [] (field ++ stop ∷ rest) ≡ field_ends patterns (Some field) stop rest (read_fields patterns [] rest)
 field_then patterns [] stop rest part among = absurd part
 field_then patterns (b ∷ bs) stop rest part among =
     fields_cut patterns [] ((b ∷ bs) ++ stop ∷ rest) ∙ rw (cut_at (codes ",}") (b ∷ bs) stop rest part among) refl
 
 -- how all fields are read
-fields_read : (patterns : Bool) (earlier : List (List ℕ)) (last behind : List ℕ) → AllByRecursion IsField earlier → IsField last →
+fields_read : (patterns : Bool) (earlier : List (List ℕ)) (last behind : List ℕ) → AllByRecursion IsFieldText earlier → IsFieldText last →
     read_fields patterns [] (each_with_comma earlier ++ (last ++ 125 ∷ behind)) ≡ Ok (map (field_of patterns) (earlier ++ last ∷ []), behind)
 fields_read patterns [] last behind parts part = field_then patterns last 125 behind part refl
 fields_read patterns (f ∷ fs) last behind parts part =
@@ -35,7 +35,7 @@ fields_read patterns (f ∷ fs) last behind parts part =
     ∙ field_then patterns f 44 (each_with_comma fs ++ (last ++ 125 ∷ behind)) parts.0 refl
     ∙ ap (more_fields (field_of patterns f)) (fields_read patterns fs last behind parts.1 part)
 
-fields_empty : (patterns : Bool) (earlier : List (List ℕ)) (stop : ℕ) (more : List ℕ) → AllByRecursion IsField earlier → is_among (codes ",}") stop ≡ true →
+fields_empty : (patterns : Bool) (earlier : List (List ℕ)) (stop : ℕ) (more : List ℕ) → AllByRecursion IsFieldText earlier → is_among (codes ",}") stop ≡ true →
     read_fields patterns [] (each_with_comma earlier ++ stop ∷ more) ≡ Err Field
 fields_empty patterns [] stop more parts among = fields_cut patterns [] (stop ∷ more) ∙ rw (cut_at (codes ",}") [] stop more refl among) refl
 fields_empty patterns (f ∷ fs) stop more parts among =
@@ -50,23 +50,23 @@ unfolding reading
 head_then patterns head rest start part = rw (start, cut_at (codes "=[,") head 91 rest part refl) refl
 
 -- how a span's name is read that a bracket or a brace follows
-span_then : (patterns : Bool) (d : Directive) (span rest : List ℕ) → IsSpan span →
+span_then : (patterns : Bool) (d : Directive) (span rest : List ℕ) → IsSpanName span →
     read_bracket patterns d (span ++ 93 ∷ rest) ≡ read_end (record d { in_span = Some span }) rest
 unfolding read_bracket
 span_then patterns d span rest part = rw (cut_at (codes "]{") span 93 rest part refl) refl
 
-brace_then : (patterns : Bool) (d : Directive) (span rest : List ℕ) → IsSpan span →
+brace_then : (patterns : Bool) (d : Directive) (span rest : List ℕ) → IsSpanName span →
     read_bracket patterns d (span ++ 123 ∷ rest) ≡ read_fielded (record d { in_span = unless_empty span }) (read_fields patterns [] rest)
 unfolding read_bracket
 brace_then patterns d span rest part = rw (cut_at (codes "]{") span 123 rest part refl) refl
 
 -- how a bracket is read, with what follows it
-spanned_then : (patterns : Bool) (head span rest : List ℕ) → begins (head ++ 91 ∷ (span ++ 93 ∷ rest)) ≡ true → IsHead head → IsSpan span →
+spanned_then : (patterns : Bool) (head span rest : List ℕ) → begins (head ++ 91 ∷ (span ++ 93 ∷ rest)) ≡ true → IsHead head → IsSpanName span →
     reading patterns (head ++ 91 ∷ (span ++ 93 ∷ rest)) ≡ read_end (directive_at patterns (spanned head span) TRACE) rest
 spanned_then patterns head span rest start head_part span_part =
     head_then patterns head (span ++ 93 ∷ rest) start head_part ∙ span_then patterns (target_at head TRACE) span rest span_part
 
-opened_then : (patterns : Bool) (head span : List ℕ) (earlier : List (List ℕ)) (rest : List ℕ) → begins (text_up_to_fields head span earlier rest) ≡ true → IsHead head → IsSpan span →
+opened_then : (patterns : Bool) (head span : List ℕ) (earlier : List (List ℕ)) (rest : List ℕ) → begins (text_up_to_fields head span earlier rest) ≡ true → IsHead head → IsSpanName span →
     reading patterns (text_up_to_fields head span earlier rest)
     ≡ read_fielded (record (target_at head TRACE) { in_span = unless_empty span }) (read_fields patterns [] (each_with_comma earlier ++ rest))
 opened_then patterns head span earlier rest start head_part span_part =
@@ -74,7 +74,7 @@ opened_then patterns head span earlier rest start head_part span_part =
     ∙ brace_then patterns (target_at head TRACE) span (each_with_comma earlier ++ rest) span_part
 
 fielded_then : (patterns : Bool) (head span : List ℕ) (earlier : List (List ℕ)) (last rest : List ℕ) → begins (text_up_to_fields head span earlier (last ++ 125 ∷ 93 ∷ rest)) ≡ true →
-    IsOpened head span earlier → IsField last →
+    IsOpened head span earlier → IsFieldText last →
     reading patterns (text_up_to_fields head span earlier (last ++ 125 ∷ 93 ∷ rest)) ≡ read_end (directive_at patterns (fielded head span earlier last) TRACE) rest
 unfolding read_close
 fielded_then patterns head span earlier last rest start parts part =

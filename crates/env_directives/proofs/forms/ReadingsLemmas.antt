@@ -1,7 +1,7 @@
 -- What is read of a whole text has a form, and what is refused has the fault that is told.
 use Rattle.std.proofs.Common.{◌≡◌, ℕ, Bool, true, false, List, [], ◌∷◌, ◌++◌, Some, None, Option, Result, Ok, Err, refl, sym, ap, ◌∙◌, arith, subst, append_assoc, append-nil, codes, ◌⊎◌, inl, inr, if◌then◌else◌, option_map, true≢false, ◌==◌, ◌≢◌, ◌↔◌, IfSome, IfOk, IfErr}
 use Rattle.std.proofs.lemmas.Bool.{eqb-true}
-use Rattle.env_directives.proofs.Common.{nat_tests, TRACE, pieces_at, is_among, HasNoLevel, HasEmptyField, HasNoPattern, HasFault, begins, unless_empty, target_at, Front, bare, spanned, fielded, alone, head_comma, leveled, leveled_comma, front_text, IsHead, IsSpan, IsDirectiveFront, directive_at, directive_alone, head_alone, each_with_comma, level_behind, HasForm, IsDirective, read_last, read_level, read_end, read_close, read_fields, read_fielded, read_span, read_bracket, read_head, reading, AnswersRead, HavePatterns, ParseError, Shape, Level, Field, Pattern, Equals, Fields, Memory, Directive, Match}
+use Rattle.env_directives.proofs.Common.{nat_tests, TRACE, pieces_at, is_among, HasNoLevel, HasEmptyField, HasNoPattern, HasFault, begins, unless_empty, target_at, Front, bare, spanned, fielded, alone, head_comma, leveled, leveled_comma, front_text, IsHead, IsSpanName, IsDirectiveFront, directive_at, directive_alone, head_alone, each_with_comma, level_behind, HasForm, IsDirective, read_last, read_level, read_end, read_close, read_fields, read_fielded, read_span, read_bracket, read_head, reading, AnswersRead, HavePatterns, ParseError, Shape, Level, Field, Pattern, Equals, Fields, Memory, Directive, Match}
 use Rattle.env_directives.proofs.cuts.CutsLemmas.{cut_joined, cut_front, cut_stop, cut_off}
 use Rattle.env_directives.proofs.forms.FaultsLemmas.{Explained, explained_map, LevelRead, LevelUnread, level_explained, EndRead, EndUnread, end_explained, CloseRead, CloseUnread, close_explained, FieldsMade, FieldsEmpty, fields_explained}
 use Rattle.env_directives.proofs.forms.GrammarLemmas.{at_front, directive_reads, level_told, field_told}
@@ -69,7 +69,7 @@ bracket_explained patterns text head behind start head_part joined =
     by_pieces (pieces_at (codes "]{") behind).front (pieces_at (codes "]{") behind).stop (pieces_at (codes "]{") behind).rest
     (cut_front (codes "]{") behind) (cut_stop (codes "]{") behind) (cut_joined (codes "]{") behind)
   where
-    by_close : (span rest : List ℕ) → IsSpan span → text ≡ head ++ 91 ∷ (span ++ 123 ∷ rest) → (read : List Match × List ℕ) → FieldsMade patterns rest read →
+    by_close : (span rest : List ℕ) → IsSpanName span → text ≡ head ++ 91 ∷ (span ++ 123 ∷ rest) → (read : List Match × List ℕ) → FieldsMade patterns rest read →
         Explained (HasForm patterns text) (HasNoLevel text) (HasEmptyField text) (read_close (record (target_at head TRACE) { in_span = unless_empty span; fields = read.0 }) read.1)
     by_close span rest part joined read made =
         let d = record (target_at head TRACE) { in_span = unless_empty span; fields = read.0 } in
@@ -82,7 +82,7 @@ bracket_explained patterns text head behind start head_part joined =
         (λ y closed. ended_is patterns front text closed.0 y start is_front refl (so closed.0 closed.1) (subst (λ (e : Directive). EndRead e closed.0 y) (sym same) closed.2))
         (λ unread. end_unread_is front text unread.0 start is_front (so unread.0 unread.1) unread.2) (λ none. absurd none)
 
-    by_fields : (span rest : List ℕ) → IsSpan span → text ≡ head ++ 91 ∷ (span ++ 123 ∷ rest) → (r : Result (List Match × List ℕ) ParseError) → Explained (FieldsMade patterns rest) ⊥ (FieldsEmpty rest) r →
+    by_fields : (span rest : List ℕ) → IsSpanName span → text ≡ head ++ 91 ∷ (span ++ 123 ∷ rest) → (r : Result (List Match × List ℕ) ParseError) → Explained (FieldsMade patterns rest) ⊥ (FieldsEmpty rest) r →
         Explained (HasForm patterns text) (HasNoLevel text) (HasEmptyField text) (read_fielded (record (target_at head TRACE) { in_span = unless_empty span }) r)
     by_fields span rest part joined (Ok read) made = by_close span rest part joined read made
     by_fields span rest part joined (Err Shape) h = tt
@@ -103,7 +103,7 @@ bracket_explained patterns text head behind start head_part joined =
     by_fields span rest part joined (Err (Fields many)) h = absurd h
     by_fields span rest part joined (Err Memory) h = absurd h
 
-    by_stop : (span : List ℕ) (s : ℕ) (rest : List ℕ) → IsSpan span → is_among (codes "]{") s ≡ true → behind ≡ span ++ s ∷ rest → (c : Bool) → (s == 93) ≡ c →
+    by_stop : (span : List ℕ) (s : ℕ) (rest : List ℕ) → IsSpanName span → is_among (codes "]{") s ≡ true → behind ≡ span ++ s ∷ rest → (c : Bool) → (s == 93) ≡ c →
         Explained (HasForm patterns text) (HasNoLevel text) (HasEmptyField text)
         (if c then read_end (record (target_at head TRACE) { in_span = Some span }) rest else read_fielded (record (target_at head TRACE) { in_span = unless_empty span }) (read_fields patterns [] rest))
     by_stop span s rest part among cut_so true e =
@@ -117,7 +117,7 @@ bracket_explained patterns text head behind start head_part joined =
         let brace : s ≡ 123 = grind (arith, nat_tests) in
         by_fields span rest part (joined ∙ ap (λ (t : List ℕ). head ++ 91 ∷ t) (cut_so ∙ ap (λ (x : ℕ). span ++ x ∷ rest) brace)) (read_fields patterns [] rest) (fields_explained patterns [] rest refl)
 
-    by_pieces : (span : List ℕ) (stop : Option ℕ) (rest : List ℕ) → IsSpan span → IfSome stop (λ s. is_among (codes "]{") s ≡ true) → behind ≡ span ++ cut_off stop rest →
+    by_pieces : (span : List ℕ) (stop : Option ℕ) (rest : List ℕ) → IsSpanName span → IfSome stop (λ s. is_among (codes "]{") s ≡ true) → behind ≡ span ++ cut_off stop rest →
         Explained (HasForm patterns text) (HasNoLevel text) (HasEmptyField text) (read_span patterns (target_at head TRACE) span stop rest)
     by_pieces span None rest part among cut_so = tt
     by_pieces span (Some s) rest part among cut_so = by_stop span s rest part among cut_so (s == 93) refl

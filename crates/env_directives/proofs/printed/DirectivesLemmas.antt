@@ -1,6 +1,6 @@
 -- What a directive prints is a text of that directive.
 use Rattle.std.proofs.Common.{◌≡◌, ℕ, ◌<◌, Bool, true, false, List, [], ◌∷◌, ◌++◌, length, Some, None, Option, option_map, refl, sym, ap, ◌∙◌, arith, subst, append-nil, append_assoc, codes, map, not, lit<, ◌==◌, ◌||◌, is_some}
-use Rattle.env_directives.proofs.Common.{AllByRecursion, nat_tests, LevelFilter, filter_text, level_filter_of, filter_of_word, named_filter, ucd_derived, begins, unless_empty, target_at, Front, bare, spanned, fielded, DirectiveForm, alone, head_comma, leveled, leveled_comma, front_text, form_text, IsHead, IsSpan, IsField, IsOpened, IsDirectiveFront, IsForm, each_with_comma, directive_at, head_alone, level_or_target, level_behind, IsLevelText, directive_of_form, HasForm, directive_text, text_if_any, fields_text, HasNoMinusZero, field_of, Directive, Match}
+use Rattle.env_directives.proofs.Common.{AllByRecursion, nat_tests, LevelFilter, filter_text, level_filter_of, filter_of_word, named_filter, ucd_derived, begins, unless_empty, target_at, Front, bare, spanned, fielded, DirectiveForm, alone, head_comma, leveled, leveled_comma, front_text, form_text, IsHead, IsSpanName, IsFieldText, IsOpened, IsDirectiveFront, IsForm, each_with_comma, directive_at, head_alone, level_or_target, level_behind, IsLevelText, directive_of_form, HasForm, directive_text, text_if_any, fields_text, HasNoMinusZero, field_of, Directive, Match}
 use Rattle.std.specs.Str.{IsUtf8, chars}
 use Rattle.trace_base.specs.declared.level.LevelFilter.TheVariants as filter
 use Rattle.env_directives.proofs.printed.BeginningsLemmas.{bracket_begins, IsSeam, first_of, begins_by}
@@ -103,7 +103,7 @@ module _ (text : List ℕ) (utf8 : IsUtf8 text) (start : begins text ≡ true) w
   spanned_text [] span level = refl
   spanned_text (b ∷ bs) span level = simp append_assoc refl
 
-  spanned_again : (head span : List ℕ) (level : LevelFilter) → IsHead head → IsSpan span → GoesOn text head →
+  spanned_again : (head span : List ℕ) (level : LevelFilter) → IsHead head → IsSpanName span → GoesOn text head →
       HasForm false (directive_text (directive_at false (spanned head span) level)) (directive_at false (spanned head span) level)
   spanned_again head span level head_part span_part on =
       let so = spanned_text head span level in
@@ -141,7 +141,7 @@ module _ (text : List ℕ) (utf8 : IsUtf8 text) (start : begins text ≡ true) w
           rw (bracket, equals (unless_empty head) true refl, if_any head, if_any span, joined)
           (assembled head span (each_with_comma (map again earlier)) (again last) (codes "=" ++ filter_text level))
 
-  fielded_again : (head span : List ℕ) (earlier : List (List ℕ)) (last : List ℕ) (level : LevelFilter) → IsOpened head span earlier → IsField last →
+  fielded_again : (head span : List ℕ) (earlier : List (List ℕ)) (last : List ℕ) (level : LevelFilter) → IsOpened head span earlier → IsFieldText last →
       HasNoMinusZero (map (field_of false) (earlier ++ last ∷ [])) → GoesOn text head →
       HasForm false (directive_text (directive_at false (fielded head span earlier last) level)) (directive_at false (fielded head span earlier last) level)
   fielded_again head span earlier last level parts part no_zero on =
@@ -157,11 +157,11 @@ module _ (text : List ℕ) (utf8 : IsUtf8 text) (start : begins text ≡ true) w
       ap (λ (fs : List Match). record { in_span = unless_empty span; fields = fs; target = unless_empty head; level = level }) (ap (map (field_of false)) (sym (map_both earlier)) ∙ all.1) in
       subst (HasForm false printed) same (leveled_again front level printed begun ((parts.0, parts.1, anew.0), anew.1) so)
     where
-      all_with : (es : List (List ℕ)) → AllByRecursion IsField es → AllByRecursion IsField (es ++ last ∷ [])
+      all_with : (es : List (List ℕ)) → AllByRecursion IsFieldText es → AllByRecursion IsFieldText (es ++ last ∷ [])
       all_with [] all = (part, tt)
       all_with (e ∷ es) all = (all.0, all_with es all.1)
 
-      parted : (es : List (List ℕ)) → AllByRecursion IsField (map again (es ++ last ∷ [])) → AllByRecursion IsField (map again es) × IsField (again last)
+      parted : (es : List (List ℕ)) → AllByRecursion IsFieldText (map again (es ++ last ∷ [])) → AllByRecursion IsFieldText (map again es) × IsFieldText (again last)
       parted [] all = (tt, all.0)
       parted (e ∷ es) all = ((all.0, (parted es all.1).0), (parted es all.1).1)
 

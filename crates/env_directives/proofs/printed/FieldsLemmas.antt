@@ -1,6 +1,6 @@
 -- What a field prints is read as that field.
 use Rattle.std.proofs.Common.{◌≡◌, ◌≢◌, ℕ, Bool, true, false, true≢false, List, [], ◌∷◌, ◌++◌, Some, None, Option, option_map, refl, sym, ap, ◌∙◌, pos, codes, subst, append-nil, append_assoc, map, flat_map, not, ◌&&◌}
-use Rattle.env_directives.proofs.Common.{AllByRecursion, pieces_at, is_among, lacks, IsField, each_with_comma, value_text, match_text, fields_text, HasNoMinusZero, value_of, field_of, Match, I64}
+use Rattle.env_directives.proofs.Common.{AllByRecursion, pieces_at, is_among, lacks, IsFieldText, each_with_comma, value_text, match_text, fields_text, HasNoMinusZero, value_of, field_of, Match, I64}
 use Rattle.env_directives.proofs.cuts.CutsLemmas.{cut_whole, cut_at, cut_joined, cut_front, cut_off}
 use Rattle.env_directives.proofs.printed.ValuesLemmas.{value_again}
 
@@ -23,12 +23,12 @@ lacks_joined stops (x ∷ xs) ys first second = go (is_among stops x) refl first
     go true e first later = absurd (true≢false (sym first))
     go false e first later = rw e (later first second)
 
-field_lacks : (field : List ℕ) → IsField field → lacks (codes ",}") field ≡ true
+field_lacks : (field : List ℕ) → IsFieldText field → lacks (codes ",}") field ≡ true
 field_lacks [] is = absurd is
 field_lacks (b ∷ bs) is = is
 
 -- a name and a value make a field
-named_field : (name value : List ℕ) → lacks (codes ",}") name ≡ true → lacks (codes ",}") value ≡ true → IsField (name ++ 61 ∷ value)
+named_field : (name value : List ℕ) → lacks (codes ",}") name ≡ true → lacks (codes ",}") value ≡ true → IsFieldText (name ++ 61 ∷ value)
 named_field [] value first second = second
 named_field (b ∷ bs) value first second = lacks_joined (codes ",}") (b ∷ bs) (61 ∷ value) first second
 
@@ -36,7 +36,7 @@ named_field (b ∷ bs) value first second = lacks_joined (codes ",}") (b ∷ bs)
 abbrev pub again : List ℕ → List ℕ
 again field = match_text (field_of false field)
 
-pub field_again : (field : List ℕ) → IsField field → (field_of false field).value ≢ Some (I64 (pos 0)) → IsField (again field) × (field_of false (again field) ≡ field_of false field)
+pub field_again : (field : List ℕ) → IsFieldText field → (field_of false field).value ≢ Some (I64 (pos 0)) → IsFieldText (again field) × (field_of false (again field) ≡ field_of false field)
 unfolding field_of
 field_again field is no_zero =
     by_stop (pieces_at (codes "=") field).front (pieces_at (codes "=") field).stop (pieces_at (codes "=") field).rest (cut_front (codes "=") field) (cut_joined (codes "=") field) no_zero
@@ -44,9 +44,9 @@ field_again field is no_zero =
     by_stop : (name : List ℕ) (stop : Option ℕ) (rest : List ℕ) → lacks (codes "=") name ≡ true → field ≡ name ++ cut_off stop rest →
         option_map (λ _. value_of false (pieces_at (codes "=") rest).front) stop ≢ Some (I64 (pos 0)) →
         let m : Match = record { name = name; value = option_map (λ _. value_of false (pieces_at (codes "=") rest).front) stop } in
-        IsField (match_text m) × (field_of false (match_text m) ≡ m)
+        IsFieldText (match_text m) × (field_of false (match_text m) ≡ m)
     by_stop name None rest lacking joined no_zero =
-        (subst IsField joined is, rw (append-nil name, cut_whole (codes "=") name lacking) refl)
+        (subst IsFieldText joined is, rw (append-nil name, cut_whole (codes "=") name lacking) refl)
     by_stop name (Some s) rest lacking joined no_zero =
         let text = (pieces_at (codes "=") rest).front in
         let whole : lacks (codes ",}") (name ++ s ∷ rest) ≡ true = subst (λ (t : List ℕ). lacks (codes ",}") t ≡ true) joined (field_lacks field is) in
@@ -60,8 +60,8 @@ field_again field is no_zero =
         )
 
 -- the same of some fields
-pub fields_again : (fields : List (List ℕ)) → AllByRecursion IsField fields → HasNoMinusZero (map (field_of false) fields) →
-    AllByRecursion IsField (map again fields) × (map (field_of false) (map again fields) ≡ map (field_of false) fields)
+pub fields_again : (fields : List (List ℕ)) → AllByRecursion IsFieldText fields → HasNoMinusZero (map (field_of false) fields) →
+    AllByRecursion IsFieldText (map again fields) × (map (field_of false) (map again fields) ≡ map (field_of false) fields)
 fields_again [] all no_zero = (tt, refl)
 fields_again (f ∷ fs) all no_zero =
     let first = field_again f all.0 no_zero.0 in

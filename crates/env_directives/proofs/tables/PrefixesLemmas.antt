@@ -1,7 +1,7 @@
 -- In a table the first directive without field names that covers a target is the one with the longest target.
 use Rattle.std.specs.declared.cmp.Ordering.{Ordering}
 use Rattle.std.specs.declared.cmp.Ordering.TheVariants.{Less, Equal, Greater}
-use Rattle.env_directives.proofs.Common.{ordering_then, AllByRecursion, starts_with, IsStrictlySortedBy, option_cmp, option_map_or, tied_itself, first_so, second_so, bytes_decides, nil_from_length, sorted_head, sorted_tail, StaticDirective, covers, cares_about_target, is_longer, longer, longest_from, longest_prefix, lets_through, admits_target, target_length, most_specific_first, text_cmp, Table, with_item_in_order, empty_table, with_static, all_added}
+use Rattle.env_directives.proofs.Common.{ordering_then, AllByRecursion, starts_with, IsStrictlySortedBy, option_cmp, option_map_or, tied_itself, first_so, second_so, bytes_decides, nil_from_length, sorted_head, sorted_tail, StaticDirective, covers, cares_about_target, is_longer, with_longer_target, longest_from, longest_prefix, lets_through, admits_target, target_length, most_specific_first, text_cmp, Table, with_item_in_order, empty_table, with_static, all_added}
 use Rattle.std.specs.Ordering.{is_eq, is_gt, nat_cmp}
 use Rattle.std.specs.List.{find, filter}
 use Rattle.std.specs.Option.{option_map}
@@ -100,43 +100,43 @@ module _ (target : List ℕ) where
   abbrev speaks : StaticDirective → Bool
   speaks d = cares_about_target d target
 
-  longer_at_true : (e d : StaticDirective) → is_longer e d ≡ true → longer (Some e) d ≡ Some e
+  longer_at_true : (e d : StaticDirective) → is_longer e d ≡ true → with_longer_target (Some e) d ≡ Some e
   longer_at_true e d h = rw h refl
 
-  longer_at_false : (e d : StaticDirective) → is_longer e d ≡ false → longer (Some e) d ≡ Some d
+  longer_at_false : (e d : StaticDirective) → is_longer e d ≡ false → with_longer_target (Some e) d ≡ Some d
   longer_at_false e d h = rw h refl
 
   none_longer : (d : StaticDirective) (es : List StaticDirective) → AllByRecursion (λ y. most_specific_first d y ≡ Less) es
-      → longer (find speaks es) d ≡ Some d
+      → with_longer_target (find speaks es) d ≡ Some d
   none_longer d [] h = refl
   none_longer d (e ∷ es) h = by (speaks e) refl (none_longer d es h.1)
     where
-      by : (b : Bool) → speaks e ≡ b → longer (find speaks es) d ≡ Some d → longer (find speaks (e ∷ es)) d ≡ Some d
-      by true is rest = ap (λ b. longer (cond b (Some e) (find speaks es)) d) is ∙ longer_at_false e d (earlier_not_longer d e h.0)
-      by false is rest = ap (λ b. longer (cond b (Some e) (find speaks es)) d) is ∙ rest
+      by : (b : Bool) → speaks e ≡ b → with_longer_target (find speaks es) d ≡ Some d → with_longer_target (find speaks (e ∷ es)) d ≡ Some d
+      by true is rest = ap (λ b. with_longer_target (cond b (Some e) (find speaks es)) d) is ∙ longer_at_false e d (earlier_not_longer d e h.0)
+      by false is rest = ap (λ b. with_longer_target (cond b (Some e) (find speaks es)) d) is ∙ rest
 
   -- what is found once one directive more has its place
   found_placed : (d : StaticDirective) (es : List StaticDirective) → IsStrictlySortedBy most_specific_first es
-      → find speaks (with_item_in_order most_specific_first d es) ≡ cond (speaks d) (longer (find speaks es) d) (find speaks es)
+      → find speaks (with_item_in_order most_specific_first d es) ≡ cond (speaks d) (with_longer_target (find speaks es) d) (find speaks es)
   found_placed d [] s = refl
   found_placed d (e ∷ es) s = by (most_specific_first d e) refl (found_placed d es (sorted_tail most_specific_first e es s))
     where
       equal : (b : Bool) → most_specific_first d e ≡ Equal → speaks d ≡ b
-          → cond (speaks d) (Some d) (find speaks es) ≡ cond (speaks d) (longer (cond (speaks e) (Some e) (find speaks es)) d) (cond (speaks e) (Some e) (find speaks es))
+          → cond (speaks d) (Some d) (find speaks es) ≡ cond (speaks d) (with_longer_target (cond (speaks e) (Some e) (find speaks es)) d) (cond (speaks e) (Some e) (find speaks es))
       equal true is own = rw (own, equal_cares d e target is ∙ own) (sym (longer_at_false e d (equal_not_longer d e is)))
       equal false is own = rw (own, equal_cares d e target is ∙ own) refl
 
       later : (b c : Bool) → most_specific_first d e ≡ Greater → speaks e ≡ b → speaks d ≡ c
-          → cond (speaks e) (Some e) (cond (speaks d) (longer (find speaks es) d) (find speaks es))
-          ≡ cond (speaks d) (longer (cond (speaks e) (Some e) (find speaks es)) d) (cond (speaks e) (Some e) (find speaks es))
+          → cond (speaks e) (Some e) (cond (speaks d) (with_longer_target (find speaks es) d) (find speaks es))
+          ≡ cond (speaks d) (with_longer_target (cond (speaks e) (Some e) (find speaks es)) d) (cond (speaks e) (Some e) (find speaks es))
       later true true is first own = rw (first, own) (sym (longer_at_true e d (later_longer d e target own first is)))
       later true false is first own = rw (first, own) refl
       later false true is first own = rw (first, own) refl
       later false false is first own = rw (first, own) refl
 
       by : (r : Ordering) → most_specific_first d e ≡ r
-          → find speaks (with_item_in_order most_specific_first d es) ≡ cond (speaks d) (longer (find speaks es) d) (find speaks es)
-          → find speaks (with_item_in_order most_specific_first d (e ∷ es)) ≡ cond (speaks d) (longer (find speaks (e ∷ es)) d) (find speaks (e ∷ es))
+          → find speaks (with_item_in_order most_specific_first d es) ≡ cond (speaks d) (with_longer_target (find speaks es) d) (find speaks es)
+          → find speaks (with_item_in_order most_specific_first d (e ∷ es)) ≡ cond (speaks d) (with_longer_target (find speaks (e ∷ es)) d) (find speaks (e ∷ es))
       by Less is rest =
           ap (find speaks) (at_less total-law d e es is)
           ∙ ap (λ o. cond (speaks d) o (find speaks (e ∷ es)))
@@ -157,10 +157,10 @@ module _ (target : List ℕ) where
           → find speaks (all_added ds (with_static d t)).directives ≡ longest_from (find speaks (with_static d t).directives) (filter speaks ds)
           → find speaks (all_added ds (with_static d t)).directives ≡ longest_from (find speaks t.directives) (filter speaks (d ∷ ds))
       by true is rest =
-          rest ∙ ap (λ o. longest_from o (filter speaks ds)) (found_placed d t.directives s ∙ ap (λ b. cond b (longer (find speaks t.directives) d) (find speaks t.directives)) is)
+          rest ∙ ap (λ o. longest_from o (filter speaks ds)) (found_placed d t.directives s ∙ ap (λ b. cond b (with_longer_target (find speaks t.directives) d) (find speaks t.directives)) is)
           ∙ sym (ap (λ b. longest_from (find speaks t.directives) (cond b (d ∷ filter speaks ds) (filter speaks ds))) is)
       by false is rest =
-          rest ∙ ap (λ o. longest_from o (filter speaks ds)) (found_placed d t.directives s ∙ ap (λ b. cond b (longer (find speaks t.directives) d) (find speaks t.directives)) is)
+          rest ∙ ap (λ o. longest_from o (filter speaks ds)) (found_placed d t.directives s ∙ ap (λ b. cond b (with_longer_target (find speaks t.directives) d) (find speaks t.directives)) is)
           ∙ sym (ap (λ b. longest_from (find speaks t.directives) (cond b (d ∷ filter speaks ds) (filter speaks ds))) is)
 
 -- the longest prefix that was added decides

@@ -27,14 +27,14 @@ abbrev pub is_longer : StaticDirective → StaticDirective → Bool
 is_longer d e = is_gt (option_cmp nat_cmp (target_length d) (target_length e))
 
 -- the directive with the longer target, the second where they are as long
-abbrev pub longer : Option StaticDirective → StaticDirective → Option StaticDirective
-longer None d = Some d
-longer (Some e) d = if is_longer e d then Some e else Some d
+abbrev pub with_longer_target : Option StaticDirective → StaticDirective → Option StaticDirective
+with_longer_target None d = Some d
+with_longer_target (Some e) d = if is_longer e d then Some e else Some d
 
 -- of directives that were added in turn, the one with the longest target, the last added where several are as long
 abbrev pub longest_from : Option StaticDirective → List StaticDirective → Option StaticDirective
 longest_from best [] = best
-longest_from best (d ∷ ds) = longest_from (longer best d) ds
+longest_from best (d ∷ ds) = longest_from (with_longer_target best d) ds
 
 -- of the directives that were added, that with the longest target among those without field names that cover a target
 abbrev pub longest_prefix : List StaticDirective → List ℕ → Option StaticDirective

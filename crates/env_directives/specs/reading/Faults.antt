@@ -2,7 +2,7 @@
 -- with a refused value may also have another fault further right, and either may be told.
 use Rattle.std.specs.Prelude.{◌≡◌, ℕ, List, [], ◌∷◌, ◌++◌, Bool, true, None, codes}
 use Rattle.env_directives.specs.reading.Cuts.{is_among}
-use Rattle.env_directives.specs.reading.Forms.{begins, Front, front_text, IsDirectiveFront, IsLevelText, level_behind, text_up_to_fields, IsOpened, IsField, HasForm}
+use Rattle.env_directives.specs.reading.Forms.{begins, Front, front_text, IsDirectiveFront, IsLevelText, level_behind, text_up_to_fields, IsOpened, IsFieldText, HasForm}
 use Rattle.env_directives.specs.reading.Values.{IsNoPatternField}
 use Rattle.env_directives.specs.declared.directive.ParseError.{ParseError}
 use Rattle.env_directives.specs.declared.directive.ParseError.TheVariants.{Shape, Level, Field, Pattern, Equals, Fields, Memory}
@@ -47,7 +47,7 @@ pub record HasNoPattern (text : List ℕ) : Type 0 where
   pub stop : ℕ
   pub more : List ℕ
   pub parts : IsOpened head span earlier
-  pub part : IsField field
+  pub part : IsFieldText field
   pub stops : is_among (codes ",}") stop ≡ true
   pub whole : text ≡ text_up_to_fields head span earlier (field ++ stop ∷ more)
   pub value : IsNoPatternField field

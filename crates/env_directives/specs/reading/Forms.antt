@@ -49,21 +49,21 @@ front_text (fielded head span earlier last) = text_up_to_fields head span earlie
 abbrev pub IsHead : List ℕ → Type 0
 IsHead head = lacks (codes "=[,") head ≡ true
 
-abbrev pub IsSpan : List ℕ → Type 0
-IsSpan span = lacks (codes "]{") span ≡ true
+abbrev pub IsSpanName : List ℕ → Type 0
+IsSpanName span = lacks (codes "]{") span ≡ true
 
 -- a field has at least one byte, and no comma and no closing brace
-abbrev pub IsField : List ℕ → Type 0
-IsField [] = ⊥
-IsField (b ∷ bs) = lacks (codes ",}") (b ∷ bs) ≡ true
+abbrev pub IsFieldText : List ℕ → Type 0
+IsFieldText [] = ⊥
+IsFieldText (b ∷ bs) = lacks (codes ",}") (b ∷ bs) ≡ true
 
 abbrev pub IsOpened : List ℕ → List ℕ → List (List ℕ) → Type 0
-IsOpened head span fields = IsHead head × IsSpan span × AllByRecursion IsField fields
+IsOpened head span fields = IsHead head × IsSpanName span × AllByRecursion IsFieldText fields
 
 abbrev pub IsDirectiveFront : Front → Type 0
 IsDirectiveFront (bare head) = IsHead head
-IsDirectiveFront (spanned head span) = IsHead head × IsSpan span
-IsDirectiveFront (fielded head span earlier last) = IsOpened head span earlier × IsField last
+IsDirectiveFront (spanned head span) = IsHead head × IsSpanName span
+IsDirectiveFront (fielded head span earlier last) = IsOpened head span earlier × IsFieldText last
 
 -- A form: a front alone, or with a level's text behind `=`; a bare head and a level's text may have a comma behind them.
 pub data DirectiveForm : Type 0 where

@@ -4,7 +4,7 @@ use Rattle.std.specs.Prelude.{◌≡◌, ℕ, List, [], ◌∷◌, ◌++◌, ◌
 use Rattle.trace_base.specs.declared.level.LevelFilter.{LevelFilter}
 use Rattle.trace_base.specs.declared.level.LevelFilter.TheVariants.{TRACE}
 use Rattle.env_directives.specs.reading.Cuts.{pieces_at, is_among}
-use Rattle.env_directives.specs.reading.Forms.{begins, unless_empty, target_at, head_alone, level_behind, each_with_comma, IsSpan, IsField}
+use Rattle.env_directives.specs.reading.Forms.{begins, unless_empty, target_at, head_alone, level_behind, each_with_comma, IsSpanName, IsFieldText}
 use Rattle.env_directives.specs.reading.Values.{field_of, IsNoPatternField}
 use Rattle.env_directives.specs.declared.directive.ParseError.{ParseError}
 use Rattle.env_directives.specs.declared.directive.ParseError.TheVariants.{Shape, Level, Field, Pattern, Memory}
@@ -104,8 +104,8 @@ pub record LeadsToNoPattern (text : List ℕ) : Type 0 where
   pub field : List ℕ
   pub stop : ℕ
   pub more : List ℕ
-  pub parts : AllByRecursion IsField earlier
-  pub part : IsField field
+  pub parts : AllByRecursion IsFieldText earlier
+  pub part : IsFieldText field
   pub stops : is_among (codes ",}") stop ≡ true
   pub whole : text ≡ each_with_comma earlier ++ (field ++ stop ∷ more)
   pub value : IsNoPatternField field
@@ -114,7 +114,7 @@ pub record LeadsToNoPattern (text : List ℕ) : Type 0 where
 pub record SpanLeadsToNoPattern (text : List ℕ) : Type 0 where
   pub span : List ℕ
   pub more : List ℕ
-  pub part : IsSpan span
+  pub part : IsSpanName span
   pub whole : text ≡ span ++ (codes "{" ++ more)
   pub leads : LeadsToNoPattern more
 

@@ -149,15 +149,15 @@ impl ValueMatch {
     /// Whether a field's value meets what is asked. A text value meets a fixed text that is its quoted form, and a
     /// pattern that matches it as it stands; `Memory` where there is none to search or to print with. It stands for what
     /// `MatchVisitor` does with a value.
-    pub fn met(&self, alloc: Global, value: &Value) -> Result<bool, Memory>
+    pub fn is_met_by(&self, alloc: Global, value: &Value) -> Result<bool, Memory>
         ensures { IfOk result (λ found. found ≡ meets self.now value.now) }
     {
         match self {
             ValueMatch::Bool(wanted) => Ok(meets_truth(*wanted, value)),
             ValueMatch::U64(wanted) => Ok(meets_u64(*wanted, value)),
             ValueMatch::I64(wanted) => Ok(meets_i64(*wanted, value)),
-            ValueMatch::Pat(pattern) => pattern.met(alloc, value),
-            ValueMatch::Debug(text) => text.met(alloc, value),
+            ValueMatch::Pat(pattern) => pattern.is_met_by(alloc, value),
+            ValueMatch::Debug(text) => text.is_met_by(alloc, value),
         }
     }
 }
@@ -263,7 +263,7 @@ impl MatchDebug {
     }
 
     // Whether the debug text of a value is this one.
-    fn met(&self, alloc: Global, value: &Value) -> Result<bool, Memory>
+    fn is_met_by(&self, alloc: Global, value: &Value) -> Result<bool, Memory>
         ensures { IfOk result (λ found. found ≡ is_text self.now (matched_debug_text value.now)) }
     {
         match value {

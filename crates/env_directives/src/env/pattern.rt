@@ -76,7 +76,7 @@ impl MatchPattern {
     }
 
     // Whether a value's text, or the debug text of another value, matches as a whole.
-    pub(crate) fn met(&self, alloc: Global, value: &Value) -> Result<bool, Memory>
+    pub(crate) fn is_met_by(&self, alloc: Global, value: &Value) -> Result<bool, Memory>
         ensures { IfOk result (λ found. found ≡ is_matched_if_any self.now (matched_text value.now)) }
     {
         match value {

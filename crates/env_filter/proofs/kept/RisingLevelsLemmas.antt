@@ -1,6 +1,6 @@
 -- A span's level never falls, and stays until the span closes.
 use Rattle.std.proofs.Common.{◌≡◌, ℕ, List, [], ◌∷◌, ◌++◌, Bool, true, false, Option, Some, None, refl, sym, ap, subst, ◌∙◌, arith, inl, inr, ◌||◌, if◌then◌else◌, is_some}
-use Rattle.env_filter.proofs.Common.{list_all, cases_Bool, and_parts, and_from, list_any-append, Callsite, Value, LevelFilter, OFF, Hook, Directive, more_verbose, Ask, Care, is_given, cares_of, IsAtMostLevel, first_below, second_below, values_given_by, makes_of, made_by, all_values_given, is_ended, is_close_of, most_from, is_met, level_by, level_if, level_by_calls, NeverFalls}
+use Rattle.env_filter.proofs.Common.{list_all, cases_Bool, and_parts, and_from, list_any-append, Callsite, Value, LevelFilter, OFF, Hook, Directive, more_verbose, Ask, Care, is_given, cares_of, IsAtMostLevel, first_below, second_below, values_given_by, callsite_if_made, callsite_by_calls, all_values_given, is_ended, is_close_of, most_from, is_met, level_by, level_if, level_by_calls, NeverFalls}
 use Rattle.std.specs.List.{filter}
 use Rattle.std.proofs.lemmas.Grind.{flat_map-append}
 use Rattle.env_filter.specs.laws.HookLemmas.{more_below}
@@ -37,11 +37,11 @@ by_rises xs ys (care ∷ cares) l m is later =
     subst (λ (k : LevelFilter). IsAtMostLevel k l) b (subst (λ (k : LevelFilter). IsAtMostLevel (most_from OFF (filter (is_met (xs ++ ys)) (care ∷ cares))) k) a rises)
 
 -- the making stays
-made_stays : (q : ℕ) (past calls : List Hook) (c : Callsite) → made_by q past ≡ Some c → made_by q (past ++ calls) ≡ Some c
+made_stays : (q : ℕ) (past calls : List Hook) (c : Callsite) → callsite_by_calls q past ≡ Some c → callsite_by_calls q (past ++ calls) ≡ Some c
 made_stays q [] calls c is = absurd (cc is)
-made_stays q (first ∷ past) calls c is = by_first (makes_of q first) (made_stays q past calls c) is
+made_stays q (first ∷ past) calls c is = by_first (callsite_if_made q first) (made_stays q past calls c) is
   where
-    by_first : (o : Option Callsite) → (made_by q past ≡ Some c → made_by q (past ++ calls) ≡ Some c) → (if is_some o then o else made_by q past) ≡ Some c → (if is_some o then o else made_by q (past ++ calls)) ≡ Some c
+    by_first : (o : Option Callsite) → (callsite_by_calls q past ≡ Some c → callsite_by_calls q (past ++ calls) ≡ Some c) → (if is_some o then o else callsite_by_calls q past) ≡ Some c → (if is_some o then o else callsite_by_calls q (past ++ calls)) ≡ Some c
     by_first None later is = later is
     by_first (Some d) later is = is
 
@@ -68,16 +68,16 @@ module _ (ds : List Directive) where
   if_stays false false None later xs ys stays is going = absurd (cc is)
   if_stays false false (Some c) later xs ys stays is going = ap (λ (o : Option Callsite). is_some (level_if ds o (xs ++ ys))) (stays c refl) ∙ some_level xs (xs ++ ys) (cares_of c ds) is
 
-  told_more : (q : ℕ) (past calls : List Hook) → level_by_calls ds q (past ++ calls) ≡ if_open (is_ended q past || is_ended q calls) (made_by q (past ++ calls)) (all_values_given q past ++ all_values_given q calls)
+  told_more : (q : ℕ) (past calls : List Hook) → level_by_calls ds q (past ++ calls) ≡ if_open (is_ended q past || is_ended q calls) (callsite_by_calls q (past ++ calls)) (all_values_given q past ++ all_values_given q calls)
   told_more q past calls =
-      ap (λ (b : Bool). if_open b (made_by q (past ++ calls)) (all_values_given q (past ++ calls))) (list_any-append (is_close_of q) past calls)
-      ∙ ap (λ (vs : List (ℕ × Value)). if_open (is_ended q past || is_ended q calls) (made_by q (past ++ calls)) vs) (flat_map-append (values_given_by q) past calls)
+      ap (λ (b : Bool). if_open b (callsite_by_calls q (past ++ calls)) (all_values_given q (past ++ calls))) (list_any-append (is_close_of q) past calls)
+      ∙ ap (λ (vs : List (ℕ × Value)). if_open (is_ended q past || is_ended q calls) (callsite_by_calls q (past ++ calls)) vs) (flat_map-append (values_given_by q) past calls)
 
   pub level_rises : (q : ℕ) (past calls : List Hook) → NeverFalls (level_by_calls ds q past) (level_by_calls ds q (past ++ calls))
   level_rises q past calls l m is later =
-      if_rises (is_ended q past) (is_ended q calls) (made_by q past) (made_by q (past ++ calls)) (all_values_given q past) (all_values_given q calls) l m (made_stays q past calls) is (sym (told_more q past calls) ∙ later)
+      if_rises (is_ended q past) (is_ended q calls) (callsite_by_calls q past) (callsite_by_calls q (past ++ calls)) (all_values_given q past) (all_values_given q calls) l m (made_stays q past calls) is (sym (told_more q past calls) ∙ later)
 
   pub level_stays : (q : ℕ) (past calls : List Hook) → is_some (level_by_calls ds q past) ≡ true → is_ended q calls ≡ false → is_some (level_by_calls ds q (past ++ calls)) ≡ true
   level_stays q past calls is going =
       ap (λ (o : Option LevelFilter). is_some o) (told_more q past calls)
-      ∙ if_stays (is_ended q past) (is_ended q calls) (made_by q past) (made_by q (past ++ calls)) (all_values_given q past) (all_values_given q calls) (made_stays q past calls) is going
+      ∙ if_stays (is_ended q past) (is_ended q calls) (callsite_by_calls q past) (callsite_by_calls q (past ++ calls)) (all_values_given q past) (all_values_given q calls) (made_stays q past calls) is going

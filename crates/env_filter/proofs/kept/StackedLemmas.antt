@@ -1,7 +1,7 @@
 -- A layer over a subscriber is told hooks in which each span is made once and first.
 use Rattle.std.proofs.Common.{◌≡◌, ℕ, ◌+◌, ◌<◌, ◌≤◌, List, [], ◌∷◌, ◌++◌, length, append_assoc, Bool, true, false, Option, Some, None, refl, sym, ap, subst, ◌∙◌, arith, inl, inr, ◌==◌, ◌||◌, if◌then◌else◌, is_some, fold}
 use Rattle.std.specs.Option.{unwrap_or, option_map}
-use Rattle.env_filter.proofs.Common.{cases_eq, cond-false, length_push, Callsite, Value, Spans, Span, span_at, entries_on, is_in, times_in, current_of, place_on, with_hold, without_hold, less_hold, held_by_child, Lanes, Hook, OnNewSpan, OnRecord, OnFollows, OnEvent, OnEnter, OnExit, OnClose, DoesBoth, Directive, FilterState, FilterWithRoom, plain, Each, fresh, after_hook, span_level, DoesFilter, Both, makes_of, values_given_by, is_close_of, made_by, all_values_given, is_ended, HasNoCalls, IsNext, AreInOrder, level_by_calls, levels_by_calls}
+use Rattle.env_filter.proofs.Common.{cases_eq, cond-false, length_push, Callsite, Value, Spans, Span, span_at, entries_on, is_in, times_in, current_of, parent_on, with_hold, without_hold, less_hold, with_hold_of_child, CallLanes, Hook, OnNewSpan, OnRecord, OnFollows, OnEvent, OnEnter, OnExit, OnClose, DoesBoth, Directive, FilterState, FilterWithRoom, plain_filter, Each, fresh_filter, after_hook, span_level, DoesFilter, Both, callsite_if_made, values_given_by, is_close_of, callsite_by_calls, all_values_given, is_ended, HasNoCalls, IsNext, AreInOrder, level_by_calls, levels_by_calls}
 use Rattle.std.proofs.lemmas.Bool.{ne_eqb}
 use Rattle.std.proofs.lemmas.List.{length-set, append-nil}
 use Rattle.std.proofs.lemmas.List.Sums.{fold-append}
@@ -45,7 +45,7 @@ all_push n (g ∷ hs) h all one = (all.0, all_push n hs h all.1 one)
 not_eq : {X : Type 0} (id q : ℕ) (x y : X) → id < q → (if id == q then x else y) ≡ y
 not_eq {X} id q x y less = cond-false {A = X} (id == q) x y (ne_eqb id q (λ e. absurd (omega (arith, e, less))))
 
-not_of : (q : ℕ) (h : Hook) → IsBefore q h → (makes_of q h ≡ None) × (values_given_by q h ≡ []) × (is_close_of q h ≡ false)
+not_of : (q : ℕ) (h : Hook) → IsBefore q h → (callsite_if_made q h ≡ None) × (values_given_by q h ≡ []) × (is_close_of q h ≡ false)
 not_of q (OnNewSpan id lane at parent current c values) is = (not_eq id q (Some c) None is, not_eq id q values.pairs [] is, refl)
 not_of q (OnRecord id at c values) is = (refl, not_eq id q values.pairs [] is, refl)
 not_of q (OnFollows id from at) is = (refl, refl, refl)
@@ -60,7 +60,7 @@ new_if q (h ∷ past) all =
     let no = not_of q h all.0 in
     let rest = new_if q past all.1 in
     record {
-      unmade = ap (λ (o : Option Callsite). if is_some o then o else made_by q past) no.0 ∙ rest.unmade;
+      unmade = ap (λ (o : Option Callsite). if is_some o then o else callsite_by_calls q past) no.0 ∙ rest.unmade;
       nothing = ap (λ (vs : List (ℕ × Value)). vs ++ all_values_given q past) no.1 ∙ rest.nothing;
       not_ended = ap (λ (b : Bool). b || is_ended q past) no.2 ∙ rest.not_ended;
     }
@@ -81,13 +81,13 @@ if_length true xs ys n e f = e
 if_length false xs ys n e f = f
 
 grows : (spans : Spans) (call : SubscriberCall) → length spans.made ≤ length (spans_after_call spans call).made
-grows spans (NewSpan lane at place site callsite values) =
-    let above = place_on (entries_on lane.id spans.lanes) place in
+grows spans (NewSpan lane at parent site callsite values) =
+    let above = parent_on (entries_on lane.id spans.lanes) parent in
     let new : Span = record { holds = 1; parent = above; site = site } in
-    omega (arith, length_held spans.made above, length_push (held_by_child spans.made above) new)
+    omega (arith, length_held spans.made above, length_push (with_hold_of_child spans.made above) new)
 grows spans (Records id at callsite values) = omega arith
 grows spans (Follows id from at) = omega arith
-grows spans (Event lane at place site callsite values) = omega arith
+grows spans (Event lane at parent site callsite values) = omega arith
 grows spans (Enter id at before later) =
     let e = if_length (is_in id (entries_on before.id spans.lanes)) spans.made (with_hold spans.made id) (length spans.made) refl (length-set spans.made id _) in omega (arith, e)
 grows spans (Exit id at before later) =
@@ -116,18 +116,18 @@ module _ {A : Type 0} (step : A → Hook → A) where
   }
 
   told_one : (spans : Spans) (call : SubscriberCall) (a b : A) (past : List Hook) → HearsCall (Steps step) spans a call b → Allowed spans call → Each (IsBefore (length spans.made)) past → ToldOne step spans call a b past
-  told_one spans (NewSpan lane at place site callsite values) a b past hears allowed below =
-      let above = place_on (entries_on lane.id spans.lanes) place in
+  told_one spans (NewSpan lane at parent site callsite values) a b past hears allowed below =
+      let above = parent_on (entries_on lane.id spans.lanes) parent in
       let new : Span = record { holds = 1; parent = above; site = site } in
-      let longer = length_push (held_by_child spans.made above) new in
+      let longer = length_push (with_hold_of_child spans.made above) new in
       let count = length_held spans.made above in
-      with_hook spans (NewSpan lane at place site callsite values) (OnNewSpan (length spans.made) lane at place (current_of (entries_on lane.id spans.lanes)) callsite values) a b past refl (new_if (length spans.made) past below)
+      with_hook spans (NewSpan lane at parent site callsite values) (OnNewSpan (length spans.made) lane at parent (current_of (entries_on lane.id spans.lanes)) callsite values) a b past refl (new_if (length spans.made) past below)
       (omega (arith, longer, count)) hears below
   told_one spans (Records id at callsite values) a b past hears allowed below =
       with_hook spans (Records id at callsite values) (OnRecord id at callsite values) a b past refl tt (made_if_held spans.made id allowed) hears below
   told_one spans (Follows id from at) a b past hears allowed below = with_hook spans (Follows id from at) (OnFollows id from at) a b past refl tt tt hears below
-  told_one spans (Event lane at place site callsite values) a b past hears allowed below =
-      with_hook spans (Event lane at place site callsite values) (OnEvent (place_on (entries_on lane.id spans.lanes) place) lane at callsite values) a b past refl tt tt hears below
+  told_one spans (Event lane at parent site callsite values) a b past hears allowed below =
+      with_hook spans (Event lane at parent site callsite values) (OnEvent (parent_on (entries_on lane.id spans.lanes) parent) lane at callsite values) a b past refl tt tt hears below
   told_one spans (Enter id at before later) a b past hears allowed below =
       with_hook spans (Enter id at before later) (OnEnter id at hears.before hears.later) a b past (record { before = hears.before; later = hears.later; id = hears.id; heard = refl }) tt tt hears.heard below
   told_one spans (Exit id at before later) a b past hears allowed below =
@@ -175,14 +175,14 @@ module _ {S A : Type 0} (spans : S → Spans) (does : S → SubscriberCall → S
 -- a layer hears at each call the hook of that call
 pub over_hears : {S L A : Type 0} (spans : S → Spans) (inner : S → SubscriberCall → S → Type 0) (outer : L → Hook → L → Type 0) (same : L → L → Type 0) (attaches : L → Bool) (step : A → Hook → A) (value : L → A)
     → ((l : L) (h : Hook) (m : L) → outer l h m → value m ≡ step (value l) h) → ((l m : L) → same l m → value m ≡ value l)
-    → (s t : S) (l m : L) (call : SubscriberCall) (sa : Bool) (sk tk : ℕ → ℕ → ℕ) → ((c : SubscriberCall) → inner s c t → Lanes sa sk c tk)
+    → (s t : S) (l m : L) (call : SubscriberCall) (sa : Bool) (sk tk : ℕ → ℕ → ℕ) → ((c : SubscriberCall) → inner s c t → CallLanes sa sk c tk)
     → DoesBoth spans inner outer same attaches s l call t m → HearsCall (Steps step) (spans s) (value l) call (value m)
 over_hears {S} {L} {A} spans inner outer same attaches step value heard alike s t l m call sa sk tk lanes d =
     let told = both_told (Steps step) spans inner outer same attaches s t l m call sa sk tk (Some (value l)) (Some (value m)) None None lanes (λ h o. (value m, refl, heard l h m o)) (λ e. ap (λ (a : A). Some a) (alike l m e)) (λ c o. refl) d in
     subst (λ (b : A). HearsCall (Steps step) (spans s) (value l) call b) (sym (ap (λ (o : Option A). unwrap_or o (value m)) told.1)) told.2
 
 -- the tables stay, so what is told of a filter that had no span is told of what it began with
-fresh_after : (f : FilterState) (h : Hook) → fresh (after_hook f h) ≡ fresh f
+fresh_after : (f : FilterState) (h : Hook) → fresh_filter (after_hook f h) ≡ fresh_filter f
 fresh_after f (OnNewSpan id lane at parent current callsite values) = refl
 fresh_after f (OnRecord id at callsite values) = refl
 fresh_after f (OnFollows id from at) = refl
@@ -191,14 +191,14 @@ fresh_after f (OnEnter id at before later) = refl
 fresh_after f (OnExit id at before later) = refl
 fresh_after f (OnClose id at) = refl
 
-fresh_fold : (hooks : List Hook) (f : FilterState) → fresh (fold after_hook f hooks) ≡ fresh f
+fresh_fold : (hooks : List Hook) (f : FilterState) → fresh_filter (fold after_hook f hooks) ≡ fresh_filter f
 fresh_fold [] f = refl
 fresh_fold (h ∷ hooks) f = fresh_fold hooks (after_hook f h) ∙ fresh_after f h
 
-pub heard : (spans : Spans) (calls : List SubscriberCall) (f g : FilterState) (hooks : List Hook) → f ≡ fresh f → AreHooksOf spans calls hooks → AreInOrder [] hooks → g ≡ fold after_hook f hooks → HearsCalls spans calls f g
+pub heard : (spans : Spans) (calls : List SubscriberCall) (f g : FilterState) (hooks : List Hook) → f ≡ fresh_filter f → AreHooksOf spans calls hooks → AreInOrder [] hooks → g ≡ fold after_hook f hooks → HearsCalls spans calls f g
 heard spans calls f g hooks alone of_calls order now =
-    let began : fresh g ≡ f = ap fresh now ∙ fresh_fold hooks f ∙ sym alone in
-    let again : g ≡ fold after_hook (fresh g) hooks = now ∙ ap (λ (x : FilterState). fold after_hook x hooks) (sym began) in
+    let began : fresh_filter g ≡ f = ap fresh_filter now ∙ fresh_fold hooks f ∙ sym alone in
+    let again : g ≡ fold after_hook (fresh_filter g) hooks = now ∙ ap (λ (x : FilterState). fold after_hook x hooks) (sym began) in
     let tables = ap (λ (x : FilterState). x.dynamics.directives) began in
     record {
       hooks = hooks;
@@ -213,7 +213,7 @@ heard spans calls f g hooks alone of_calls order now =
 pub over_all_calls : {P S L A : Type 0} (top : P → L) (below : P → S) (spans : S → Spans) (inner : S → SubscriberCall → S → Type 0) (inner_same : S → S → Type 0) (outer : L → Hook → L → Type 0) (same : L → L → Type 0) (attaches : L → Bool)
     (inner_attaches : S → Bool) (inner_kept : S → ℕ → ℕ → ℕ) (step : A → Hook → A) (value : L → A) → ((l : L) (h : Hook) (m : L) → outer l h m → value m ≡ step (value l) h) → ((l m : L) → same l m → value m ≡ value l)
     → ((s : S) (c : SubscriberCall) (t : S) → inner s c t → Allowed (spans s) c) → ((s : S) (c : SubscriberCall) (t : S) → inner s c t → spans t ≡ spans_after_call (spans s) c)
-    → ((s : S) (c : SubscriberCall) (t : S) → inner s c t → Lanes (inner_attaches s) (inner_kept s) c (inner_kept t))
+    → ((s : S) (c : SubscriberCall) (t : S) → inner s c t → CallLanes (inner_attaches s) (inner_kept s) c (inner_kept t))
     → (p : P) (calls : List SubscriberCall) (q : P)
     → Runs (λ (p : P) (c : SubscriberCall) (q : P). DoesBoth spans inner outer same attaches (below p) (top p) c (below q) (top q)) (λ (p q : P). inner_same (below p) (below q) × same (top p) (top q)) p calls q
     → ToldAll step (spans (below p)) calls (value (top p)) (value (top q)) []
@@ -229,13 +229,13 @@ over_all_calls {P} {S} {L} {A} top below spans inner inner_same outer same attac
 abbrev pub step_in_place : Option FilterState → Hook → Option FilterState
 step_in_place o h = option_map (λ (f : FilterState). after_hook f h) o
 
-pub does_in_place : (N : Type 0) (h : Hook) (o p : Option FilterWithRoom) → Both (λ l m. DoesFilter l h m) N o p → option_map plain p ≡ step_in_place (option_map plain o) h
+pub does_in_place : (N : Type 0) (h : Hook) (o p : Option FilterWithRoom) → Both (λ l m. DoesFilter l h m) N o p → option_map plain_filter p ≡ step_in_place (option_map plain_filter o) h
 does_in_place N h None None d = refl
 does_in_place N h None (Some m) d = absurd d
 does_in_place N h (Some l) None d = absurd d
 does_in_place N h (Some l) (Some m) d = ap (λ (f : FilterState). Some f) d.now
 
-pub same_in_place : (N : Type 0) (o p : Option FilterWithRoom) → Both (λ (l m : FilterWithRoom). plain m ≡ plain l) N o p → option_map plain p ≡ option_map plain o
+pub same_in_place : (N : Type 0) (o p : Option FilterWithRoom) → Both (λ (l m : FilterWithRoom). plain_filter m ≡ plain_filter l) N o p → option_map plain_filter p ≡ option_map plain_filter o
 same_in_place N None None d = refl
 same_in_place N None (Some m) d = absurd d
 same_in_place N (Some l) None d = absurd d

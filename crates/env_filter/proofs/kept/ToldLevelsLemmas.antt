@@ -1,6 +1,6 @@
 -- The levels kept are those that the calls tell.
 use Rattle.std.proofs.Common.{◌≡◌, ℕ, List, [], ◌∷◌, ◌++◌, length, take, drop, map, append_assoc, Bool, true, false, Option, Some, None, refl, sym, ap, subst, ◌∙◌, arith, inl, inr, ◌==◌, ◌||◌, ◌&&◌, if◌then◌else◌, is_some, fold}
-use Rattle.env_filter.proofs.Common.{list_all, cases_Bool, cases_eq, cond-true, cond-false, list_any-append, Callsite, Value, LevelFilter, OFF, Hook, OnNewSpan, OnRecord, OnFollows, OnEvent, OnEnter, OnExit, OnClose, Directive, more_verbose, Ask, Care, OpenLevel, MatchState, is_given, all_asks, found_in, match_state_by, new_match_state, cares_of, more_met, with_values, level_from, level_of_match, FilterState, fresh, after_hook, span_level, makes_of, values_given_by, is_close_of, made_by, all_values_given, is_ended, most_from, is_met, level_by, level_if, level_by_calls, levels_after_call, levels_from, levels_by_calls, HasNoCalls, IsNext, AreInOrder}
+use Rattle.env_filter.proofs.Common.{list_all, cases_Bool, cases_eq, cond-true, cond-false, list_any-append, Callsite, Value, LevelFilter, OFF, Hook, OnNewSpan, OnRecord, OnFollows, OnEvent, OnEnter, OnExit, OnClose, Directive, more_verbose, Ask, Care, OpenLevel, MatchState, is_given, all_asks, found_in, match_state_by, new_match_state, cares_of, more_met, with_values, level_from, level_of_match, FilterState, fresh_filter, after_hook, span_level, callsite_if_made, values_given_by, is_close_of, callsite_by_calls, all_values_given, is_ended, most_from, is_met, level_by, level_if, level_by_calls, levels_after_call, levels_from, levels_by_calls, HasNoCalls, IsNext, AreInOrder}
 use Rattle.std.specs.List.{filter}
 use Rattle.std.specs.Option.{option_map}
 use Rattle.std.proofs.lemmas.Bool.{true≢false, eq-eqb, ne_eqb}
@@ -70,22 +70,22 @@ level_watched [] values = refl
 level_watched (care ∷ cares) values = ap (λ (l : LevelFilter). Some l) (level_most values (care ∷ cares) OFF)
 
 -- one call more
-pub made_append : (q : ℕ) (past : List Hook) (call : Hook) → made_by q (past ++ call ∷ []) ≡ (if is_some (made_by q past) then made_by q past else makes_of q call)
-made_append q [] call = elim (cases_Bool (is_some (makes_of q call))) [
-  | inl some ↦ cond-true {A = Option Callsite} (is_some (makes_of q call)) _ _ some
-  | inr none ↦ cond-false {A = Option Callsite} (is_some (makes_of q call)) _ _ none ∙ sym (is_none (makes_of q call) none)
+pub made_append : (q : ℕ) (past : List Hook) (call : Hook) → callsite_by_calls q (past ++ call ∷ []) ≡ (if is_some (callsite_by_calls q past) then callsite_by_calls q past else callsite_if_made q call)
+made_append q [] call = elim (cases_Bool (is_some (callsite_if_made q call))) [
+  | inl some ↦ cond-true {A = Option Callsite} (is_some (callsite_if_made q call)) _ _ some
+  | inr none ↦ cond-false {A = Option Callsite} (is_some (callsite_if_made q call)) _ _ none ∙ sym (is_none (callsite_if_made q call) none)
 ]
   where
     is_none : (o : Option Callsite) → is_some o ≡ false → o ≡ None
     is_none None e = refl
     is_none (Some c) e = absurd (true≢false e)
-made_append q (first ∷ past) call = elim (cases_Bool (is_some (makes_of q first))) [
+made_append q (first ∷ past) call = elim (cases_Bool (is_some (callsite_if_made q first))) [
   | inl some ↦ (
-      let here : (rest : Option Callsite) → (if is_some (makes_of q first) then makes_of q first else rest) ≡ makes_of q first = λ rest. cond-true {A = Option Callsite} (is_some (makes_of q first)) _ rest some in
-      here (made_by q (past ++ call ∷ [])) ∙ sym (ap (λ (o : Option Callsite). if is_some o then o else makes_of q call) (here (made_by q past)) ∙ cond-true {A = Option Callsite} (is_some (makes_of q first)) _ _ some))
+      let here : (rest : Option Callsite) → (if is_some (callsite_if_made q first) then callsite_if_made q first else rest) ≡ callsite_if_made q first = λ rest. cond-true {A = Option Callsite} (is_some (callsite_if_made q first)) _ rest some in
+      here (callsite_by_calls q (past ++ call ∷ [])) ∙ sym (ap (λ (o : Option Callsite). if is_some o then o else callsite_if_made q call) (here (callsite_by_calls q past)) ∙ cond-true {A = Option Callsite} (is_some (callsite_if_made q first)) _ _ some))
   | inr none ↦ (
-      let later : (rest : Option Callsite) → (if is_some (makes_of q first) then makes_of q first else rest) ≡ rest = λ rest. cond-false {A = Option Callsite} (is_some (makes_of q first)) _ rest none in
-      later (made_by q (past ++ call ∷ [])) ∙ made_append q past call ∙ sym (ap (λ (o : Option Callsite). if is_some o then o else makes_of q call) (later (made_by q past))))
+      let later : (rest : Option Callsite) → (if is_some (callsite_if_made q first) then callsite_if_made q first else rest) ≡ rest = λ rest. cond-false {A = Option Callsite} (is_some (callsite_if_made q first)) _ rest none in
+      later (callsite_by_calls q (past ++ call ∷ [])) ∙ made_append q past call ∙ sym (ap (λ (o : Option Callsite). if is_some o then o else callsite_if_made q call) (later (callsite_by_calls q past))))
 ]
 
 pub given_more : (q : ℕ) (past : List Hook) (call : Hook) → all_values_given q (past ++ call ∷ []) ≡ all_values_given q past ++ values_given_by q call
@@ -102,7 +102,7 @@ kept_if ds false None values = None
 kept_if ds false (Some c) values = match_state_by (cares_of c ds) values
 
 abbrev kept : List Directive → ℕ → List Hook → Option MatchState
-kept ds q calls = kept_if ds (is_ended q calls) (made_by q calls) (all_values_given q calls)
+kept ds q calls = kept_if ds (is_ended q calls) (callsite_by_calls q calls) (all_values_given q calls)
 
 level_kept : (ds : List Directive) (ended : Bool) (made : Option Callsite) (values : List (ℕ × Value)) → option_map level_of_match (kept_if ds ended made values) ≡ (if ended then None else level_if ds made values)
 level_kept ds true made values = refl
@@ -114,11 +114,11 @@ record Stands (ds : List Directive) (f : FilterState) (past : List Hook) : Type 
   pub dynamics : f.dynamics.directives ≡ ds
   pub spans : (q : ℕ) → f.spans q ≡ kept ds q past
 
-kept_same : (ds : List Directive) (q : ℕ) (past : List Hook) (call : Hook) → makes_of q call ≡ None → values_given_by q call ≡ [] → is_close_of q call ≡ false → kept ds q (past ++ call ∷ []) ≡ kept ds q past
+kept_same : (ds : List Directive) (q : ℕ) (past : List Hook) (call : Hook) → callsite_if_made q call ≡ None → values_given_by q call ≡ [] → is_close_of q call ≡ false → kept ds q (past ++ call ∷ []) ≡ kept ds q past
 kept_same ds q past call m g e =
-    ap (λ (b : Bool). kept_if ds b (made_by q (past ++ call ∷ [])) (all_values_given q (past ++ call ∷ []))) (ended_more q past call ∙ ap (λ (b : Bool). is_ended q past || (b || false)) e ∙ or_none (is_ended q past))
-    ∙ ap (λ (o : Option Callsite). kept_if ds (is_ended q past) o (all_values_given q (past ++ call ∷ []))) (made_append q past call ∙ ap (λ (o : Option Callsite). if is_some (made_by q past) then made_by q past else o) m ∙ if_made (made_by q past))
-    ∙ ap (λ (vs : List (ℕ × Value)). kept_if ds (is_ended q past) (made_by q past) vs) (given_more q past call ∙ ap (λ (vs : List (ℕ × Value)). all_values_given q past ++ vs) g ∙ append-nil (all_values_given q past))
+    ap (λ (b : Bool). kept_if ds b (callsite_by_calls q (past ++ call ∷ [])) (all_values_given q (past ++ call ∷ []))) (ended_more q past call ∙ ap (λ (b : Bool). is_ended q past || (b || false)) e ∙ or_none (is_ended q past))
+    ∙ ap (λ (o : Option Callsite). kept_if ds (is_ended q past) o (all_values_given q (past ++ call ∷ []))) (made_append q past call ∙ ap (λ (o : Option Callsite). if is_some (callsite_by_calls q past) then callsite_by_calls q past else o) m ∙ if_made (callsite_by_calls q past))
+    ∙ ap (λ (vs : List (ℕ × Value)). kept_if ds (is_ended q past) (callsite_by_calls q past) vs) (given_more q past call ∙ ap (λ (vs : List (ℕ × Value)). all_values_given q past ++ vs) g ∙ append-nil (all_values_given q past))
   where
     or_none : (b : Bool) → (b || (false || false)) ≡ b
     or_none true = refl
@@ -129,21 +129,21 @@ kept_same ds q past call m g e =
     if_made (Some c) = refl
 
 -- a making
-kept_made : (ds : List Directive) (id : ℕ) (past : List Hook) (call : Hook) (c : Callsite) (values : List (ℕ × Value)) → HasNoCalls id past → makes_of id call ≡ Some c → values_given_by id call ≡ values → is_close_of id call ≡ false
+kept_made : (ds : List Directive) (id : ℕ) (past : List Hook) (call : Hook) (c : Callsite) (values : List (ℕ × Value)) → HasNoCalls id past → callsite_if_made id call ≡ Some c → values_given_by id call ≡ values → is_close_of id call ≡ false
     → kept ds id (past ++ call ∷ []) ≡ new_match_state ds c values
 kept_made ds id past call c values new m g e =
-    ap (λ (b : Bool). kept_if ds b (made_by id (past ++ call ∷ [])) (all_values_given id (past ++ call ∷ []))) (ended_more id past call ∙ ap (λ (b : Bool). is_ended id past || (b || false)) e ∙ ap (λ (b : Bool). b || (false || false)) new.not_ended)
-    ∙ ap (λ (o : Option Callsite). kept_if ds false o (all_values_given id (past ++ call ∷ []))) (made_append id past call ∙ ap (λ (o : Option Callsite). if is_some o then o else makes_of id call) new.unmade ∙ m)
+    ap (λ (b : Bool). kept_if ds b (callsite_by_calls id (past ++ call ∷ [])) (all_values_given id (past ++ call ∷ []))) (ended_more id past call ∙ ap (λ (b : Bool). is_ended id past || (b || false)) e ∙ ap (λ (b : Bool). b || (false || false)) new.not_ended)
+    ∙ ap (λ (o : Option Callsite). kept_if ds false o (all_values_given id (past ++ call ∷ []))) (made_append id past call ∙ ap (λ (o : Option Callsite). if is_some o then o else callsite_if_made id call) new.unmade ∙ m)
     ∙ ap (λ (vs : List (ℕ × Value)). kept_if ds false (Some c) vs) (given_more id past call ∙ ap (λ (vs : List (ℕ × Value)). vs ++ values_given_by id call) new.nothing ∙ g)
 
 -- a record
-kept_recorded : (ds : List Directive) (id : ℕ) (past : List Hook) (call : Hook) (values : List (ℕ × Value)) → makes_of id call ≡ None → values_given_by id call ≡ values → is_close_of id call ≡ false
+kept_recorded : (ds : List Directive) (id : ℕ) (past : List Hook) (call : Hook) (values : List (ℕ × Value)) → callsite_if_made id call ≡ None → values_given_by id call ≡ values → is_close_of id call ≡ false
     → kept ds id (past ++ call ∷ []) ≡ option_map (with_values values) (kept ds id past)
 kept_recorded ds id past call values m g e =
-    ap (λ (b : Bool). kept_if ds b (made_by id (past ++ call ∷ [])) (all_values_given id (past ++ call ∷ []))) (ended_more id past call ∙ ap (λ (b : Bool). is_ended id past || (b || false)) e ∙ or_none (is_ended id past))
-    ∙ ap (λ (o : Option Callsite). kept_if ds (is_ended id past) o (all_values_given id (past ++ call ∷ []))) (made_append id past call ∙ ap (λ (o : Option Callsite). if is_some (made_by id past) then made_by id past else o) m ∙ if_made (made_by id past))
-    ∙ ap (λ (vs : List (ℕ × Value)). kept_if ds (is_ended id past) (made_by id past) vs) (given_more id past call ∙ ap (λ (vs : List (ℕ × Value)). all_values_given id past ++ vs) g)
-    ∙ go (is_ended id past) (made_by id past)
+    ap (λ (b : Bool). kept_if ds b (callsite_by_calls id (past ++ call ∷ [])) (all_values_given id (past ++ call ∷ []))) (ended_more id past call ∙ ap (λ (b : Bool). is_ended id past || (b || false)) e ∙ or_none (is_ended id past))
+    ∙ ap (λ (o : Option Callsite). kept_if ds (is_ended id past) o (all_values_given id (past ++ call ∷ []))) (made_append id past call ∙ ap (λ (o : Option Callsite). if is_some (callsite_by_calls id past) then callsite_by_calls id past else o) m ∙ if_made (callsite_by_calls id past))
+    ∙ ap (λ (vs : List (ℕ × Value)). kept_if ds (is_ended id past) (callsite_by_calls id past) vs) (given_more id past call ∙ ap (λ (vs : List (ℕ × Value)). all_values_given id past ++ vs) g)
+    ∙ go (is_ended id past) (callsite_by_calls id past)
   where
     or_none : (b : Bool) → (b || (false || false)) ≡ b
     or_none true = refl
@@ -161,14 +161,14 @@ kept_recorded ds id past call values m g e =
 -- a close
 kept_ended : (ds : List Directive) (id : ℕ) (past : List Hook) (call : Hook) → is_close_of id call ≡ true → kept ds id (past ++ call ∷ []) ≡ None
 kept_ended ds id past call e =
-    ap (λ (b : Bool). kept_if ds b (made_by id (past ++ call ∷ [])) (all_values_given id (past ++ call ∷ []))) (ended_more id past call ∙ ap (λ (b : Bool). is_ended id past || (b || false)) e ∙ or_true (is_ended id past))
+    ap (λ (b : Bool). kept_if ds b (callsite_by_calls id (past ++ call ∷ [])) (all_values_given id (past ++ call ∷ []))) (ended_more id past call ∙ ap (λ (b : Bool). is_ended id past || (b || false)) e ∙ or_true (is_ended id past))
   where
     or_true : (b : Bool) → (b || (true || false)) ≡ true
     or_true true = refl
     or_true false = refl
 
 put_kept : (ds : List Directive) (f : FilterState) (past : List Hook) (call : Hook) (id : ℕ) (v : Option MatchState) → Stands ds f past → v ≡ kept ds id (past ++ call ∷ [])
-    → ((q : ℕ) → (q ≡ id → ⊥) → (makes_of q call ≡ None) × (values_given_by q call ≡ []) × (is_close_of q call ≡ false)) → (q : ℕ) → put f.spans id v q ≡ kept ds q (past ++ call ∷ [])
+    → ((q : ℕ) → (q ≡ id → ⊥) → (callsite_if_made q call ≡ None) × (values_given_by q call ≡ []) × (is_close_of q call ≡ false)) → (q : ℕ) → put f.spans id v q ≡ kept ds q (past ++ call ∷ [])
 put_kept ds f past call id v s here off q = elim (cases_eq q id) [
   | inl mine ↦ put_at f.spans id v q mine ∙ here ∙ ap (λ (n : ℕ). kept ds n (past ++ call ∷ [])) (sym mine)
   | inr other ↦ (let no = off q other in put_off f.spans id v q other ∙ s.spans q ∙ sym (kept_same ds q past call no.0 no.1 no.2))
@@ -203,7 +203,7 @@ stands_after ds f past (OnClose id at) s new = record {
 }
 
 told_level : (ds : List Directive) (f : FilterState) (past : List Hook) (q : ℕ) → Stands ds f past → span_level f q ≡ level_by_calls ds q past
-told_level ds f past q s = ap (option_map level_of_match) (s.spans q) ∙ level_kept ds (is_ended q past) (made_by q past) (all_values_given q past)
+told_level ds f past q s = ap (option_map level_of_match) (s.spans q) ∙ level_kept ds (is_ended q past) (callsite_by_calls q past) (all_values_given q past)
 
 knows_level : (f : FilterState) (q : ℕ) → is_some (f.spans q) ≡ is_some (span_level f q)
 knows_level f q = go (f.spans q)
@@ -241,13 +241,13 @@ levels_all ds [] past f lane s order = refl
 levels_all ds (call ∷ calls) past f lane s order =
     levels_all ds calls (past ++ call ∷ []) (after_hook f call) lane (stands_after ds f past call s order.0) order.1 ∙ ap (λ (es : List OpenLevel). levels_from ds lane (past ++ call ∷ []) calls es) (moved_after ds f past call lane s)
 
-stands_fresh : (f : FilterState) → Stands f.dynamics.directives (fresh f) []
+stands_fresh : (f : FilterState) → Stands f.dynamics.directives (fresh_filter f) []
 stands_fresh f = record { dynamics = refl; spans = λ q. refl }
 
-pub level_is_by_calls : (f : FilterState) (calls : List Hook) (q : ℕ) → AreInOrder [] calls → f ≡ fold after_hook (fresh f) calls → span_level f q ≡ level_by_calls f.dynamics.directives q calls
+pub level_is_by_calls : (f : FilterState) (calls : List Hook) (q : ℕ) → AreInOrder [] calls → f ≡ fold after_hook (fresh_filter f) calls → span_level f q ≡ level_by_calls f.dynamics.directives q calls
 level_is_by_calls f calls q order is =
-    ap (λ (g : FilterState). span_level g q) is ∙ told_level f.dynamics.directives (fold after_hook (fresh f) calls) calls q (stands_all f.dynamics.directives calls [] (fresh f) (stands_fresh f) order)
+    ap (λ (g : FilterState). span_level g q) is ∙ told_level f.dynamics.directives (fold after_hook (fresh_filter f) calls) calls q (stands_all f.dynamics.directives calls [] (fresh_filter f) (stands_fresh f) order)
 
-pub levels_are_told : (f : FilterState) (calls : List Hook) (lane : ℕ) → AreInOrder [] calls → f ≡ fold after_hook (fresh f) calls → f.lanes lane ≡ levels_by_calls f.dynamics.directives lane calls
+pub levels_are_told : (f : FilterState) (calls : List Hook) (lane : ℕ) → AreInOrder [] calls → f ≡ fold after_hook (fresh_filter f) calls → f.lanes lane ≡ levels_by_calls f.dynamics.directives lane calls
 levels_are_told f calls lane order is =
-    ap (λ (g : FilterState). g.lanes lane) is ∙ levels_all f.dynamics.directives calls [] (fresh f) lane (stands_fresh f) order
+    ap (λ (g : FilterState). g.lanes lane) is ∙ levels_all f.dynamics.directives calls [] (fresh_filter f) lane (stands_fresh f) order

@@ -1,7 +1,7 @@
 -- Each directive that was read from a piece of a text is read back from what it prints.
 use Rattle.std.proofs.Common.{◌≡◌, ℕ, ◌+◌, ◌<◌, ◌^◌, List, [], ◌∷◌, ◌++◌, Bool, true, false, true≢false, not, codes, Option, Some, None, option_map, ℤ, pos, negsuc, suc, refl, sym, subst, ◌∙◌, arith, append-nil, append_assoc, map, lit<, ◌==◌, ◌||◌, if◌then◌else◌, nat_lt, is_some, IfSome}
 use Rattle.std.specs.Fmt.{decimal}
-use Rattle.env_filter.proofs.Common.{list_all, trim, encode, and_parts, IsUtf8-append, IsUtf8-from_ascii, LevelFilter, filter_text, pieces_at, is_among, lacks, unless_empty, target_at, Front, bare, spanned, fielded, DirectiveForm, alone, head_comma, leveled, leveled_comma, front_text, form_text, IsField, IsDirectiveFront, IsForm, each_with_comma, directive_at, head_alone, level_or_target, level_behind, directive_of_form, IsDirective, comma_pieces, value_text, match_text, text_if_any, fields_text, has_bracket, bracket_text, equals_text, directive_text, HasNoMinusZero, Directive, Match, printed_trimmed, Each, ReadsPiece, ReadsAll, ReadsText, IsReadBack, HaveNoMinusZero, Ignored}
+use Rattle.env_filter.proofs.Common.{list_all, trim, encode, and_parts, IsUtf8-append, IsUtf8-from_ascii, LevelFilter, filter_text, pieces_at, is_among, lacks, unless_empty, target_at, Front, bare, spanned, fielded, DirectiveForm, alone, head_comma, leveled, leveled_comma, front_text, form_text, IsFieldText, IsDirectiveFront, IsForm, each_with_comma, directive_at, head_alone, level_or_target, level_behind, directive_of_form, IsDirective, comma_pieces, value_text, match_text, text_if_any, fields_text, has_bracket, bracket_text, equals_text, directive_text, HasNoMinusZero, Directive, Match, printed_trimmed, Each, ReadsPiece, ReadsAll, ReadsText, IsReadBack, HaveNoMinusZero, Ignored}
 use Rattle.std.specs.Str.{IsUtf8}
 use Rattle.std.specs.Str.Parse.{signed_digits_value, without_leading_sign}
 use Rattle.std.proofs.lemmas.Bool.{ltb-true}
@@ -109,11 +109,11 @@ no_end (b ∷ bs) lacking =
     by_byte true is = absurd (true≢false (sym is))
     by_byte false is = refl
 
-field_lacks : (field : List ℕ) → IsField field → lacks (codes ",") field ≡ true
+field_lacks : (field : List ℕ) → IsFieldText field → lacks (codes ",") field ≡ true
 field_lacks [] is = refl
 field_lacks (b ∷ bs) is = no_end (b ∷ bs) is
 
-field_piece : (field : List ℕ) → IsPiece field → IsField field → HasNoMinusZero (field_of false field ∷ []) → IsPiece (match_text (field_of false field))
+field_piece : (field : List ℕ) → IsPiece field → IsFieldText field → HasNoMinusZero (field_of false field ∷ []) → IsPiece (match_text (field_of false field))
 field_piece field piece is no_zero = record {
   utf8 = field_utf8 field piece.utf8;
   no_comma = field_lacks (again field) (field_again field is no_zero.0).0;

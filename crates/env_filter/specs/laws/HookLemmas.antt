@@ -9,7 +9,7 @@ use Rattle.trace_base.specs.declared.lane.Lane.{Lane}
 use Rattle.trace_base.specs.declared.level.LevelFilter.{LevelFilter}
 use Rattle.trace_base.specs.declared.level.LevelFilter.TheVariants.{OFF}
 use Rattle.trace_base.specs.words.Level.{greatest_verbosity}
-use Rattle.trace_base.specs.layers.Hooks.{Hook, OnNewSpan, OnRecord, OnFollows, OnEvent, OnEnter, OnExit, OnClose, Sees, HookLanes, comes, goes, one_if}
+use Rattle.trace_base.specs.layers.Hooks.{Hook, OnNewSpan, OnRecord, OnFollows, OnEvent, OnEnter, OnExit, OnClose, Sees, HookLanes, one_if_entered, one_if_exited, one_if}
 use Rattle.trace_base.specs.lanes.Contexts.{attached_on, KeepsLane, KeepsAttached}
 use Rattle.trace_base.specs.Spans.{without_last}
 use Rattle.trace_base.proofs.EntryLemmas.{count_push, any_if_counted, count_without_last}
@@ -22,21 +22,21 @@ use Rattle.env_filter.specs.spans.Puts.{put_at, put_off}
 use Rattle.env_filter.specs.spans.Levels.{OpenLevel, is_of_span}
 use Rattle.env_filter.specs.spans.Kept.{with_open_level, without_open_level}
 use Rattle.env_filter.specs.spans.Watching.{MatchState, new_match_state, match_state_by, cares_of, care_of, with_values, level_from, level_of_match}
-use Rattle.env_filter.specs.Filtering.{FilterState, FilterWithRoom, plain, after_hook, seen_in, knows_in, entries_in, span_level, interest_in, hint_in, enables_in, Given, DoesFilter, AreWhole, Each, IsAtMostLevel}
+use Rattle.env_filter.specs.Filtering.{FilterState, FilterWithRoom, plain_filter, after_hook, seen_in, knows_in, entries_in, span_level, interest_in, hint_in, enables_in, Given, DoesFilter, AreWhole, Each, IsAtMostLevel}
 
-pub same_seen : (s t : FilterWithRoom) → (plain t) ≡ (plain s) → seen_in (plain t) ≡ seen_in (plain s)
+pub same_seen : (s t : FilterWithRoom) → (plain_filter t) ≡ (plain_filter s) → seen_in (plain_filter t) ≡ seen_in (plain_filter s)
 same_seen s t h = ap seen_in h
 
-pub same_gate : (s t : FilterWithRoom) → (plain t) ≡ (plain s) → (interest_in (plain t) ≡ interest_in (plain s)) × (◌≡◌ {A = Option LevelFilter} (Some (hint_in (plain t))) (Some (hint_in (plain s))))
+pub same_gate : (s t : FilterWithRoom) → (plain_filter t) ≡ (plain_filter s) → (interest_in (plain_filter t) ≡ interest_in (plain_filter s)) × (◌≡◌ {A = Option LevelFilter} (Some (hint_in (plain_filter t))) (Some (hint_in (plain_filter s))))
 same_gate s t h = (ap interest_in h, ap (λ (f : FilterState). Some (hint_in f)) h)
 
-pub same_enables : (s t : FilterWithRoom) → (plain t) ≡ (plain s) → enables_in (plain t) ≡ enables_in (plain s)
+pub same_enables : (s t : FilterWithRoom) → (plain_filter t) ≡ (plain_filter s) → enables_in (plain_filter t) ≡ enables_in (plain_filter s)
 same_enables s t h = ap enables_in h
 
-pub same_whole : (s t : FilterWithRoom) → (plain t) ≡ (plain s) → AreWhole (plain s) → AreWhole (plain t)
+pub same_whole : (s t : FilterWithRoom) → (plain_filter t) ≡ (plain_filter s) → AreWhole (plain_filter s) → AreWhole (plain_filter t)
 same_whole s t h w = subst AreWhole (sym h) w
 
-pub same_does : (s t : FilterWithRoom) (hook : Hook) (u : FilterWithRoom) → (plain t) ≡ (plain s) → DoesFilter t hook u → DoesFilter s hook u
+pub same_does : (s t : FilterWithRoom) (hook : Hook) (u : FilterWithRoom) → (plain_filter t) ≡ (plain_filter s) → DoesFilter t hook u → DoesFilter s hook u
 same_does s t hook u h d = record { given = subst (λ (f : FilterState). Given f hook) h d.given; now = d.now ∙ ap (λ (f : FilterState). after_hook f hook) h }
 
 -- the tables stay
@@ -49,8 +49,8 @@ keeps_statics f (OnEnter id at before later) = (refl, refl)
 keeps_statics f (OnExit id at before later) = (refl, refl)
 keeps_statics f (OnClose id at) = (refl, refl)
 
-pub keeps_gate : (s : FilterWithRoom) (hook : Hook) (t : FilterWithRoom) → DoesFilter s hook t → (interest_in (plain t) ≡ interest_in (plain s)) × (◌≡◌ {A = Option LevelFilter} (Some (hint_in (plain t))) (Some (hint_in (plain s))))
-keeps_gate s hook t d = (ap interest_in d.now ∙ (keeps_statics (plain s) hook).0, ap (λ (f : FilterState). Some (hint_in f)) d.now ∙ (keeps_statics (plain s) hook).1)
+pub keeps_gate : (s : FilterWithRoom) (hook : Hook) (t : FilterWithRoom) → DoesFilter s hook t → (interest_in (plain_filter t) ≡ interest_in (plain_filter s)) × (◌≡◌ {A = Option LevelFilter} (Some (hint_in (plain_filter t))) (Some (hint_in (plain_filter s))))
+keeps_gate s hook t d = (ap interest_in d.now ∙ (keeps_statics (plain_filter s) hook).0, ap (λ (f : FilterState). Some (hint_in f)) d.now ∙ (keeps_statics (plain_filter s) hook).1)
 
 -- nothing is attached
 no_keep : (before later : Lane) → later ≡ before → KeepsLane false before later × KeepsAttached (λ lane number. 0) before later (λ lane number. 0)
@@ -183,7 +183,7 @@ exited_unknown f id lane mine other opens unknown =
       | inr off ↦ ap (λ (es : List OpenLevel). count_by (is_of_span other) es) (put_off f.lanes mine (without_open_level (knows_in f id) id (f.lanes mine)) lane off)
     ]
 
-quiet : (f : FilterState) (hook : Hook) → ((lane id : ℕ) → goes hook lane id ≡ comes hook lane id) → Sees (seen_in f) hook (seen_in f)
+quiet : (f : FilterState) (hook : Hook) → ((lane id : ℕ) → one_if_exited hook lane id ≡ one_if_entered hook lane id) → Sees (seen_in f) hook (seen_in f)
 quiet f hook none = record {
   gains = λ id knows unknown. absurd (true≢false (sym knows ∙ unknown));
   loses = λ id knew forgot. absurd (true≢false (sym knew ∙ forgot));
@@ -225,8 +225,8 @@ sees_after f (OnClose id at) g = record {
   unknown = λ lane other knew. refl;
 }
 
-pub filter_sees : (s : FilterWithRoom) (hook : Hook) (t : FilterWithRoom) → DoesFilter s hook t → Sees (seen_in (plain s)) hook (seen_in (plain t))
-filter_sees s hook t d = subst (λ (f : FilterState). Sees (seen_in (plain s)) hook (seen_in f)) (sym d.now) (sees_after (plain s) hook d.given)
+pub filter_sees : (s : FilterWithRoom) (hook : Hook) (t : FilterWithRoom) → DoesFilter s hook t → Sees (seen_in (plain_filter s)) hook (seen_in (plain_filter t))
+filter_sees s hook t d = subst (λ (f : FilterState). Sees (seen_in (plain_filter s)) hook (seen_in f)) (sym d.now) (sees_after (plain_filter s) hook d.given)
 
 -- what the gate stands on stays
 each_append : {X : Type 0} (P : X → Type 0) (xs : List X) (x : X) → Each P xs → P x → Each P (xs ++ x ∷ [])
@@ -330,5 +330,5 @@ whole_after f (OnClose id at) w = record {
   spans = put_each (λ (o : Option MatchState). IfSome o (λ w. Each (λ (care : Care). IsAtMostLevel f.dynamics.greatest care.level) w.cares)) f.spans id None tt w.spans;
 }
 
-pub keeps_whole : (s : FilterWithRoom) (hook : Hook) (t : FilterWithRoom) → DoesFilter s hook t → AreWhole (plain s) → AreWhole (plain t)
-keeps_whole s hook t d w = subst AreWhole (sym d.now) (whole_after (plain s) hook w)
+pub keeps_whole : (s : FilterWithRoom) (hook : Hook) (t : FilterWithRoom) → DoesFilter s hook t → AreWhole (plain_filter s) → AreWhole (plain_filter t)
+keeps_whole s hook t d w = subst AreWhole (sym d.now) (whole_after (plain_filter s) hook w)

@@ -11,19 +11,19 @@ use Rattle.env_directives.specs.declared.env.directive.Directive.{Directive}
 use Rattle.env_directives.specs.orders.Table.{more_verbose}
 use Rattle.env_filter.specs.declared.watch.Care.{Care}
 use Rattle.env_filter.specs.spans.Levels.{OpenLevel, levels_of}
-use Rattle.env_filter.specs.Filtering.{FilterState, fresh, after_hook}
+use Rattle.env_filter.specs.Filtering.{FilterState, fresh_filter, after_hook}
 use Rattle.env_filter.specs.spans.Kept.{with_open_level, without_open_level}
 use Rattle.env_filter.specs.spans.Watching.{is_given, cares_of}
 
 -- the callsite of a span, if the call makes it
-abbrev pub makes_of : ℕ → Hook → Option Callsite
-makes_of q (OnNewSpan id lane at parent current callsite values) = if id == q then Some callsite else None
-makes_of q (OnRecord id at callsite values) = None
-makes_of q (OnFollows id from at) = None
-makes_of q (OnEvent reached lane at callsite values) = None
-makes_of q (OnEnter id at before later) = None
-makes_of q (OnExit id at before later) = None
-makes_of q (OnClose id at) = None
+abbrev pub callsite_if_made : ℕ → Hook → Option Callsite
+callsite_if_made q (OnNewSpan id lane at parent current callsite values) = if id == q then Some callsite else None
+callsite_if_made q (OnRecord id at callsite values) = None
+callsite_if_made q (OnFollows id from at) = None
+callsite_if_made q (OnEvent reached lane at callsite values) = None
+callsite_if_made q (OnEnter id at before later) = None
+callsite_if_made q (OnExit id at before later) = None
+callsite_if_made q (OnClose id at) = None
 
 -- the values that a call gives a span, at its making or by a record
 abbrev pub values_given_by : ℕ → Hook → List (ℕ × Value)
@@ -46,9 +46,9 @@ is_close_of q (OnEnter id at before later) = false
 is_close_of q (OnExit id at before later) = false
 
 -- the callsite by which a span was made under the filter, if it was
-abbrev pub made_by : ℕ → List Hook → Option Callsite
-made_by q [] = None
-made_by q (call ∷ calls) = if is_some (makes_of q call) then makes_of q call else made_by q calls
+abbrev pub callsite_by_calls : ℕ → List Hook → Option Callsite
+callsite_by_calls q [] = None
+callsite_by_calls q (call ∷ calls) = if is_some (callsite_if_made q call) then callsite_if_made q call else callsite_by_calls q calls
 
 -- all values given to a span so far
 abbrev pub all_values_given : ℕ → List Hook → List (ℕ × Value)
@@ -78,7 +78,7 @@ level_if ds (Some c) values = level_by values (cares_of c ds)
 
 -- a span's level after some calls
 abbrev pub level_by_calls : List Directive → ℕ → List Hook → Option LevelFilter
-level_by_calls ds q calls = if is_ended q calls then None else level_if ds (made_by q calls) (all_values_given q calls)
+level_by_calls ds q calls = if is_ended q calls then None else level_if ds (callsite_by_calls q calls) (all_values_given q calls)
 
 -- what a call makes of a lane's levels: an entry of a span that has a level appends its level of that moment, an exit
 -- takes off the newest that an entry of that span appended
@@ -101,7 +101,7 @@ levels_by_calls ds lane calls = levels_from ds lane [] calls []
 
 -- no call so far was of the span
 pub record HasNoCalls (q : ℕ) (past : List Hook) : Type 0 where
-  pub unmade : made_by q past ≡ None
+  pub unmade : callsite_by_calls q past ≡ None
   pub nothing : all_values_given q past ≡ []
   pub not_ended : is_ended q past ≡ false
 
@@ -122,7 +122,7 @@ AreInOrder past (call ∷ calls) = IsNext past call × AreInOrder (past ++ call 
 -- the calls since a filter had no span
 pub record HasHeard (f : FilterState) (calls : List Hook) : Type 0 where
   pub order : AreInOrder [] calls
-  pub now : f ≡ fold after_hook (fresh f) calls
+  pub now : f ≡ fold after_hook (fresh_filter f) calls
 
 -- a span's level, and a lane's levels, are what those calls tell
 abbrev pub IsLevelByCalls : FilterState → ℕ → Option LevelFilter → Type 0

@@ -1,7 +1,7 @@
 //! Filters from variables.
 ghost use Rattle.std.specs.Prelude.{◌≡◌, [], Some, None, IfOk, IfErr, option_map, string_bytes, codes};
 ghost use Rattle.env_filter.specs.texts.Building.{default_builder, errors_builder, with_variable};
-ghost use Rattle.env_filter.specs.Filtering.{plain, IsNewFilter};
+ghost use Rattle.env_filter.specs.Filtering.{plain_filter, IsNewFilter};
 ghost use Rattle.env_filter.specs.texts.FromVariables.{IsReadAs, IsSomeReadAs, IsOfVariable, IsRequiredAs, IsRefusedFrom, IsRefusedIn, IsRequiredFault, IsParsed, env_text};
 ghost use Rattle.env_filter.specs.declared.builder.env.FromEnvError.TheVariants as fault;
 
@@ -20,21 +20,21 @@ impl Builder {
     /// The filter of the builder's variable, each piece of which has to be a directive; `Builder::from_env`. A variable
     /// that isn't set counts as empty.
     pub fn from_env<V: Vars>(&self, vars: &V) -> Result<EnvFilter, FromEnvError>
-        ensures ok { IfOk result (λ f. IsReadAs (V.told vars.now) self.now [] (plain f)) }
-        ensures new { IfOk result (λ f. IsNewFilter (plain f)) }
+        ensures ok { IfOk result (λ f. IsReadAs (V.told vars.now) self.now [] (plain_filter f)) }
+        ensures new { IfOk result (λ f. IsNewFilter (plain_filter f)) }
         ensures refused { IfErr result (IsRefusedFrom (V.told vars.now) self.now) }
     {
         match vars.read(self.variable())? {
-            Some(text) => parsed(self.parse(text.as_str())),
-            None => parsed(self.parse("")),
+            Some(text) => parse_result(self.parse(text.as_str())),
+            None => parse_result(self.parse("")),
         }
     }
 
     /// The filter of those pieces of the builder's variable that are directives, and the others;
     /// `Builder::from_env_lossy`. A variable that isn't set counts as empty.
     pub fn from_env_lossy<V: Vars>(&self, vars: &V) -> Result<(EnvFilter, Vec<Ignored>), Memory>
-        ensures ok { IfOk result (λ r. IsReadAs (V.told vars.now) self.now r.1.items (plain r.0)) }
-        ensures new { IfOk result (λ r. IsNewFilter (plain r.0)) }
+        ensures ok { IfOk result (λ r. IsReadAs (V.told vars.now) self.now r.1.items (plain_filter r.0)) }
+        ensures new { IfOk result (λ r. IsNewFilter (plain_filter r.0)) }
     {
         match vars.read(self.variable())? {
             Some(text) => self.parse_lossy(text.as_str()),
@@ -45,8 +45,8 @@ impl Builder {
     /// The filter of the builder's variable, which has to be set, and each piece of which has to be a directive;
     /// `Builder::try_from_env`.
     pub fn try_from_env<V: Vars>(&self, vars: &V) -> Result<EnvFilter, FromEnvError>
-        ensures ok { IfOk result (λ f. IsRequiredAs (V.told vars.now) self.now (plain f)) }
-        ensures new { IfOk result (λ f. IsNewFilter (plain f)) }
+        ensures ok { IfOk result (λ f. IsRequiredAs (V.told vars.now) self.now (plain_filter f)) }
+        ensures new { IfOk result (λ f. IsNewFilter (plain_filter f)) }
         ensures refused { IfErr result (IsRequiredFault (V.told vars.now) self.now) }
     {
         self.from_var(vars.read(self.variable())?)
@@ -54,20 +54,20 @@ impl Builder {
 
     /// The filter of what a variable gave, each piece of which has to be a directive. `Env` exactly where it gave nothing.
     pub fn from_var(&self, read: Option<String>) -> Result<EnvFilter, FromEnvError>
-        ensures ok { IfOk result (λ f. IsOfVariable self.now (option_map string_bytes read) (plain f)) }
-        ensures new { IfOk result (λ f. IsNewFilter (plain f)) }
+        ensures ok { IfOk result (λ f. IsOfVariable self.now (option_map string_bytes read) (plain_filter f)) }
+        ensures new { IfOk result (λ f. IsNewFilter (plain_filter f)) }
         ensures refused { IfErr result (IsRefusedIn self.now.patterns (option_map string_bytes read)) }
     {
         match read {
-            Some(text) => parsed(self.parse(text.as_str())),
+            Some(text) => parse_result(self.parse(text.as_str())),
             None => Err(FromEnvError::Env),
         }
     }
 
     // The filter of those pieces of the builder's variable that are directives.
     fn some_from_env<V: Vars>(self, vars: &V) -> Result<EnvFilter, Memory>
-        ensures ok { IfOk result (λ f. IsSomeReadAs (V.told vars.now) self (plain f)) }
-        ensures new { IfOk result (λ f. IsNewFilter (plain f)) }
+        ensures ok { IfOk result (λ f. IsSomeReadAs (V.told vars.now) self (plain_filter f)) }
+        ensures new { IfOk result (λ f. IsNewFilter (plain_filter f)) }
     {
         let read = self.from_env_lossy(vars);
         drop(self);
@@ -80,8 +80,8 @@ impl EnvFilter {
     /// The filter of those pieces of `RUST_LOG` that are directives, and of errors alone where there is none;
     /// `EnvFilter::from_default_env`.
     pub fn from_default_env<V: Vars>(alloc: Global, vars: &V) -> Result<EnvFilter, Memory>
-        ensures ok { IfOk result (λ f. IsSomeReadAs (V.told vars.now) errors_builder (plain f)) }
-        ensures new { IfOk result (λ f. IsNewFilter (plain f)) }
+        ensures ok { IfOk result (λ f. IsSomeReadAs (V.told vars.now) errors_builder (plain_filter f)) }
+        ensures new { IfOk result (λ f. IsNewFilter (plain_filter f)) }
     {
         errors_builder(alloc).some_from_env(vars)
     }
@@ -89,18 +89,18 @@ impl EnvFilter {
     /// The same of the variable of a name; `EnvFilter::from_env`.
     pub fn from_env<V: Vars>(alloc: Global, name: &str, vars: &V) -> Result<EnvFilter, Memory>
         ensures ok { IfOk result
-            (λ f. IsSomeReadAs (V.told vars.now) (with_variable errors_builder name.now) (plain f)) }
-        ensures new { IfOk result (λ f. IsNewFilter (plain f)) }
+            (λ f. IsSomeReadAs (V.told vars.now) (with_variable errors_builder name.now) (plain_filter f)) }
+        ensures new { IfOk result (λ f. IsNewFilter (plain_filter f)) }
     {
-        let name = named(alloc, name)?;
+        let name = owned_name(alloc, name)?;
         errors_builder(alloc).with_env_var(name).some_from_env(vars)
     }
 
     /// The filter of `RUST_LOG`, which has to be set, and each piece of which has to be a directive;
     /// `EnvFilter::try_from_default_env`.
     pub fn try_from_default_env<V: Vars>(alloc: Global, vars: &V) -> Result<EnvFilter, FromEnvError>
-        ensures ok { IfOk result (λ f. IsRequiredAs (V.told vars.now) default_builder (plain f)) }
-        ensures new { IfOk result (λ f. IsNewFilter (plain f)) }
+        ensures ok { IfOk result (λ f. IsRequiredAs (V.told vars.now) default_builder (plain_filter f)) }
+        ensures new { IfOk result (λ f. IsNewFilter (plain_filter f)) }
         ensures refused { IfErr result (IsRequiredFault (V.told vars.now) default_builder) }
     {
         EnvFilter::builder(alloc).try_from_env(vars)
@@ -113,19 +113,19 @@ impl EnvFilter {
         vars: &V,
     ) -> Result<EnvFilter, FromEnvError>
         ensures ok { IfOk result
-            (λ f. IsRequiredAs (V.told vars.now) (with_variable default_builder name.now) (plain f)) }
-        ensures new { IfOk result (λ f. IsNewFilter (plain f)) }
+            (λ f. IsRequiredAs (V.told vars.now) (with_variable default_builder name.now) (plain_filter f)) }
+        ensures new { IfOk result (λ f. IsNewFilter (plain_filter f)) }
         ensures refused { IfErr result
             (IsRequiredFault (V.told vars.now) (with_variable default_builder name.now)) }
     {
-        let name = named(alloc, name)?;
+        let name = owned_name(alloc, name)?;
         EnvFilter::builder(alloc)
             .with_env_var(name)
             .try_from_env(vars)
     }
 }
 
-fn named(alloc: Global, name: &str) -> Result<String, Memory>
+fn owned_name(alloc: Global, name: &str) -> Result<String, Memory>
     ensures { IfOk result (λ s. string_bytes s ≡ name.now) }
 {
     Ok(String::from_str(alloc, name)?)
@@ -165,7 +165,7 @@ impl From<Memory> for FromEnvError {
 }
 
 // What a text gave, with its fault as one of its variable.
-fn parsed(filter: Result<EnvFilter, ParseError>) -> Result<EnvFilter, FromEnvError>
+fn parse_result(filter: Result<EnvFilter, ParseError>) -> Result<EnvFilter, FromEnvError>
     ensures { IsParsed filter result }
 {
     match filter {

@@ -1,7 +1,7 @@
 //! Filters that are made of tables, and filters with a directive more.
 ghost use Rattle.std.specs.Prelude.{◌≡◌, true, IfOk, IfErr, OnOk, OnErr};
 ghost use Rattle.env_directives.specs.orders.Table.{empty_table};
-ghost use Rattle.env_filter.specs.Filtering.{plain, fresh, AreWhole, IsNewFilter};
+ghost use Rattle.env_filter.specs.Filtering.{plain_filter, fresh_filter, AreWhole, IsNewFilter};
 ghost use Rattle.env_filter.specs.Tables.{with_directive, placed_in, with_tables, has_none};
 
 use crate::filter::EnvFilter;
@@ -16,8 +16,8 @@ use std::collections::HashMap;
 impl EnvFilter {
     /// A filter without directives, which takes patterns and lets nothing through; `EnvFilter::default`.
     pub fn default(alloc: Global) -> EnvFilter
-        ensures is { plain result ≡ with_tables true empty_table empty_table }
-        ensures new { IsNewFilter (plain result) }
+        ensures is { plain_filter result ≡ with_tables true empty_table empty_table }
+        ensures new { IsNewFilter (plain_filter result) }
     {
         EnvFilter::with_tables(
             alloc,
@@ -31,10 +31,10 @@ impl EnvFilter {
     /// static ones where it can be judged by a callsite alone, and its patterns are fixed texts in a filter that takes
     /// none. `Memory` hands the filter back as it was.
     pub fn add_directive(self, directive: Directive) -> Result<EnvFilter, (EnvFilter, Memory)>
-        ensures ok { IfOk result (λ f. plain f ≡ with_directive (plain self) directive) }
-        ensures whole { AreWhole (plain self) → IfOk result (λ f. AreWhole (plain f)) }
-        ensures new { IsNewFilter (plain self) → IfOk result (λ f. IsNewFilter (plain f)) }
-        ensures memory_leaves { IfErr result (λ e. plain e.0 ≡ plain self) }
+        ensures ok { IfOk result (λ f. plain_filter f ≡ with_directive (plain_filter self) directive) }
+        ensures whole { AreWhole (plain_filter self) → IfOk result (λ f. AreWhole (plain_filter f)) }
+        ensures new { IsNewFilter (plain_filter self) → IfOk result (λ f. IsNewFilter (plain_filter f)) }
+        ensures memory_leaves { IfErr result (λ e. plain_filter e.0 ≡ plain_filter self) }
     {
         let mut filter = self;
         match filter.add(directive) {
@@ -45,8 +45,8 @@ impl EnvFilter {
 
     // Adds a directive in place.
     pub(crate) fn add(&mut self, directive: Directive) -> Result<(), Memory>
-        ensures ok { OnOk result (plain self.new ≡ with_directive (plain self.old) directive) }
-        ensures memory_leaves { OnErr result (plain self.new ≡ plain self.old) }
+        ensures ok { OnOk result (plain_filter self.new ≡ with_directive (plain_filter self.old) directive) }
+        ensures memory_leaves { OnErr result (plain_filter self.new ≡ plain_filter self.old) }
     {
         let directive = if self.patterns {
             directive
@@ -59,15 +59,15 @@ impl EnvFilter {
     /// A filter with the same tables, whose patterns share what they were compiled to, and with no span and no level;
     /// it stands for the `Clone` of tracing-subscriber's type.
     pub fn clone_filter(&self) -> Result<EnvFilter, Memory>
-        ensures is { IfOk result (λ f. plain f ≡ fresh (plain self.now)) }
-        ensures new { AreWhole (plain self.now) → IfOk result (λ f. IsNewFilter (plain f)) }
+        ensures is { IfOk result (λ f. plain_filter f ≡ fresh_filter (plain_filter self.now)) }
+        ensures new { AreWhole (plain_filter self.now) → IfOk result (λ f. IsNewFilter (plain_filter f)) }
     {
         let copy = self.copy()?;
         Ok(copy)
     }
 
     fn copy(&self) -> Result<EnvFilter, Memory>
-        ensures { IfOk result (λ f. plain f ≡ fresh (plain self.now)) }
+        ensures { IfOk result (λ f. plain_filter f ≡ fresh_filter (plain_filter self.now)) }
     {
         Ok(EnvFilter::with_tables(
             self.alloc,
@@ -84,7 +84,7 @@ impl EnvFilter {
         statics: DirectiveSet<StaticDirective>,
         dynamics: DirectiveSet<Directive>,
     ) -> EnvFilter
-        ensures { plain result ≡ with_tables patterns statics dynamics }
+        ensures { plain_filter result ≡ with_tables patterns statics dynamics }
     {
         EnvFilter {
             alloc,
@@ -98,15 +98,15 @@ impl EnvFilter {
 
     // Whether it has no directive.
     pub(crate) fn has_none(&self) -> bool
-        ensures { result ≡ has_none (plain self.now) }
+        ensures { result ≡ has_none (plain_filter self.now) }
     {
         self.statics.is_empty() && self.dynamics.is_empty()
     }
 
     // Adds a directive to its table.
     fn place(&mut self, directive: Directive) -> Result<(), Memory>
-        ensures ok { OnOk result (plain self.new ≡ placed_in (plain self.old) directive) }
-        ensures memory_leaves { OnErr result (plain self.new ≡ plain self.old) }
+        ensures ok { OnOk result (plain_filter self.new ≡ placed_in (plain_filter self.old) directive) }
+        ensures memory_leaves { OnErr result (plain_filter self.new ≡ plain_filter self.old) }
     {
         if tables::is_static(&directive) {
             let added = tables::put_static(self.alloc, &mut self.statics, &directive);

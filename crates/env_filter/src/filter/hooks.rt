@@ -3,7 +3,7 @@ ghost use Rattle.std.specs.Prelude.{◌≡◌, ◌<◌, true};
 ghost use Rattle.trace_base.specs.layers.Hooks.{OnNewSpan, OnRecord, OnEnter, OnExit, OnClose, ForNewSpan, ForRecord, ForEnter};
 ghost use Rattle.env_filter.specs.spans.Keyed.{map_at};
 ghost use Rattle.env_filter.specs.spans.Kept.{has_match_state, level_in, levels_in, room_in, with_open_level, without_open_level};
-ghost use Rattle.env_filter.specs.Filtering.{plain, after_hook, IsReadyFilter};
+ghost use Rattle.env_filter.specs.Filtering.{plain_filter, after_hook, IsReadyFilter};
 
 use crate::filter::EnvFilter;
 use crate::levels::Levels;
@@ -20,7 +20,7 @@ use trace_base::span::{Id, Parent};
 /// that are recorded. The other room is in the filter.
 #[derive(Drop)]
 pub struct Ready {
-    pub made: Option<Matches>,
+    pub matches: Option<Matches>,
     pub found: Items<bool>,
 }
 
@@ -39,11 +39,11 @@ impl EnvFilter {
         _values: &ValueSet,
     )
         requires { IsReadyFilter self.old (ForNewSpan _lane.now _callsite.now _values.now) prepared }
-        ensures { plain self.new ≡ after_hook (plain self.old)
+        ensures { plain_filter self.new ≡ after_hook (plain_filter self.old)
             (OnNewSpan id _lane.now _at _parent _current _callsite.now _values.now) }
     {
-        let Ready { made, found: _ } = prepared;
-        match made {
+        let Ready { matches, found: _ } = prepared;
+        match matches {
             Some(matches) => spans::add(&mut self.spans, id, matches),
             None => spans::forget(&mut self.spans, id),
         }
@@ -59,7 +59,7 @@ impl EnvFilter {
         _values: &ValueSet,
     )
         requires { IsReadyFilter self.old (ForRecord id _callsite.now _values.now) prepared }
-        ensures { plain self.new ≡ after_hook (plain self.old) (OnRecord id _at _callsite.now _values.now) }
+        ensures { plain_filter self.new ≡ after_hook (plain_filter self.old) (OnRecord id _at _callsite.now _values.now) }
     {
         spans::note(&mut self.spans, id, prepared.found.as_slice());
     }
@@ -68,7 +68,7 @@ impl EnvFilter {
     pub fn on_enter(&mut self, _prepared: Ready, id: Id, lane: &mut Lane, _at: u64)
         requires { IsReadyFilter self.old (ForEnter id lane.old.id) _prepared }
         ensures lane { lane.new ≡ lane.old }
-        ensures now { plain self.new ≡ after_hook (plain self.old) (OnEnter id _at lane.old lane.new) }
+        ensures now { plain_filter self.new ≡ after_hook (plain_filter self.old) (OnEnter id _at lane.old lane.new) }
     {
         open_entry(&self.spans, &mut self.lanes, lane.id, id);
     }
@@ -77,14 +77,14 @@ impl EnvFilter {
     /// `EnvFilter::on_exit`.
     pub fn on_exit(&mut self, id: Id, lane: &mut Lane, _at: u64)
         ensures lane { lane.new ≡ lane.old }
-        ensures now { plain self.new ≡ after_hook (plain self.old) (OnExit id _at lane.old lane.new) }
+        ensures now { plain_filter self.new ≡ after_hook (plain_filter self.old) (OnExit id _at lane.old lane.new) }
     {
         close_entry(&self.spans, &mut self.lanes, lane.id, id);
     }
 
     /// A span closed: nothing is kept of it; `EnvFilter::on_close`.
     pub fn on_close(&mut self, id: Id, _at: u64)
-        ensures { plain self.new ≡ after_hook (plain self.old) (OnClose id _at) }
+        ensures { plain_filter self.new ≡ after_hook (plain_filter self.old) (OnClose id _at) }
     {
         spans::forget(&mut self.spans, id);
     }

@@ -4,7 +4,7 @@ ghost use Rattle.std.proofs.Common.{refl, ap, ◌∙◌};
 ghost use Rattle.otel_base.specs.declared.enter_error.EnterError.TheVariants.{Full};
 ghost use Rattle.trace_base.specs.declared.lane.Lane.{Lane};
 ghost use Rattle.env_filter.specs.spans.Kept.{has_match_state, levels_in, room_in};
-ghost use Rattle.env_filter.specs.Filtering.{plain, AreWhole, seen_in, interest_in, hint_in, enables_in, DoesFilter, IsReadyFilter};
+ghost use Rattle.env_filter.specs.Filtering.{plain_filter, AreWhole, seen_in, interest_in, hint_in, enables_in, DoesFilter, IsReadyFilter};
 ghost use Rattle.env_filter.specs.laws.HookLemmas.{same_seen, same_does, filter_sees, filter_lanes, keeps_gate, keeps_whole, same_gate, same_enables, same_whole};
 
 use crate::filter::EnvFilter;
@@ -29,21 +29,21 @@ use trace_base::subscriber::Interest;
 impl Layer for EnvFilter {
     type Ready = Ready;
 
-    ghost seen = { λ s. seen_in (plain s) };
+    ghost seen = { λ s. seen_in (plain_filter s) };
 
     ghost kept = { λ s lane number. 0 };
 
     ghost attaches = { λ s. false };
 
-    ghost interest = { λ s. interest_in (plain s) };
+    ghost interest = { λ s. interest_in (plain_filter s) };
 
-    ghost enables = { λ s. enables_in (plain s) };
+    ghost enables = { λ s. enables_in (plain_filter s) };
 
-    ghost hint = { λ s. Some (hint_in (plain s)) };
+    ghost hint = { λ s. Some (hint_in (plain_filter s)) };
 
-    ghost is_whole = { λ s. AreWhole (plain s) };
+    ghost is_whole = { λ s. AreWhole (plain_filter s) };
 
-    ghost same = { λ s t. (plain t) ≡ (plain s) };
+    ghost same = { λ s t. (plain_filter t) ≡ (plain_filter s) };
 
     ghost does = { DoesFilter };
 
@@ -71,6 +71,8 @@ impl Layer for EnvFilter {
 
     ghost lanes = { filter_lanes };
 
+    ghost kept_by_entries = { λ s lane number none. refl };
+
     ghost passive = { λ s id at before later t d unknown. ap (λ (l : Lane). l.contexts.live) d.given };
 
     ghost keeps_attaches = { λ s hook t d. refl };
@@ -97,10 +99,10 @@ impl Layer for EnvFilter {
         callsite: &Callsite,
         values: &ValueSet,
     ) -> Result<Ready, Memory> {
-        let made = watch::watch(self.alloc, self.dynamics.as_slice(), callsite, values)?;
+        let matches = watch::watch(self.alloc, self.dynamics.as_slice(), callsite, values)?;
         self.spans.reserve(1)?;
         Ok(Ready {
-            made,
+            matches,
             found: Items::new(self.alloc),
         })
     }
@@ -126,7 +128,10 @@ impl Layer for EnvFilter {
         values: &ValueSet,
     ) -> Result<Ready, Memory> {
         let found = spans::found_for(self.alloc, &self.spans, id, values)?;
-        Ok(Ready { made: None, found })
+        Ok(Ready {
+            matches: None,
+            found,
+        })
     }
 
     fn on_record(
@@ -186,7 +191,7 @@ impl Layer for EnvFilter {
 // What hooks need no room for.
 fn nothing(alloc: Global) -> Ready {
     Ready {
-        made: None,
+        matches: None,
         found: Items::new(alloc),
     }
 }

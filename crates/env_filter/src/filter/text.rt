@@ -4,7 +4,7 @@ ghost use Rattle.std.specs.Fmt.{WritesOnOk};
 ghost use Rattle.env_directives.specs.printed.Printed.{directive_text};
 ghost use Rattle.env_directives.specs.printed.StaticPrinted.{static_text};
 ghost use Rattle.env_filter.specs.texts.Building.{default_builder, errors_builder, IsFilterOf, IsSomeFilterOf, HasFilterFault};
-ghost use Rattle.env_filter.specs.Filtering.{plain, IsNewFilter};
+ghost use Rattle.env_filter.specs.Filtering.{plain_filter, IsNewFilter};
 ghost use Rattle.env_filter.specs.texts.Printing.{behind_commas, dynamics_text, filter_text};
 
 use crate::builder::Builder;
@@ -30,8 +30,8 @@ impl EnvFilter {
     /// The filter of those pieces of a text that are directives, and of errors alone where there is none;
     /// `EnvFilter::new`.
     pub fn new(alloc: Global, dirs: &str) -> Result<EnvFilter, Memory>
-        ensures ok { IfOk result (λ f. IsSomeFilterOf errors_builder dirs.now (plain f)) }
-        ensures new { IfOk result (λ f. IsNewFilter (plain f)) }
+        ensures ok { IfOk result (λ f. IsSomeFilterOf errors_builder dirs.now (plain_filter f)) }
+        ensures new { IfOk result (λ f. IsNewFilter (plain_filter f)) }
     {
         errors_builder(alloc).parse_some(dirs)
     }
@@ -39,8 +39,8 @@ impl EnvFilter {
     /// The filter of a text, each piece of which has to be a directive; `EnvFilter::try_new`. The error is the fault of
     /// the first piece that is none.
     pub fn try_new(alloc: Global, dirs: &str) -> Result<EnvFilter, ParseError>
-        ensures ok { IfOk result (λ f. IsFilterOf default_builder dirs.now [] (plain f)) }
-        ensures new { IfOk result (λ f. IsNewFilter (plain f)) }
+        ensures ok { IfOk result (λ f. IsFilterOf default_builder dirs.now [] (plain_filter f)) }
+        ensures new { IfOk result (λ f. IsNewFilter (plain_filter f)) }
         ensures refused { IfErr result (HasFilterFault default_builder.patterns dirs.now) }
     {
         EnvFilter::builder(alloc).parse(dirs)
@@ -48,8 +48,8 @@ impl EnvFilter {
 
     /// The same as `try_new`; `EnvFilter::from_str`.
     pub fn from_str(alloc: Global, dirs: &str) -> Result<EnvFilter, ParseError>
-        ensures ok { IfOk result (λ f. IsFilterOf default_builder dirs.now [] (plain f)) }
-        ensures new { IfOk result (λ f. IsNewFilter (plain f)) }
+        ensures ok { IfOk result (λ f. IsFilterOf default_builder dirs.now [] (plain_filter f)) }
+        ensures new { IfOk result (λ f. IsNewFilter (plain_filter f)) }
         ensures refused { IfErr result (HasFilterFault default_builder.patterns dirs.now) }
     {
         EnvFilter::try_new(alloc, dirs)

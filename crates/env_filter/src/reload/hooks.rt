@@ -1,7 +1,7 @@
 //! The hooks of a layer that can be exchanged: those of the layer inside, or nothing.
 ghost use Rattle.std.specs.Prelude.{false, None};
 ghost use Rattle.trace_base.specs.layers.Unseeing.{no_known_spans, LeavesLanes};
-ghost use Rattle.env_filter.specs.Reloading.{layer_or, HoldsIfThere, Both, none_kept, sometimes, never_enabled, both_refl, both_trans, both_alike, both_keep, both_compose, both_see, both_lanes, both_passive};
+ghost use Rattle.env_filter.specs.Reloading.{layer_or, HoldsIfThere, Both, none_kept, sometimes, never_enabled, both_refl, both_trans, both_alike, both_keep, both_compose, both_see, both_lanes, both_passive, kept_through};
 
 use crate::reload::Layer;
 use otel_base::enter_error::EnterError;
@@ -60,6 +60,8 @@ impl<L: layer::Layer> layer::Layer for Layer<L> {
     ghost sees = { λ s hook t d. both_see L.seen L.does (LeavesLanes hook) hook (λ l m. L.sees l hook m) s.inner t.inner d };
 
     ghost lanes = { λ s hook t d. both_lanes L.attaches L.kept L.does hook (λ l m. L.lanes l hook m) s.inner t.inner d };
+
+    ghost kept_by_entries = { λ s lane number none. kept_through L.seen L.kept lane number (λ l. L.kept_by_entries l lane number) s.inner none };
 
     ghost passive = { λ s id at before later t d unknown. both_passive L.seen L.does id at before later (λ l m. L.passive l id at before later m) s.inner t.inner d unknown };
 

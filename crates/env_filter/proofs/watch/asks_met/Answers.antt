@@ -2,7 +2,7 @@
 use Rattle.std.proofs.Common.{sym, ◌∙◌, ap, List, Bool, ◌++◌, map, take}
 use Rattle.env_filter.proofs.Common.{Ask, Care, is_given, found_in}
 use Rattle.env_filter.proofs.kept.WatchesLemmas.{found_more}
-use Rattle.env_filter.proofs.watch.found.Goals as goal
+use Rattle.env_filter.proofs.watch.asks_met.Goals as goal
 
 pub loop-care-preserved : goal.loop-care-preserved
 loop-care-preserved c =
