@@ -37,7 +37,7 @@ const STRUCTS: [(&str, bool); 5] = [
 // Whether a debug form meets what is asked.
 fn meets(alloc: Global, asked: &ValueMatch, form: &str) -> Result<bool, Memory> {
     let value = Value::Debug(text(alloc, form)?);
-    asked.met(alloc, &value)
+    asked.is_met_by(alloc, &value)
 }
 
 // Whether the debug form of the struct meets a fixed text.

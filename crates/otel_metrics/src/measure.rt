@@ -88,7 +88,7 @@ fn copy_of(alloc: Global, attributes: &[Attribute]) -> Result<Items<KeyValue>, M
 {
     let mut copy = Items::new(alloc);
     for attribute in attributes {
-        copy.push(attribute.copied()?)?;
+        copy.push(attribute.copy()?)?;
     }
     Ok(copy)
 }

@@ -52,7 +52,7 @@ impl Model for Attribute {
 
 impl Attribute {
     // The attribute once more.
-    pub(crate) fn copied(&self) -> Result<KeyValue, Memory>
+    pub(crate) fn copy(&self) -> Result<KeyValue, Memory>
         ensures { IfOk result (λ pair. pair ≡ self.now) }
     {
         Ok(self.pair.clone()?)
@@ -211,14 +211,18 @@ fn attribute_in(
 ) -> Result<Option<KeyValue>, Memory>
     ensures { IfOk result (λ attribute. attribute ≡ attribute_in family name.now value.now) }
 {
-    let Some(value) = kept(alloc, family, value)? else {
+    let Some(value) = value_kept(alloc, family, value)? else {
         return Ok(None);
     };
     let key = name.clone()?;
     Ok(Some(KeyValue { key, value }))
 }
 
-fn kept(alloc: Global, family: Option<Family>, value: &Value) -> Result<Option<OtelValue>, Memory>
+fn value_kept(
+    alloc: Global,
+    family: Option<Family>,
+    value: &Value,
+) -> Result<Option<OtelValue>, Memory>
     ensures { IfOk result (λ v. v ≡ value_as_attribute family value.now) }
 {
     Ok(match value {

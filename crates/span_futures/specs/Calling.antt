@@ -11,10 +11,10 @@ pub data WorldChange : Type 0 where
 
 -- the moment of a call, if it has one, is at most this
 abbrev pub IsCallBy : ℕ → SubscriberCall → Type 0
-IsCallBy last (NewSpan lane at place site callsite values) = at ≤ last
+IsCallBy last (NewSpan lane at parent site callsite values) = at ≤ last
 IsCallBy last (Records id at callsite values) = at ≤ last
 IsCallBy last (Follows id from at) = at ≤ last
-IsCallBy last (Event lane at place site callsite values) = at ≤ last
+IsCallBy last (Event lane at parent site callsite values) = at ≤ last
 IsCallBy last (Enter id at before later) = at ≤ last
 IsCallBy last (Exit id at before later) = at ≤ last
 IsCallBy last (CloneSpan id) = Unit {0}

@@ -6,7 +6,7 @@ use Rattle.trace_base.specs.Gate.{Worlds}
 use Rattle.trace_base.specs.Spans.{Spans, next_of}
 use Rattle.trace_base.specs.Calls.{SubscriberCall, TryClose, spans_after_call}
 use Rattle.trace_base.specs.Conditions.{Allowed}
-use Rattle.trace_base.specs.lanes.Contexts.{Lanes}
+use Rattle.trace_base.specs.lanes.Contexts.{CallLanes}
 use Rattle.span_handles.specs.Worlds.{Has, Replaced, member_of, Shown, Alike, Chain, ended, closes, ReleasesChain, all_released, releases, ChainShown, no_spans}
 
 get_set : {X : Type 0} (xs : List X) (n : ℕ) (x y : X) → slice_get xs n ≡ Some x → slice_get (slice_set xs n y) n ≡ Some y
@@ -34,16 +34,16 @@ module _ {S : Type 0} (R : S → S → Type 0) (old new : Worlds S) (dispatch : 
   keeps P step has s there = subst P (the_same r.later s (sym now_there ∙ there)) (step r.before r.later r.did (has r.before r.there))
 
 pub shown : {S : Type 0} (spans : S → Spans) (attaches : S → Bool) (kept : S → ℕ → ℕ → ℕ) (is_whole : S → Type 0) (does : S → SubscriberCall → S → Type 0)
-    → ((s : S) (call : SubscriberCall) (t : S) → does s call t → spans t ≡ spans_after_call (spans s) call) → ((s : S) (call : SubscriberCall) (t : S) → does s call t → Lanes (attaches s) (kept s) call (kept t))
+    → ((s : S) (call : SubscriberCall) (t : S) → does s call t → spans t ≡ spans_after_call (spans s) call) → ((s : S) (call : SubscriberCall) (t : S) → does s call t → CallLanes (attaches s) (kept s) call (kept t))
     → ((s : S) (call : SubscriberCall) (t : S) → does s call t → attaches t ≡ attaches s) → ((s : S) (call : SubscriberCall) (t : S) → does s call t → is_whole s → is_whole t)
     → (old new : Worlds S) (dispatch : ℕ) (call : SubscriberCall) → Replaced (λ s t. does s call t) old new dispatch → Shown spans attaches kept is_whole old new dispatch call
 shown {S} spans attaches kept is_whole does shows lanes keeps_attaches keeps_whole old new dispatch call r =
     let R : S → S → Type 0 = λ s t. does s call t in
     record {
       spans_after = seen_later R old new dispatch r spans _ ∙ shows r.before call r.later r.did ∙ ap (λ (x : Spans). spans_after_call x call) (sym (seen_before R old new dispatch r spans _));
-      lanes = subst (λ (b : Bool). Lanes b (member_of kept (λ lane number. 0) old dispatch) call (member_of kept (λ lane number. 0) new dispatch)) (sym (seen_before R old new dispatch r attaches false))
-          (subst (λ (f : ℕ → ℕ → ℕ). Lanes (attaches r.before) f call (member_of kept (λ lane number. 0) new dispatch)) (sym (seen_before R old new dispatch r kept _))
-          (subst (λ (f : ℕ → ℕ → ℕ). Lanes (attaches r.before) (kept r.before) call f) (sym (seen_later R old new dispatch r kept _)) (lanes r.before call r.later r.did)));
+      lanes = subst (λ (b : Bool). CallLanes b (member_of kept (λ lane number. 0) old dispatch) call (member_of kept (λ lane number. 0) new dispatch)) (sym (seen_before R old new dispatch r attaches false))
+          (subst (λ (f : ℕ → ℕ → ℕ). CallLanes (attaches r.before) f call (member_of kept (λ lane number. 0) new dispatch)) (sym (seen_before R old new dispatch r kept _))
+          (subst (λ (f : ℕ → ℕ → ℕ). CallLanes (attaches r.before) (kept r.before) call f) (sym (seen_later R old new dispatch r kept _)) (lanes r.before call r.later r.did)));
       attaches_same = seen_later R old new dispatch r attaches false ∙ keeps_attaches r.before call r.later r.did ∙ sym (seen_before R old new dispatch r attaches false);
       count = as_many R old new dispatch r;
       whole = keeps R old new dispatch r is_whole (λ s t d w. keeps_whole s call t d w);
@@ -69,7 +69,7 @@ record Chained {S : Type 0} (spans : S → Spans) (attaches : S → Bool) (kept 
 
 module _ {S : Type 0} (spans : S → Spans) (attaches : S → Bool) (kept : S → ℕ → ℕ → ℕ) (is_whole : S → Type 0) (does : S → SubscriberCall → S → Type 0)
     (allowed : (s : S) (call : SubscriberCall) (t : S) → does s call t → Allowed (spans s) call) (shows : (s : S) (call : SubscriberCall) (t : S) → does s call t → spans t ≡ spans_after_call (spans s) call)
-    (lanes : (s : S) (call : SubscriberCall) (t : S) → does s call t → Lanes (attaches s) (kept s) call (kept t))
+    (lanes : (s : S) (call : SubscriberCall) (t : S) → does s call t → CallLanes (attaches s) (kept s) call (kept t))
     (keeps_attaches : (s : S) (call : SubscriberCall) (t : S) → does s call t → attaches t ≡ attaches s) (keeps_whole : (s : S) (call : SubscriberCall) (t : S) → does s call t → is_whole s → is_whole t) (at : ℕ) where
   chained : (next : Option ℕ) (s t : S) → Chain spans does at next s t → Chained spans attaches kept is_whole next s t
   chained _ _ _ (ended s) = record { released = all_released (spans s); attaches_same = refl; kept_same = refl; whole = λ w. w }

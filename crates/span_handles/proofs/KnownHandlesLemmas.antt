@@ -7,11 +7,11 @@ use Rattle.trace_base.specs.declared.field.ValueSet.{ValueSet}
 use Rattle.trace_base.specs.declared.lane.Lane.{Lane}
 use Rattle.trace_base.specs.declared.span.Parent.{Parent}
 use Rattle.trace_base.specs.Gate.{Worlds}
-use Rattle.trace_base.specs.Spans.{Spans, entries_on, place_on}
+use Rattle.trace_base.specs.Spans.{Spans, entries_on, parent_on}
 use Rattle.trace_base.specs.Calls.{SubscriberCall, NewSpan, CloneSpan, spans_after_call, with_new_span}
 use Rattle.trace_base.specs.Conditions.{Allowed, HasOwnHold}
 use Rattle.trace_base.specs.Sound.{IsSound}
-use Rattle.trace_base.proofs.Sound.{place_live, new_own, clone_own}
+use Rattle.trace_base.proofs.Sound.{parent_live, new_own, clone_own}
 use Rattle.span_handles.specs.Worlds.{Has, Replaced, Chain}
 use Rattle.span_handles.specs.Handles.{Held, IsKnown, IsKnownBeside}
 use Rattle.span_handles.specs.Knowing.{KeepsKnown, KeepsHandles, KeepsOthers, GainsOne, LosesOne, IsNoClose}
@@ -144,9 +144,9 @@ module _ {S : Type 0} (spans : S → Spans) (does : S → SubscriberCall → S �
       let call : SubscriberCall = NewSpan lane at parent site callsite values in
       let R : S → S → Type 0 = λ s t. (id ≡ length (spans s).made) × does s call t in
       let x = spans r.before in
-      let above = place_on (entries_on lane.id x.lanes) parent in
+      let above = parent_on (entries_on lane.id x.lanes) parent in
       let fine = sound r.before call r.later r.did.1 in
-      let own = new_own x above site fine (place_live x lane.id parent fine (allowed r.before call r.later r.did.1)) in
+      let own = new_own x above site fine (parent_live x lane.id parent fine (allowed r.before call r.later r.did.1)) in
       let own_id = subst (λ (k : ℕ). HasOwnHold (with_new_span x above site) k) (sym r.did.0) own in (
         (let n = as_many R old new dispatch r in omega (arith, n, there)),
         λ s here. subst (λ (t : S). HasOwnHold (spans t) id) (the_later spans R old new dispatch r s here) (subst (λ (y : Spans). HasOwnHold y id) (sym (shows r.before call r.later r.did.1)) own_id),

@@ -3,11 +3,11 @@ use Rattle.std.proofs.Common.{◌≡◌, ℕ, ◌+◌, ◌<◌, List, [], ◌∷
 use Rattle.std.specs.Prelude.{◌==◌, IfSome}
 use Rattle.std.proofs.lemmas.Bool.{cases_Bool, cases_eq, cond-true, cond-false, eq-eqb, ne_eqb, eqb-true, eqb-false}
 use Rattle.std.proofs.lemmas.List.{get_or_append_left}
-use Rattle.trace_base.specs.Spans.{Span, Spans, no_span, span_at, entries_on, is_in, times_in, is_child_of, is_open_child, open_children, bound_holds, with_hold, less_hold, without_hold, held_by_child, place_on, next_of}
+use Rattle.trace_base.specs.Spans.{Span, Spans, no_span, span_at, entries_on, is_in, times_in, is_child_of, is_open_child, open_child_count, bound_holds, with_hold, less_hold, without_hold, with_hold_of_child, parent_on, next_of}
 use Rattle.trace_base.specs.Calls.{SubscriberCall, NewSpan, Records, Follows, Event, Enter, Exit, CloneSpan, TryClose, spans_after_call, with_new_span, with_span_entry, with_span_exit}
 use Rattle.trace_base.specs.Conditions.{Allowed, IsLive, HasOwnHold, MayExit}
 use Rattle.trace_base.specs.Sound.{IsSound}
-use Rattle.trace_base.proofs.Sound.{place_live, exit_live}
+use Rattle.trace_base.proofs.Sound.{parent_live, exit_live}
 use Rattle.trace_base.proofs.EntryLemmas.{count_push, made_if_held}
 use Rattle.trace_base.proofs.HoldLemmas.{children_set, same_child, keeps_children, less_last, less_more, less_holds, holds_set, holds_other}
 use Rattle.trace_base.proofs.HoldMoveLemmas.{entry_moves, exit_moves}
@@ -15,16 +15,16 @@ use Rattle.span_handles.specs.Worlds.{Chain, ended, closes}
 use Rattle.span_handles.specs.Knowing.{IsNoClose}
 
 -- the children of a span after an entry, and after an exit
-entered_children : (x : Spans) (id lane q : ℕ) → IsLive x.made id → open_children (with_span_entry x id lane).made q ≡ open_children x.made q
+entered_children : (x : Spans) (id lane q : ℕ) → IsLive x.made id → open_child_count (with_span_entry x id lane).made q ≡ open_child_count x.made q
 entered_children x id lane q live =
     let ids = entries_on lane x.lanes in
     let now : Span = record (span_at x.made id) { holds = (span_at x.made id).holds + 1 } in
     elim (cases_Bool (is_in id ids)) [
-      | inl again ↦ ap (λ (made : List Span). open_children made q) (cond-true {A = List Span} (is_in id ids) x.made (with_hold x.made id) again)
-      | inr new ↦ ap (λ (made : List Span). open_children made q) (cond-false {A = List Span} (is_in id ids) x.made (with_hold x.made id) new) ∙ keeps_children x.made id now (made_if_held x.made id live) refl live (omega arith) q
+      | inl again ↦ ap (λ (made : List Span). open_child_count made q) (cond-true {A = List Span} (is_in id ids) x.made (with_hold x.made id) again)
+      | inr new ↦ ap (λ (made : List Span). open_child_count made q) (cond-false {A = List Span} (is_in id ids) x.made (with_hold x.made id) new) ∙ keeps_children x.made id now (made_if_held x.made id live) refl live (omega arith) q
     ]
 
-exited_children : (x : Spans) (id lane q : ℕ) → MayExit x id lane → open_children (with_span_exit x id lane).made q ≡ open_children x.made q
+exited_children : (x : Spans) (id lane q : ℕ) → MayExit x id lane → open_child_count (with_span_exit x id lane).made q ≡ open_child_count x.made q
 exited_children x id lane q may =
     let ids = entries_on lane x.lanes in
     let was = span_at x.made id in
@@ -33,9 +33,9 @@ exited_children x id lane q may =
           let more = may.1 (eqb-true (times_in id ids) 1 last) in
           let fewer = less_holds was in
           let parent = ap (λ (s : Span). s.parent) (less_more was (λ e. omega (arith, e, more))) in
-          ap (λ (made : List Span). open_children made q) (cond-true {A = List Span} (times_in id ids == 1) (without_hold x.made id) x.made last)
+          ap (λ (made : List Span). open_child_count made q) (cond-true {A = List Span} (times_in id ids == 1) (without_hold x.made id) x.made last)
           ∙ keeps_children x.made id (less_hold was) (made_if_held x.made id (omega (arith, more))) parent (omega (arith, more)) (omega (arith, more, fewer)) q)
-      | inr again ↦ ap (λ (made : List Span). open_children made q) (cond-false {A = List Span} (times_in id ids == 1) (without_hold x.made id) x.made again)
+      | inr again ↦ ap (λ (made : List Span). open_child_count made q) (cond-false {A = List Span} (times_in id ids == 1) (without_hold x.made id) x.made again)
     ]
 
 -- a span has a hold of its own, and some more
@@ -93,7 +93,7 @@ new_keeps n x (Some p) site q live own =
 
 -- a call that isn't a close
 pub call_own : (n : ℕ) (x : Spans) (call : SubscriberCall) (q : ℕ) → IsSound x → Allowed x call → IsNoClose call → OwnBeside n x q → OwnBeside n (spans_after_call x call) q
-call_own n x (NewSpan lane at parent site callsite values) q sound allowed kind own = new_keeps n x (place_on (entries_on lane.id x.lanes) parent) site q (place_live x lane.id parent sound allowed) own
+call_own n x (NewSpan lane at parent site callsite values) q sound allowed kind own = new_keeps n x (parent_on (entries_on lane.id x.lanes) parent) site q (parent_live x lane.id parent sound allowed) own
 call_own n x (Records id at callsite values) q sound allowed kind own = own
 call_own n x (Follows id from at) q sound allowed kind own = own
 call_own n x (Event lane at parent site callsite values) q sound allowed kind own = own

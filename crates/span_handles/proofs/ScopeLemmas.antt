@@ -7,7 +7,7 @@ use Rattle.trace_base.specs.Gate.{Worlds}
 use Rattle.trace_base.specs.Spans.{Span, Spans, span_at, entries_on, is_in, times_in, with_hold}
 use Rattle.trace_base.specs.Calls.{SubscriberCall, Enter, with_span_entry, spans_after_call}
 use Rattle.trace_base.specs.Conditions.{HasOwnHold, MayExit}
-use Rattle.trace_base.specs.lanes.Contexts.{AreAttached, KeepsAttached, Lanes, attached_as}
+use Rattle.trace_base.specs.lanes.Contexts.{AreAttached, KeepsAttached, CallLanes, attached_as}
 use Rattle.trace_base.proofs.EntryLemmas.{count_push, any_if_counted, with_same, made_if_held}
 use Rattle.trace_base.proofs.HoldLemmas.{first_if_in, first_with, in_push_same, keeps_children, holds_set}
 use Rattle.span_handles.specs.Worlds.{Has, Replaced}
@@ -75,7 +75,7 @@ pub record MayEnd {S : Type 0} (spans : S → Spans) (kept : S → ℕ → ℕ �
   pub still : HasOn (λ s id. AreAttached (kept s) lane) world held
 
 module _ {S : Type 0} (spans : S → Spans) (attaches : S → Bool) (kept : S → ℕ → ℕ → ℕ) (is_whole : S → Type 0) (does : S → SubscriberCall → S → Type 0)
-    (shows : (s : S) (call : SubscriberCall) (t : S) → does s call t → spans t ≡ spans_after_call (spans s) call) (lanes : (s : S) (call : SubscriberCall) (t : S) → does s call t → Lanes (attaches s) (kept s) call (kept t))
+    (shows : (s : S) (call : SubscriberCall) (t : S) → does s call t → spans t ≡ spans_after_call (spans s) call) (lanes : (s : S) (call : SubscriberCall) (t : S) → does s call t → CallLanes (attaches s) (kept s) call (kept t))
     (keeps_whole : (s : S) (call : SubscriberCall) (t : S) → does s call t → is_whole s → is_whole t)
     (at : ℕ) (old world later : Worlds S) (before lane left : Lane) where
   pub may_end : (held : Held) → IsKnown spans old held → HasOn (λ s id. is_whole s) old held → IsStillOn kept before old held → BeginsInside does at held old before world lane → Keeps spans kept is_whole held world lane later left → MayEnd spans kept is_whole held later left

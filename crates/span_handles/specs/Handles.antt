@@ -10,7 +10,7 @@ use Rattle.trace_base.specs.declared.span.Parent.TheVariants as parent
 use Rattle.trace_base.specs.Gate.{Worlds}
 use Rattle.trace_base.specs.Spans.{Spans, span_at, current_on, bound_holds}
 use Rattle.trace_base.specs.Calls.{SubscriberCall, NewSpan, Records, Follows, CloneSpan}
-use Rattle.trace_base.specs.Conditions.{HasOwnHold, HasFewHoldsAbove, AreFew, IsLivePlace}
+use Rattle.trace_base.specs.Conditions.{HasOwnHold, HasFewHoldsAbove, AreFew, IsLiveParent}
 use Rattle.span_handles.specs.Worlds.{Has, Replaced}
 
 -- what an enabled handle or an entry stands for: the dispatch and the id of a span; nothing where it is disabled
@@ -80,11 +80,11 @@ abbrev pub ReplacedIf : {S : Type 0} → (S → S → Type 0) → Worlds S → W
 ReplacedIf R old new None = new ≡ old
 ReplacedIf R old new (Some dispatch) = Replaced R old new dispatch
 
--- a subscriber may be asked for a new span at a place on a lane
+-- a subscriber may be asked for a new span under a parent on a lane
 pub record MayMake {S : Type 0} (spans : S → Spans) (is_whole : S → Type 0) (world : Worlds S) (lane : ℕ) (parent : Parent) (dispatch : ℕ) : Type 0 where
   pub there : dispatch < length world.subscribers
   pub whole : Has is_whole world dispatch
-  pub live : Has (λ s. IsLivePlace (spans s).made parent) world dispatch
+  pub live : Has (λ s. IsLiveParent (spans s).made parent) world dispatch
   pub few : Has (λ s. AreFew (spans s)) world dispatch
   pub few_holds : Has (λ s. HasFewHoldsAbove (spans s) lane parent) world dispatch
 
@@ -105,7 +105,7 @@ abbrev pub MakesIf : {S : Type 0} → (S → Spans) → (S → SubscriberCall �
 MakesIf spans does old new lane at parent site values None handle = (handle ≡ no_handle) × (new ≡ old)
 MakesIf spans does old new lane at parent site values (Some dispatch) handle = Makes spans does old new lane at parent site values dispatch handle
 
--- the place under a handle: a disabled one makes a root
+-- the parent that a handle is: a disabled one makes a root
 abbrev pub place_under : Held → Parent
 place_under None = parent.Root
 place_under (Some held) = parent.Of held.1

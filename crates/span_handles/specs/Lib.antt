@@ -1,4 +1,5 @@
 pub mod Entries
+pub mod Events
 pub mod Handles
 pub mod Knowing
 pub mod Makers

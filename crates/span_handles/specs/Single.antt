@@ -4,9 +4,9 @@ use Rattle.std.specs.Prelude.{◌≡◌, ℕ, [], ◌∷◌, length, Some, None}
 use Rattle.trace_base.specs.declared.lane.Lane.{Lane}
 use Rattle.trace_base.specs.declared.span.Parent.{Parent}
 use Rattle.trace_base.specs.Gate.{Worlds}
-use Rattle.trace_base.specs.Spans.{Spans, entries_on, place_on}
+use Rattle.trace_base.specs.Spans.{Spans, entries_on, parent_on}
 use Rattle.trace_base.specs.Calls.{with_new_span}
-use Rattle.trace_base.specs.Conditions.{AreFew, HasFewHoldsAbove, IsLivePlace}
+use Rattle.trace_base.specs.Conditions.{AreFew, HasFewHoldsAbove, IsLiveParent}
 use Rattle.span_registry.specs.Registering.{RegistryValue}
 use Rattle.span_handles.specs.Worlds.{spans_in}
 use Rattle.span_handles.specs.Handles.{Handle, handle_of}
@@ -26,16 +26,16 @@ pub record BecomesSpans (old new : Worlds RegistryValue) (spans : Spans) : Type 
   pub sites : new.sites ≡ old.sites
   pub spans_are : spans_of new ≡ spans
 
--- a span may be made at a place on a lane
+-- a span may be made under a parent on a lane
 pub record MayStand (world : Worlds RegistryValue) (lane : Lane) (parent : Parent) : Type 0 where
   pub own : lane.default ≡ None
-  pub live : IsLivePlace (spans_of world).made parent
+  pub live : IsLiveParent (spans_of world).made parent
   pub few : AreFew (spans_of world)
   pub few_holds : HasFewHoldsAbove (spans_of world) lane.id parent
 
--- the spans with one more at a place on a lane
-abbrev pub with_span_at : Worlds RegistryValue → ℕ → Parent → ℕ → Spans
-with_span_at world lane parent site = with_new_span (spans_of world) (place_on (entries_on lane (spans_of world).lanes) parent) site
+-- the spans with one more under a parent on a lane
+abbrev pub spans_with_new : Worlds RegistryValue → ℕ → Parent → ℕ → Spans
+spans_with_new world lane parent site = with_new_span (spans_of world) (parent_on (entries_on lane (spans_of world).lanes) parent) site
 
 -- A first span was made, a root, and nothing else happened; a lane of number 1 has no subscriber of its own.
 pub record IsFirst (world : Worlds RegistryValue) (lane : Lane) (site registry : ℕ) (first : Handle) : Type 0 where

@@ -5,7 +5,7 @@ use Rattle.trace_base.specs.Gate.{Worlds}
 use Rattle.trace_base.specs.Spans.{Spans, next_of, span_at, without_hold}
 use Rattle.trace_base.specs.Calls.{SubscriberCall, TryClose, spans_after_call}
 use Rattle.trace_base.specs.Conditions.{HasOwnHold}
-use Rattle.trace_base.specs.lanes.Contexts.{Lanes}
+use Rattle.trace_base.specs.lanes.Contexts.{CallLanes}
 
 -- something holds of the subscriber of a number
 abbrev pub Has : {S : Type 0} → (S → Type 0) → Worlds S → ℕ → Type 0
@@ -40,7 +40,7 @@ kept_in kept world dispatch = member_of kept (λ lane number. 0) world dispatch
 -- what one call makes of the plain data
 pub record Shown {S : Type 0} (spans : S → Spans) (attaches : S → Bool) (kept : S → ℕ → ℕ → ℕ) (is_whole : S → Type 0) (old new : Worlds S) (dispatch : ℕ) (call : SubscriberCall) : Type 0 where
   pub spans_after : spans_in spans new dispatch ≡ spans_after_call (spans_in spans old dispatch) call
-  pub lanes : Lanes (member_of attaches false old dispatch) (kept_in kept old dispatch) call (kept_in kept new dispatch)
+  pub lanes : CallLanes (member_of attaches false old dispatch) (kept_in kept old dispatch) call (kept_in kept new dispatch)
   pub attaches_same : member_of attaches false new dispatch ≡ member_of attaches false old dispatch
   pub count : length new.subscribers ≡ length old.subscribers
   pub whole : Has is_whole old dispatch → Has is_whole new dispatch

@@ -19,7 +19,7 @@ use trace_base::span::{Id, Parent};
 use trace_base::subscriber::Subscriber;
 use trace_base::world::World;
 
-// A new span at a place, by a subscriber if there is one.
+// A new span under a parent, by a subscriber if there is one.
 pub(crate) fn make_if<S: Subscriber>(
     world: &mut World<S>,
     dispatch: Option<Dispatch>,
@@ -40,7 +40,7 @@ pub(crate) fn make_if<S: Subscriber>(
     }
 }
 
-// A new span at a place.
+// A new span under a parent.
 pub(crate) fn make<S: Subscriber>(
     world: &mut World<S>,
     dispatch: Dispatch,
@@ -56,7 +56,8 @@ pub(crate) fn make<S: Subscriber>(
         (Some dispatch) result }
 {
     let (subscriber, callsite) = world.subscriber_and_site(dispatch, site);
-    let id = subscriber.new_span(lane, at, parent, site, callsite, values)?;
+    let current = subscriber.current_id(lane.id);
+    let id = subscriber.new_span(lane, at, parent, current, site, callsite, values)?;
     Ok(Span {
         held: Some((dispatch, id)),
         site: Some(site),

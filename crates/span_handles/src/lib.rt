@@ -3,6 +3,7 @@
 
 mod calls;
 pub mod entry;
+pub mod event;
 pub mod guard;
 pub mod laws;
 pub mod record;

@@ -1,7 +1,7 @@
 //! Handles of spans.
 ghost use Rattle.std.specs.Prelude.{◌≡◌, ◌<◌, ◌↔◌, ℕ, length, is_some, Option, Some, None, IfSome, IsTrue, option_map};
 ghost use Rattle.trace_base.specs.declared.span.Parent.TheVariants as parent;
-ghost use Rattle.trace_base.specs.Gate.{IsOwn, dispatch_on};
+ghost use Rattle.trace_base.specs.Gate.{IsInWorld, dispatch_on};
 ghost use Rattle.trace_base.specs.Calls.{CloneSpan};
 ghost use Rattle.trace_base.specs.Conditions.{HasFewHolds, HasFewHoldsAbove};
 ghost use Rattle.span_handles.specs.Worlds.{Has, Chain};
@@ -47,7 +47,7 @@ impl Span {
         site: SiteId,
         values: &ValueSet,
     ) -> Result<Span, Memory>
-        requires own { IsOwn world.old lane.now.default }
+        requires own { IsInWorld world.old lane.now.default }
         requires site { site < length world.old.sites }
         requires may { MayMakeIf S.spans S.is_whole world.old lane.now.id parent.Current
             (dispatch_on lane.now.default world.old.global) }
@@ -66,7 +66,7 @@ impl Span {
         site: SiteId,
         values: &ValueSet,
     ) -> Result<Span, Memory>
-        requires own { IsOwn world.old lane.now.default }
+        requires own { IsInWorld world.old lane.now.default }
         requires site { site < length world.old.sites }
         requires may { MayMakeIf S.spans S.is_whole world.old lane.now.id parent.Root
             (dispatch_on lane.now.default world.old.global) }
@@ -86,7 +86,7 @@ impl Span {
         site: SiteId,
         values: &ValueSet,
     ) -> Result<Span, Memory>
-        requires own { IsOwn world.old lane.now.default }
+        requires own { IsInWorld world.old lane.now.default }
         requires of_dispatch { IfSome (dispatch_on lane.now.default world.old.global) (IsOf parent.now.held) }
         requires site { site < length world.old.sites }
         requires may { MayMakeIf S.spans S.is_whole world.old lane.now.id (place_under parent.now.held)
@@ -107,7 +107,7 @@ impl Span {
         site: SiteId,
         values: &ValueSet,
     ) -> Result<Span, Memory>
-        requires own { IsOwn world.old lane.now.default }
+        requires own { IsInWorld world.old lane.now.default }
         requires site { site < length world.old.sites }
         requires may { MayMakeIf S.spans S.is_whole world.old lane.now.id parent
             (dispatch_on lane.now.default world.old.global) }
@@ -194,7 +194,7 @@ impl Span {
 
     /// A handle of the lane's current span, and `Span::none` where there is none; `Span::current`.
     pub fn current<S: Subscriber>(world: &mut World<S>, lane: &Lane) -> Span
-        requires own { IsOwn world.old lane.now.default }
+        requires own { IsInWorld world.old lane.now.default }
         requires whole { HasIf S.is_whole world.old (dispatch_on lane.now.default world.old.global) }
         requires few_holds { HasIf (λ s. HasFewHoldsAbove (S.spans s) lane.now.id parent.Current) world.old
             (dispatch_on lane.now.default world.old.global) }
@@ -212,7 +212,7 @@ impl Span {
 
     /// The handle itself if it is enabled, else one of the lane's current span; `Span::or_current`.
     pub fn or_current<S: Subscriber>(self, world: &mut World<S>, lane: &Lane) -> Span
-        requires own { IsOwn world.old lane.now.default }
+        requires own { IsInWorld world.old lane.now.default }
         requires whole { HasIf S.is_whole world.old (dispatch_on lane.now.default world.old.global) }
         requires few_holds { HasIf (λ s. HasFewHoldsAbove (S.spans s) lane.now.id parent.Current) world.old
             (dispatch_on lane.now.default world.old.global) }

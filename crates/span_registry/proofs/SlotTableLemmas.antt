@@ -5,10 +5,10 @@ use Rattle.std.proofs.lemmas.Bool.{cases_eq, cases_lt, cond-true, cond-false, eq
 use Rattle.std.proofs.lemmas.List.{length-set, length_push, length-take-le, get_or-set_same, get_or-set_other, get_or_past, get_or_push, get_or_append_left, get_or-take, set-append_left, ext_get_or}
 use Rattle.std.proofs.Math.Nat.{max-eq_left, max-eq_right}
 use Rattle.std.proofs.lemmas.List.Sums.{sum_by-set, get_or-le-sum_by}
-use Rattle.trace_base.specs.Spans.{Span, no_span, span_at, held_by_child}
+use Rattle.trace_base.specs.Spans.{Span, no_span, span_at, with_hold_of_child}
 use Rattle.trace_base.specs.Conditions.{IsLive, HasFewHolds}
 use Rattle.trace_base.proofs.EntryLemmas.{count_push, made_if_held}
-use Rattle.span_registry.specs.Tabling.{SlotValue, no_slot, slot_value_at, span_of, span_in, spans_to, is_live, live_spans, SlotTableValue, slot_table_value, IsTabled}
+use Rattle.span_registry.specs.Tabling.{SlotValue, no_slot, slot_value_at, span_of, span_in, spans_to, is_live, live_span_count, SlotTableValue, slot_table_value, IsTabled}
 
 -- the spans of a table, one by one
 pub length_to : (n : ℕ) (f : ℕ → Span) → length (spans_to n f) ≡ n
@@ -120,7 +120,7 @@ module _ (count : ℕ) (places : ℕ → Option ℕ) (slots : List SlotValue) (f
             ((let w = was.0 in omega (arith, w, long)), now ∙ was.1));
         apart = t.apart;
         counted = (
-            let all = ap live_spans (made_set id p x is) in
+            let all = ap live_span_count (made_set id p x is) in
             let within : id < length (spans_to count (span_in places slots)) = (let l = length_to count (span_in places slots) in let m = at.made in omega (arith, l, m)) in
             let write = sum_by-set (λ (s : Span). cond {A = ℕ} (is_live s) 1 0) (spans_to count (span_in places slots)) id x.span no_span within in
             let was = ap (λ (s : Span). s.holds) (read_some id p is) in
@@ -192,7 +192,7 @@ module _ (count : ℕ) (places : ℕ → Option ℕ) (slots : List SlotValue) (f
               not_free id p j is j_below (sym (get_or_append_left free (p ∷ []) 0 j j_below) ∙ same ∙ get_or_push free p 0 k (omega (arith, within, past, more))))
         ];
         counted = (
-            let all = ap live_spans (made_gone id p x now is gone) in
+            let all = ap live_span_count (made_gone id p x now is gone) in
             let within : id < length (spans_to count (span_in places slots)) = (let l = length_to count (span_in places slots) in let m = at.made in omega (arith, l, m)) in
             let write = sum_by-set (λ (s : Span). cond {A = ℕ} (is_live s) 1 0) (spans_to count (span_in places slots)) id no_span no_span within in
             let was = ap (λ (s : Span). s.holds) (read_some id p is) in
@@ -271,9 +271,9 @@ module _ (count : ℕ) (places : ℕ → Option ℕ) (slots : List SlotValue) (f
         let last : span_in now now_slots count ≡ x.span = ap (span_of now_slots) (here_more p now put) ∙ ap (λ (y : SlotValue). y.span) placed.here in
         one_more count (span_in now now_slots) ∙ ap (λ (l : List Span). l ++ span_in now now_slots count ∷ []) front ∙ ap (λ (s : Span). spans_to count (span_in places slots) ++ s ∷ []) last
 
-    live_more : 0 < x.span.holds → live_spans (spans_to (count + 1) (span_in now now_slots)) ≡ live_spans (spans_to count (span_in places slots)) + 1
+    live_more : 0 < x.span.holds → live_span_count (spans_to (count + 1) (span_in now now_slots)) ≡ live_span_count (spans_to count (span_in places slots)) + 1
     live_more live =
-        let all = ap live_spans made_more in
+        let all = ap live_span_count made_more in
         let pushed = count_push is_live (spans_to count (span_in places slots)) x.span in
         let one = cond-true {A = ℕ} (is_live x.span) 1 0 (lt-ltb 0 x.span.holds live) in
         omega (arith, all, pushed, one)
@@ -313,16 +313,16 @@ module _ (count : ℕ) (places : ℕ → Option ℕ) (slots : List SlotValue) (f
       enough = enough;
     }
 
-    pub slots_more : 0 < x.span.holds → length now_slots ≡ max (length slots) (live_spans (spans_to (count + 1) (span_in now now_slots)))
+    pub slots_more : 0 < x.span.holds → length now_slots ≡ max (length slots) (live_span_count (spans_to (count + 1) (span_in now now_slots)))
     slots_more live =
         let l = live_more live in
         let c = t.counted in
         let b = placed.balance in
         elim placed.newer [
-          | inl same ↦ sym (max-eq_left {n = length slots} {m = live_spans (spans_to (count + 1) (span_in now now_slots))} (omega (arith, l, c, b, same)) ∙ sym same)
+          | inl same ↦ sym (max-eq_left {n = length slots} {m = live_span_count (spans_to (count + 1) (span_in now now_slots))} (omega (arith, l, c, b, same)) ∙ sym same)
           | inr none ↦ (
-              let is : live_spans (spans_to (count + 1) (span_in now now_slots)) ≡ length now_slots = omega (arith, l, c, b, none) in
-              sym (max-eq_right {n = length slots} {m = live_spans (spans_to (count + 1) (span_in now now_slots))} (let g = placed.longer in omega (arith, is, g)) ∙ is))
+              let is : live_span_count (spans_to (count + 1) (span_in now now_slots)) ≡ length now_slots = omega (arith, l, c, b, none) in
+              sym (max-eq_right {n = length slots} {m = live_span_count (spans_to (count + 1) (span_in now now_slots))} (let g = placed.longer in omega (arith, is, g)) ∙ is))
         ]
 
 -- what a table shows when its place of a live span is read or written
@@ -359,7 +359,7 @@ tabled_same count places now slots slots' free free' room bigger t same es ef mo
       known = λ id p is. t.known id p (sym (same id) ∙ is);
       freed = t.freed;
       apart = t.apart;
-      counted = ap (λ (l : List Span). length free + live_spans l) (agree_to count (span_in places slots) (span_in now slots) (λ k below. ap (span_of slots) (same k))) ∙ t.counted;
+      counted = ap (λ (l : List Span). length free + live_span_count l) (agree_to count (span_in places slots) (span_in now slots) (λ k below. ap (span_of slots) (same k))) ∙ t.counted;
       enough = (let e = t.enough in omega (arith, e, more));
     }))
 
@@ -382,7 +382,7 @@ filled count places slots now free left room p x t used new set_used pushed so =
     ]
 
 -- a parent is held alike before and after its child is added
-pub held_push : (made : List Span) (new : Span) (above : Option ℕ) → IfSome above (IsLive made) → held_by_child (made ++ new ∷ []) above ≡ held_by_child made above ++ new ∷ []
+pub held_push : (made : List Span) (new : Span) (above : Option ℕ) → IfSome above (IsLive made) → with_hold_of_child (made ++ new ∷ []) above ≡ with_hold_of_child made above ++ new ∷ []
 held_push made new None live = refl
 held_push made new (Some p) live =
     let within = made_if_held made p live in
@@ -398,7 +398,7 @@ few_push made new None live few = tt
 few_push made new (Some p) live few = (let e = ap (λ (s : Span). s.holds) (get_or_append_left made (new ∷ []) no_span p (made_if_held made p live)) in omega (arith, e, few))
 
 -- as many spans are live when a live one gets a hold more
-pub live_held : (made : List Span) (above : Option ℕ) → IfSome above (IsLive made) → live_spans (held_by_child made above) ≡ live_spans made
+pub live_held : (made : List Span) (above : Option ℕ) → IfSome above (IsLive made) → live_span_count (with_hold_of_child made above) ≡ live_span_count made
 live_held made None live = refl
 live_held made (Some p) live =
     let within = made_if_held made p live in
@@ -411,7 +411,7 @@ live_held made (Some p) live =
 -- a span more in the slot that was chosen and filled: the table, its spans and its slots
 pub pushed : (count : ℕ) (places now : ℕ → Option ℕ) (slots now_slots : List SlotValue) (free left : List ℕ) (room r bigger p : ℕ) (x : SlotValue) (v : SlotTableValue) → IsTabled count places slots free room → slot_table_value count places slots ≡ v → Placed slots now_slots free left p x
     → ((k : ℕ) → now k ≡ (if count == k then Some p else places k)) → x.id ≡ count → 0 < x.span.holds → room ≤ r → (length free ≡ 0 → length slots + 1 ≤ r) → bigger ≡ r
-    → IsTabled (count + 1) now now_slots left bigger × (spans_to (count + 1) (span_in now now_slots) ≡ v.made ++ x.span ∷ []) × (length now_slots ≡ max v.slots (live_spans (spans_to (count + 1) (span_in now now_slots))))
+    → IsTabled (count + 1) now now_slots left bigger × (spans_to (count + 1) (span_in now now_slots) ≡ v.made ++ x.span ∷ []) × (length now_slots ≡ max v.slots (live_span_count (spans_to (count + 1) (span_in now now_slots))))
 pushed count places now slots now_slots free left room r bigger p x v t is_view placed put named live grown made_room is =
     let b = placed.balance in
     let l = placed.longer in
@@ -425,5 +425,5 @@ pushed count places now slots now_slots free left room r bigger p x v t is_view 
     ] in (
       tabled_more count places slots free room t now_slots left p x now placed put bigger named live enough,
       made_more count places slots free room t now_slots left p x now placed put ∙ ap (λ (w : SlotTableValue). w.made ++ x.span ∷ []) is_view,
-      slots_more count places slots free room t now_slots left p x now placed put live ∙ ap (λ (w : SlotTableValue). max w.slots (live_spans (spans_to (count + 1) (span_in now now_slots)))) is_view,
+      slots_more count places slots free room t now_slots left p x now placed put live ∙ ap (λ (w : SlotTableValue). max w.slots (live_span_count (spans_to (count + 1) (span_in now now_slots)))) is_view,
     )

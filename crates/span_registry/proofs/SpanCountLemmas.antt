@@ -8,7 +8,7 @@ use Rattle.trace_base.specs.declared.lane.Lane.{Lane}
 use Rattle.trace_base.specs.declared.span.Parent.{Parent}
 use Rattle.trace_base.specs.declared.callsite.Callsite.{Callsite}
 use Rattle.trace_base.specs.declared.field.ValueSet.{ValueSet}
-use Rattle.trace_base.specs.Spans.{Span, Entries, Spans, no_span, span_at, entries_on, with_entries, is_in, times_in, first_entries, is_child_of, without_last, with_hold, less_hold, without_hold, held_by_child, place_on, next_of}
+use Rattle.trace_base.specs.Spans.{Span, Entries, Spans, no_span, span_at, entries_on, with_entries, is_in, times_in, entered_lane_count, is_child_of, without_last, with_hold, less_hold, without_hold, with_hold_of_child, parent_on, next_of}
 use Rattle.trace_base.specs.Calls.{SubscriberCall, NewSpan, Records, Follows, Event, Enter, Exit, CloneSpan, TryClose, spans_after_call, with_new_span, with_span_entry, with_span_exit}
 use Rattle.trace_base.specs.Conditions.{Allowed, IsLive}
 use Rattle.trace_base.specs.layers.Hooks.{one_if}
@@ -16,7 +16,7 @@ use Rattle.trace_base.proofs.EntryLemmas.{count_push, made_if_held, length_held,
 use Rattle.trace_base.proofs.HoldLemmas.{less_last, less_more, less_holds, holds_set, holds_other}
 use Rattle.trace_base.proofs.HoldMoveLemmas.{entry_moves, exit_moves}
 use Rattle.trace_base.specs.Sound.{IsSound, OneEach}
-use Rattle.trace_base.proofs.Sound.{place_live, exit_live, sound_entered, sound_exited, sound_call}
+use Rattle.trace_base.proofs.Sound.{parent_live, exit_live, sound_entered, sound_exited, sound_call}
 use Rattle.span_registry.specs.Registering.{no_spans}
 use Rattle.span_registry.specs.History.{Runs, entries_after, entries_by_calls, ParentAndSite, no_parent_and_site, span_made_by, made_from, spans_made_by_calls, parent_and_site_of, is_clone, is_release, AreSpansOf}
 
@@ -96,7 +96,7 @@ next_told m made id fits last =
 
 -- a call that makes no span
 told_step : (before : List SubscriberCall) (call : SubscriberCall) (x y : Spans) → span_made_by before call ≡ [] → length y.made ≡ length x.made
-    → ((q : ℕ) → (span_at y.made q).holds + cond {A = ℕ} (is_release q call) 1 0 + first_entries x.lanes q ≡ (span_at x.made q).holds + cond {A = ℕ} (is_clone q call) 1 0 + first_entries y.lanes q)
+    → ((q : ℕ) → (span_at y.made q).holds + cond {A = ℕ} (is_release q call) 1 0 + entered_lane_count x.lanes q ≡ (span_at x.made q).holds + cond {A = ℕ} (is_clone q call) 1 0 + entered_lane_count y.lanes q)
     → ((q : ℕ) → Fits (parent_and_site_of q before) (span_at y.made q))
     → ((lane : ℕ) → entries_on lane y.lanes ≡ entries_after lane (entries_on lane x.lanes) call)
     → OneEach y.lanes → AreSpansOf before x → AreSpansOf (before ++ call ∷ []) y
@@ -120,7 +120,7 @@ told_step before call x y none long moves fits entries rows told =
     }
 
 -- a span made holds one more of its parent
-held_above : (made : List Span) (above : Option ℕ) (q : ℕ) → IfSome above (λ p. IsLive made p) → (span_at (held_by_child made above) q).holds ≡ (span_at made q).holds + cond {A = ℕ} (is_child_of q above) 1 0
+held_above : (made : List Span) (above : Option ℕ) (q : ℕ) → IfSome above (λ p. IsLive made p) → (span_at (with_hold_of_child made above) q).holds ≡ (span_at made q).holds + cond {A = ℕ} (is_child_of q above) 1 0
 held_above made None q live = omega arith
 held_above made (Some p) q live =
     let within = made_if_held made p live in
@@ -160,7 +160,7 @@ holds_push made new q one =
           ])
     ]
 
-fits_above : (T : ℕ → ParentAndSite) (made : List Span) (above : Option ℕ) → IfSome above (λ p. IsLive made p) → ((q : ℕ) → Fits (T q) (span_at made q)) → (q : ℕ) → Fits (T q) (span_at (held_by_child made above) q)
+fits_above : (T : ℕ → ParentAndSite) (made : List Span) (above : Option ℕ) → IfSome above (λ p. IsLive made p) → ((q : ℕ) → Fits (T q) (span_at made q)) → (q : ℕ) → Fits (T q) (span_at (with_hold_of_child made above) q)
 fits_above T made None live fits = fits
 fits_above T made (Some p) live fits = fits_held T made p live fits
 
@@ -182,16 +182,16 @@ live_under made None live p e = absurd (cc e)
 live_under made (Some r) live p e = (let same : r ≡ p = cc e in let within = made_if_held made r live in omega (arith, same, within))
 
 -- a call that makes a span
-told_new : (before : List SubscriberCall) (lane : Lane) (at : ℕ) (place : Parent) (site : ℕ) (callsite : Callsite) (values : ValueSet) (x : Spans) (above : Option ℕ) → above ≡ place_on (entries_on lane.id x.lanes) place
-    → IfSome above (λ p. IsLive x.made p) → AreSpansOf before x → AreSpansOf (before ++ NewSpan lane at place site callsite values ∷ []) (with_new_span x above site)
-told_new before lane at place site callsite values x above is live told =
-    let call = NewSpan lane at place site callsite values in
+told_new : (before : List SubscriberCall) (lane : Lane) (at : ℕ) (parent : Parent) (site : ℕ) (callsite : Callsite) (values : ValueSet) (x : Spans) (above : Option ℕ) → above ≡ parent_on (entries_on lane.id x.lanes) parent
+    → IfSome above (λ p. IsLive x.made p) → AreSpansOf before x → AreSpansOf (before ++ NewSpan lane at parent site callsite values ∷ []) (with_new_span x above site)
+told_new before lane at parent site callsite values x above is live told =
+    let call = NewSpan lane at parent site callsite values in
     let m : ParentAndSite = record { parent = above; site = site } in
     let y = with_new_span x above site in
     let new : Span = record { holds = 1; parent = above; site = site } in
-    let said : above ≡ place_on (entries_by_calls lane.id before) place = is ∙ ap (λ (ids : List ℕ). place_on ids place) (told.entries lane.id) in
+    let said : above ≡ parent_on (entries_by_calls lane.id before) parent = is ∙ ap (λ (ids : List ℕ). parent_on ids parent) (told.entries lane.id) in
     let ms : spans_made_by_calls (before ++ call ∷ []) ≡ spans_made_by_calls before ++ m ∷ [] = made_push [] before call ∙ ap (λ (o : Option ℕ). let k : ParentAndSite = record { parent = o; site = site } in spans_made_by_calls before ++ k ∷ []) (sym said) in
-    let old = held_by_child x.made above in
+    let old = with_hold_of_child x.made above in
     let long : length old ≡ length x.made = length_held x.made above in
     let longer = length_push (spans_made_by_calls before) m in
     let fit : (q : ℕ) → Fits (parent_and_site_of q (before ++ call ∷ [])) (span_at y.made q) = λ q. subst (λ (xs : List ParentAndSite). Fits (get_or xs q no_parent_and_site) (span_at y.made q)) (sym ms)
@@ -234,11 +234,11 @@ if_change f b lane es = elim (cases_eq b.id lane) [
 
 -- one call more
 told_call : (before : List SubscriberCall) (call : SubscriberCall) (x : Spans) → IsSound x → Allowed x call → AreSpansOf before x → AreSpansOf (before ++ call ∷ []) (spans_after_call x call)
-told_call before (NewSpan lane at place site callsite values) x sound allowed told =
-    told_new before lane at place site callsite values x (place_on (entries_on lane.id x.lanes) place) refl (place_live x lane.id place sound allowed) told
+told_call before (NewSpan lane at parent site callsite values) x sound allowed told =
+    told_new before lane at parent site callsite values x (parent_on (entries_on lane.id x.lanes) parent) refl (parent_live x lane.id parent sound allowed) told
 told_call before (Records id at callsite values) x sound allowed told = told_step before (Records id at callsite values) x x refl refl (λ q. omega arith) (told_fits before x told) (λ lane. refl) sound.one_row told
 told_call before (Follows id from at) x sound allowed told = told_step before (Follows id from at) x x refl refl (λ q. omega arith) (told_fits before x told) (λ lane. refl) sound.one_row told
-told_call before (Event lane at place site callsite values) x sound allowed told = told_step before (Event lane at place site callsite values) x x refl refl (λ q. omega arith) (told_fits before x told) (λ lane. refl) sound.one_row told
+told_call before (Event lane at parent site callsite values) x sound allowed told = told_step before (Event lane at parent site callsite values) x x refl refl (λ q. omega arith) (told_fits before x told) (λ lane. refl) sound.one_row told
 told_call before (Enter id at pre later) x sound allowed told =
     let ids = entries_on pre.id x.lanes in
     let fits = told_fits before x told in

@@ -5,7 +5,7 @@ use Rattle.trace_base.specs.declared.level.LevelFilter.{LevelFilter}
 use Rattle.trace_base.specs.declared.subscriber.Interest.{Interest}
 use Rattle.trace_base.specs.declared.subscriber.Interest.TheVariants as interests
 use Rattle.trace_base.specs.declared.lane.Lane.{Lane}
-use Rattle.trace_base.specs.Spans.{Spans, span_at, entries_on, times_in, current_of, place_on}
+use Rattle.trace_base.specs.Spans.{Spans, span_at, entries_on, times_in, current_of, parent_on}
 use Rattle.trace_base.specs.Calls.{SubscriberCall, NewSpan, Records, Follows, Event, Enter, Exit, CloneSpan, TryClose}
 use Rattle.trace_base.specs.layers.Hooks.{Hook, OnNewSpan, OnRecord, OnFollows, OnEvent, OnEnter, OnExit, OnClose, KnownSpans}
 use Rattle.trace_base.specs.lanes.Contexts.{KeepsLive}
@@ -31,12 +31,12 @@ pub record ClosesBoth {S L : Type 0} (inner : S → SubscriberCall → S → Typ
   pub open_still : (holds ≡ 1 → ⊥) → same l m
 
 abbrev pub DoesBoth : {S L : Type 0} → (S → Spans) → (S → SubscriberCall → S → Type 0) → (L → Hook → L → Type 0) → (L → L → Type 0) → (L → Bool) → S → L → SubscriberCall → S → L → Type 0
-DoesBoth spans inner outer same attaches s l (NewSpan lane at place site callsite values) t m =
-    inner s (NewSpan lane at place site callsite values) t × outer l (OnNewSpan (length (spans s).made) lane at place (current_of (entries_on lane.id (spans s).lanes)) callsite values) m
+DoesBoth spans inner outer same attaches s l (NewSpan lane at parent site callsite values) t m =
+    inner s (NewSpan lane at parent site callsite values) t × outer l (OnNewSpan (length (spans s).made) lane at parent (current_of (entries_on lane.id (spans s).lanes)) callsite values) m
 DoesBoth spans inner outer same attaches s l (Records id at callsite values) t m = inner s (Records id at callsite values) t × outer l (OnRecord id at callsite values) m
 DoesBoth spans inner outer same attaches s l (Follows id from at) t m = inner s (Follows id from at) t × outer l (OnFollows id from at) m
-DoesBoth spans inner outer same attaches s l (Event lane at place site callsite values) t m =
-    inner s (Event lane at place site callsite values) t × outer l (OnEvent (place_on (entries_on lane.id (spans s).lanes) place) lane at callsite values) m
+DoesBoth spans inner outer same attaches s l (Event lane at parent site callsite values) t m =
+    inner s (Event lane at parent site callsite values) t × outer l (OnEvent (parent_on (entries_on lane.id (spans s).lanes) parent) lane at callsite values) m
 DoesBoth spans inner outer same attaches s l (Enter id at before later) t m = EntersBoth inner outer (attaches l) s l id at before later t m
 DoesBoth spans inner outer same attaches s l (Exit id at before later) t m = ExitsBoth inner outer s l id at before later t m
 DoesBoth spans inner outer same attaches s l (CloneSpan id) t m = inner s (CloneSpan id) t × same l m

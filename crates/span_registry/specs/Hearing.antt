@@ -3,10 +3,10 @@ use Rattle.std.specs.Prelude.{◌≡◌, ℕ, Bool, length, Option, Some, None}
 use Rattle.std.proofs.Common.{refl, sym, ap, subst, ◌∙◌, inl, inr}
 use Rattle.std.proofs.lemmas.Bool.{cases_eq}
 use Rattle.trace_base.specs.declared.lane.Lane.{Lane}
-use Rattle.trace_base.specs.Spans.{Spans, span_at, entries_on, current_of, place_on}
+use Rattle.trace_base.specs.Spans.{Spans, span_at, entries_on, current_of, parent_on}
 use Rattle.trace_base.specs.Calls.{SubscriberCall, NewSpan, Records, Follows, Event, Enter, Exit, CloneSpan, TryClose}
 use Rattle.trace_base.specs.layers.Hooks.{Hook, OnNewSpan, OnRecord, OnFollows, OnEvent, OnEnter, OnExit, OnClose}
-use Rattle.trace_base.specs.lanes.Contexts.{Lanes}
+use Rattle.trace_base.specs.lanes.Contexts.{CallLanes}
 use Rattle.span_registry.specs.Both.{DoesBoth}
 
 -- a hook on a lane with that id, whatever its contexts are
@@ -23,10 +23,10 @@ pub record AtClose {A : Type 0} (hears : A → Hook → A → Type 0) (a : A) (h
 
 -- what a call makes of something that hears hooks: what the hook of that call makes of it
 abbrev pub HearsCall : {A : Type 0} → (A → Hook → A → Type 0) → Spans → A → SubscriberCall → A → Type 0
-HearsCall hears spans a (NewSpan lane at place site callsite values) b = hears a (OnNewSpan (length spans.made) lane at place (current_of (entries_on lane.id spans.lanes)) callsite values) b
+HearsCall hears spans a (NewSpan lane at parent site callsite values) b = hears a (OnNewSpan (length spans.made) lane at parent (current_of (entries_on lane.id spans.lanes)) callsite values) b
 HearsCall hears spans a (Records id at callsite values) b = hears a (OnRecord id at callsite values) b
 HearsCall hears spans a (Follows id from at) b = hears a (OnFollows id from at) b
-HearsCall hears spans a (Event lane at place site callsite values) b = hears a (OnEvent (place_on (entries_on lane.id spans.lanes) place) lane at callsite values) b
+HearsCall hears spans a (Event lane at parent site callsite values) b = hears a (OnEvent (parent_on (entries_on lane.id spans.lanes) parent) lane at callsite values) b
 HearsCall hears spans a (Enter id at before later) b = OnLane hears a (OnEnter id at) before.id b
 HearsCall hears spans a (Exit id at before later) b = OnLane hears a (OnExit id at) before.id b
 HearsCall hears spans a (CloneSpan id) b = b ≡ a
@@ -45,12 +45,12 @@ told_first (Some outer) inner = Some outer
 module _ {S L A : Type 0} (hears : A → Hook → A → Type 0) (spans : S → Spans) (inner : S → SubscriberCall → S → Type 0) (outer : L → Hook → L → Type 0) (same : L → L → Type 0) (attaches : L → Bool) where
   -- a layer that tells something hears the hook of each call
   outer_told : (s t : S) (l m : L) (call : SubscriberCall) (sa : Bool) (sk tk : ℕ → ℕ → ℕ) (a : A) (now : Option A)
-      → ((c : SubscriberCall) → inner s c t → Lanes sa sk c tk) → ((h : Hook) → outer l h m → StaysTold (λ x y. hears x h y) (Some a) now) → (same l m → now ≡ Some a)
+      → ((c : SubscriberCall) → inner s c t → CallLanes sa sk c tk) → ((h : Hook) → outer l h m → StaysTold (λ x y. hears x h y) (Some a) now) → (same l m → now ≡ Some a)
       → DoesBoth spans inner outer same attaches s l call t m → StaysTold (λ x y. HearsCall hears (spans s) x call y) (Some a) now
-  outer_told s t l m (NewSpan lane at place site callsite values) sa sk tk a now lanes so ss d = so _ d.1
+  outer_told s t l m (NewSpan lane at parent site callsite values) sa sk tk a now lanes so ss d = so _ d.1
   outer_told s t l m (Records id at callsite values) sa sk tk a now lanes so ss d = so _ d.1
   outer_told s t l m (Follows id from at) sa sk tk a now lanes so ss d = so _ d.1
-  outer_told s t l m (Event lane at place site callsite values) sa sk tk a now lanes so ss d = so _ d.1
+  outer_told s t l m (Event lane at parent site callsite values) sa sk tk a now lanes so ss d = so _ d.1
   outer_told s t l m (Enter id at before later) sa sk tk a now lanes so ss d =
       let h = so _ d.second in
       (h.0, h.1, record { before = d.between; later = later; id = (lanes _ d.first).0.id ∙ d.room.keeps.id; heard = h.2 })
@@ -67,10 +67,10 @@ module _ {S L A : Type 0} (hears : A → Hook → A → Type 0) (spans : S → S
   -- a layer that tells nothing goes on to tell nothing
   outer_untold : (s t : S) (l m : L) (call : SubscriberCall) (now : Option A)
       → ((h : Hook) → outer l h m → now ≡ None) → (same l m → now ≡ None) → DoesBoth spans inner outer same attaches s l call t m → now ≡ None
-  outer_untold s t l m (NewSpan lane at place site callsite values) now so ss d = so _ d.1
+  outer_untold s t l m (NewSpan lane at parent site callsite values) now so ss d = so _ d.1
   outer_untold s t l m (Records id at callsite values) now so ss d = so _ d.1
   outer_untold s t l m (Follows id from at) now so ss d = so _ d.1
-  outer_untold s t l m (Event lane at place site callsite values) now so ss d = so _ d.1
+  outer_untold s t l m (Event lane at parent site callsite values) now so ss d = so _ d.1
   outer_untold s t l m (Enter id at before later) now so ss d = so _ d.second
   outer_untold s t l m (Exit id at before later) now so ss d = so _ d.second
   outer_untold s t l m (CloneSpan id) now so ss d = ss d.1
@@ -80,10 +80,10 @@ module _ {S L A : Type 0} (hears : A → Hook → A → Type 0) (spans : S → S
   inner_heard : (s t : S) (l m : L) (call : SubscriberCall) (told now : Option A)
       → ((c : SubscriberCall) → inner s c t → StaysTold (λ x y. HearsCall hears (spans s) x c y) told now)
       → DoesBoth spans inner outer same attaches s l call t m → StaysTold (λ x y. HearsCall hears (spans s) x call y) told now
-  inner_heard s t l m (NewSpan lane at place site callsite values) told now si d = si _ d.0
+  inner_heard s t l m (NewSpan lane at parent site callsite values) told now si d = si _ d.0
   inner_heard s t l m (Records id at callsite values) told now si d = si _ d.0
   inner_heard s t l m (Follows id from at) told now si d = si _ d.0
-  inner_heard s t l m (Event lane at place site callsite values) told now si d = si _ d.0
+  inner_heard s t l m (Event lane at parent site callsite values) told now si d = si _ d.0
   inner_heard s t l m (Enter id at before later) None now si d = si _ d.first
   inner_heard s t l m (Enter id at before later) (Some a) now si d =
       let h = si _ d.first in
@@ -96,7 +96,7 @@ module _ {S L A : Type 0} (hears : A → Hook → A → Type 0) (spans : S → S
 
   -- what a stack tells hears each call
   pub both_told : (s t : S) (l m : L) (call : SubscriberCall) (sa : Bool) (sk tk : ℕ → ℕ → ℕ) (o o' i i' : Option A)
-      → ((c : SubscriberCall) → inner s c t → Lanes sa sk c tk)
+      → ((c : SubscriberCall) → inner s c t → CallLanes sa sk c tk)
       → ((h : Hook) → outer l h m → StaysTold (λ x y. hears x h y) o o') → (same l m → o' ≡ o)
       → ((c : SubscriberCall) → inner s c t → StaysTold (λ x y. HearsCall hears (spans s) x c y) i i')
       → DoesBoth spans inner outer same attaches s l call t m → StaysTold (λ x y. HearsCall hears (spans s) x call y) (told_first o i) (told_first o' i')

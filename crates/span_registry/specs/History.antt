@@ -1,6 +1,6 @@
 -- What the rules of holds and entries say after all calls so far.
 use Rattle.std.specs.Prelude.{◌≡◌, ℕ, ◌+◌, ◌<◌, ◌==◌, if◌then◌else◌, Bool, false, List, [], ◌∷◌, ◌++◌, length, fold, count_by, nat_lt, Option, Some, None, slice_index_or}
-use Rattle.trace_base.specs.Spans.{Spans, no_span, span_at, entries_on, first_entries, without_last, place_on, is_child_of, next_of}
+use Rattle.trace_base.specs.Spans.{Spans, no_span, span_at, entries_on, entered_lane_count, without_last, parent_on, is_child_of, next_of}
 use Rattle.trace_base.specs.Calls.{SubscriberCall, NewSpan, Records, Follows, Event, Enter, Exit, CloneSpan, TryClose}
 use Rattle.trace_base.specs.layers.Hooks.{one_if}
 use Rattle.trace_base.specs.Sound.{OneEach}
@@ -14,10 +14,10 @@ Runs {S} does same s (call ∷ calls) t = (m : S) × does s call m × Runs does 
 abbrev pub entries_after : ℕ → List ℕ → SubscriberCall → List ℕ
 entries_after lane ids (Enter id at before later) = if before.id == lane then ids ++ id ∷ [] else ids
 entries_after lane ids (Exit id at before later) = if before.id == lane then without_last (λ x. x == id) ids else ids
-entries_after lane ids (NewSpan l at place site callsite values) = ids
+entries_after lane ids (NewSpan l at parent site callsite values) = ids
 entries_after lane ids (Records id at callsite values) = ids
 entries_after lane ids (Follows id from at) = ids
-entries_after lane ids (Event l at place site callsite values) = ids
+entries_after lane ids (Event l at parent site callsite values) = ids
 entries_after lane ids (CloneSpan id) = ids
 entries_after lane ids (TryClose id at) = ids
 
@@ -32,12 +32,12 @@ pub record ParentAndSite : Type 0 where
 abbrev pub no_parent_and_site : ParentAndSite
 no_parent_and_site = record { parent = None; site = 0 }
 
--- the span that a call makes after others, if it makes one: its place is that on the lane then
+-- the span that a call makes after others, if it makes one: its parent is that on the lane then
 abbrev pub span_made_by : List SubscriberCall → SubscriberCall → List ParentAndSite
-span_made_by before (NewSpan lane at place site callsite values) = record { parent = place_on (entries_by_calls lane.id before) place; site = site } ∷ []
+span_made_by before (NewSpan lane at parent site callsite values) = record { parent = parent_on (entries_by_calls lane.id before) parent; site = site } ∷ []
 span_made_by before (Records id at callsite values) = []
 span_made_by before (Follows id from at) = []
-span_made_by before (Event lane at place site callsite values) = []
+span_made_by before (Event lane at parent site callsite values) = []
 span_made_by before (Enter id at pre later) = []
 span_made_by before (Exit id at pre later) = []
 span_made_by before (CloneSpan id) = []
@@ -56,10 +56,10 @@ parent_and_site_of id calls = slice_index_or (spans_made_by_calls calls) id no_p
 
 abbrev pub is_clone : ℕ → SubscriberCall → Bool
 is_clone q (CloneSpan id) = id == q
-is_clone q (NewSpan lane at place site callsite values) = false
+is_clone q (NewSpan lane at parent site callsite values) = false
 is_clone q (Records id at callsite values) = false
 is_clone q (Follows id from at) = false
-is_clone q (Event lane at place site callsite values) = false
+is_clone q (Event lane at parent site callsite values) = false
 is_clone q (Enter id at before later) = false
 is_clone q (Exit id at before later) = false
 is_clone q (TryClose id at) = false
@@ -67,10 +67,10 @@ is_clone q (TryClose id at) = false
 abbrev pub is_release : ℕ → SubscriberCall → Bool
 is_release q (TryClose id at) = id == q
 is_release q (CloneSpan id) = false
-is_release q (NewSpan lane at place site callsite values) = false
+is_release q (NewSpan lane at parent site callsite values) = false
 is_release q (Records id at callsite values) = false
 is_release q (Follows id from at) = false
-is_release q (Event lane at place site callsite values) = false
+is_release q (Event lane at parent site callsite values) = false
 is_release q (Enter id at before later) = false
 is_release q (Exit id at before later) = false
 
@@ -91,7 +91,7 @@ releases_by_calls id calls = count_by (is_release id) calls
 -- row, with the entries that the calls tell.
 pub record AreSpansOf (calls : List SubscriberCall) (spans : Spans) : Type 0 where
   pub made : length spans.made ≡ length (spans_made_by_calls calls)
-  pub holds : (id : ℕ) → (span_at spans.made id).holds + releases_by_calls id calls ≡ handles_made id calls + children_made id calls + first_entries spans.lanes id
+  pub holds : (id : ℕ) → (span_at spans.made id).holds + releases_by_calls id calls ≡ handles_made id calls + children_made id calls + entered_lane_count spans.lanes id
   pub live : (id : ℕ) → 0 < (span_at spans.made id).holds → span_at spans.made id ≡ record { holds = (span_at spans.made id).holds; parent = (parent_and_site_of id calls).parent; site = (parent_and_site_of id calls).site }
   pub closed : (id : ℕ) → (span_at spans.made id).holds ≡ 0 → span_at spans.made id ≡ no_span
   pub older : (id p : ℕ) → (parent_and_site_of id calls).parent ≡ Some p → p < id

@@ -1,17 +1,17 @@
 -- The laws of a layer over a subscriber, by those of its parts.
-use Rattle.std.proofs.Common.{◌≡◌, ℕ, ◌+◌, List, length, Bool, true, false, count_by, Option, refl, sym, ap, subst, ◌∙◌, arith, inl, inr}
-use Rattle.std.specs.Prelude.{◌==◌, ◌||◌, ◌&&◌}
+use Rattle.std.proofs.Common.{◌≡◌, ℕ, ◌+◌, List, [], length, Bool, true, false, count_by, Option, refl, sym, ap, subst, ◌∙◌, arith, inl, inr}
+use Rattle.std.specs.Prelude.{◌==◌, ◌||◌, ◌&&◌, if◌then◌else◌}
 use Rattle.std.proofs.lemmas.Bool.{or_parts, cases_eq, cond-true, cond-false, eq-eqb, ne_eqb}
 use Rattle.otel_base.specs.declared.context.Context.{Context}
 use Rattle.trace_base.specs.declared.callsite.Callsite.{Callsite}
 use Rattle.trace_base.specs.declared.level.LevelFilter.{LevelFilter}
 use Rattle.trace_base.specs.declared.subscriber.Interest.{Interest}
 use Rattle.trace_base.specs.declared.lane.Lane.{Lane}
-use Rattle.trace_base.specs.Spans.{Spans, span_at, entries_on, place_on, current_of, without_hold, with_hold}
+use Rattle.trace_base.specs.Spans.{Spans, span_at, entries_on, times_in, parent_on, current_of, without_hold, with_hold}
 use Rattle.trace_base.specs.Calls.{SubscriberCall, NewSpan, Records, Follows, Event, Enter, Exit, CloneSpan, TryClose, spans_after_call, with_span_entry, with_span_exit}
 use Rattle.trace_base.specs.Conditions.{Allowed}
 use Rattle.trace_base.specs.layers.Hooks.{Hook, OnNewSpan, OnFollows, OnEvent, OnEnter, OnExit, KnownSpans, Sees, HookLanes}
-use Rattle.trace_base.specs.lanes.Contexts.{attached_as, attached_on, KeepsAttached, KeepsLane, KeepsLive, Lanes}
+use Rattle.trace_base.specs.lanes.Contexts.{attached_as, attached_on, KeepsAttached, KeepsLane, KeepsLive, CallLanes}
 use Rattle.std.proofs.lemmas.List.{length-set}
 use Rattle.span_registry.specs.Both.{DoesBoth, EntersBoth, InStep, IsWholeBoth, picked_both, hint_both, enables_both, activates_both}
 use Rattle.span_registry.specs.Stepping.{in_step, tracks_new, tracks_record, tracks_follows, tracks_event, tracks_enter, tracks_exit, tracks_close, tracks_quiet, sees_quiet}
@@ -21,12 +21,12 @@ pub both_same : {S L : Type 0} (spans : S → Spans) (inner : S → SubscriberCa
     → (s t : S) (l m : L) (call : SubscriberCall) (u : S) (n : L)
     → spans t ≡ spans s → attaches m ≡ attaches l → ((c : SubscriberCall) → inner t c u → inner s c u) → ((h : Hook) → outer m h n → outer l h n) → (same m n → same l n)
     → DoesBoth spans inner outer same attaches t m call u n → DoesBoth spans inner outer same attaches s l call u n
-both_same spans inner outer same attaches s t l m (NewSpan lane at place site callsite values) u n sp a si so trans d =
-    (si _ d.0, so _ (subst (λ (x : Spans). outer m (OnNewSpan (length x.made) lane at place (current_of (entries_on lane.id x.lanes)) callsite values) n) sp d.1))
+both_same spans inner outer same attaches s t l m (NewSpan lane at parent site callsite values) u n sp a si so trans d =
+    (si _ d.0, so _ (subst (λ (x : Spans). outer m (OnNewSpan (length x.made) lane at parent (current_of (entries_on lane.id x.lanes)) callsite values) n) sp d.1))
 both_same spans inner outer same attaches s t l m (Records id at callsite values) u n sp a si so trans d = (si _ d.0, so _ d.1)
 both_same spans inner outer same attaches s t l m (Follows id from at) u n sp a si so trans d = (si _ d.0, so _ d.1)
-both_same spans inner outer same attaches s t l m (Event lane at place site callsite values) u n sp a si so trans d =
-    (si _ d.0, so _ (subst (λ (x : Spans). outer m (OnEvent (place_on (entries_on lane.id x.lanes) place) lane at callsite values) n) sp d.1))
+both_same spans inner outer same attaches s t l m (Event lane at parent site callsite values) u n sp a si so trans d =
+    (si _ d.0, so _ (subst (λ (x : Spans). outer m (OnEvent (parent_on (entries_on lane.id x.lanes) parent) lane at callsite values) n) sp d.1))
 both_same spans inner outer same attaches s t l m (Enter id at before later) u n sp a si so trans d = record {
   prepared = d.prepared;
   between = d.between;
@@ -48,10 +48,10 @@ both_same spans inner outer same attaches s t l m (TryClose id at) u n sp a si s
 pub both_allowed : {S L : Type 0} (spans : S → Spans) (inner : S → SubscriberCall → S → Type 0) (outer : L → Hook → L → Type 0) (same : L → L → Type 0) (attaches : L → Bool)
     → (s t : S) (l m : L) (call : SubscriberCall) → ((c : SubscriberCall) → inner s c t → Allowed (spans s) c)
     → DoesBoth spans inner outer same attaches s l call t m → Allowed (spans s) call
-both_allowed spans inner outer same attaches s t l m (NewSpan lane at place site callsite values) si d = si _ d.0
+both_allowed spans inner outer same attaches s t l m (NewSpan lane at parent site callsite values) si d = si _ d.0
 both_allowed spans inner outer same attaches s t l m (Records id at callsite values) si d = si _ d.0
 both_allowed spans inner outer same attaches s t l m (Follows id from at) si d = si _ d.0
-both_allowed spans inner outer same attaches s t l m (Event lane at place site callsite values) si d = si _ d.0
+both_allowed spans inner outer same attaches s t l m (Event lane at parent site callsite values) si d = si _ d.0
 both_allowed spans inner outer same attaches s t l m (Enter id at before later) si d = si _ d.first
 both_allowed spans inner outer same attaches s t l m (Exit id at before later) si d = si _ d.first
 both_allowed spans inner outer same attaches s t l m (CloneSpan id) si d = si _ d.0
@@ -60,10 +60,10 @@ both_allowed spans inner outer same attaches s t l m (TryClose id at) si d = si 
 pub both_shows : {S L : Type 0} (spans : S → Spans) (inner : S → SubscriberCall → S → Type 0) (outer : L → Hook → L → Type 0) (same : L → L → Type 0) (attaches : L → Bool)
     → (s t : S) (l m : L) (call : SubscriberCall) → ((c : SubscriberCall) → inner s c t → spans t ≡ spans_after_call (spans s) c)
     → DoesBoth spans inner outer same attaches s l call t m → spans t ≡ spans_after_call (spans s) call
-both_shows spans inner outer same attaches s t l m (NewSpan lane at place site callsite values) si d = si _ d.0
+both_shows spans inner outer same attaches s t l m (NewSpan lane at parent site callsite values) si d = si _ d.0
 both_shows spans inner outer same attaches s t l m (Records id at callsite values) si d = si _ d.0
 both_shows spans inner outer same attaches s t l m (Follows id from at) si d = si _ d.0
-both_shows spans inner outer same attaches s t l m (Event lane at place site callsite values) si d = si _ d.0
+both_shows spans inner outer same attaches s t l m (Event lane at parent site callsite values) si d = si _ d.0
 both_shows spans inner outer same attaches s t l m (Enter id at before later) si d = si _ d.first ∙ ap (λ (lane : ℕ). with_span_entry (spans s) id lane) d.room.keeps.id
 both_shows spans inner outer same attaches s t l m (Exit id at before later) si d = si _ d.first
 both_shows spans inner outer same attaches s t l m (CloneSpan id) si d = si _ d.0
@@ -103,12 +103,12 @@ attached_both sk tk lk mk a b c k n lane number = omega (arith, k lane number, n
 
 pub both_lanes : {S L : Type 0} (spans : S → Spans) (inner : S → SubscriberCall → S → Type 0) (outer : L → Hook → L → Type 0) (same : L → L → Type 0) (attaches : L → Bool)
     → (s t : S) (l m : L) (call : SubscriberCall) (sa : Bool) (sk tk lk mk : ℕ → ℕ → ℕ)
-    → ((c : SubscriberCall) → inner s c t → Lanes sa sk c tk) → ((h : Hook) → outer l h m → HookLanes (attaches l) lk h mk) → (same l m → mk ≡ lk)
-    → DoesBoth spans inner outer same attaches s l call t m → Lanes (attaches l || sa) (kept_both lk sk) call (kept_both mk tk)
-both_lanes spans inner outer same attaches s t l m (NewSpan lane at place site callsite values) sa sk tk lk mk si so ss d = kept_same lk mk sk tk (so _ d.1) (si _ d.0)
+    → ((c : SubscriberCall) → inner s c t → CallLanes sa sk c tk) → ((h : Hook) → outer l h m → HookLanes (attaches l) lk h mk) → (same l m → mk ≡ lk)
+    → DoesBoth spans inner outer same attaches s l call t m → CallLanes (attaches l || sa) (kept_both lk sk) call (kept_both mk tk)
+both_lanes spans inner outer same attaches s t l m (NewSpan lane at parent site callsite values) sa sk tk lk mk si so ss d = kept_same lk mk sk tk (so _ d.1) (si _ d.0)
 both_lanes spans inner outer same attaches s t l m (Records id at callsite values) sa sk tk lk mk si so ss d = kept_same lk mk sk tk (so _ d.1) (si _ d.0)
 both_lanes spans inner outer same attaches s t l m (Follows id from at) sa sk tk lk mk si so ss d = kept_same lk mk sk tk (so _ d.1) (si _ d.0)
-both_lanes spans inner outer same attaches s t l m (Event lane at place site callsite values) sa sk tk lk mk si so ss d = kept_same lk mk sk tk (so _ d.1) (si _ d.0)
+both_lanes spans inner outer same attaches s t l m (Event lane at parent site callsite values) sa sk tk lk mk si so ss d = kept_same lk mk sk tk (so _ d.1) (si _ d.0)
 both_lanes spans inner outer same attaches s t l m (Enter id at before later) sa sk tk lk mk si so ss d =
     let a = si _ d.first in
     let b = so _ d.second in
@@ -132,6 +132,19 @@ both_lanes spans inner outer same attaches s t l m (TryClose id at) sa sk tk lk 
       | inr more ↦ kept_same lk mk sk tk (ss (d.open_still more)) (si _ d.first)
     ]
 
+neither_way : (known : Bool) → ◌≡◌ {A = ℕ} (if known then 0 else 0) 0
+neither_way true = refl
+neither_way false = refl
+
+-- where a lane has no entry neither part keeps anything attached
+pub both_kept_by_entries : (P Q : Type 0) (spans : Spans) (seen : KnownSpans) (sa la : Bool) (sk lk : ℕ → ℕ → ℕ) (lane number : ℕ)
+    → (P → entries_on lane spans.lanes ≡ [] → sk lane number ≡ 0) → (((id : ℕ) → seen.entries lane id ≡ 0) → lk lane number ≡ 0)
+    → IsWholeBoth P Q spans seen sa la → entries_on lane spans.lanes ≡ [] → lk lane number + sk lane number ≡ 0
+both_kept_by_entries P Q spans seen sa la sk lk lane number si so w none =
+    let inner = si w.inner none in
+    let outer = so (λ id. w.in_step.entries lane id ∙ ap (λ (ids : List ℕ). if seen.knows id then times_in id ids else 0) none ∙ neither_way (seen.knows id)) in
+    omega (arith, inner, outer)
+
 one_is_off : {P : Type 0} (a k : Bool) → (a && k) ≡ false → (a ≡ false → P) → (k ≡ false → P) → P
 one_is_off true k off first second = second off
 one_is_off false k off first second = first refl
@@ -153,10 +166,10 @@ pub both_keep : {S L : Type 0} (spans : S → Spans) (inner : S → SubscriberCa
     → (s t : S) (l m : L) (call : SubscriberCall) (P : Type 0) (Q : Type 0)
     → ((c : SubscriberCall) → inner s c t → P) → ((h : Hook) → outer l h m → Q) → (same l m → Q)
     → DoesBoth spans inner outer same attaches s l call t m → P × Q
-both_keep spans inner outer same attaches s t l m (NewSpan lane at place site callsite values) P Q si so ss d = (si _ d.0, so _ d.1)
+both_keep spans inner outer same attaches s t l m (NewSpan lane at parent site callsite values) P Q si so ss d = (si _ d.0, so _ d.1)
 both_keep spans inner outer same attaches s t l m (Records id at callsite values) P Q si so ss d = (si _ d.0, so _ d.1)
 both_keep spans inner outer same attaches s t l m (Follows id from at) P Q si so ss d = (si _ d.0, so _ d.1)
-both_keep spans inner outer same attaches s t l m (Event lane at place site callsite values) P Q si so ss d = (si _ d.0, so _ d.1)
+both_keep spans inner outer same attaches s t l m (Event lane at parent site callsite values) P Q si so ss d = (si _ d.0, so _ d.1)
 both_keep spans inner outer same attaches s t l m (Enter id at before later) P Q si so ss d = (si _ d.first, so _ d.second)
 both_keep spans inner outer same attaches s t l m (Exit id at before later) P Q si so ss d = (si _ d.first, so _ d.second)
 both_keep spans inner outer same attaches s t l m (CloneSpan id) P Q si so ss d = (si _ d.0, ss d.1)
@@ -167,16 +180,16 @@ both_keep spans inner outer same attaches s t l m (TryClose id at) P Q si so ss 
 pub both_in_step : {S L : Type 0} (spans : S → Spans) (inner : S → SubscriberCall → S → Type 0) (outer : L → Hook → L → Type 0) (same : L → L → Type 0) (attaches : L → Bool)
     → (s t : S) (l m : L) (call : SubscriberCall) (seen now : KnownSpans)
     → ((c : SubscriberCall) → inner s c t → spans t ≡ spans_after_call (spans s) c) → ((c : SubscriberCall) → inner s c t → Allowed (spans s) c)
-    → (a : Bool) (k n : ℕ → ℕ → ℕ) → ((c : SubscriberCall) → inner s c t → Lanes a k c n)
+    → (a : Bool) (k n : ℕ → ℕ → ℕ) → ((c : SubscriberCall) → inner s c t → CallLanes a k c n)
     → ((h : Hook) → outer l h m → Sees seen h now) → (same l m → now ≡ seen)
     → DoesBoth spans inner outer same attaches s l call t m → InStep (spans s) seen → InStep (spans t) now
-both_in_step spans inner outer same attaches s t l m (NewSpan lane at place site callsite values) seen now si sa a k n sl so ss d step =
-    subst (λ (x : Spans). InStep x now) (sym (si _ d.0)) (in_step _ _ _ seen now step (tracks_new (spans s) seen step lane at place _ callsite values _ site) (so _ d.1))
+both_in_step spans inner outer same attaches s t l m (NewSpan lane at parent site callsite values) seen now si sa a k n sl so ss d step =
+    subst (λ (x : Spans). InStep x now) (sym (si _ d.0)) (in_step _ _ _ seen now step (tracks_new (spans s) seen step lane at parent _ callsite values _ site) (so _ d.1))
 both_in_step spans inner outer same attaches s t l m (Records id at callsite values) seen now si sa a k n sl so ss d step =
     subst (λ (x : Spans). InStep x now) (sym (si _ d.0)) (in_step _ _ _ seen now step (tracks_record (spans s) seen step id at callsite values) (so _ d.1))
 both_in_step spans inner outer same attaches s t l m (Follows id from at) seen now si sa a k n sl so ss d step =
     subst (λ (x : Spans). InStep x now) (sym (si _ d.0)) (in_step _ _ _ seen now step (tracks_follows (spans s) seen step id from at) (so _ d.1))
-both_in_step spans inner outer same attaches s t l m (Event lane at place site callsite values) seen now si sa a k n sl so ss d step =
+both_in_step spans inner outer same attaches s t l m (Event lane at parent site callsite values) seen now si sa a k n sl so ss d step =
     subst (λ (x : Spans). InStep x now) (sym (si _ d.0)) (in_step _ _ _ seen now step (tracks_event (spans s) seen step _ lane at callsite values) (so _ d.1))
 both_in_step spans inner outer same attaches s t l m (Enter id at before later) seen now si sa a k n sl so ss d step =
     subst (λ (x : Spans). InStep x now) (sym (si _ d.first))

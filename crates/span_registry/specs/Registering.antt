@@ -5,8 +5,8 @@ use Rattle.trace_base.specs.Spans.{Span, Spans, Entries}
 use Rattle.trace_base.specs.Calls.{SubscriberCall, NewSpan, Records, Follows, Event, Enter, Exit, CloneSpan, TryClose, spans_after_call}
 use Rattle.trace_base.specs.Conditions.{Allowed}
 use Rattle.trace_base.specs.Sound.{IsSound}
-use Rattle.span_registry.specs.Tabling.{live_spans}
-use Rattle.trace_base.specs.lanes.Contexts.{Lanes}
+use Rattle.span_registry.specs.Tabling.{live_span_count}
+use Rattle.trace_base.specs.lanes.Contexts.{CallLanes}
 use Rattle.trace_base.specs.layers.Unseeing.{left_as_it_is, nothing_kept}
 
 -- what a registry stands for: its spans, and how many slots it has for live ones
@@ -22,19 +22,19 @@ no_spans = record { made = []; lanes = [] }
 abbrev pub LeavesLaneAsIs : SubscriberCall → Type 0
 LeavesLaneAsIs (Enter id at before later) = later ≡ before
 LeavesLaneAsIs (Exit id at before later) = later ≡ before
-LeavesLaneAsIs (NewSpan lane at place site callsite values) = Unit {0}
+LeavesLaneAsIs (NewSpan lane at parent site callsite values) = Unit {0}
 LeavesLaneAsIs (Records id at callsite values) = Unit {0}
 LeavesLaneAsIs (Follows id from at) = Unit {0}
-LeavesLaneAsIs (Event lane at place site callsite values) = Unit {0}
+LeavesLaneAsIs (Event lane at parent site callsite values) = Unit {0}
 LeavesLaneAsIs (CloneSpan id) = Unit {0}
 LeavesLaneAsIs (TryClose id at) = Unit {0}
 
 -- the slots after a call that leaves these spans: a new span takes one that is free, else there is one more
 abbrev pub slot_count_after : ℕ → SubscriberCall → List Span → ℕ
-slot_count_after slots (NewSpan lane at place site callsite values) made = max slots (live_spans made)
+slot_count_after slots (NewSpan lane at parent site callsite values) made = max slots (live_span_count made)
 slot_count_after slots (Records id at callsite values) made = slots
 slot_count_after slots (Follows id from at) made = slots
-slot_count_after slots (Event lane at place site callsite values) made = slots
+slot_count_after slots (Event lane at parent site callsite values) made = slots
 slot_count_after slots (Enter id at before later) made = slots
 slot_count_after slots (Exit id at before later) made = slots
 slot_count_after slots (CloneSpan id) made = slots
@@ -51,13 +51,13 @@ pub record DoesRegistry (old : RegistryValue) (call : SubscriberCall) (new : Reg
 pub registry_same : (s t : RegistryValue) (call : SubscriberCall) (u : RegistryValue) → t ≡ s → DoesRegistry t call u → DoesRegistry s call u
 registry_same s t call u h d = subst (λ (x : RegistryValue). DoesRegistry x call u) h d
 
-pub registry_lanes : (s : RegistryValue) (call : SubscriberCall) (t : RegistryValue) → DoesRegistry s call t → Lanes false (λ lane number. 0) call (λ lane number. 0)
+pub registry_lanes : (s : RegistryValue) (call : SubscriberCall) (t : RegistryValue) → DoesRegistry s call t → CallLanes false (λ lane number. 0) call (λ lane number. 0)
 registry_lanes s (Enter id at before later) t d = (left_as_it_is before later d.lane, nothing_kept before later d.lane)
 registry_lanes s (Exit id at before later) t d = (left_as_it_is before later d.lane, nothing_kept before later d.lane)
-registry_lanes s (NewSpan lane at place site callsite values) t d = refl
+registry_lanes s (NewSpan lane at parent site callsite values) t d = refl
 registry_lanes s (Records id at callsite values) t d = refl
 registry_lanes s (Follows id from at) t d = refl
-registry_lanes s (Event lane at place site callsite values) t d = refl
+registry_lanes s (Event lane at parent site callsite values) t d = refl
 registry_lanes s (CloneSpan id) t d = refl
 registry_lanes s (TryClose id at) t d = refl
 

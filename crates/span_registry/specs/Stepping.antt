@@ -7,17 +7,17 @@ use Rattle.trace_base.specs.declared.lane.Lane.{Lane}
 use Rattle.trace_base.specs.declared.span.Parent.{Parent}
 use Rattle.trace_base.specs.declared.callsite.Callsite.{Callsite}
 use Rattle.trace_base.specs.declared.field.ValueSet.{ValueSet}
-use Rattle.trace_base.specs.Spans.{Span, Entries, Spans, span_at, entries_on, is_in, times_in, without_last, with_hold, less_hold, without_hold, held_by_child}
+use Rattle.trace_base.specs.Spans.{Span, Entries, Spans, span_at, entries_on, is_in, times_in, without_last, with_hold, less_hold, without_hold, with_hold_of_child}
 use Rattle.trace_base.specs.Calls.{with_new_span, with_span_entry, with_span_exit}
 use Rattle.trace_base.specs.Conditions.{IsLive, MayExit, HasOwnHold}
-use Rattle.trace_base.specs.layers.Hooks.{Hook, OnNewSpan, OnRecord, OnFollows, OnEvent, OnEnter, OnExit, OnClose, KnownSpans, Sees, makes, closes, comes, goes, one_if}
+use Rattle.trace_base.specs.layers.Hooks.{Hook, OnNewSpan, OnRecord, OnFollows, OnEvent, OnEnter, OnExit, OnClose, KnownSpans, Sees, makes, closes, one_if_entered, one_if_exited, one_if}
 use Rattle.trace_base.proofs.EntryLemmas.{count_push, count_without_last, any_if_counted, with_same, with_other, made_if_held, length_held, no_entries}
 use Rattle.span_registry.specs.Both.{InStep, KnowsNone}
 
 -- what a call makes of the spans is what its hook tells
 pub record Tracks (old : Spans) (hook : Hook) (new : Spans) : Type 0 where
   pub longer : length old.made ≤ length new.made
-  pub times : (lane id : ℕ) → times_in id (entries_on lane new.lanes) + goes hook lane id ≡ times_in id (entries_on lane old.lanes) + comes hook lane id
+  pub times : (lane id : ℕ) → times_in id (entries_on lane new.lanes) + one_if_exited hook lane id ≡ times_in id (entries_on lane old.lanes) + one_if_entered hook lane id
   pub fresh : (id : ℕ) → makes hook id ≡ true → (id < length new.made) × ((lane : ℕ) → times_in id (entries_on lane new.lanes) ≡ 0)
   pub gone : (id : ℕ) → closes hook id ≡ true → (lane : ℕ) → times_in id (entries_on lane new.lanes) ≡ 0
   pub below : (lane id : ℕ) → length new.made ≤ id → times_in id (entries_on lane new.lanes) ≡ 0
@@ -115,7 +115,7 @@ pub tracks_new : (old : Spans) (seen : KnownSpans) → InStep old seen → (l : 
     → Tracks old (OnNewSpan (length old.made) l at parent current callsite values) (with_new_span old above site)
 tracks_new old seen step l at parent current callsite values above site =
     let held_length = length_held old.made above in
-    let count = length_push (held_by_child old.made above) (record { holds = 1; parent = above; site = site }) in
+    let count = length_push (with_hold_of_child old.made above) (record { holds = 1; parent = above; site = site }) in
     record {
       longer = omega (arith, held_length, count);
       times = λ lane other. refl;

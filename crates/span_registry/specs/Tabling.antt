@@ -14,12 +14,12 @@ abbrev pub slot_value_at : List SlotValue → ℕ → SlotValue
 slot_value_at slots place = slice_index_or slots place no_slot
 
 -- where the slot of an id stands, by what is kept of it: 0 for none, else one more
-abbrev pub placed : ℕ → Option ℕ
-placed zero = None
-placed (suc place) = Some place
+abbrev pub kept_place : ℕ → Option ℕ
+kept_place zero = None
+kept_place (suc place) = Some place
 
 abbrev pub place_in : List ℕ → ℕ → Option ℕ
-place_in places id = placed (slice_index_or places id 0)
+place_in places id = kept_place (slice_index_or places id 0)
 
 -- the span in a place, if there is one
 abbrev pub span_of : List SlotValue → Option ℕ → Span
@@ -39,8 +39,8 @@ spans_to (suc n) f = spans_to n f ++ f n ∷ []
 abbrev pub is_live : Span → Bool
 is_live span = nat_lt 0 span.holds
 
-abbrev pub live_spans : List Span → ℕ
-live_spans made = count_by is_live made
+abbrev pub live_span_count : List Span → ℕ
+live_span_count made = count_by is_live made
 
 -- what a table stands for: all spans that were made, and how many slots it has
 pub record SlotTableValue : Type 0 where
@@ -62,5 +62,5 @@ pub record IsTabled (count : ℕ) (places : ℕ → Option ℕ) (slots : List Sl
   pub known : (id place : ℕ) → places id ≡ Some place → IsPlace count slots id place
   pub freed : (k : ℕ) → k < length free → (slice_index_or free k 0 < length slots) × ((slot_value_at slots (slice_index_or free k 0)).span.holds ≡ 0)
   pub apart : (j k : ℕ) → j < k → k < length free → slice_index_or free j 0 ≢ slice_index_or free k 0
-  pub counted : length free + live_spans (spans_to count (span_in places slots)) ≡ length slots
+  pub counted : length free + live_span_count (spans_to count (span_in places slots)) ≡ length slots
   pub enough : length slots ≤ room

@@ -1,9 +1,8 @@
 //! A layer over a subscriber.
 ghost use Rattle.std.specs.Prelude.{◌≡◌, ℕ, ◌+◌, ◌||◌, ◌&&◌, true, false, if◌then◌else◌};
-ghost use Rattle.trace_base.specs.Spans.{entries_on, place_on};
 ghost use Rattle.trace_base.specs.Sound.{IsSound};
 ghost use Rattle.span_registry.specs.Both.{DoesBoth, InStep, IsWholeBoth, KnowsNone, joint_interest, picked_both, hint_both, enables_both, activates_both};
-ghost use Rattle.span_registry.specs.Layering.{kept_same, or_same, whole_both, in_step_same, both_same, both_allowed, both_shows, both_lanes, both_keep, both_in_step, gate_both, enables_same, activates_same, both_passive};
+ghost use Rattle.span_registry.specs.Layering.{kept_same, or_same, whole_both, in_step_same, both_same, both_allowed, both_shows, both_lanes, both_keep, both_in_step, gate_both, enables_same, activates_same, both_passive, both_kept_by_entries};
 ghost use Rattle.trace_base.specs.layers.Hooks.{OnEnter};
 ghost use Rattle.std.specs.Borrow.{sem};
 ghost use Rattle.span_registry.specs.Lending.{LendsLayer, LendsInner};
@@ -154,6 +153,9 @@ impl<L: Layer, S: Subscriber> Subscriber for Layered<L, S> {
     ghost lanes = { λ s call t d. both_lanes S.spans S.does L.does L.same L.attaches s.inner t.inner s.layer t.layer call (S.attaches s.inner) (S.kept s.inner) (S.kept t.inner) (L.kept s.layer) (L.kept t.layer)
         (λ c. S.lanes s.inner c t.inner) (λ k. L.lanes s.layer k t.layer) (L.same_kept s.layer t.layer) d };
 
+    ghost kept_by_entries = { λ s lane number w none. both_kept_by_entries (S.is_whole s.inner) (L.is_whole s.layer) (S.spans s.inner) (L.seen s.layer) (S.attaches s.inner) (L.attaches s.layer) (S.kept s.inner) (L.kept s.layer) lane number
+        (S.kept_by_entries s.inner lane number) (L.kept_by_entries s.layer lane number) w none };
+
     ghost passive = { λ s id at before later t d neither. both_passive S.does L.does (L.attaches s.layer) s.inner t.inner s.layer t.layer id at before later (L.seen s.layer) (S.activates s.inner)
         (λ b c. S.passive s.inner id at b c t.inner) (λ b c e a. (L.lanes s.layer (OnEnter id at b c) t.layer e).0.as_it_is a) (λ b c. L.passive s.layer id at b c t.layer) d neither };
 
@@ -192,18 +194,17 @@ impl<L: Layer, S: Subscriber> Subscriber for Layered<L, S> {
         lane: &Lane,
         at: u64,
         parent: Parent,
+        current: Option<Id>,
         site: SiteId,
         callsite: &Callsite,
         values: &ValueSet,
     ) -> Result<Id, Memory> {
-        let parent = &parent;
-        let current = self.inner.current_span(lane.id).map(|current| current.0);
+        let (parent, current) = (&parent, &current);
         let prepared = self.layer.prepare_new_span(lane, callsite, values)?;
         let id = self
             .inner
-            .new_span(lane, at, *parent, site, callsite, values)?;
-        self.layer
-            .on_new_span(prepared, id, lane, at, *parent, current, callsite, values);
+            .new_span(lane, at, *parent, *current, site, callsite, values)?;
+        self.layer.on_new_span(prepared, id, lane, at, *parent, *current, callsite, values);
         Ok(id)
     }
 
@@ -232,14 +233,16 @@ impl<L: Layer, S: Subscriber> Subscriber for Layered<L, S> {
         lane: &Lane,
         at: u64,
         parent: Parent,
+        current: Option<Id>,
         site: SiteId,
         callsite: &Callsite,
         values: &ValueSet,
     ) -> Result<(), Memory> {
-        let parent = &parent;
-        let reached = &reached_span(&self.inner, lane.id, *parent);
+        let (parent, current) = (&parent, &current);
+        let reached = &parent.span(*current);
         let prepared = self.layer.prepare_event(*reached, callsite, values)?;
-        self.inner.event(lane, at, *parent, site, callsite, values)?;
+        self.inner
+            .event(lane, at, *parent, *current, site, callsite, values)?;
         self.layer
             .on_event(prepared, *reached, lane, at, callsite, values);
         Ok(())
@@ -267,6 +270,10 @@ impl<L: Layer, S: Subscriber> Subscriber for Layered<L, S> {
             self.layer.on_close(id, at);
         }
         closing
+    }
+
+    fn current_id(&self, lane: u64) -> Option<Id> {
+        self.inner.current_id(lane)
     }
 
     fn current_span(&self, lane: u64) -> Option<(Id, SiteId)> {
@@ -303,17 +310,5 @@ fn greater_hint(layer: Option<LevelFilter>, inner: Option<LevelFilter>) -> Optio
     match inner {
         Some(inner) if layer <= inner => Some(inner),
         _ => Some(layer),
-    }
-}
-
-// The span that an event at this place reaches.
-fn reached_span<S: Subscriber>(inner: &S, lane: u64, parent: Parent) -> Option<Id>
-    requires { S.is_whole inner.now }
-    ensures { result ≡ place_on (entries_on lane (S.spans inner.now).lanes) parent }
-{
-    match parent {
-        Parent::Root => None,
-        Parent::Current => inner.current_span(lane).map(|current| current.0),
-        Parent::Of(id) => Some(id),
     }
 }

@@ -3,7 +3,7 @@ ghost use Rattle.std.specs.Prelude.{◌≡◌, ℕ, ◌<◌, ◌==◌, [], true,
 ghost use Rattle.std.proofs.Common.{refl, ◌∙◌, ap};
 ghost use Rattle.trace_base.specs.declared.lane.Lane.{Lane};
 ghost use Rattle.trace_base.specs.declared.subscriber.Interest.TheVariants as interests;
-ghost use Rattle.trace_base.specs.Spans.{Spans, span_at, entries_on, place_on, with_hold, without_hold, next_of};
+ghost use Rattle.trace_base.specs.Spans.{Spans, span_at, entries_on, with_hold, without_hold, next_of};
 ghost use Rattle.trace_base.specs.Calls.{TryClose};
 ghost use Rattle.trace_base.specs.Conditions.{HasOwnHold, IsLive, HasFewHolds};
 ghost use Rattle.trace_base.specs.Sound.{IsSound};
@@ -154,6 +154,8 @@ impl Subscriber for Registry {
 
     ghost lanes = { registry_lanes };
 
+    ghost kept_by_entries = { λ s lane number w none. refl };
+
     ghost passive = { λ s id at before later t d neither. ap (λ (l : Lane). l.contexts.live) d.lane };
 
     ghost keeps_attaches = { λ s call t d. refl };
@@ -176,15 +178,15 @@ impl Subscriber for Registry {
 
     fn new_span(
         &mut self,
-        lane: &Lane,
+        _lane: &Lane,
         _at: u64,
         parent: Parent,
+        current: Option<Id>,
         site: SiteId,
         _callsite: &Callsite,
         _values: &ValueSet,
     ) -> Result<Id, Memory> {
-        let above = place(self.lanes.as_slice(), lane.id, parent);
-        self.table.add(above, site)
+        self.table.add(parent.span(current), site)
     }
 
     fn record(
@@ -208,6 +210,7 @@ impl Subscriber for Registry {
         _lane: &Lane,
         _at: u64,
         _parent: Parent,
+        _current: Option<Id>,
         _site: SiteId,
         _callsite: &Callsite,
         _values: &ValueSet,
@@ -235,6 +238,10 @@ impl Subscriber for Registry {
         self.table.release(id)
     }
 
+    fn current_id(&self, lane: u64) -> Option<Id> {
+        current(self.lanes.as_slice(), lane)
+    }
+
     fn current_span(&self, lane: u64) -> Option<(Id, SiteId)> {
         let id = current(self.lanes.as_slice(), lane)?;
         Some((id, self.table.site(id)))
@@ -243,17 +250,6 @@ impl Subscriber for Registry {
 
 impl Discard for Registry {
     fn discard(self) {}
-}
-
-// The span at a place on a lane.
-fn place(lanes: &[LaneEntries], lane: u64, parent: Parent) -> Option<Id>
-    ensures { result ≡ place_on (entries_on lane lanes.now) parent }
-{
-    match parent {
-        Parent::Root => None,
-        Parent::Current => current(lanes, lane),
-        Parent::Of(id) => Some(id),
-    }
 }
 
 // One hold more, unless the span is entered already.

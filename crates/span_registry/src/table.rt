@@ -1,8 +1,8 @@
 //! The spans that are live, each in a slot that is used again after its span closed.
 ghost use Rattle.std.specs.Prelude.{◌≡◌, ◌==◌, ◌+◌, ◌-◌, ◌<◌, ◌≤◌, ◌^◌, ◌∷◌, [], ◌++◌, ℕ, length, take, max, slice_index_or, slice_set, vec_len, vec_capacity, Some, None, OnOk, OnErr, IfSome, IfOk, if◌then◌else◌};
-ghost use Rattle.trace_base.specs.Spans.{Span, no_span, span_at, with_hold, held_by_child, without_hold, next_of};
+ghost use Rattle.trace_base.specs.Spans.{Span, no_span, span_at, with_hold, with_hold_of_child, without_hold, next_of};
 ghost use Rattle.trace_base.specs.Conditions.{IsLive, HasFewHolds};
-ghost use Rattle.span_registry.specs.Tabling.{SlotValue, IsPlace, place_in, slot_value_at, live_spans};
+ghost use Rattle.span_registry.specs.Tabling.{SlotValue, IsPlace, place_in, slot_value_at, live_span_count};
 
 use otel_base::memory::Memory;
 use std::alloc::Global;
@@ -11,7 +11,7 @@ use trace_base::callsite::SiteId;
 use trace_base::span::{Closing, Id};
 
 // So many slots there are at most, since a place is counted in four bytes.
-const MOST: usize = 4_294_967_295;
+const MOST_SLOTS: usize = 4_294_967_295;
 
 // What is kept of a span. A free slot has no holds.
 #[derive(Drop)]
@@ -122,9 +122,9 @@ impl Table {
         requires few { length self.old.made < 2 ^ 63 }
         ensures id { IfOk result (λ id. id ≡ length self.old.made) }
         ensures ok { OnOk result
-            (self.new.made ≡ held_by_child self.old.made above ++ record
+            (self.new.made ≡ with_hold_of_child self.old.made above ++ record
             { holds = 1; parent = above; site = site } ∷ []) }
-        ensures slots { OnOk result (self.new.slots ≡ max self.old.slots (live_spans self.new.made)) }
+        ensures slots { OnOk result (self.new.slots ≡ max self.old.slots (live_span_count self.new.made)) }
         ensures memory_leaves { OnErr result (self.new ≡ self.old) }
     {
         let id = self.push(&above, site)?;
@@ -138,7 +138,7 @@ impl Table {
         ensures id { IfOk result (λ id. id ≡ length self.old.made) }
         ensures ok { OnOk result
             (self.new.made ≡ self.old.made ++ record { holds = 1; parent = above.now; site = site } ∷ []) }
-        ensures slots { OnOk result (self.new.slots ≡ max self.old.slots (live_spans self.new.made)) }
+        ensures slots { OnOk result (self.new.slots ≡ max self.old.slots (live_span_count self.new.made)) }
         ensures memory_leaves { OnErr result (self.new ≡ self.old) }
     {
         let id = Id::at(self.count);
@@ -159,7 +159,7 @@ impl Table {
     fn hold_parent(&mut self, above: Option<Id>)
         requires live { IfSome above (IsLive self.old.made) }
         requires few_holds { IfSome above (HasFewHolds self.old.made) }
-        ensures made { self.new.made ≡ held_by_child self.old.made above }
+        ensures made { self.new.made ≡ with_hold_of_child self.old.made above }
         ensures slots { self.new.slots ≡ self.old.slots }
     {
         if let Some(parent) = above {
@@ -224,7 +224,7 @@ fn put(places: &mut Vec<u32>, id: Id, place: usize) -> Result<(), Memory>
         ((q : ℕ) → place_in places.new.items q ≡ (if id == q then Some place else place_in places.old.items q)) }
     ensures memory_leaves { OnErr result ((q : ℕ) → place_in places.new.items q ≡ place_in places.old.items q) }
 {
-    if place >= MOST {
+    if place >= MOST_SLOTS {
         return Err(Memory);
     }
     reserve_place(places, id)?;

@@ -5,7 +5,7 @@ use Rattle.std.specs.List.{list_any}
 use Rattle.std.proofs.lemmas.Bool.{eqb-true, eq-eqb, ne_eqb, cases_Bool, cases_lt, cond-true, cond-false, or_parts, or_cases, true≢false}
 use Rattle.std.proofs.lemmas.List.{length-set, get_or_past}
 use Rattle.std.proofs.lemmas.List.Sums.{sum_by-cons, sum_by_push}
-use Rattle.trace_base.specs.Spans.{Span, Entries, no_span, span_at, entries_on, with_entries, times_in, first_entries, has_entry, without_last, held_by_child}
+use Rattle.trace_base.specs.Spans.{Span, Entries, no_span, span_at, entries_on, with_entries, times_in, entered_lane_count, has_entry, without_last, with_hold_of_child}
 
 -- a count, one item at a time
 pub count_cons : {X : Type 0} (p : X → Bool) (x : X) (xs : List X) → count_by p (x ∷ xs) ≡ cond {A = ℕ} (p x) 1 0 + count_by p xs
@@ -104,16 +104,16 @@ made_if_held made id live =
       | inr past ↦ absurd (let e = ap (λ (s : Span). s.holds) (get_or_past made id no_span past) in omega (arith, e, live))
     ]
 
-pub length_held : (made : List Span) (above : Option ℕ) → length (held_by_child made above) ≡ length made
+pub length_held : (made : List Span) (above : Option ℕ) → length (with_hold_of_child made above) ≡ length made
 length_held made None = refl
 length_held made (Some p) = length-set made p _
 
 -- no lane has an entry of a span without first entries
-pub no_entries : (lanes : List Entries) (id lane : ℕ) → first_entries lanes id ≡ 0 → times_in id (entries_on lane lanes) ≡ 0
+pub no_entries : (lanes : List Entries) (id lane : ℕ) → entered_lane_count lanes id ≡ 0 → times_in id (entries_on lane lanes) ≡ 0
 no_entries [] id lane none = refl
 no_entries (e ∷ es) id lane none =
     let first = count_cons (has_entry id) e es in
-    let rest : first_entries es id ≡ 0 = omega (arith, first, none) in
+    let rest : entered_lane_count es id ≡ 0 = omega (arith, first, none) in
     elim (cases_Bool (e.lane == lane)) [
       | inl here ↦ elim (cases_Bool (has_entry id e)) [
         | inl has ↦ absurd (omega (arith, first, none, cond-true {A = ℕ} (has_entry id e) 1 0 has))

@@ -5,11 +5,11 @@ use Rattle.std.proofs.lemmas.Bool.{eqb-true, eq-eqb, ne_eqb, cases_eq, cases_Boo
 use Rattle.std.proofs.lemmas.List.{get_or-set_same, get_or-set_other}
 use Rattle.std.proofs.lemmas.List.Folds.{list_any-append}
 use Rattle.std.proofs.lemmas.List.Sums.{sum_by-set}
-use Rattle.trace_base.specs.Spans.{Span, Entries, no_span, span_at, entries_on, with_entries, is_in, times_in, first_entries, has_entry, is_child_of, is_open_child, open_children, without_last, less_hold, current_from}
+use Rattle.trace_base.specs.Spans.{Span, Entries, no_span, span_at, entries_on, with_entries, is_in, times_in, entered_lane_count, has_entry, is_child_of, is_open_child, open_child_count, without_last, less_hold, current_from}
 use Rattle.trace_base.proofs.EntryLemmas.{count_cons, counted_if_any, any_if_counted, none_counted, count_without_last, sum_with}
 
 -- a span written
-pub children_set : (made : List Span) (id : ℕ) (now : Span) (q : ℕ) → id < length made → open_children (set made id now) q + cond {A = ℕ} (is_open_child q (span_at made id)) 1 0 ≡ open_children made q + cond {A = ℕ} (is_open_child q now) 1 0
+pub children_set : (made : List Span) (id : ℕ) (now : Span) (q : ℕ) → id < length made → open_child_count (set made id now) q + cond {A = ℕ} (is_open_child q (span_at made id)) 1 0 ≡ open_child_count made q + cond {A = ℕ} (is_open_child q now) 1 0
 children_set made id now q within = sum_by-set (λ s. cond (is_open_child q s) 1 0) made id now no_span within
 
 pub same_child : (s t : Span) (q : ℕ) → t.parent ≡ s.parent → 0 < s.holds → 0 < t.holds → is_open_child q t ≡ is_open_child q s
@@ -18,7 +18,7 @@ same_child s t q parent live now =
     ∙ ap (is_child_of q) parent
     ∙ sym (cond-false {A = Bool} (0 == s.holds) false (is_child_of q s.parent) (ne_eqb 0 s.holds (λ e. omega (arith, e, live))))
 
-pub keeps_children : (made : List Span) (id : ℕ) (now : Span) → id < length made → now.parent ≡ (span_at made id).parent → 0 < (span_at made id).holds → 0 < now.holds → (q : ℕ) → open_children (set made id now) q ≡ open_children made q
+pub keeps_children : (made : List Span) (id : ℕ) (now : Span) → id < length made → now.parent ≡ (span_at made id).parent → 0 < (span_at made id).holds → 0 < now.holds → (q : ℕ) → open_child_count (set made id now) q ≡ open_child_count made q
 keeps_children made id now within parent live still q =
     let write = children_set made id now q within in
     let same = ap (λ b. cond {A = ℕ} b 1 0) (same_child (span_at made id) now q parent live still) in
@@ -50,7 +50,7 @@ pub holds_other : (made : List Span) (id : ℕ) (now : Span) (q : ℕ) → (q �
 holds_other made id now q other = ap (λ (s : Span). s.holds) (get_or-set_other made id q now no_span other)
 
 -- first entries after the entries of a lane change
-pub first_with : (lanes : List Entries) (lane q : ℕ) (ids : List ℕ) → first_entries (with_entries lane ids lanes) q + cond {A = ℕ} (is_in q (entries_on lane lanes)) 1 0 ≡ first_entries lanes q + cond {A = ℕ} (is_in q ids) 1 0
+pub first_with : (lanes : List Entries) (lane q : ℕ) (ids : List ℕ) → entered_lane_count (with_entries lane ids lanes) q + cond {A = ℕ} (is_in q (entries_on lane lanes)) 1 0 ≡ entered_lane_count lanes q + cond {A = ℕ} (is_in q ids) 1 0
 first_with lanes lane q ids = sum_with (λ xs. cond (is_in q xs) 1 0) lane ids lanes refl
 
 pub in_push : (ids : List ℕ) (id q : ℕ) → is_in q (ids ++ id ∷ []) ≡ (is_in q ids || (id == q || false))
@@ -94,7 +94,7 @@ current_in before now (s ∷ ids) p is =
       ])
     ]
 
-pub first_if_in : (es : List Entries) (lane id : ℕ) → is_in id (entries_on lane es) ≡ true → 0 < first_entries es id
+pub first_if_in : (es : List Entries) (lane id : ℕ) → is_in id (entries_on lane es) ≡ true → 0 < entered_lane_count es id
 first_if_in [] lane id some = absurd (true≢false (sym some))
 first_if_in (e ∷ es) lane id some =
     let count = count_cons (has_entry id) e es in

@@ -2,18 +2,18 @@
 use Rattle.std.proofs.Common.{◌≡◌, ℕ, ◌+◌, List, [], ◌∷◌, ◌++◌, false, cond, refl, sym, ap, subst, ◌∙◌, arith, inl, inr}
 use Rattle.std.specs.Prelude.{◌==◌}
 use Rattle.std.proofs.lemmas.Bool.{eqb-true, eqb-false, eq-eqb, ne_eqb, cases_eq, cases_Bool, cond-true, cond-false}
-use Rattle.trace_base.specs.Spans.{Span, Spans, span_at, entries_on, is_in, times_in, first_entries, without_last, with_hold, less_hold, without_hold}
+use Rattle.trace_base.specs.Spans.{Span, Spans, span_at, entries_on, is_in, times_in, entered_lane_count, without_last, with_hold, less_hold, without_hold}
 use Rattle.trace_base.specs.Calls.{with_span_entry, with_span_exit}
 use Rattle.trace_base.specs.Conditions.{IsLive, MayExit}
 use Rattle.trace_base.proofs.EntryLemmas.{counted_if_any, any_if_counted, made_if_held}
 use Rattle.trace_base.proofs.HoldLemmas.{less_holds, holds_set, holds_other, first_with, in_push_other, in_push_same, in_by_times, times_without}
 
 -- holds and first entries of a span move together at an entry and at an exit
-pub entry_moves : (x : Spans) (id lane q : ℕ) → IsLive x.made id → (span_at (with_span_entry x id lane).made q).holds + first_entries x.lanes q ≡ (span_at x.made q).holds + first_entries (with_span_entry x id lane).lanes q
+pub entry_moves : (x : Spans) (id lane q : ℕ) → IsLive x.made id → (span_at (with_span_entry x id lane).made q).holds + entered_lane_count x.lanes q ≡ (span_at x.made q).holds + entered_lane_count (with_span_entry x id lane).lanes q
 entry_moves x id lane q live =
     let ids = entries_on lane x.lanes in
     let first = first_with x.lanes lane q (ids ++ id ∷ []) in
-    let P : List Span → Type 0 = λ made. (span_at made q).holds + first_entries x.lanes q ≡ (span_at x.made q).holds + first_entries (with_span_entry x id lane).lanes q in
+    let P : List Span → Type 0 = λ made. (span_at made q).holds + entered_lane_count x.lanes q ≡ (span_at x.made q).holds + entered_lane_count (with_span_entry x id lane).lanes q in
     let within = made_if_held x.made id live in
     let now : Span = record (span_at x.made id) { holds = (span_at x.made id).holds + 1 } in
     elim (cases_Bool (is_in id ids)) [
@@ -38,12 +38,12 @@ entry_moves x id lane q live =
       ])
     ]
 
-pub exit_moves : (x : Spans) (id lane q : ℕ) → IsLive x.made id → MayExit x id lane → (span_at (with_span_exit x id lane).made q).holds + first_entries x.lanes q ≡ (span_at x.made q).holds + first_entries (with_span_exit x id lane).lanes q
+pub exit_moves : (x : Spans) (id lane q : ℕ) → IsLive x.made id → MayExit x id lane → (span_at (with_span_exit x id lane).made q).holds + entered_lane_count x.lanes q ≡ (span_at x.made q).holds + entered_lane_count (with_span_exit x id lane).lanes q
 exit_moves x id lane q live may =
     let ids = entries_on lane x.lanes in
     let rest = without_last (λ x. x == id) ids in
     let first = first_with x.lanes lane q rest in
-    let P : List Span → Type 0 = λ made. (span_at made q).holds + first_entries x.lanes q ≡ (span_at x.made q).holds + first_entries (with_span_exit x id lane).lanes q in
+    let P : List Span → Type 0 = λ made. (span_at made q).holds + entered_lane_count x.lanes q ≡ (span_at x.made q).holds + entered_lane_count (with_span_exit x id lane).lanes q in
     let within = made_if_held x.made id live in
     let now : Span = less_hold (span_at x.made id) in
     let fewer = less_holds (span_at x.made id) in

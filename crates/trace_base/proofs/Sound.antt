@@ -4,10 +4,10 @@ use Rattle.std.specs.Prelude.{◌==◌, ◌||◌, IfSome}
 use Rattle.std.proofs.lemmas.Bool.{eqb-true, eqb-false, eq-eqb, ne_eqb, cases_eq, cases_Bool, cases_lt, cond-true, cond-false, or_parts, true≢false}
 use Rattle.std.proofs.lemmas.List.{length-set, length_push, get_or-set_same, get_or-set_other, get_or_past, get_or_push, get_or_append_left}
 use Rattle.trace_base.specs.declared.span.Parent.{Parent}
-use Rattle.trace_base.specs.declared.span.Parent.TheVariants as place
-use Rattle.trace_base.specs.Spans.{Span, Entries, Spans, no_span, span_at, entries_on, with_entries, is_in, times_in, is_child_of, is_open_child, open_children, bound_holds, without_last, with_hold, less_hold, without_hold, current_of, place_on, next_of}
+use Rattle.trace_base.specs.declared.span.Parent.TheVariants as parent
+use Rattle.trace_base.specs.Spans.{Span, Entries, Spans, no_span, span_at, entries_on, with_entries, is_in, times_in, is_child_of, is_open_child, open_child_count, bound_holds, without_last, with_hold, less_hold, without_hold, current_of, parent_on, next_of}
 use Rattle.trace_base.specs.Calls.{SubscriberCall, NewSpan, Records, Follows, Event, Enter, Exit, CloneSpan, TryClose, spans_after_call, with_new_span, with_span_entry, with_span_exit}
-use Rattle.trace_base.specs.Conditions.{Allowed, IsLive, IsLivePlace, HasOwnHold, MayExit}
+use Rattle.trace_base.specs.Conditions.{Allowed, IsLive, IsLiveParent, HasOwnHold, MayExit}
 use Rattle.trace_base.specs.Sound.{IsSound, OneEach, has_lane}
 use Rattle.trace_base.proofs.EntryLemmas.{count_push, counted_if_any, any_if_counted, made_if_held}
 use Rattle.trace_base.proofs.HoldLemmas.{children_set, same_child, keeps_children, less_last, less_more, less_holds, less_under, holds_set, holds_other, first_with, in_push_other, in_push_same, in_by_times, times_without, current_in, first_if_in}
@@ -106,7 +106,7 @@ sound_entered spans id lane sound live =
                   | inr other ↦ in_push_other ids id q other
                 ] in
                 let e = ap (λ b. cond {A = ℕ} b 1 0) stays in
-                let m = ap (λ (xs : List Span). open_children xs q) same in
+                let m = ap (λ (xs : List Span). open_child_count xs q) same in
                 let h = ap (λ (xs : List Span). (span_at xs q).holds) same in
                 let before = sound.bound q in
                 omega (arith, first, e, m, h, before));
@@ -120,7 +120,7 @@ sound_entered spans id lane sound live =
           record {
             bound = λ q. (
                 let first = first_with spans.lanes lane q (ids ++ id ∷ []) in
-                let m = ap (λ (xs : List Span). open_children xs q) same in
+                let m = ap (λ (xs : List Span). open_child_count xs q) same in
                 let h = ap (λ (xs : List Span). (span_at xs q).holds) same in
                 let children = keeps_children spans.made id now within refl live (omega arith) q in
                 let before = sound.bound q in
@@ -178,7 +178,7 @@ sound_exited spans id lane sound may =
           record {
             bound = λ q. (
                 let first = first_with spans.lanes lane q rest in
-                let m = ap (λ (xs : List Span). open_children xs q) same in
+                let m = ap (λ (xs : List Span). open_child_count xs q) same in
                 let h = ap (λ (xs : List Span). (span_at xs q).holds) same in
                 let children = keeps_children spans.made id now within parent live (omega (arith, more, fewer)) q in
                 let before = sound.bound q in
@@ -208,7 +208,7 @@ sound_exited spans id lane sound may =
                   | inr other ↦ others q other
                 ] in
                 let e = ap (λ b. cond {A = ℕ} b 1 0) stays in
-                let m = ap (λ (xs : List Span). open_children xs q) same in
+                let m = ap (λ (xs : List Span). open_child_count xs q) same in
                 let h = ap (λ (xs : List Span). (span_at xs q).holds) same in
                 let before = sound.bound q in
                 omega (arith, first, e, m, h, before));
@@ -274,7 +274,7 @@ sound_new spans (Some p) site sound live =
     parent_held.older
     (λ r e. (let same : p ≡ r = cc e in let l = length-set spans.made p now in omega (arith, same, within, l))) sound.one_row
 
--- a place names a span that was made and is live
+-- a parent is a span that was made and is live
 if_some : (o : Option ℕ) (P : ℕ → Type 0) → ((p : ℕ) → o ≡ Some p → P p) → IfSome o P
 if_some None P f = tt
 if_some (Some p) P f = f p refl
@@ -286,10 +286,10 @@ current_live spans lane p sound is =
       | inr there ↦ (let first = first_if_in spans.lanes lane p there in let b = sound.bound p in omega (arith, first, b))
     ]
 
-pub place_live : (spans : Spans) (lane : ℕ) (parent : Parent) → IsSound spans → IsLivePlace spans.made parent → IfSome (place_on (entries_on lane spans.lanes) parent) (λ p. IsLive spans.made p)
-place_live spans lane place.Root sound live = tt
-place_live spans lane place.Current sound live = if_some (current_of (entries_on lane spans.lanes)) (λ p. IsLive spans.made p) (λ p is. current_live spans lane p sound is)
-place_live spans lane (place.Of id) sound live = live
+pub parent_live : (spans : Spans) (lane : ℕ) (parent : Parent) → IsSound spans → IsLiveParent spans.made parent → IfSome (parent_on (entries_on lane spans.lanes) parent) (λ p. IsLive spans.made p)
+parent_live spans lane parent.Root sound live = tt
+parent_live spans lane parent.Current sound live = if_some (current_of (entries_on lane spans.lanes)) (λ p. IsLive spans.made p) (λ p is. current_live spans lane p sound is)
+parent_live spans lane (parent.Of id) sound live = live
 
 pub place_made : (made : List Span) (o : Option ℕ) → IfSome o (λ p. IsLive made p) → IfSome o (λ p. p < length made)
 place_made made None live = tt
@@ -318,10 +318,10 @@ next_own spans id sound own =
     ]
 
 pub sound_call : (x : Spans) (call : SubscriberCall) → IsSound x → Allowed x call → IsSound (spans_after_call x call)
-sound_call x (NewSpan lane at place site callsite values) sound allowed = sound_new x (place_on (entries_on lane.id x.lanes) place) site sound (place_live x lane.id place sound allowed)
+sound_call x (NewSpan lane at parent site callsite values) sound allowed = sound_new x (parent_on (entries_on lane.id x.lanes) parent) site sound (parent_live x lane.id parent sound allowed)
 sound_call x (Records id at callsite values) sound allowed = sound
 sound_call x (Follows id from at) sound allowed = sound
-sound_call x (Event lane at place site callsite values) sound allowed = sound
+sound_call x (Event lane at parent site callsite values) sound allowed = sound
 sound_call x (Enter id at pre later) sound allowed = sound_entered x id pre.id sound allowed
 sound_call x (Exit id at pre later) sound allowed = sound_exited x id pre.id sound allowed
 sound_call x (CloneSpan id) sound allowed = sound_held x id sound allowed

@@ -4,7 +4,7 @@ use Rattle.trace_base.specs.declared.callsite.Callsite.{Callsite}
 use Rattle.trace_base.specs.declared.field.ValueSet.{ValueSet}
 use Rattle.trace_base.specs.declared.lane.Lane.{Lane}
 use Rattle.trace_base.specs.declared.span.Parent.{Parent}
-use Rattle.trace_base.specs.Spans.{Spans, entries_on, with_entries, is_in, times_in, without_last, place_on, with_hold, without_hold, held_by_child}
+use Rattle.trace_base.specs.Spans.{Spans, entries_on, with_entries, is_in, times_in, without_last, parent_on, with_hold, without_hold, with_hold_of_child}
 
 -- The calls of a subscriber. An entry and an exit tell the lane before and after.
 pub data SubscriberCall : Type 0 where
@@ -19,7 +19,7 @@ pub data SubscriberCall : Type 0 where
 
 -- a span made, under its parent
 abbrev pub with_new_span : Spans → Option ℕ → ℕ → Spans
-with_new_span spans above site = record spans { made = held_by_child spans.made above ++ record { holds = 1; parent = above; site = site } ∷ [] }
+with_new_span spans above site = record spans { made = with_hold_of_child spans.made above ++ record { holds = 1; parent = above; site = site } ∷ [] }
 
 -- an entry more on a lane, which is a hold where it is the first of its span there
 abbrev pub with_span_entry : Spans → ℕ → ℕ → Spans
@@ -37,10 +37,10 @@ with_span_exit spans id lane = record {
 
 -- what a call makes of the spans
 abbrev pub spans_after_call : Spans → SubscriberCall → Spans
-spans_after_call spans (NewSpan lane at place site callsite values) = with_new_span spans (place_on (entries_on lane.id spans.lanes) place) site
+spans_after_call spans (NewSpan lane at parent site callsite values) = with_new_span spans (parent_on (entries_on lane.id spans.lanes) parent) site
 spans_after_call spans (Records id at callsite values) = spans
 spans_after_call spans (Follows id from at) = spans
-spans_after_call spans (Event lane at place site callsite values) = spans
+spans_after_call spans (Event lane at parent site callsite values) = spans
 spans_after_call spans (Enter id at before later) = with_span_entry spans id before.id
 spans_after_call spans (Exit id at before later) = with_span_exit spans id before.id
 spans_after_call spans (CloneSpan id) = record spans { made = with_hold spans.made id }

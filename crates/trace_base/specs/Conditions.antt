@@ -2,18 +2,18 @@
 use Rattle.std.specs.Prelude.{◌≡◌, ℕ, ◌<◌, ◌^◌, List, length, IfSome}
 use Rattle.trace_base.specs.declared.span.Parent.{Parent}
 use Rattle.trace_base.specs.declared.span.Parent.TheVariants as parent
-use Rattle.trace_base.specs.Spans.{Span, Spans, span_at, entries_on, times_in, place_on, bound_holds}
+use Rattle.trace_base.specs.Spans.{Span, Spans, span_at, entries_on, times_in, parent_on, bound_holds}
 use Rattle.trace_base.specs.Calls.{SubscriberCall, NewSpan, Records, Follows, Event, Enter, Exit, CloneSpan, TryClose}
 
 -- a span that has a hold
 abbrev pub IsLive : List Span → ℕ → Type 0
 IsLive made id = 0 < (span_at made id).holds
 
--- a place that names no span, or one that is live
-abbrev pub IsLivePlace : List Span → Parent → Type 0
-IsLivePlace made parent.Root = Unit {0}
-IsLivePlace made parent.Current = Unit {0}
-IsLivePlace made (parent.Of id) = IsLive made id
+-- a parent that is no span, or one that is live
+abbrev pub IsLiveParent : List Span → Parent → Type 0
+IsLiveParent made parent.Root = Unit {0}
+IsLiveParent made parent.Current = Unit {0}
+IsLiveParent made (parent.Of id) = IsLive made id
 
 -- a span with a hold beside those of its entries and its open children
 abbrev pub HasOwnHold : Spans → ℕ → Type 0
@@ -25,10 +25,10 @@ MayExit spans id lane = (0 < times_in id (entries_on lane spans.lanes)) × (time
 
 -- what a call needs of the spans
 abbrev pub Allowed : Spans → SubscriberCall → Type 0
-Allowed spans (NewSpan lane at place site callsite values) = IsLivePlace spans.made place
+Allowed spans (NewSpan lane at parent site callsite values) = IsLiveParent spans.made parent
 Allowed spans (Records id at callsite values) = IsLive spans.made id
 Allowed spans (Follows id from at) = IsLive spans.made id × IsLive spans.made from
-Allowed spans (Event lane at place site callsite values) = IsLivePlace spans.made place
+Allowed spans (Event lane at parent site callsite values) = IsLiveParent spans.made parent
 Allowed spans (Enter id at before later) = IsLive spans.made id
 Allowed spans (Exit id at before later) = MayExit spans id before.id
 Allowed spans (CloneSpan id) = IsLive spans.made id
@@ -41,6 +41,6 @@ HasFewHolds made id = (span_at made id).holds < 2 ^ 63
 abbrev pub AreFew : Spans → Type 0
 AreFew spans = length spans.made < 2 ^ 63
 
--- the same of the parent that a new span gets at a place on a lane
+-- the same of the span that is the parent of a new one on a lane
 abbrev pub HasFewHoldsAbove : Spans → ℕ → Parent → Type 0
-HasFewHoldsAbove spans lane place = IfSome (place_on (entries_on lane spans.lanes) place) (HasFewHolds spans.made)
+HasFewHoldsAbove spans lane parent = IfSome (parent_on (entries_on lane spans.lanes) parent) (HasFewHolds spans.made)

@@ -74,5 +74,5 @@ pub record IsCached (sites subscribers : ℕ) (cached : List (List Interest)) (g
   pub there : (d : ℕ) → global ≡ Some d → d < subscribers
 
 -- a subscriber, if there is one, is of the world
-abbrev pub IsOwn : {S : Type 0} → Worlds S → Option ℕ → Type 0
-IsOwn world dispatch = IfSome dispatch (λ d. d < length world.subscribers)
+abbrev pub IsInWorld : {S : Type 0} → Worlds S → Option ℕ → Type 0
+IsInWorld world dispatch = IfSome dispatch (λ d. d < length world.subscribers)

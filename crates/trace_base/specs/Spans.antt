@@ -51,8 +51,8 @@ abbrev pub has_entry : ℕ → Entries → Bool
 has_entry id e = is_in id e.ids
 
 -- on how many lanes a span is entered: each has a first entry of it
-abbrev pub first_entries : List Entries → ℕ → ℕ
-first_entries lanes id = count_by (has_entry id) lanes
+abbrev pub entered_lane_count : List Entries → ℕ → ℕ
+entered_lane_count lanes id = count_by (has_entry id) lanes
 
 -- that parent is the span
 abbrev pub is_child_of : ℕ → Option ℕ → Bool
@@ -64,12 +64,12 @@ abbrev pub is_open_child : ℕ → Span → Bool
 is_open_child id span = if 0 == span.holds then false else is_child_of id span.parent
 
 -- how many open children a span has
-abbrev pub open_children : List Span → ℕ → ℕ
-open_children made id = count_by (is_open_child id) made
+abbrev pub open_child_count : List Span → ℕ → ℕ
+open_child_count made id = count_by (is_open_child id) made
 
 -- how many holds of a span are those of its entries and its open children
 abbrev pub bound_holds : Spans → ℕ → ℕ
-bound_holds spans id = first_entries spans.lanes id + open_children spans.made id
+bound_holds spans id = entered_lane_count spans.lanes id + open_child_count spans.made id
 
 -- the list without the last of its items that passes
 abbrev pub without_last : {X : Type 0} → (X → Bool) → List X → List X
@@ -85,11 +85,15 @@ current_from before now (s ∷ ids) = current_from (before ++ s ∷ []) (if is_i
 abbrev pub current_of : List ℕ → Option ℕ
 current_of ids = current_from [] None ids
 
--- the span that a place names on a lane with these entries
-abbrev pub place_on : List ℕ → Parent → Option ℕ
-place_on ids parent.Root = None
-place_on ids parent.Current = current_of ids
-place_on ids (parent.Of id) = Some id
+-- the span that a parent names where this one is current
+abbrev pub named_span : Option ℕ → Parent → Option ℕ
+named_span current parent.Root = None
+named_span current parent.Current = current
+named_span current (parent.Of id) = Some id
+
+-- the same on a lane with these entries
+abbrev pub parent_on : List ℕ → Parent → Option ℕ
+parent_on ids parent = named_span (current_of ids) parent
 
 -- a span with one hold less; of one that closes nothing is kept
 abbrev pub less_hold : Span → Span
@@ -103,9 +107,9 @@ abbrev pub without_hold : List Span → ℕ → List Span
 without_hold made id = slice_set made id (less_hold (span_at made id))
 
 -- the same of the parent of a new span, if it has one
-abbrev pub held_by_child : List Span → Option ℕ → List Span
-held_by_child made None = made
-held_by_child made (Some p) = with_hold made p
+abbrev pub with_hold_of_child : List Span → Option ℕ → List Span
+with_hold_of_child made None = made
+with_hold_of_child made (Some p) = with_hold made p
 
 -- the current span of a lane, with its callsite's site
 abbrev pub current_on : ℕ → Spans → Option (ℕ × ℕ)

@@ -3,7 +3,7 @@ ghost use Rattle.std.specs.Prelude.{◌≡◌, ◌≢◌, ◌↔◌, ◌<◌, So
 ghost use Rattle.std.specs.Fn.{FnOnceReturnsAtMut};
 ghost use Rattle.trace_base.specs.declared.dispatcher.TryInitError.TheVariants.{AlreadySet};
 ghost use Rattle.trace_base.specs.lanes.Default.{with_own};
-ghost use Rattle.trace_base.specs.Gate.{IsOwn, dispatch_on};
+ghost use Rattle.trace_base.specs.Gate.{IsInWorld, dispatch_on};
 
 use crate::lane::Lane;
 use crate::subscriber::Subscriber;
@@ -65,7 +65,7 @@ impl Error for TryInitError {}
 /// `tracing_core::dispatcher::get_default`.
 pub fn get_default<S: Subscriber>(world: &World<S>, lane: &Lane) -> Option<Dispatch>
     ensures value { result ≡ dispatch_on lane.now.default world.now.global }
-    ensures there { IsOwn world.now lane.now.default → IsOwn world.now result }
+    ensures there { IsInWorld world.now lane.now.default → IsInWorld world.now result }
 {
     either(&lane.default, &world.global())
 }

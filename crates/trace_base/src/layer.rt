@@ -77,7 +77,7 @@ pub trait Layer {
         ensures ready { IfOk result (ready self.new (ForNewSpan lane.now callsite.now values.now)) }
         ensures leaves { same self.old self.new };
 
-    /// A span was made at a place, while `current` was the lane's current span; `Layer::on_new_span`.
+    /// A span was made under a parent, while `current` was the lane's current span; `Layer::on_new_span`.
     fn on_new_span(
         &mut self,
         prepared: Self::Ready,
@@ -206,6 +206,9 @@ pub trait Layer {
 
     /// As many contexts are attached or detached as it keeps more or less.
     ghost lanes: { (s : Self) (hook : Hook) (t : Self) → does s hook t → HookLanes (attaches s) (kept s) hook (kept t) };
+
+    /// Only entries keep something attached: on a lane without them nothing is.
+    ghost kept_by_entries: { (s : Self) (lane number : ℕ) → ((id : ℕ) → (seen s).entries lane id ≡ 0) → kept s lane number ≡ 0 };
 
     /// An entry of a span that it doesn't know leaves a lane's contexts as they are.
     ghost passive: { (s : Self) (id at : ℕ) (before later : Lane) (t : Self) → does s (OnEnter id at before later) t → (seen s).knows id ≡ false → later.contexts.live ≡ before.contexts.live };

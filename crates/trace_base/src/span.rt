@@ -1,5 +1,6 @@
 //! Ids of spans, the places that new ones are given, and what a close answers.
 ghost use Rattle.std.specs.Prelude.{◌≡◌, ◌+◌, ◌^◌, ◌<◌, ℕ, Option};
+ghost use Rattle.trace_base.specs.Spans.{named_span};
 
 use std::marker::Model;
 
@@ -68,7 +69,7 @@ pub trait AsId {
         ensures { result ≡ id_of self.now };
 }
 
-/// The place that a new span or an event is given.
+/// Where a new span or an event goes: the parent that it is given.
 #[derive(Clone, Copy, PartialEq, Eq)]
 pub enum Parent {
     /// It is a root, whatever the lane's current span is.
@@ -77,6 +78,19 @@ pub enum Parent {
     Current,
     /// Under this span.
     Of(Id),
+}
+
+impl Parent {
+    /// The span that it names on a lane with this current span.
+    pub fn span(self, current: Option<Id>) -> Option<Id>
+        ensures { result ≡ named_span current self }
+    {
+        match self {
+            Parent::Root => None,
+            Parent::Current => current,
+            Parent::Of(id) => Some(id),
+        }
+    }
 }
 
 /// What the release of a hold answers.

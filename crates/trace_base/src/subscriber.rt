@@ -1,16 +1,16 @@
 //! Subscribers: what is told of spans and events, and what it answers.
-ghost use Rattle.std.specs.Prelude.{◌≡◌, ◌↔◌, ◌<◌, ◌==◌, ℕ, Bool, Option, true, false, length, IfOk, OnOk, OnErr, IsErr, IfSome, Err, IsTrue};
+ghost use Rattle.std.specs.Prelude.{◌≡◌, ◌↔◌, ◌<◌, ◌==◌, ℕ, Bool, Option, [], true, false, length, IfOk, OnOk, OnErr, IsErr, IfSome, Err, IsTrue};
 ghost use Rattle.otel_base.specs.declared.enter_error.EnterError.TheVariants.{Full};
 ghost use Rattle.trace_base.specs.declared.callsite.Callsite.{Callsite};
 ghost use Rattle.trace_base.specs.declared.lane.Lane.{Lane};
 ghost use Rattle.trace_base.specs.declared.level.LevelFilter.{LevelFilter};
 ghost use Rattle.trace_base.specs.declared.subscriber.Interest.{Interest};
 ghost use Rattle.trace_base.specs.declared.subscriber.Interest.TheVariants as interest;
-ghost use Rattle.trace_base.specs.Spans.{Spans, span_at, current_on, next_of};
+ghost use Rattle.trace_base.specs.Spans.{Spans, span_at, current_on, current_of, entries_on, next_of};
 ghost use Rattle.trace_base.specs.Calls.{SubscriberCall, NewSpan, Records, Follows, Event, Enter, Exit, CloneSpan, TryClose, spans_after_call};
-ghost use Rattle.trace_base.specs.Conditions.{Allowed, IsLive, IsLivePlace, HasFewHolds, HasFewHoldsAbove, AreFew, MayExit, HasOwnHold};
+ghost use Rattle.trace_base.specs.Conditions.{Allowed, IsLive, IsLiveParent, HasFewHolds, HasFewHoldsAbove, AreFew, MayExit, HasOwnHold};
 ghost use Rattle.trace_base.specs.Sound.{IsSound};
-ghost use Rattle.trace_base.specs.lanes.Contexts.{AreAttached, KeepsLane, KeepsLive, IsFull, Lanes};
+ghost use Rattle.trace_base.specs.lanes.Contexts.{AreAttached, KeepsLane, KeepsLive, IsFull, CallLanes};
 
 use crate::callsite::{Callsite, SiteId};
 use crate::field::ValueSet;
@@ -120,18 +120,21 @@ pub trait Subscriber {
     fn max_level_hint(&self) -> Option<LevelFilter>
         ensures { result ≡ hint self.now };
 
-    /// Makes a span at a place, with one hold; `Subscriber::new_span`. Its id is the number of those made before it.
+    /// Makes a span at a place, with one hold, while `current` is the lane's current span; `Subscriber::new_span`. Its id
+    /// is the number of those made before it.
     fn new_span(
         &mut self,
         lane: &Lane,
         at: u64,
         parent: Parent,
+        current: Option<Id>,
         site: SiteId,
         callsite: &Callsite,
         values: &ValueSet,
     ) -> Result<Id, Memory>
         requires whole { is_whole self.old }
-        requires live { IsLivePlace (spans self.old).made parent }
+        requires live { IsLiveParent (spans self.old).made parent }
+        requires current { current ≡ current_of (entries_on lane.now.id (spans self.old).lanes) }
         requires few { AreFew (spans self.old) }
         requires few_holds { HasFewHoldsAbove (spans self.old) lane.now.id parent }
         ensures id { IfOk result (λ id. id ≡ length (spans self.old).made) }
@@ -159,18 +162,21 @@ pub trait Subscriber {
         ensures did { OnOk result (does self.old (Follows id from at) self.new) }
         ensures memory_leaves { OnErr result (same self.old self.new) };
 
-    /// Records an event, on the span at its place if there is one; `Subscriber::event`.
+    /// Records an event, on the span at its place if there is one, while `current` is the lane's current span;
+    /// `Subscriber::event`.
     fn event(
         &mut self,
         lane: &Lane,
         at: u64,
         parent: Parent,
+        current: Option<Id>,
         site: SiteId,
         callsite: &Callsite,
         values: &ValueSet,
     ) -> Result<(), Memory>
         requires whole { is_whole self.old }
-        requires live { IsLivePlace (spans self.old).made parent }
+        requires live { IsLiveParent (spans self.old).made parent }
+        requires current { current ≡ current_of (entries_on lane.now.id (spans self.old).lanes) }
         ensures did { OnOk result (does self.old (Event lane.now at parent site callsite.now values.now) self.new) }
         ensures memory_leaves { OnErr result (same self.old self.new) };
 
@@ -212,6 +218,11 @@ pub trait Subscriber {
         ensures next_held { IfSome result.next (λ p. (p < id) × HasOwnHold (spans self.new) p) }
         ensures did { does self.old (TryClose id at) self.new };
 
+    /// A lane's current span, if there is one: what `new_span` and `event` are told.
+    fn current_id(&self, lane: u64) -> Option<Id>
+        requires whole { is_whole self.now }
+        ensures value { result ≡ current_of (entries_on lane (spans self.now).lanes) };
+
     /// A lane's current span, which is live, with its callsite; `Subscriber::current_span`.
     fn current_span(&self, lane: u64) -> Option<(Id, SiteId)>
         requires whole { is_whole self.now }
@@ -248,7 +259,10 @@ pub trait Subscriber {
     ghost shows: { (s : Self) (call : SubscriberCall) (t : Self) → does s call t → spans t ≡ spans_after_call (spans s) call };
 
     /// As many contexts are attached or detached as it keeps more or less.
-    ghost lanes: { (s : Self) (call : SubscriberCall) (t : Self) → does s call t → Lanes (attaches s) (kept s) call (kept t) };
+    ghost lanes: { (s : Self) (call : SubscriberCall) (t : Self) → does s call t → CallLanes (attaches s) (kept s) call (kept t) };
+
+    /// Only entries keep something attached: on a lane without them nothing is.
+    ghost kept_by_entries: { (s : Self) (lane number : ℕ) → is_whole s → entries_on lane (spans s).lanes ≡ [] → kept s lane number ≡ 0 };
 
     /// An entry that attaches no context leaves a lane's contexts as they are.
     ghost passive: { (s : Self) (id at : ℕ) (before later : Lane) (t : Self) → does s (Enter id at before later) t → activates s id ≡ false → later.contexts.live ≡ before.contexts.live };

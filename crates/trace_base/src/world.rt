@@ -1,6 +1,6 @@
 //! Worlds: callsites, subscribers, and the gate between them.
 ghost use Rattle.std.specs.Prelude.{◌≡◌, ◌<◌, ◌≤◌, ℕ, Bool, Option, List, [], ◌∷◌, ◌++◌, map, take, length, Some, None, OnOk, OnErr, IfSome, IfOk, IfErr, slice_get};
-ghost use Rattle.trace_base.specs.Gate.{Worlds, gate, is_hinted, dispatch_on, Admits, AdmitsFresh, IsFresh, AreSame, HasRows, IsOwn, interests_in, interests_of_sites};
+ghost use Rattle.trace_base.specs.Gate.{Worlds, gate, is_hinted, dispatch_on, Admits, AdmitsFresh, IsFresh, AreSame, HasRows, IsInWorld, interests_in, interests_of_sites};
 ghost use Rattle.std.specs.Borrow.{sem};
 ghost use Rattle.trace_base.specs.Lending.{LendsSubscriber};
 
@@ -187,7 +187,7 @@ impl<S: Subscriber> World<S> {
     /// `tracing` make. No where no subscriber serves the lane.
     pub fn admits(&self, lane: &Lane, site: SiteId) -> bool
         requires site { site < length self.now.sites }
-        requires own { IsOwn self.now lane.now.default }
+        requires own { IsInWorld self.now lane.now.default }
         ensures { Admits S.hint S.enables self.now lane.now.id site (dispatch_on lane.now.default self.now.global) result }
     {
         match either(&lane.default, &self.global) {
@@ -209,7 +209,7 @@ impl<S: Subscriber> World<S> {
     /// The global subscriber, if one is set.
     pub(crate) fn global(&self) -> Option<Dispatch>
         ensures value { result ≡ self.now.global }
-        ensures there { IsOwn self.now result }
+        ensures there { IsInWorld self.now result }
     {
         match &self.global {
             Some(dispatch) => Some(*dispatch),

@@ -1,20 +1,20 @@
 -- What the gate's answer makes of a call that stands for a macro.
 use Rattle.std.proofs.Common.{◌≡◌, ℕ, ◌+◌, ◌<◌, length, Bool, true, false, Option, Some, None, Result, Ok, Err, refl, sym, ◌∙◌, arith, OnOk, OnErr, IfOk}
 use Rattle.std.proofs.lemmas.Bool.{true≢false}
-use Rattle.traced.proofs.Common.{Memory, Callsite, ValueSet, Lane, Parent, Ghosts, Worlds, Admits, IsOwn, dispatch_on, Handle, no_handle, IsKnown, MakesIf, MayMakeIf, ReplacedIf, KeepsHandles, IsLawful, CanMake, CanTell, AnswersGate, MakesOne, TellsEventIf, TellsOne, MakesIfAnswered}
+use Rattle.traced.proofs.Common.{Memory, Callsite, ValueSet, Lane, Parent, Ghosts, Worlds, Admits, IsInWorld, dispatch_on, Handle, no_handle, IsKnown, MakesIf, MayMakeIf, ReplacedIf, KeepsHandles, IsLawful, CanMake, CanTell, AnswersGate, MakesOne, TellsEventIf, TellsOne, MakesIfAnswered}
 use Rattle.trace_base.specs.declared.level.LevelFilter.{LevelFilter}
 use Rattle.traced.proofs.changes.Restored.{unchanged}
 use Rattle.traced.proofs.Moves.{get_there, later, made, made_one, made_global, made_count, made_can_close, none_made}
 
 -- the gate has one answer
-pub one_answer : {S : Type 0} (hint : S → Option LevelFilter) (enables : S → ℕ → Callsite → Bool) (world : Worlds S) (lane site : ℕ) (o : Option ℕ) (a b : Bool) → IsOwn world o → site < length world.sites → Admits hint enables world lane site o a → Admits hint enables world lane site o b → a ≡ b
+pub one_answer : {S : Type 0} (hint : S → Option LevelFilter) (enables : S → ℕ → Callsite → Bool) (world : Worlds S) (lane site : ℕ) (o : Option ℕ) (a b : Bool) → IsInWorld world o → site < length world.sites → Admits hint enables world lane site o a → Admits hint enables world lane site o b → a ≡ b
 one_answer hint enables world lane site None a b own there first second = first ∙ sym second
 one_answer hint enables world lane site (Some d) a b own there first second =
     let s = get_there world.subscribers d own in
     let c = get_there world.sites site there in
     first s.0 c.0 s.1 c.1 ∙ sym (second s.0 c.0 s.1 c.1)
 
-own_if : {S : Type 0} (sub : Ghosts S) (world : Worlds S) (lane : ℕ) (parent : Parent) (o : Option ℕ) → MayMakeIf sub.spans sub.is_whole world lane parent o → IsOwn world o
+own_if : {S : Type 0} (sub : Ghosts S) (world : Worlds S) (lane : ℕ) (parent : Parent) (o : Option ℕ) → MayMakeIf sub.spans sub.is_whole world lane parent o → IsInWorld world o
 own_if sub world lane parent None may = tt
 own_if sub world lane parent (Some d) may = may.there
 
@@ -57,7 +57,7 @@ module _ {S : Type 0} (sub : Ghosts S) (old new : Worlds S) (lane : Lane) (at : 
     closes = record { known = tt; whole = tt };
     newest = λ dispatch serves. record {
       known = λ held known. known;
-      held = record { known = tt; own = tt };
+      held = record { known = tt; of_dispatch = tt };
       is_new = tt;
       newest = unchanged _ _ refl;
     };
@@ -67,12 +67,12 @@ module _ {S : Type 0} (sub : Ghosts S) (old new : Worlds S) (lane : Lane) (at : 
 
 -- an event that the lane's subscriber is told
 module _ {S : Type 0} (sub : Ghosts S) (old new : Worlds S) (lane : Lane) (at : ℕ) (parent : Parent) (site : ℕ) (values : ValueSet) where
-  told_at : (o : Option ℕ) (result : Result (Unit {0}) Memory) → dispatch_on lane.default old.global ≡ o → Admits sub.hint sub.enables old lane.id site o true → OnOk result (TellsEventIf sub old new lane at parent site values o) → OnOk result (TellsOne sub old new lane at parent site values)
+  told_at : (o : Option ℕ) (result : Result (Unit {0}) Memory) → dispatch_on lane.default old.global ≡ o → Admits sub.hint sub.enables old lane.id site o true → OnOk result (TellsEventIf sub.does old new lane at parent site values o) → OnOk result (TellsOne sub old new lane at parent site values)
   told_at None result serves answer did = absurd (true≢false answer)
   told_at (Some d) (Ok done) serves answer did = record { dispatch = d; serves = serves; told = did }
   told_at (Some d) (Err memory) serves answer did = tt
 
-  pub tells_one : (result : Result (Unit {0}) Memory) → AnswersGate sub old lane site true → OnOk result (TellsEventIf sub old new lane at parent site values (dispatch_on lane.default old.global)) → OnOk result (TellsOne sub old new lane at parent site values)
+  pub tells_one : (result : Result (Unit {0}) Memory) → AnswersGate sub old lane site true → OnOk result (TellsEventIf sub.does old new lane at parent site values (dispatch_on lane.default old.global)) → OnOk result (TellsOne sub old new lane at parent site values)
   tells_one result answer did = told_at (dispatch_on lane.default old.global) result refl answer did
 
 -- the gate doesn't both let it through and hold it back

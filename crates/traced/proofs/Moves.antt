@@ -1,9 +1,9 @@
 -- What each call keeps and makes.
 use Rattle.std.proofs.Common.{◌≡◌, ℕ, zero, suc, ◌+◌, ◌≤◌, ◌<◌, List, [], ◌∷◌, length, Option, Some, None, Result, Ok, Err, refl, sym, ap, ◌∙◌, subst, arith, inl, inr, count_by, slice_get, ◌==◌, OnOk, OnErr, IfOk, IfSome}
-use Rattle.traced.proofs.Common.{option_map_or, cases_eq, get_or_past, Memory, ValueSet, Callsite, Lane, Parent, Ghosts, Worlds, dispatch_on, Span, Spans, no_span, span_at, entries_on, place_on, SubscriberCall, NewSpan, Event, Enter, Exit, spans_after_call, IsLive, IsLivePlace, KeepsAttached, Replaced, Shown, Alike, Chain, ChainShown, spans_in, kept_in, no_spans, Held, Handle, IsKnown, IsOf, HasOn, Makes, MakesIf, MayMakeIf, ReplacedIf, ReplacedOn, EntryGuard, LeavesLane, KeepsKnown, KeepsHandles, KeepsOthers, as_many, shown, alike, chain_shown, IsLawful, AreAtMost, AreServed, StandsReady, IsHeld, CanClose, IsAsBefore, IsOfNewest, HadNoHandle, HasMade, IsLiveOn, IsEntered, HasEntered, TellsEventIf, Enters, Refuses, Stays}
+use Rattle.traced.proofs.Common.{option_map_or, cases_eq, get_or_past, Memory, ValueSet, Callsite, Lane, Parent, Ghosts, Worlds, dispatch_on, Span, Spans, no_span, span_at, entries_on, parent_on, SubscriberCall, NewSpan, Event, Enter, Exit, spans_after_call, IsLive, IsLiveParent, KeepsAttached, Replaced, Shown, Alike, Chain, ChainShown, spans_in, kept_in, no_spans, Held, Handle, IsKnown, IsOf, HasOn, Makes, MakesIf, MayMakeIf, ReplacedIf, ReplacedOn, EntryGuard, LeavesLane, KeepsKnown, KeepsHandles, KeepsOthers, as_many, shown, alike, chain_shown, IsLawful, AreAtMost, AreServed, StandsReady, IsHeld, CanClose, IsAsBefore, IsOfNewest, HadNoHandle, HasMade, IsLiveOn, IsEntered, HasEntered, TellsEventIf, Enters, Refuses, Stays}
 use Rattle.otel_base.specs.declared.enter_error.EnterError.{EnterError}
 use Rattle.trace_base.specs.Sound.{IsSound}
-use Rattle.trace_base.proofs.Sound.{place_live}
+use Rattle.trace_base.proofs.Sound.{parent_live}
 use Rattle.span_handles.proofs.KnownHandlesLemmas.{handles_same}
 use Rattle.traced.proofs.changes.Counts.{more, with_new, with_entry, with_exit, with_closes}
 use Rattle.traced.proofs.changes.Restored.{unchanged, closes, exits, IsReleasedOn, IsExitedOn}
@@ -87,9 +87,9 @@ module _ {S : Type 0} (sub : Ghosts S) (law : IsLawful sub) where
       let call : SubscriberCall = Event lane at parent site callsite values in
       stays_step sub (λ s t. sub.does s call t) (λ s t e. law.shows s call t e) (λ s t e. law.keeps_attaches s call t e) (λ s t e. law.lanes s call t e) (λ s t e. law.keeps_whole s call t e) old new dispatch r
 
-  pub told_if : (old new : Worlds S) (lane : Lane) (at : ℕ) (parent : Parent) (site : ℕ) (values : ValueSet) (o : Option ℕ) (result : Result (Unit {0}) Memory) → OnOk result (TellsEventIf sub old new lane at parent site values o) → OnErr result (ReplacedIf sub.same old new o) → Stays sub old new
+  pub told_if : (old new : Worlds S) (lane : Lane) (at : ℕ) (parent : Parent) (site : ℕ) (values : ValueSet) (o : Option ℕ) (result : Result (Unit {0}) Memory) → OnOk result (TellsEventIf sub.does old new lane at parent site values o) → OnErr result (ReplacedIf sub.same old new o) → Stays sub old new
   told_if old new lane at parent site values None (Ok done) did left = stays_same sub old new did
-  told_if old new lane at parent site values (Some d) (Ok done) did left = told old new d lane at parent site did.callsite values did.did
+  told_if old new lane at parent site values (Some d) (Ok done) did left = told old new d lane at parent site did.callsite values did.told
   told_if old new lane at parent site values o (Err memory) did left = room_stays_if old new o left
 
   -- the same lanes are served by a subscriber that a call leaves as it is
@@ -112,7 +112,7 @@ module _ {S : Type 0} (sub : Ghosts S) (law : IsLawful sub) where
             let sh : Shown sub.spans sub.attaches sub.kept sub.is_whole old new dispatch call = subst (λ (d : ℕ). Shown sub.spans sub.attaches sub.kept sub.is_whole old new d call) (sym here) (by_call old new e call r) in
             let x = spans_in sub.spans old dispatch in
             stands_after sub n (n + 1) dispatch sites old new lanes sh.count (same_sites _ old new e r) (same_global _ old new e r) sh.whole
-            (λ few. subst (AreAtMost (n + 1)) (sym sh.spans_after) (with_new n x (place_on (entries_on lane.id x.lanes) parent) site few)) sh.lanes stands)
+            (λ few. subst (AreAtMost (n + 1)) (sym sh.spans_after) (with_new n x (parent_on (entries_on lane.id x.lanes) parent) site few)) sh.lanes stands)
         | inr other ↦ stands_beside n (n + 1) dispatch sites _ old new e lanes (omega arith) r other stands
       ]
   made n dispatch sites old new lanes lane at parent site values o (Err memory) did left stands =
@@ -129,20 +129,20 @@ module _ {S : Type 0} (sub : Ghosts S) (law : IsLawful sub) where
       let x = spans_in sub.spans old dispatch in
       let read : x ≡ sub.spans r.before = read_there sub old dispatch r.before r.there in
       let is_sound : IsSound x = subst IsSound (sym read) (law.sound r.before call r.later r.did) in
-      let may : IsLivePlace x.made parent = subst (λ (v : Spans). IsLivePlace v.made parent) (sym read) (law.allowed r.before call r.later r.did) in
+      let may : IsLiveParent x.made parent = subst (λ (v : Spans). IsLiveParent v.made parent) (sym read) (law.allowed r.before call r.later r.did) in
       let of_it : handle.held ≡ Some (dispatch, makes.id) = ap (λ (h : Handle). h.held) makes.handle_is in
       record {
         known = keeps.known;
-        held = record { known = known; own = subst (λ (h : Held). IsOf h dispatch) (sym of_it) refl };
+        held = record { known = known; of_dispatch = subst (λ (h : Held). IsOf h dispatch) (sym of_it) refl };
         is_new = subst (λ (h : Held). HadNoHandle sub old h) (sym of_it) (λ old_known. (
             let holds = old_known.1 r.before r.there in
             let past = ap (λ (s : Span). s.holds) (get_or_past (sub.spans r.before).made makes.id no_span (let e = makes.made.did.0 in omega (arith, e))) in
             omega (arith, holds, past)));
         newest = subst (λ (h : Held). IsOfNewest x (spans_in sub.spans new dispatch) h) (sym of_it) (record {
-          above = place_on (entries_on lane.id x.lanes) parent;
+          above = parent_on (entries_on lane.id x.lanes) parent;
           site = site;
           is = makes.made.did.0 ∙ sym (ap (λ (v : Spans). length v.made) read);
-          live = λ p is. live_above (place_on (entries_on lane.id x.lanes) parent) p x (place_live x lane.id parent is_sound may) is;
+          live = λ p is. live_above (parent_on (entries_on lane.id x.lanes) parent) p x (parent_live x lane.id parent is_sound may) is;
           made = unchanged _ (spans_in sub.spans new dispatch) sh.spans_after;
         });
       }
@@ -211,7 +211,7 @@ module _ {S : Type 0} (sub : Ghosts S) (law : IsLawful sub) where
   pub closed_again : (dispatch : ℕ) (before old new : Worlds S) (at : ℕ) (handle : Handle) → ReplacedOn (λ id s t. Chain sub.spans sub.does at (Some id) s t) old new handle.held → KeepsOthers sub.spans old new handle.held → HasMade sub dispatch before old handle → IsAsBefore sub dispatch before new
   closed_again dispatch before old new at handle did others made = record {
     known = known_beside before old new at handle.held made.is_new made.known others did;
-    as_before = closes handle.held (spans_in sub.spans before dispatch) (spans_in sub.spans old dispatch) (spans_in sub.spans new dispatch) made.newest (released_spans dispatch old new at handle.held made.held.own did);
+    as_before = closes handle.held (spans_in sub.spans before dispatch) (spans_in sub.spans old dispatch) (spans_in sub.spans new dispatch) made.newest (released_spans dispatch old new at handle.held made.held.of_dispatch did);
   }
 
   -- the lane of an entry or an exit has other contexts
@@ -286,9 +286,9 @@ module _ {S : Type 0} (sub : Ghosts S) (law : IsLawful sub) where
       → ReplacedOn (λ id s t. sub.does s (Enter id at before left) t) old new handle.held → HasEntered sub dispatch old new guard
   has_entered dispatch old new before left at handle guard is held known keeps did = subst (λ (o : EntryGuard). HasEntered sub dispatch old new o) (sym is) (record {
     known = keeps;
-    held = record { known = known; own = held.own };
-    live = live_on sub dispatch old handle.held held.own held.known;
-    entered_once = entered_spans dispatch old new before left at handle.held held.own did;
+    held = record { known = known; of_dispatch = held.of_dispatch };
+    live = live_on sub dispatch old handle.held held.of_dispatch held.known;
+    entered_once = entered_spans dispatch old new before left at handle.held held.of_dispatch did;
   })
 
   pub enters : (old new : Worlds S) (before left : Lane) (at : ℕ) (handle : Handle) (result : Result EntryGuard EnterError) → IfOk result (λ guard. guard ≡ record { span = handle; lane = before.id }) → IsKnown sub.spans new handle.held → KeepsHandles sub.spans old new
@@ -301,7 +301,7 @@ module _ {S : Type 0} (sub : Ghosts S) (law : IsLawful sub) where
     count = count_on _ old new handle.held did;
     of = ap (λ (o : EntryGuard). o.span) is;
     on = ap (λ (o : EntryGuard). o.lane) is;
-    stands = λ most dispatch sites others held stands. entered_on most dispatch sites old new before left others at handle.held held.own did none stands;
+    stands = λ most dispatch sites others held stands. entered_on most dispatch sites old new before left others at handle.held held.of_dispatch did none stands;
     entered = λ dispatch held. has_entered dispatch old new before left at handle guard is held known keeps.known did;
   }
 
@@ -341,5 +341,5 @@ module _ {S : Type 0} (sub : Ghosts S) (law : IsLawful sub) where
   exited_again dispatch start old new before left at guard on did keeps entered = record {
     known = λ q known. keeps q (entered.known q known);
     as_before = exits guard.span.held (spans_in sub.spans start dispatch) (spans_in sub.spans old dispatch) (spans_in sub.spans new dispatch) guard.lane entered.live entered.entered_once
-        (subst (λ (l : ℕ). IsExitedOn guard.span.held l (spans_in sub.spans old dispatch) (spans_in sub.spans new dispatch)) on (exited_spans dispatch old new before left at guard.span.held entered.held.own did));
+        (subst (λ (l : ℕ). IsExitedOn guard.span.held l (spans_in sub.spans old dispatch) (spans_in sub.spans new dispatch)) on (exited_spans dispatch old new before left at guard.span.held entered.held.of_dispatch did));
   }

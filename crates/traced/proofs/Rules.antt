@@ -1,6 +1,6 @@
 -- What calls ask for, of a world that stands.
 use Rattle.std.proofs.Common.{◌≡◌, ℕ, ◌+◌, ◌<◌, ◌^◌, List, ◌∷◌, length, Option, Some, None, sym, ap, ◌∙◌, subst, arith, slice_get, ◌==◌, IfSome}
-use Rattle.traced.proofs.Common.{option_map_or, Lane, Parent, Ghosts, HasFewHolds, HasFewHoldsAbove, AreFew, IsLivePlace, MayExit, AreAttached, Worlds, IsOwn, dispatch_on, Spans, entries_on, times_in, place_on, any_if_counted, first_if_in, Has, Alike, no_spans, spans_in, Held, Handle, IsKnown, HasOn, IsOf, MayMakeIf, HasIf, place_under, EntryGuard, IsThere, IsStillOn, AreAtMost, StandsReady, ServesLane, IsHeld, CanMake, CanTell, CanAsk, CanClose, CanEnter, CanExit, IsLiveOn, IsOpen, IsInside}
+use Rattle.traced.proofs.Common.{option_map_or, Lane, Parent, Ghosts, HasFewHolds, HasFewHoldsAbove, AreFew, IsLiveParent, MayExit, AreAttached, Worlds, IsInWorld, dispatch_on, Spans, entries_on, times_in, parent_on, any_if_counted, first_if_in, Has, Alike, no_spans, spans_in, Held, Handle, IsKnown, HasOn, IsOf, MayMakeIf, HasIf, place_under, EntryGuard, IsThere, IsStillOn, AreAtMost, StandsReady, ServesLane, IsHeld, CanMake, CanTell, CanAsk, CanClose, CanEnter, CanExit, IsLiveOn, IsOpen, IsInside}
 use Rattle.trace_base.specs.declared.span.Parent.TheVariants as parent
 use Rattle.traced.proofs.Elsewhere.{stands_after}
 use Rattle.traced.proofs.Moves.{read_there, live_on}
@@ -14,7 +14,7 @@ on_held : {S : Type 0} (P : S → ℕ → Type 0) (world : Worlds S) (dispatch :
 on_held P world dispatch None own has = tt
 on_held {S} P world dispatch (Some h) own has = subst (λ (d : ℕ). Has (λ s. P s h.1) world d) (sym own) (has h.1)
 
-pub own_there : {S : Type 0} (world : Worlds S) (dispatch : ℕ) (o global : Option ℕ) → dispatch < length world.subscribers → dispatch_on o global ≡ Some dispatch → IsOwn world o
+pub own_there : {S : Type 0} (world : Worlds S) (dispatch : ℕ) (o global : Option ℕ) → dispatch < length world.subscribers → dispatch_on o global ≡ Some dispatch → IsInWorld world o
 own_there world dispatch None global there served = tt
 own_there {S} world dispatch (Some d) global there served = (let e : d ≡ dispatch = cc served in subst (λ (k : ℕ). k < length world.subscribers) (sym e) there)
 
@@ -23,24 +23,24 @@ few_above n x None early few = tt
 few_above n x (Some p) early few = (let h = few.holds p in omega (arith, h, early))
 
 -- the subscriber of a lane may be asked for a span
-make_at : {S : Type 0} (sub : Ghosts S) (n dispatch sites : ℕ) (world : Worlds S) (lane : Lane) (others : List Lane) (parent : Parent) (site : ℕ) → n < 2 ^ 63 → site < sites → IsLivePlace (spans_in sub.spans world dispatch).made parent → StandsReady sub n dispatch sites world (lane ∷ others) → CanMake sub world lane parent site
+make_at : {S : Type 0} (sub : Ghosts S) (n dispatch sites : ℕ) (world : Worlds S) (lane : Lane) (others : List Lane) (parent : Parent) (site : ℕ) → n < 2 ^ 63 → site < sites → IsLiveParent (spans_in sub.spans world dispatch).made parent → StandsReady sub n dispatch sites world (lane ∷ others) → CanMake sub world lane parent site
 make_at {S} sub n dispatch sites world lane others parent site early within live stands =
     let served = stands.served.0.serves in
     let x = spans_in sub.spans world dispatch in
     let few = stands.few in
     record {
-      own = own_there world dispatch lane.default world.global stands.there served;
+      in_world = own_there world dispatch lane.default world.global stands.there served;
       site_there = (let d = stands.declared in omega (arith, within, d));
       may = subst (λ (o : Option ℕ). MayMakeIf sub.spans sub.is_whole world lane.id parent o) (sym served) (record {
         there = stands.there;
         whole = stands.whole;
-        live = has_spans sub world dispatch (λ v. IsLivePlace v.made parent) live;
+        live = has_spans sub world dispatch (λ v. IsLiveParent v.made parent) live;
         few = has_spans sub world dispatch AreFew (let f = few.spans in omega (arith, f, early));
-        few_holds = has_spans sub world dispatch (λ v. HasFewHoldsAbove v lane.id parent) (few_above n x (place_on (entries_on lane.id x.lanes) parent) early few);
+        few_holds = has_spans sub world dispatch (λ v. HasFewHoldsAbove v lane.id parent) (few_above n x (parent_on (entries_on lane.id x.lanes) parent) early few);
       });
     }
 
-live_under : (held : Held) (x : Spans) → IsLiveOn held x → IsLivePlace x.made (place_under held)
+live_under : (held : Held) (x : Spans) → IsLiveOn held x → IsLiveParent x.made (place_under held)
 live_under None x live = tt
 live_under (Some h) x live = live
 
@@ -49,8 +49,8 @@ pub can_tell : {S : Type 0} (sub : Ghosts S) (n dispatch sites : ℕ) (world : W
 can_tell sub n dispatch sites world lane others site stands within =
     let served = stands.served.0.serves in
     record {
-      own = own_there world dispatch lane.default world.global stands.there served;
-      there = subst (λ (o : Option ℕ). IsOwn world o) (sym served) stands.there;
+      in_world = own_there world dispatch lane.default world.global stands.there served;
+      there = subst (λ (o : Option ℕ). IsInWorld world o) (sym served) stands.there;
       site_there = (let d = stands.declared in omega (arith, within, d));
       whole = subst (λ (o : Option ℕ). HasIf sub.is_whole world o) (sym served) stands.whole;
     }
@@ -59,14 +59,14 @@ can_tell sub n dispatch sites world lane others site stands within =
 pub can_close : {S : Type 0} (sub : Ghosts S) (n dispatch sites : ℕ) (world : Worlds S) (lanes : List Lane) (handle : Handle) → StandsReady sub n dispatch sites world lanes → IsHeld sub dispatch world handle → CanClose sub world handle
 can_close sub n dispatch sites world lanes handle stands held = record {
   known = held.known;
-  whole = on_held (λ s id. sub.is_whole s) world dispatch handle.held held.own (λ id. stands.whole);
+  whole = on_held (λ s id. sub.is_whole s) world dispatch handle.held held.of_dispatch (λ id. stands.whole);
 }
 
 pub can_enter : {S : Type 0} (sub : Ghosts S) (n dispatch sites : ℕ) (world : Worlds S) (lanes : List Lane) (handle : Handle) → StandsReady sub n dispatch sites world lanes → n < 2 ^ 63 → IsHeld sub dispatch world handle → CanEnter sub world handle
 can_enter sub n dispatch sites world lanes handle stands early held = record {
   known = held.known;
-  whole = on_held (λ s id. sub.is_whole s) world dispatch handle.held held.own (λ id. stands.whole);
-  few_holds = on_held (λ s id. HasFewHolds (sub.spans s).made id) world dispatch handle.held held.own
+  whole = on_held (λ s id. sub.is_whole s) world dispatch handle.held held.of_dispatch (λ id. stands.whole);
+  few_holds = on_held (λ s id. HasFewHolds (sub.spans s).made id) world dispatch handle.held held.of_dispatch
       (λ id. has_spans sub world dispatch (λ v. HasFewHolds v.made id) (let few = stands.few in let h = few.holds id in omega (arith, h, early)));
 }
 
@@ -89,9 +89,9 @@ can_exit {S} sub n dispatch sites world lane others guard stands inside here =
     record {
       on = here;
       there = there_on sub world guard.span.held held.known;
-      whole = on_held (λ s id. sub.is_whole s) world dispatch guard.span.held held.own (λ id. stands.whole);
-      may = subst (λ (l : ℕ). HasOn (λ s id. MayExit (sub.spans s) id l) world guard.span.held) (sym here) (may_exit sub dispatch world guard.lane guard.span.held held.known held.own inside.open_still);
-      still = on_held (λ s id. AreAttached (sub.kept s) lane) world dispatch guard.span.held held.own
+      whole = on_held (λ s id. sub.is_whole s) world dispatch guard.span.held held.of_dispatch (λ id. stands.whole);
+      may = subst (λ (l : ℕ). HasOn (λ s id. MayExit (sub.spans s) id l) world guard.span.held) (sym here) (may_exit sub dispatch world guard.lane guard.span.held held.known held.of_dispatch inside.open_still);
+      still = on_held (λ s id. AreAttached (sub.kept s) lane) world dispatch guard.span.held held.of_dispatch
           (λ id. λ s there. subst (λ (k : ℕ → ℕ → ℕ). AreAttached k lane) (ap (λ (o : Option S). option_map_or sub.kept o (λ lane number. 0)) there) stands.served.0.attached);
     }
 
@@ -111,7 +111,7 @@ module _ {S : Type 0} (sub : Ghosts S) (n dispatch sites : ℕ) (world : Worlds 
 
   pub can_make_under : (lane : Lane) (others : List Lane) (site : ℕ) (handle : Handle) → StandsReady sub n dispatch sites world (lane ∷ others) → n < 2 ^ 63 → site < sites → IsHeld sub dispatch world handle → CanMake sub world lane (place_under handle.held) site
   can_make_under lane others site handle stands early within held =
-      make_at sub n dispatch sites world lane others (place_under handle.held) site early within (live_under handle.held (spans_in sub.spans world dispatch) (live_on sub dispatch world handle.held held.own held.known)) stands
+      make_at sub n dispatch sites world lane others (place_under handle.held) site early within (live_under handle.held (spans_in sub.spans world dispatch) (live_on sub dispatch world handle.held held.of_dispatch held.known)) stands
 
 -- a handle that can be closed can be asked
 pub can_ask : {S : Type 0} (sub : Ghosts S) (world : Worlds S) (handle : Handle) → CanClose sub world handle → CanAsk world handle
@@ -122,4 +122,4 @@ can_ask_held sub dispatch world handle held = record { there = there_on sub worl
 
 -- a handle is of the subscriber of a lane
 pub of_lane : {S : Type 0} (sub : Ghosts S) (dispatch : ℕ) (world : Worlds S) (lane : Lane) (handle : Handle) → IsHeld sub dispatch world handle → ServesLane dispatch world lane → IfSome (dispatch_on lane.default world.global) (IsOf handle.held)
-of_lane sub dispatch world lane handle held serves = subst (λ (o : Option ℕ). IfSome o (IsOf handle.held)) (sym serves.serves) held.own
+of_lane sub dispatch world lane handle held serves = subst (λ (o : Option ℕ). IfSome o (IsOf handle.held)) (sym serves.serves) held.of_dispatch

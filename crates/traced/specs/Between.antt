@@ -10,7 +10,7 @@ use Rattle.span_handles.specs.Worlds.{Chain}
 use Rattle.span_handles.specs.Handles.{Handle, ReplacedOn}
 use Rattle.traced.specs.Making.{MakesIfAnswered}
 
--- a span is made at a place and a moment, if the gate lets its callsite through, and its handle is closed at another
+-- a span is made under a parent at a moment, if the gate lets its callsite through, and its handle is closed at another
 pub record MakesAndCloses {S : Type 0} (sub : Ghosts S) (lane : Lane) (parent : Parent) (site : ℕ) (values : ValueSet) (begins ends : ℕ) (between : Handle → Worlds S → Worlds S → Type 0) (old new : Worlds S) : Type 0 where
   pub handle : Handle
   pub begun : Worlds S

@@ -11,7 +11,7 @@ use Rattle.traced.specs.Standing.{StandsReady, CanClose}
 use Rattle.traced.specs.AsBefore.{IsAsBefore, HasMade}
 use Rattle.traced.specs.Gating.{AnswersGate, MakesOne}
 
--- A span is made at a place where the gate lets its callsite through, else nothing happens. The world stands with a span
+-- A span is made under a parent where the gate lets its callsite through, else nothing happens. The world stands with a span
 -- more, and the handle can be closed. Without memory nothing changes but room.
 pub record MakesIfAnswered {S : Type 0} (sub : Ghosts S) (old new : Worlds S) (lane : Lane) (at : ℕ) (parent : Parent) (site : ℕ) (values : ValueSet) (result : Result Handle Memory) : Type 0 where
   pub made : AnswersGate sub old lane site true → IfOk result (MakesOne sub old new lane at parent site values)

@@ -5,7 +5,7 @@ use Rattle.trace_base.specs.declared.span.Parent.{Parent}
 use Rattle.trace_base.specs.declared.subscriber.Subscriber.{Ghosts}
 use Rattle.trace_base.specs.Conditions.{HasFewHolds, MayExit}
 use Rattle.trace_base.specs.lanes.Contexts.{AreAttached}
-use Rattle.trace_base.specs.Gate.{Worlds, IsOwn, dispatch_on}
+use Rattle.trace_base.specs.Gate.{Worlds, IsInWorld, dispatch_on}
 use Rattle.trace_base.specs.Spans.{Spans, span_at}
 use Rattle.span_registry.specs.Registering.{no_spans}
 use Rattle.span_handles.specs.Worlds.{Has, spans_in, kept_in}
@@ -48,11 +48,11 @@ pub record ServesLane {S : Type 0} (dispatch : ℕ) (world : Worlds S) (lane : L
 -- a handle of the subscriber, which knows it
 pub record IsHeld {S : Type 0} (sub : Ghosts S) (dispatch : ℕ) (world : Worlds S) (handle : Handle) : Type 0 where
   pub known : IsKnown sub.spans world handle.held
-  pub own : IsOf handle.held dispatch
+  pub of_dispatch : IsOf handle.held dispatch
 
--- the subscriber of a lane may be asked for a span at a place
+-- the subscriber of a lane may be asked for a span under a parent
 pub record CanMake {S : Type 0} (sub : Ghosts S) (world : Worlds S) (lane : Lane) (parent : Parent) (site : ℕ) : Type 0 where
-  pub own : IsOwn world lane.default
+  pub in_world : IsInWorld world lane.default
   pub site_there : site < length world.sites
   pub may : MayMakeIf sub.spans sub.is_whole world lane.id parent (dispatch_on lane.default world.global)
 
@@ -68,8 +68,8 @@ pub record CanEnter {S : Type 0} (sub : Ghosts S) (world : Worlds S) (handle : H
 
 -- the subscriber of a lane may be told of an event
 pub record CanTell {S : Type 0} (sub : Ghosts S) (world : Worlds S) (lane : Lane) (site : ℕ) : Type 0 where
-  pub own : IsOwn world lane.default
-  pub there : IsOwn world (dispatch_on lane.default world.global)
+  pub in_world : IsInWorld world lane.default
+  pub there : IsInWorld world (dispatch_on lane.default world.global)
   pub site_there : site < length world.sites
   pub whole : HasIf sub.is_whole world (dispatch_on lane.default world.global)
 

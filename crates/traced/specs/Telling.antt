@@ -10,7 +10,7 @@ use Rattle.span_handles.specs.Handles.{ReplacedIf}
 use Rattle.traced.specs.Gating.{AnswersGate, TellsOne}
 use Rattle.traced.specs.Staying.{Stays}
 
--- An event is told at a place where the gate lets its callsite through, else nothing happens. Nothing that is read changes,
+-- An event is told under a parent where the gate lets its callsite through, else nothing happens. Nothing that is read changes,
 -- and without memory nothing but room.
 pub record Tells {S : Type 0} (sub : Ghosts S) (old new : Worlds S) (lane : Lane) (at : ℕ) (parent : Parent) (site : ℕ) (values : ValueSet) (result : Result (Unit {0}) Memory) : Type 0 where
   pub told : AnswersGate sub old lane site true → OnOk result (TellsOne sub old new lane at parent site values)

@@ -46,8 +46,8 @@ module _ {T S A : Type 0} (sub : Ghosts S) (law : IsLawful sub) (future : Instru
         lane_id = lane_left sub law r.world new r.lane left at handle.held did none ∙ inside.lane_id;
         count = count_on _ r.world new handle.held did ∙ count_on _ old r.world handle.held r.entered.entered;
         stands = λ most dispatch sites others held stands.
-            exited_on sub law (most + 1) dispatch sites r.world new r.lane left others at handle.held held.own did none
-            (entered_on sub law most dispatch sites old r.world before r.lane others at handle.held held.own r.entered.entered r.entered.none stands);
+            exited_on sub law (most + 1) dispatch sites r.world new r.lane left others at handle.held held.of_dispatch did none
+            (entered_on sub law most dispatch sites old r.world before r.lane others at handle.held held.of_dispatch r.entered.entered r.entered.none stands);
         as_before = λ dispatch held.
             exited_again sub law dispatch old r.world new r.lane left at guard inside.lane_id did ends.0
             (has_entered sub law dispatch old r.world before r.lane at handle guard refl held (inside.known handle.held known) inside.known r.entered.entered);

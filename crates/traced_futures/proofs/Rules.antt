@@ -41,7 +41,7 @@ module _ {S : Type 0} {sub : Ghosts S} {n sites : ℕ} {world : Worlds S} {lane 
   pub may_lend : CanLend sub world lane
   may_lend = record {
     whole = only_first sub.is_whole world.subscribers ready.alone ready.stands.whole;
-    own = own_there world 0 lane.default world.global ready.stands.there ready.stands.served.0.serves;
+    in_world = own_there world 0 lane.default world.global ready.stands.there ready.stands.served.0.serves;
     still = λ number. (
         let sum = only_sum (λ (s : S). sub.kept s lane.id number) world.subscribers ready.alone in
         let kept = ready.stands.served.0.attached number in

@@ -5,7 +5,7 @@ use Rattle.trace_base.specs.declared.field.ValueSet.{ValueSet}
 use Rattle.trace_base.specs.declared.lane.Lane.{Lane}
 use Rattle.trace_base.specs.declared.span.Parent.{Parent}
 use Rattle.trace_base.specs.declared.subscriber.Subscriber.{Ghosts}
-use Rattle.trace_base.specs.Gate.{Worlds, IsOwn}
+use Rattle.trace_base.specs.Gate.{Worlds, IsInWorld}
 use Rattle.span_handles.specs.Handles.{Handle}
 pub use Rattle.span_futures.specs.declared.instrument.Instrumented.{Instrumented}
 pub use Rattle.span_futures.specs.declared.plain.Plain.{Plain}
@@ -20,7 +20,7 @@ use Rattle.traced.specs.Keeping.{Keeps}
 -- the lane is attached there.
 pub record CanLend {S : Type 0} (sub : Ghosts S) (world : Worlds S) (lane : Lane) : Type 0 where
   pub whole : HasAll sub.is_whole world
-  pub own : IsOwn world lane.default
+  pub in_world : IsInWorld world lane.default
   pub still : AreAllAttached sub.kept world lane
 
 -- a poll that leaves world and lane alone
@@ -56,6 +56,6 @@ pub record KeepsFuture {T S : Type 0} (sub : Ghosts S) (most sites : ℕ) (futur
   pub span : later.span ≡ future.span
   pub held : IsHeld sub 0 new later.span
 
--- a span is made at a place and a moment, a future is put under it, and it is closed at another behind what is done with that
+-- a span is made under a parent at a moment, a future is put under it, and it is closed at another behind what is done with that
 pub record RunsUnder {T S : Type 0} (sub : Ghosts S) (lane : Lane) (parent : Parent) (site : ℕ) (values : ValueSet) (begins ends : ℕ) (inner : T) (between : Instrumented T → Worlds S → Instrumented T → Worlds S → Type 0) (old new : Worlds S) : Type 0 where
   pub runs : MakesAndCloses sub lane parent site values begins ends (λ span begun ended. (later : Instrumented T) × between (record { inner = inner; span = span }) begun later ended) old new

@@ -4,7 +4,7 @@ ghost use Rattle.std.specs.Prelude.{◌≡◌, ◌<◌, length, [], IfOk, OnOk, 
 ghost use Rattle.trace_base.specs.declared.span.Parent.TheVariants as parent;
 ghost use Rattle.span_registry.specs.Registering.{no_spans};
 ghost use Rattle.span_handles.specs.Handles.{handle_of};
-ghost use Rattle.span_handles.specs.Single.{IsFirst, IsSingle, BecomesSpans, MayStand, with_span_at, spans_of};
+ghost use Rattle.span_handles.specs.Single.{IsFirst, IsSingle, BecomesSpans, MayStand, spans_with_new, spans_of};
 
 use crate::worlds::callsites::callsite;
 use crate::worlds::lanes::lane;
@@ -103,7 +103,7 @@ fn root(world: &mut World<Registry>, lane: &Lane, making: &Making) -> Result<Spa
     requires site { making.now.site < length world.old.sites }
     requires may { MayStand world.old lane.now parent.Root }
     ensures made { OnOk result
-        (BecomesSpans world.old world.new (with_span_at world.old lane.now.id parent.Root making.now.site)) }
+        (BecomesSpans world.old world.new (spans_with_new world.old lane.now.id parent.Root making.now.site)) }
     ensures is { IfOk result (λ span. span ≡ handle_of 0 (length (spans_of world.old).made) making.now.site) }
 {
     Span::new_root(world, lane, 0, making.site, &making.values)

@@ -53,10 +53,12 @@ fn call_notes(
     requires { stack.old.inner.inner.spans ≡ no_spans }
 {
     whole(stack);
+    let current = stack.current_id(making.lane.id);
     let id = stack.new_span(
         &making.lane,
         1,
         Parent::Root,
+        current,
         making.site,
         &making.callsite,
         &making.values,
@@ -69,10 +71,12 @@ fn call_notes(
     stack.record_follows_from(id, id, 3)?;
     let followed = log.replace(0);
     whole(stack);
+    let current = stack.current_id(making.lane.id);
     stack.event(
         &making.lane,
         4,
         Parent::Of(id),
+        current,
         making.site,
         &making.callsite,
         &making.values,

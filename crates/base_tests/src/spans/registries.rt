@@ -1,8 +1,8 @@
 //! Spans of a registry: their holds, slots, entries and closes.
 ghost use Rattle.std.specs.Prelude.{◌≡◌, ◌∷◌, [], length, IfOk, OnOk, Some, None};
-ghost use Rattle.trace_base.specs.Spans.{entries_on, place_on};
+ghost use Rattle.trace_base.specs.Spans.{entries_on, parent_on};
 ghost use Rattle.trace_base.specs.Calls.{with_new_span, with_span_entry};
-ghost use Rattle.trace_base.specs.Conditions.{AreFew, HasFewHolds, HasFewHoldsAbove, IsLive, IsLivePlace};
+ghost use Rattle.trace_base.specs.Conditions.{AreFew, HasFewHolds, HasFewHoldsAbove, IsLive, IsLiveParent};
 ghost use Rattle.span_registry.specs.Registering.{no_spans};
 
 use crate::worlds::callsites::bare;
@@ -49,18 +49,20 @@ pub fn bare_making(alloc: Global, sites: &mut World<Registry>) -> Result<Making,
 
 // A span at a place on the lane.
 fn make(registry: &mut Registry, making: &Making, parent: Parent) -> Result<Id, Memory>
-    requires live { IsLivePlace registry.old.spans.made parent }
+    requires live { IsLiveParent registry.old.spans.made parent }
     requires few { AreFew registry.old.spans }
     requires few_holds { HasFewHoldsAbove registry.old.spans making.now.lane.id parent }
     ensures id { IfOk result (λ id. id ≡ length registry.old.spans.made) }
     ensures spans { OnOk result
         (registry.new.spans ≡ with_new_span registry.old.spans
-        (place_on (entries_on making.now.lane.id registry.old.spans.lanes) parent) making.now.site) }
+        (parent_on (entries_on making.now.lane.id registry.old.spans.lanes) parent) making.now.site) }
 {
+    let current = registry.current_id(making.lane.id);
     registry.new_span(
         &making.lane,
         0,
         parent,
+        current,
         making.site,
         &making.callsite,
         &making.values,

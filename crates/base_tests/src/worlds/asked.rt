@@ -98,6 +98,8 @@ impl Layer for Asked {
 
     ghost lanes = { λ s hook t d. unseeing_lanes hook d.1 };
 
+    ghost kept_by_entries = { λ s lane number none. refl };
+
     ghost passive = { λ s id at before later t d neither. ap (λ (l : Lane). l.contexts.live) d.1 };
 
     ghost keeps_attaches = { λ s hook t d. refl };

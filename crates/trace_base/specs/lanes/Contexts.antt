@@ -37,12 +37,12 @@ pub record KeepsLive (attaches : Bool) (before later : Lane) : Type 0 where
   pub live : later.contexts.live ≡ before.contexts.live
 
 -- what a call makes of lanes and of what is kept attached
-abbrev pub Lanes : Bool → (ℕ → ℕ → ℕ) → SubscriberCall → (ℕ → ℕ → ℕ) → Type 0
-Lanes attaches kept (Enter id at before later) now = KeepsLane attaches before later × KeepsAttached kept before later now
-Lanes attaches kept (Exit id at before later) now = KeepsLane attaches before later × KeepsAttached kept before later now
-Lanes attaches kept (NewSpan lane at place site callsite values) now = now ≡ kept
-Lanes attaches kept (Records id at callsite values) now = now ≡ kept
-Lanes attaches kept (Follows id from at) now = now ≡ kept
-Lanes attaches kept (Event lane at place site callsite values) now = now ≡ kept
-Lanes attaches kept (CloneSpan id) now = now ≡ kept
-Lanes attaches kept (TryClose id at) now = now ≡ kept
+abbrev pub CallLanes : Bool → (ℕ → ℕ → ℕ) → SubscriberCall → (ℕ → ℕ → ℕ) → Type 0
+CallLanes attaches kept (Enter id at before later) now = KeepsLane attaches before later × KeepsAttached kept before later now
+CallLanes attaches kept (Exit id at before later) now = KeepsLane attaches before later × KeepsAttached kept before later now
+CallLanes attaches kept (NewSpan lane at parent site callsite values) now = now ≡ kept
+CallLanes attaches kept (Records id at callsite values) now = now ≡ kept
+CallLanes attaches kept (Follows id from at) now = now ≡ kept
+CallLanes attaches kept (Event lane at parent site callsite values) now = now ≡ kept
+CallLanes attaches kept (CloneSpan id) now = now ≡ kept
+CallLanes attaches kept (TryClose id at) now = now ≡ kept

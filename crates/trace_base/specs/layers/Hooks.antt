@@ -52,30 +52,30 @@ abbrev pub one_if : Bool → ℕ
 one_if b = if b then 1 else 0
 
 -- 1 where a hook enters, or exits, that span on that lane
-abbrev pub comes : Hook → ℕ → ℕ → ℕ
-comes (OnEnter id at before later) lane other = one_if (before.id == lane && id == other)
-comes (OnNewSpan id lane at parent current callsite values) l other = 0
-comes (OnRecord id at callsite values) lane other = 0
-comes (OnFollows id from at) lane other = 0
-comes (OnEvent reached lane at callsite values) l other = 0
-comes (OnExit id at before later) lane other = 0
-comes (OnClose id at) lane other = 0
+abbrev pub one_if_entered : Hook → ℕ → ℕ → ℕ
+one_if_entered (OnEnter id at before later) lane other = one_if (before.id == lane && id == other)
+one_if_entered (OnNewSpan id lane at parent current callsite values) l other = 0
+one_if_entered (OnRecord id at callsite values) lane other = 0
+one_if_entered (OnFollows id from at) lane other = 0
+one_if_entered (OnEvent reached lane at callsite values) l other = 0
+one_if_entered (OnExit id at before later) lane other = 0
+one_if_entered (OnClose id at) lane other = 0
 
-abbrev pub goes : Hook → ℕ → ℕ → ℕ
-goes (OnExit id at before later) lane other = one_if (before.id == lane && id == other)
-goes (OnEnter id at before later) lane other = 0
-goes (OnNewSpan id lane at parent current callsite values) l other = 0
-goes (OnRecord id at callsite values) lane other = 0
-goes (OnFollows id from at) lane other = 0
-goes (OnEvent reached lane at callsite values) l other = 0
-goes (OnClose id at) lane other = 0
+abbrev pub one_if_exited : Hook → ℕ → ℕ → ℕ
+one_if_exited (OnExit id at before later) lane other = one_if (before.id == lane && id == other)
+one_if_exited (OnEnter id at before later) lane other = 0
+one_if_exited (OnNewSpan id lane at parent current callsite values) l other = 0
+one_if_exited (OnRecord id at callsite values) lane other = 0
+one_if_exited (OnFollows id from at) lane other = 0
+one_if_exited (OnEvent reached lane at callsite values) l other = 0
+one_if_exited (OnClose id at) lane other = 0
 
 -- A layer comes to know only spans that are made, forgets only those that close, and follows the entries of those it
 -- knows.
 pub record Sees (old : KnownSpans) (hook : Hook) (new : KnownSpans) : Type 0 where
   pub gains : (id : ℕ) → new.knows id ≡ true → old.knows id ≡ false → makes hook id ≡ true
   pub loses : (id : ℕ) → old.knows id ≡ true → new.knows id ≡ false → closes hook id ≡ true
-  pub known : (lane id : ℕ) → old.knows id ≡ true → new.entries lane id + goes hook lane id ≡ old.entries lane id + comes hook lane id
+  pub known : (lane id : ℕ) → old.knows id ≡ true → new.entries lane id + one_if_exited hook lane id ≡ old.entries lane id + one_if_entered hook lane id
   pub unknown : (lane id : ℕ) → old.knows id ≡ false → new.entries lane id ≡ old.entries lane id
 
 -- what a hook makes of lanes and of what is kept attached

@@ -1,6 +1,6 @@
 -- How many spans and holds there are after a call.
 use Rattle.std.proofs.Common.{◌≡◌, ℕ, ◌+◌, ◌≤◌, List, [], ◌∷◌, ◌++◌, length, set, Option, Some, None, refl, sym, ap, subst, arith, inl, inr, ◌==◌}
-use Rattle.traced.proofs.Common.{cases_eq, cases_lt, cases_order, cases_Bool, cond-true, cond-false, length_push, get_or_past, get_or_push, get_or_append_left, Span, Spans, no_span, span_at, entries_on, is_in, times_in, next_of, with_hold, without_hold, less_hold, held_by_child, TryClose, spans_after_call, with_new_span, with_span_entry, with_span_exit, length_held, holds_set, holds_other, less_holds, ReleasesChain, all_released, releases, AreAtMost}
+use Rattle.traced.proofs.Common.{cases_eq, cases_lt, cases_order, cases_Bool, cond-true, cond-false, length_push, get_or_past, get_or_push, get_or_append_left, Span, Spans, no_span, span_at, entries_on, is_in, times_in, next_of, with_hold, without_hold, less_hold, with_hold_of_child, TryClose, spans_after_call, with_new_span, with_span_entry, with_span_exit, length_held, holds_set, holds_other, less_holds, ReleasesChain, all_released, releases, AreAtMost}
 use Rattle.std.proofs.lemmas.List.{length-set}
 
 pub more : (n m : ℕ) (x : Spans) → n ≤ m → AreAtMost n x → AreAtMost m x
@@ -35,14 +35,14 @@ with_released n x id few =
       holds = written n x.made id now (let e = less_holds (span_at x.made id) in let h = few.holds id in omega (arith, e, h)) few.holds;
     }
 
-with_child : (n : ℕ) (x : Spans) (above : Option ℕ) → AreAtMost n x → AreAtMost (n + 1) (record x { made = held_by_child x.made above })
+with_child : (n : ℕ) (x : Spans) (above : Option ℕ) → AreAtMost n x → AreAtMost (n + 1) (record x { made = with_hold_of_child x.made above })
 with_child n x None few = more n (n + 1) x (omega arith) few
 with_child n x (Some p) few = with_held n x p few
 
 pub with_new : (n : ℕ) (x : Spans) (above : Option ℕ) (site : ℕ) → AreAtMost n x → AreAtMost (n + 1) (with_new_span x above site)
 with_new n x above site few =
     let new : Span = record { holds = 1; parent = above; site = site } in
-    let made = held_by_child x.made above in
+    let made = with_hold_of_child x.made above in
     let child = with_child n x above few in
     let long = length_push made new in
     record {

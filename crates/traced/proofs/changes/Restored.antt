@@ -1,7 +1,7 @@
 -- What is made is closed, and what is entered is exited.
 use Rattle.std.proofs.Common.{◌≡◌, ℕ, ◌+◌, ◌-◌, ◌<◌, List, [], ◌∷◌, ◌++◌, length, Option, Some, None, Bool, true, refl, sym, ap, ◌∙◌, subst, arith, inl, inr, ◌==◌, if◌then◌else◌}
 use Rattle.std.specs.List.{list_any}
-use Rattle.traced.proofs.Common.{cases_eq, cases_order, cases_Bool, cond-true, cond-false, length_push, get_or_past, get_or_push, get_or_append_left, Span, Spans, no_span, span_at, entries_on, is_in, times_in, without_last, next_of, with_hold, without_hold, less_hold, held_by_child, with_new_span, with_span_entry, with_span_exit, count_push, counted_if_any, any_if_counted, none_counted, length_held, made_if_held, with_same, with_other, less_last, less_more, ReleasesChain, all_released, releases, Held, AreAsBefore, IsNewest, IsOfNewest, IsLiveOn, IsEntered, IsOpen}
+use Rattle.traced.proofs.Common.{cases_eq, cases_order, cases_Bool, cond-true, cond-false, length_push, get_or_past, get_or_push, get_or_append_left, Span, Spans, no_span, span_at, entries_on, is_in, times_in, without_last, next_of, with_hold, without_hold, less_hold, with_hold_of_child, with_new_span, with_span_entry, with_span_exit, count_push, counted_if_any, any_if_counted, none_counted, length_held, made_if_held, with_same, with_other, less_last, less_more, ReleasesChain, all_released, releases, Held, AreAsBefore, IsNewest, IsOfNewest, IsLiveOn, IsEntered, IsOpen}
 use Rattle.std.proofs.lemmas.Bool.{eq-eqb, ne_eqb}
 use Rattle.std.proofs.lemmas.List.{get_or-set_same, get_or-set_other}
 
@@ -63,7 +63,7 @@ beside_newest made new q other = elim (cases_order q (length made)) [
 -- the newest span is closed, and then its parent gives back the hold of its child
 module _ (x y z : Spans) (id : ℕ) (newest : IsNewest x y id) (chain : ReleasesChain (Some id) y z) where
   at_newest : span_at y.made id ≡ record { holds = 1; parent = newest.above; site = newest.site }
-  at_newest = newest.made.spans id ∙ get_or_push (held_by_child x.made newest.above) (record { holds = 1; parent = newest.above; site = newest.site }) no_span id (length_held x.made newest.above ∙ sym newest.is)
+  at_newest = newest.made.spans id ∙ get_or_push (with_hold_of_child x.made newest.above) (record { holds = 1; parent = newest.above; site = newest.site }) no_span id (length_held x.made newest.above ∙ sym newest.is)
 
   last : (span_at y.made id).holds ≡ 1
   last = ap (λ (s : Span). s.holds) at_newest
@@ -75,26 +75,26 @@ module _ (x y z : Spans) (id : ℕ) (newest : IsNewest x y id) (chain : Releases
   rest = subst (λ (o : Option ℕ). ReleasesChain o (record y { made = without_hold y.made id }) z) above (goes_on (Some id) y z chain id refl)
 
   -- the parent has its hold still
-  without : (q : ℕ) → span_at (without_hold y.made id) q ≡ span_at (held_by_child x.made newest.above) q
+  without : (q : ℕ) → span_at (without_hold y.made id) q ≡ span_at (with_hold_of_child x.made newest.above) q
   without q = elim (cases_eq q id) [
     | inl here ↦ (
         let gone = at_released y.made id q (let e = last in omega (arith, e)) here ∙ less_last (span_at y.made id) last in
         let long = length_held x.made newest.above in
         let is = newest.is in
-        gone ∙ sym (get_or_past (held_by_child x.made newest.above) q no_span (omega (arith, long, is, here))))
+        gone ∙ sym (get_or_past (with_hold_of_child x.made newest.above) q no_span (omega (arith, long, is, here))))
     | inr other ↦ (
         let long = length_held x.made newest.above in
         let is = newest.is in
-        beside_released y.made id q other ∙ newest.made.spans q ∙ beside_newest (held_by_child x.made newest.above) (record { holds = 1; parent = newest.above; site = newest.site }) q (λ e. other (omega (arith, e, long, is))))
+        beside_released y.made id q other ∙ newest.made.spans q ∙ beside_newest (with_hold_of_child x.made newest.above) (record { holds = 1; parent = newest.above; site = newest.site }) q (λ e. other (omega (arith, e, long, is))))
   ]
 
 under : (x y z : Spans) (id : ℕ) (newest : IsNewest x y id) → ReleasesChain (Some id) y z → (above : Option ℕ) → newest.above ≡ above → (q : ℕ) → span_at z.made q ≡ span_at x.made q
 under x y z id newest chain None is q =
     let ended = ends newest.above (record y { made = without_hold y.made id }) z (rest x y z id newest chain) is in
-    ap (λ (w : Spans). span_at w.made q) ended ∙ without x y z id newest chain q ∙ ap (λ (o : Option ℕ). span_at (held_by_child x.made o) q) is
+    ap (λ (w : Spans). span_at w.made q) ended ∙ without x y z id newest chain q ∙ ap (λ (o : Option ℕ). span_at (with_hold_of_child x.made o) q) is
 under x y z id newest chain (Some p) is q =
     let live = newest.live p is in
-    let now : (k : ℕ) → span_at (without_hold y.made id) k ≡ span_at (with_hold x.made p) k = λ k. without x y z id newest chain k ∙ ap (λ (o : Option ℕ). span_at (held_by_child x.made o) k) is in
+    let now : (k : ℕ) → span_at (without_hold y.made id) k ≡ span_at (with_hold x.made p) k = λ k. without x y z id newest chain k ∙ ap (λ (o : Option ℕ). span_at (with_hold_of_child x.made o) k) is in
     let many : ((span_at (without_hold y.made id) p).holds ≡ 1 → ⊥) = λ one. (let e = ap (λ (s : Span). s.holds) (now p ∙ at_held x.made p p live refl) in omega (arith, e, one, live)) in
     let w : Spans = record y { made = without_hold y.made id } in
     let on = goes_on newest.above w z (rest x y z id newest chain) p is in

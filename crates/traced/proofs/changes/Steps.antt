@@ -26,7 +26,7 @@ module _ {S : Type 0} (sub : Ghosts S) where
     again start old new first last = record { known = λ held known. last.known held (first.known held known); as_before = on _ _ _ first.as_before last.as_before }
 
     pub held_after : (old new : Worlds S) (handle : Handle) → IsAsBefore sub dispatch old new → IsHeld sub dispatch old handle → IsHeld sub dispatch new handle
-    held_after old new handle same held = record { known = same.known handle.held held.known; own = held.own }
+    held_after old new handle same held = record { known = same.known handle.held held.known; of_dispatch = held.of_dispatch }
 
     pub made_after : (start old new : Worlds S) (handle : Handle) → IsAsBefore sub dispatch old new → HasMade sub dispatch start old handle → HasMade sub dispatch start new handle
     made_after start old new handle same made = record {

@@ -8,10 +8,10 @@ use Rattle.traced.proofs.telling.event.Goals as goal
 
 pub returns-then-admits : goal.returns-then-admits
 returns-then-admits g c = record {
-  told = λ yes. tells_one g.S.Subscriber c.args.world.now c.deliver.new.world c.args.lane.now c.args.at parent.Current c.args.site c.args.values.now c.deliver.result yes c.deliver.ensures.did;
+  told = λ yes. tells_one g.S.Subscriber c.args.world.now c.dispatch.new.world c.args.lane.now c.args.at parent.Current c.args.site c.args.values.now c.dispatch.result yes c.dispatch.ensures.did;
   refused = λ no. absurd (apart g.S.Subscriber c.args.world.now c.args.lane.now c.args.site c.requires (subst (AnswersGate g.S.Subscriber c.args.world.now c.args.lane.now c.args.site) c.if-admits.true c.admits.ensures) no);
-  memory_leaves = c.deliver.ensures.memory_leaves;
-  stays = told_if g.S.Subscriber c.lawful.ensures c.args.world.now c.deliver.new.world c.args.lane.now c.args.at parent.Current c.args.site c.args.values.now (dispatch_on c.args.lane.now.default c.args.world.now.global) c.deliver.result c.deliver.ensures.did c.deliver.ensures.memory_leaves;
+  memory_leaves = c.dispatch.ensures.memory_leaves;
+  stays = told_if g.S.Subscriber c.lawful.ensures c.args.world.now c.dispatch.new.world c.args.lane.now c.args.at parent.Current c.args.site c.args.values.now (dispatch_on c.args.lane.now.default c.args.world.now.global) c.dispatch.result c.dispatch.ensures.did c.dispatch.ensures.memory_leaves;
 }
 
 pub returns-else-admits : goal.returns-else-admits
