@@ -6,7 +6,7 @@ use Rattle.trace_base.specs.declared.lane.Lane.{Lane}
 use Rattle.trace_base.specs.Gate.{Worlds}
 use Rattle.trace_base.specs.Spans.{Spans, current_on}
 use Rattle.trace_base.specs.Calls.{SubscriberCall, CloneSpan, spans_after_call}
-use Rattle.trace_base.specs.lanes.Contexts.{Lanes}
+use Rattle.trace_base.specs.lanes.Contexts.{CallLanes}
 use Rattle.span_handles.specs.Handles.{Handle, Held, IsKnown, IsCurrent, Copies}
 use Rattle.span_handles.specs.Knowing.{KeepsKnown, KeepsHandles, KeepsOthers, GainsOne, LosesOne}
 use Rattle.explain_stack.specs.Order.{Stands}
@@ -33,7 +33,7 @@ known_again spans old now new closed keeps gains others loses held known = elim 
 ]
 
 module _ {S : Type 0} (spans : S → Spans) (attaches : S → Bool) (kept : S → ℕ → ℕ → ℕ) (is_whole : S → Type 0) (does : S → SubscriberCall → S → Type 0)
-    (shows : (s : S) (call : SubscriberCall) (t : S) → does s call t → spans t ≡ spans_after_call (spans s) call) (lanes : (s : S) (call : SubscriberCall) (t : S) → does s call t → Lanes (attaches s) (kept s) call (kept t))
+    (shows : (s : S) (call : SubscriberCall) (t : S) → does s call t → spans t ≡ spans_after_call (spans s) call) (lanes : (s : S) (call : SubscriberCall) (t : S) → does s call t → CallLanes (attaches s) (kept s) call (kept t))
     (keeps_whole : (s : S) (call : SubscriberCall) (t : S) → does s call t → is_whole s → is_whole t) (dispatch made sites : ℕ) (lane other : Lane) (old new : Worlds S) where
   copied_stands : (d : ℕ) (current : Option (ℕ × ℕ)) (handle : Handle) → Copies does old new d current handle → Stands spans kept is_whole dispatch made sites old lane other → Stands spans kept is_whole dispatch made sites new lane other
   copied_stands d None handle did stands = subst (λ (w : Worlds S). Stands spans kept is_whole dispatch made sites w lane other) (sym did.1) stands

@@ -40,10 +40,10 @@ module _ {S : Type 0} (same : S → S → Type 0) (first : S) where
         attached = λ number. (
             let e = one_sum (λ s. kept s lane.id number) (λ t is. ap (λ (k : ℕ → ℕ → ℕ). k lane.id number) (same_kept first t is) ∙ nothing_kept lane.id number) world.subscribers are in
             omega (arith, e));
-        own = subst (λ o. IfSome o (λ d. d < length world.subscribers)) (sym default) (omega (arith, count, is, empty));
+        in_world = subst (λ o. IfSome o (λ d. d < length world.subscribers)) (sym default) (omega (arith, count, is, empty));
         attached_other = λ number. (
             let e = one_sum (λ s. kept s other.id number) (λ t is. ap (λ (k : ℕ → ℕ → ℕ). k other.id number) (same_kept first t is) ∙ nothing_kept other.id number) world.subscribers are in
             omega (arith, e));
-        own_other = subst (λ o. IfSome o (λ d. d < length world.subscribers)) (sym none_other) tt;
+        other_in_world = subst (λ o. IfSome o (λ d. d < length world.subscribers)) (sym none_other) tt;
         apart = apart;
       }

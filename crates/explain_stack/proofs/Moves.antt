@@ -7,11 +7,11 @@ use Rattle.trace_base.specs.declared.callsite.Callsite.{Callsite}
 use Rattle.trace_base.specs.declared.field.ValueSet.{ValueSet}
 use Rattle.trace_base.specs.declared.lane.Lane.{Lane}
 use Rattle.trace_base.specs.declared.span.Parent.{Parent}
-use Rattle.trace_base.specs.Gate.{Worlds, IsOwn}
-use Rattle.trace_base.specs.Spans.{Span, Spans, entries_on, times_in, is_in, place_on, with_hold, without_hold, held_by_child}
+use Rattle.trace_base.specs.Gate.{Worlds, IsInWorld}
+use Rattle.trace_base.specs.Spans.{Span, Spans, entries_on, times_in, is_in, parent_on, with_hold, without_hold, with_hold_of_child}
 use Rattle.trace_base.specs.Calls.{SubscriberCall, NewSpan, Enter, Exit, spans_after_call, with_span_entry, with_span_exit}
 use Rattle.trace_base.specs.Conditions.{HasOwnHold, MayExit}
-use Rattle.trace_base.specs.lanes.Contexts.{Lanes, KeepsAttached, attached_as}
+use Rattle.trace_base.specs.lanes.Contexts.{CallLanes, KeepsAttached, attached_as}
 use Rattle.trace_base.proofs.EntryLemmas.{counted_if_any, length_held}
 use Rattle.trace_base.proofs.HoldLemmas.{first_if_in}
 use Rattle.span_handles.specs.Worlds.{Replaced}
@@ -38,8 +38,8 @@ if_length false xs ys n x y = y
 
 new_made : (x : Spans) (lane : Lane) (at : ℕ) (parent : Parent) (site : ℕ) (callsite : Callsite) (values : ValueSet) → length (spans_after_call x (NewSpan lane at parent site callsite values)).made ≡ length x.made + 1
 new_made x lane at parent site callsite values =
-    let above = place_on (entries_on lane.id x.lanes) parent in
-    let more = length-append {A = Span} (held_by_child x.made above) (record { holds = 1; parent = above; site = site } ∷ []) in
+    let above = parent_on (entries_on lane.id x.lanes) parent in
+    let more = length-append {A = Span} (with_hold_of_child x.made above) (record { holds = 1; parent = above; site = site } ∷ []) in
     let same = length_held x.made above in
     omega (arith, more, same)
 
@@ -62,7 +62,7 @@ attached_elsewhere R old new d r kept before later other same apart moves still 
     still
 
 module _ {S : Type 0} (spans : S → Spans) (attaches : S → Bool) (kept : S → ℕ → ℕ → ℕ) (is_whole : S → Type 0) (does : S → SubscriberCall → S → Type 0)
-    (shows : (s : S) (call : SubscriberCall) (t : S) → does s call t → spans t ≡ spans_after_call (spans s) call) (lanes : (s : S) (call : SubscriberCall) (t : S) → does s call t → Lanes (attaches s) (kept s) call (kept t))
+    (shows : (s : S) (call : SubscriberCall) (t : S) → does s call t → spans t ≡ spans_after_call (spans s) call) (lanes : (s : S) (call : SubscriberCall) (t : S) → does s call t → CallLanes (attaches s) (kept s) call (kept t))
     (keeps_whole : (s : S) (call : SubscriberCall) (t : S) → does s call t → is_whole s → is_whole t) (dispatch made sites : ℕ) where
   -- a span more
   pub grown_stands : (old new : Worlds S) (d id : ℕ) (in_lane : Lane) (at : ℕ) (parent : Parent) (site : ℕ) (callsite : Callsite) (values : ValueSet)
@@ -90,12 +90,12 @@ module _ {S : Type 0} (spans : S → Spans) (attaches : S → Bool) (kept : S �
             let k = same_kept R old new d r kept (lanes r.before call r.later r.did.1) lane.id number in
             let a = stands.attached number in
             omega (arith, k, a));
-        own = own_after R old new d r lane lane refl stands.own;
+        in_world = own_after R old new d r lane lane refl stands.in_world;
         attached_other = λ number. (
             let k = same_kept R old new d r kept (lanes r.before call r.later r.did.1) other.id number in
             let a = stands.attached_other number in
             omega (arith, k, a));
-        own_other = own_after R old new d r other other refl stands.own_other;
+        other_in_world = own_after R old new d r other other refl stands.other_in_world;
         apart = stands.apart;
       }
 
@@ -110,9 +110,9 @@ module _ {S : Type 0} (spans : S → Spans) (attaches : S → Bool) (kept : S �
         few = keeps_all R old new d r (λ s. length (spans s).made ≤ made) (λ s t did few. (let e = ap (λ (x : Spans). length x.made) (shows s call t did) in let m = as_many_made (spans s) in omega (arith, e, m, few))) stands.few;
         declared = (let e = ap (λ (w : Worlds S). length w.sites) r.others in omega (arith, e, stands.declared));
         attached = attached_after R old new d r kept before later same moves stands.attached;
-        own = own_after R old new d r before later default stands.own;
+        in_world = own_after R old new d r before later default stands.in_world;
         attached_other = attached_elsewhere R old new d r kept before later other same stands.apart moves stands.attached_other;
-        own_other = own_after R old new d r other other refl stands.own_other;
+        other_in_world = own_after R old new d r other other refl stands.other_in_world;
         apart = λ e. stands.apart (e ∙ same);
       }
 
@@ -145,8 +145,8 @@ lane_left spans kept is_whole dispatch made sites world before later other left 
       let a = ap (λ xs. count_by (λ item. item.0 == number) xs) left.live in
       let b = stands.attached number in
       omega (arith, i, a, b));
-  own = subst (λ (o : Option ℕ). IsOwn world o) (sym left.default) stands.own;
+  in_world = subst (λ (o : Option ℕ). IsInWorld world o) (sym left.default) stands.in_world;
   attached_other = stands.attached_other;
-  own_other = stands.own_other;
+  other_in_world = stands.other_in_world;
   apart = λ e. stands.apart (e ∙ left.id);
 }

@@ -4,10 +4,10 @@ use Rattle.std.specs.Prelude.{◌==◌}
 use Rattle.otel_base.specs.declared.context.Context.{Context}
 use Rattle.trace_base.specs.declared.lane.Lane.{Lane}
 use Rattle.trace_base.specs.lanes.Default.{with_own}
-use Rattle.trace_base.specs.Gate.{Worlds, IsOwn}
+use Rattle.trace_base.specs.Gate.{Worlds, IsInWorld}
 use Rattle.trace_base.specs.Spans.{Spans}
 use Rattle.trace_base.specs.Calls.{SubscriberCall, Exit, spans_after_call}
-use Rattle.trace_base.specs.lanes.Contexts.{Lanes, attached_as}
+use Rattle.trace_base.specs.lanes.Contexts.{CallLanes, attached_as}
 use Rattle.trace_base.proofs.EntryLemmas.{count_push}
 use Rattle.span_handles.specs.Handles.{Held, ReplacedOn}
 use Rattle.span_handles.specs.Entries.{BeginsInside}
@@ -40,7 +40,7 @@ served_back None before left later is back = back ∙ is
 served_back (Some d) before left later is back = back ∙ ap (λ (l : Lane). with_own l before.default) is
 
 module _ {S : Type 0} (spans : S → Spans) (attaches : S → Bool) (kept : S → ℕ → ℕ → ℕ) (is_whole : S → Type 0) (does : S → SubscriberCall → S → Type 0)
-    (shows : (s : S) (call : SubscriberCall) (t : S) → does s call t → spans t ≡ spans_after_call (spans s) call) (lanes : (s : S) (call : SubscriberCall) (t : S) → does s call t → Lanes (attaches s) (kept s) call (kept t))
+    (shows : (s : S) (call : SubscriberCall) (t : S) → does s call t → spans t ≡ spans_after_call (spans s) call) (lanes : (s : S) (call : SubscriberCall) (t : S) → does s call t → CallLanes (attaches s) (kept s) call (kept t))
     (keeps_whole : (s : S) (call : SubscriberCall) (t : S) → does s call t → is_whole s → is_whole t) (dispatch made sites : ℕ) where
   -- an entry and an exit, with nothing between them
   inside_stands : (at : ℕ) (held : Held) (old world left new : Worlds S) (before lane left_lane later other : Lane) → BeginsInside does at held old before world lane → left ≡ world → left_lane ≡ lane
@@ -89,8 +89,8 @@ filled_stands spans kept is_whole dispatch made sites world before later other i
       let a = more number in
       let b = stands.attached number in
       omega (arith, i, a, b));
-  own = subst (λ (o : Option ℕ). IsOwn world o) (sym default) stands.own;
+  in_world = subst (λ (o : Option ℕ). IsInWorld world o) (sym default) stands.in_world;
   attached_other = stands.attached_other;
-  own_other = stands.own_other;
+  other_in_world = stands.other_in_world;
   apart = λ e. stands.apart (e ∙ id);
 }

@@ -26,12 +26,12 @@ module _ {S : Type 0} (spans : S → Spans) (kept : S → ℕ → ℕ → ℕ) (
         let k = same_kept R old new d r kept (q.as_kept r.before r.later r.did) lane.id number in
         let a = stands.attached number in
         omega (arith, k, a));
-    own = own_after R old new d r lane lane refl stands.own;
+    in_world = own_after R old new d r lane lane refl stands.in_world;
     attached_other = λ number. (
         let k = same_kept R old new d r kept (q.as_kept r.before r.later r.did) other.id number in
         let a = stands.attached_other number in
         omega (arith, k, a));
-    own_other = own_after R old new d r other other refl stands.own_other;
+    other_in_world = own_after R old new d r other other refl stands.other_in_world;
     apart = stands.apart;
   }
 

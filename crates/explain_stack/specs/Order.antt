@@ -1,7 +1,7 @@
 -- What the calls of a scene keep.
 use Rattle.std.specs.Prelude.{◌≡◌, ◌<◌, ◌≤◌, ℕ, length, IfSome}
 use Rattle.trace_base.specs.declared.lane.Lane.{Lane}
-use Rattle.trace_base.specs.Gate.{Worlds, IsOwn}
+use Rattle.trace_base.specs.Gate.{Worlds, IsInWorld}
 use Rattle.trace_base.specs.Spans.{Spans}
 use Rattle.span_handles.specs.Handles.{Handle, IsKnown}
 use Rattle.span_handles.specs.Knowing.{KeepsKnown}
@@ -16,9 +16,9 @@ pub record Stands {S : Type 0} (spans : S → Spans) (kept : S → ℕ → ℕ �
   pub few : HasAll (λ s. length (spans s).made ≤ made) world
   pub declared : sites ≤ length world.sites
   pub attached : AreAllAttached kept world lane
-  pub own : IsOwn world lane.default
+  pub in_world : IsInWorld world lane.default
   pub attached_other : AreAllAttached kept world other
-  pub own_other : IsOwn world other.default
+  pub other_in_world : IsInWorld world other.default
   pub apart : other.id ≡ lane.id → ⊥
 
 abbrev pub SceneInOrder : {S : Type 0} → (S → Spans) → (S → ℕ → ℕ → ℕ) → (S → Type 0) → Scene S → Type 0

@@ -11,12 +11,13 @@ use otel_base::memory::Memory;
 use otel_base::tracer::Tracer;
 use otel_layer::counting::FilteredOpenTelemetryLayer;
 use otel_layer::layer::OpenTelemetryLayer;
-use otel_layer::part::{OtelLayer, OtelSubscriber};
+use otel_layer::part::{OtelSubscriber, WithoutOtel};
 use span_registry::layered::Layered;
 use span_registry::registry::Registry;
 use std::alloc::Global;
 use trace_base::discard::Discard;
 use trace_base::filter::Filter;
+use trace_base::layer::Layer;
 
 /// A stack over a registry, which may have an OpenTelemetry layer over a tally.
 pub trait Stack: OtelSubscriber + Discard {
@@ -65,7 +66,7 @@ impl<F: Filter + Drop> Stack for Layered<FilteredOpenTelemetryLayer<Tally, F>, R
 }
 
 /// A layer that judges what is told to the stack below it.
-pub trait Judge: OtelLayer + Discard {}
+pub trait Judge: Layer + WithoutOtel + Discard {}
 
 impl Judge for EnvFilter {}
 

@@ -1,13 +1,12 @@
 -- An event that is counted, and told where it is taken.
-use Rattle.std.proofs.Common.{◌≡◌, ℕ, ◌≤◌, List, [], ◌∷◌, Bool, true, false, Option, Some, None, refl, sym, ap, ◌∙◌, inl, inr, arith, if◌then◌else◌, ◌==◌}
-use Rattle.otel_layer.proofs.Common.{cases_Bool, cond-true, cond-false, Op, SpanData, Room, HasRoom, after_op, Core, after_counted, update, with_op, RoomFor}
-use Rattle.otel_state.specs.declared.op.Op.TheVariants as ops
+use Rattle.std.proofs.Common.{◌≡◌, ℕ, List, [], ◌∷◌, Bool, refl, sym, ap, ◌∙◌, inl, inr, ◌==◌}
+use Rattle.otel_layer.proofs.Common.{cases_Bool, cond-true, cond-false, Op, SpanData, Core, after_counted, update}
 
-update_twice : (id : ℕ) (f g : SpanData → SpanData) (spans : List (ℕ × SpanData)) → update id g (update id f spans) ≡ update id (λ told. g (f told)) spans
+pub update_twice : (id : ℕ) (f g : SpanData → SpanData) (spans : List (ℕ × SpanData)) → update id g (update id f spans) ≡ update id (λ span_data. g (f span_data)) spans
 update_twice id f g [] = refl
 update_twice id f g (e ∷ es) =
     let Spans : Type 0 = List (ℕ × SpanData) in
-    let h : SpanData → SpanData = λ told. g (f told) in
+    let h : SpanData → SpanData = λ span_data. g (f span_data) in
     elim (cases_Bool (e.0 == id)) [
       | inl here ↦ (
           ap (update id g) (cond-true {A = Spans} (e.0 == id) ((e.0, f e.1) ∷ es) (e ∷ update id f es) here)
@@ -19,13 +18,6 @@ update_twice id f g (e ∷ es) =
           ∙ ap (λ (xs : Spans). e ∷ xs) (update_twice id f g es)
           ∙ sym (cond-false {A = Spans} (e.0 == id) ((e.0, h e.1) ∷ es) (e ∷ update id h es) off))
     ]
-
-pub counts_taken : {T : Type 0} (c between d : Core T) (id at : ℕ) (op : Op) (is_taken : Bool) → is_taken ≡ true → between ≡ record c { spans = with_op id at ops.Counted c.spans } → d ≡ record between { spans = with_op id at op between.spans }
-    → d ≡ record c { spans = update id (after_counted is_taken at op) c.spans }
-counts_taken {T} c between d id at op is_taken taken first second =
-    second ∙ ap (λ (x : Core T). let y : Core T = record x { spans = with_op id at op x.spans } in y) first
-    ∙ ap (λ (xs : List (ℕ × SpanData)). let y : Core T = record c { spans = xs } in y) (update_twice id (λ told. after_op told at ops.Counted) (λ told. after_op told at op) c.spans)
-    ∙ ap (λ (b : Bool). let y : Core T = record c { spans = update id (after_counted b at op) c.spans } in y) (sym taken)
 
 pub counted_is : {T : Type 0} (c d : Core T) (id at : ℕ) (op wanted : Op) (is_taken takes : Bool) → op ≡ wanted → is_taken ≡ takes → d ≡ record c { spans = update id (after_counted is_taken at op) c.spans }
     → d ≡ record c { spans = update id (after_counted takes at wanted) c.spans }

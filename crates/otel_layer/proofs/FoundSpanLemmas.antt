@@ -1,6 +1,6 @@
 -- What each change of a recording makes of the state of any span.
 use Rattle.std.proofs.Common.{◌≡◌, ◌≢◌, ◌<◌, ℕ, suc, zero, ◌+◌, List, [], ◌∷◌, ◌++◌, length, Bool, true, false, Option, Some, None, refl, sym, ap, subst, ◌∙◌, inl, inr, arith, if◌then◌else◌, ◌==◌, unwrap_or}
-use Rattle.otel_layer.proofs.Common.{remove_entry, cases_Bool, cond-true, cond-false, Context, SpanContext, ids_of, recorder_ids, Spans, KnownSpans, InStep, Op, SpanData, after_op, record_of, data_at, knows_span, with_span_data, with_op, waits, waits_by, is_id, Recording, started_under, with_start, without_closed, closed_started, with_close, data_after, data_started, started_by, count_after, Closes}
+use Rattle.otel_layer.proofs.Common.{remove_entry, cases_Bool, cond-true, cond-false, Context, SpanContext, ids_of, recorder_ids, Spans, KnownSpans, InStep, Op, SpanData, after_op, record_of, data_at, knows_span, with_span_data, with_op, waiting_context, context_unless_started, is_id, Recording, started_under, with_start, without_closed, closed_started, with_close, data_after, data_started, started_by, count_after, Closes}
 use Rattle.std.proofs.lemmas.Bool.{true≢false, eq-eqb, ne_eqb, eqb-true}
 use Rattle.otel_state.specs.declared.op.Op.TheVariants as ops
 use Rattle.otel_layer.proofs.RecordingHooksLemmas.{untold}
@@ -47,30 +47,30 @@ started_reads : (under : Option Context) (id other at : ℕ) (r : Recording) →
 started_reads None id other at r = refl
 started_reads (Some under) id other at r = told_at_op id other at (ops.Start (recorder_ids (r.started + 1) (ids_of under))) r.spans
 
-pub told_at_start : (id other at : ℕ) (r : Recording) → data_at other (with_start id at r).spans ≡ data_started (waits (data_at id r.spans)) (other == id) r.started at (data_at other r.spans)
-told_at_start id other at r = started_reads (waits (data_at id r.spans)) id other at r
+pub told_at_start : (id other at : ℕ) (r : Recording) → data_at other (with_start id at r).spans ≡ data_started (waiting_context (data_at id r.spans)) (other == id) r.started at (data_at other r.spans)
+told_at_start id other at r = started_reads (waiting_context (data_at id r.spans)) id other at r
 
 -- ---- a span more, and one less
 
-pub told_at_made : (id other : ℕ) (told : SpanData) (spans : List (ℕ × SpanData)) → data_at id spans ≡ None → data_at other (with_span_data id told spans) ≡ (if other == id then Some told else data_at other spans)
-told_at_made id other told [] none =
+pub told_at_made : (id other : ℕ) (span_data : SpanData) (spans : List (ℕ × SpanData)) → data_at id spans ≡ None → data_at other (with_span_data id span_data spans) ≡ (if other == id then Some span_data else data_at other spans)
+told_at_made id other span_data [] none =
     elim (cases_Bool (other == id)) [
-      | inl same ↦ cond-true {A = Option SpanData} (id == other) (Some told) None (eq-eqb id other (sym (eqb-true other id same))) ∙ sym (cond-true {A = Option SpanData} (other == id) (Some told) None same)
-      | inr apart ↦ cond-false {A = Option SpanData} (id == other) (Some told) None (ne_eqb id other (λ h. true≢false (sym (eq-eqb other id (sym h)) ∙ apart))) ∙ sym (cond-false {A = Option SpanData} (other == id) (Some told) None apart)
+      | inl same ↦ cond-true {A = Option SpanData} (id == other) (Some span_data) None (eq-eqb id other (sym (eqb-true other id same))) ∙ sym (cond-true {A = Option SpanData} (other == id) (Some span_data) None same)
+      | inr apart ↦ cond-false {A = Option SpanData} (id == other) (Some span_data) None (ne_eqb id other (λ h. true≢false (sym (eq-eqb other id (sym h)) ∙ apart))) ∙ sym (cond-false {A = Option SpanData} (other == id) (Some span_data) None apart)
     ]
-told_at_made id other told (e ∷ es) none =
+told_at_made id other span_data (e ∷ es) none =
     elim (cases_Bool (e.0 == id)) [
       | inl here ↦ absurd (cc (sym (cond-true {A = Option SpanData} (e.0 == id) (Some e.1) (data_at id es) here) ∙ none))
       | inr off ↦ (
-          let rest = told_at_made id other told es (sym (cond-false {A = Option SpanData} (e.0 == id) (Some e.1) (data_at id es) off) ∙ none) in
+          let rest = told_at_made id other span_data es (sym (cond-false {A = Option SpanData} (e.0 == id) (Some e.1) (data_at id es) off) ∙ none) in
           elim (cases_Bool (e.0 == other)) [
             | inl found ↦ (
                 let apart = ne_eqb other id (λ h. true≢false (sym (eq-eqb e.0 id (eqb-true e.0 other found ∙ h)) ∙ off)) in
-                cond-true {A = Option SpanData} (e.0 == other) (Some e.1) (data_at other (with_span_data id told es)) found
-                ∙ sym (cond-false {A = Option SpanData} (other == id) (Some told) (data_at other (e ∷ es)) apart ∙ cond-true {A = Option SpanData} (e.0 == other) (Some e.1) (data_at other es) found))
+                cond-true {A = Option SpanData} (e.0 == other) (Some e.1) (data_at other (with_span_data id span_data es)) found
+                ∙ sym (cond-false {A = Option SpanData} (other == id) (Some span_data) (data_at other (e ∷ es)) apart ∙ cond-true {A = Option SpanData} (e.0 == other) (Some e.1) (data_at other es) found))
             | inr missed ↦ (
-                cond-false {A = Option SpanData} (e.0 == other) (Some e.1) (data_at other (with_span_data id told es)) missed ∙ rest
-                ∙ ap (λ (o : Option SpanData). if other == id then Some told else o) (sym (cond-false {A = Option SpanData} (e.0 == other) (Some e.1) (data_at other es) missed)))
+                cond-false {A = Option SpanData} (e.0 == other) (Some e.1) (data_at other (with_span_data id span_data es)) missed ∙ rest
+                ∙ ap (λ (o : Option SpanData). if other == id then Some span_data else o) (sym (cond-false {A = Option SpanData} (e.0 == other) (Some e.1) (data_at other es) missed)))
           ])
     ]
 
@@ -97,17 +97,17 @@ told_at_next made spans known =
 
 -- ---- a close
 
-same_told : (told u : SpanData) → ◌≡◌ {A = Option SpanData} (Some told) (Some u) → told ≡ u
-same_told told u e = cc e
+same_told : (span_data u : SpanData) → ◌≡◌ {A = Option SpanData} (Some span_data) (Some u) → span_data ≡ u
+same_told span_data u e = cc e
 
-own_start : (own : Option SpanContext) (id at : ℕ) (r : Recording) (told : SpanData) → told.own ≡ own → data_at id r.spans ≡ Some told
-    → (data_at id (with_start id at r).spans ≡ Some (started_by own r.started at told)) × ((with_start id at r).started ≡ count_after own r.started)
-own_start (Some own) id at r told is found =
-    let under = ap waits found ∙ ap (λ (o : Option SpanContext). waits_by o told.parent) is in
+own_start : (own : Option SpanContext) (id at : ℕ) (r : Recording) (span_data : SpanData) → span_data.own ≡ own → data_at id r.spans ≡ Some span_data
+    → (data_at id (with_start id at r).spans ≡ Some (started_by own r.started at span_data)) × ((with_start id at r).started ≡ count_after own r.started)
+own_start (Some own) id at r span_data is found =
+    let under = ap waiting_context found ∙ ap (λ (o : Option SpanContext). context_unless_started o span_data.parent) is in
     (ap (λ (o : Option Context). data_at id (started_under o id at r).spans) under ∙ found, ap (λ (o : Option Context). (started_under o id at r).started) under)
-own_start None id at r told is found =
-    let under = ap waits found ∙ ap (λ (o : Option SpanContext). waits_by o told.parent) is in
-    let op = ops.Start (recorder_ids (r.started + 1) (ids_of told.parent)) in (
+own_start None id at r span_data is found =
+    let under = ap waiting_context found ∙ ap (λ (o : Option SpanContext). context_unless_started o span_data.parent) is in
+    let op = ops.Start (recorder_ids (r.started + 1) (ids_of span_data.parent)) in (
       ap (λ (o : Option Context). data_at id (started_under o id at r).spans) under ∙ told_at_op id id at op r.spans
           ∙ ap (λ (b : Bool). data_after b at op (data_at id r.spans)) (eq-eqb id id refl) ∙ ap (data_after true at op) found,
       ap (λ (o : Option Context). (started_under o id at r).started) under,
@@ -123,12 +123,12 @@ start_rest : (under : Option Context) (id at : ℕ) (r : Recording) → let t = 
 start_rest None id at r = (refl, refl, refl, refl)
 start_rest (Some under) id at r = (refl, refl, refl, refl)
 
-pub closes_span : (id at : ℕ) (r : Recording) (told : SpanData) → data_at id r.spans ≡ Some told → Closes id at r told (with_close id at r)
-closes_span id at r told found =
+pub closes_span : (id at : ℕ) (r : Recording) (span_data : SpanData) → data_at id r.spans ≡ Some span_data → Closes id at r span_data (with_close id at r)
+closes_span id at r span_data found =
     let s = with_start id at r in
-    let own = own_start told.own id at r told refl found in
-    let rest = start_rest (waits (data_at id r.spans)) id at r in
-    let last = started_by told.own r.started at told in
+    let own = own_start span_data.own id at r span_data refl found in
+    let rest = start_rest (waiting_context (data_at id r.spans)) id at r in
+    let last = started_by span_data.own r.started at span_data in
     let is : with_close id at r ≡ without_closed (Some last) id at s = ap (λ (o : Option SpanData). without_closed o id at s) own.0 in
     record {
       finished = ap (λ (t : Recording). t.finished) is ∙ ap (λ fs. fs ++ record_of last at ∷ []) rest.0;
@@ -136,5 +136,5 @@ closes_span id at r told found =
       tokens = ap (λ (t : Recording). t.tokens) is ∙ rest.1;
       settings = ap (λ (t : Recording). t.settings) is ∙ rest.2;
       counting = ap (λ (t : Recording). t.counting) is ∙ rest.3;
-      others = λ other apart. ap (λ (t : Recording). data_at other t.spans) is ∙ told_at_removed id other s.spans apart ∙ other_start (waits (data_at id r.spans)) id other at r apart;
+      others = λ other apart. ap (λ (t : Recording). data_at other t.spans) is ∙ told_at_removed id other s.spans apart ∙ other_start (waiting_context (data_at id r.spans)) id other at r apart;
     }

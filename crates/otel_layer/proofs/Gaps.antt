@@ -49,9 +49,9 @@ updated_count id g (e ∷ es) =
 
 pub applied_count : (o : Option SpanData) (old new : List (ℕ × SpanData)) (id at : ℕ) (op : Op) (answer : Option (Result OpReply Memory)) → AppliesTo o old id at op answer new → length new ≡ length old
 applied_count None old new id at op answer a = ap (λ (es : List (ℕ × SpanData)). length es) a.1
-applied_count (Some told) old new id at op None a = absurd a
-applied_count (Some told) old new id at op (Some (Ok r)) a = ap (λ (es : List (ℕ × SpanData)). length es) a.1 ∙ updated_count id (λ t. after_op t at op) old
-applied_count (Some told) old new id at op (Some (Err memory)) a = ap (λ (es : List (ℕ × SpanData)). length es) a.1
+applied_count (Some span_data) old new id at op None a = absurd a
+applied_count (Some span_data) old new id at op (Some (Ok r)) a = ap (λ (es : List (ℕ × SpanData)). length es) a.1 ∙ updated_count id (λ t. after_op t at op) old
+applied_count (Some span_data) old new id at op (Some (Err memory)) a = ap (λ (es : List (ℕ × SpanData)). length es) a.1
 
 pub removed_count : (id : ℕ) (es : List (ℕ × SpanData)) → knows_span id es ≡ true → suc (length (remove_entry (is_id id) es)) ≡ length es
 removed_count id [] known = absurd (true≢false (sym known))

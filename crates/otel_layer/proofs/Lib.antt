@@ -9,3 +9,4 @@ pub mod RecordingCallsLemmas
 pub mod RisingIdsLemmas
 pub mod ParentSetLemmas
 pub mod CountedEventsLemmas
+pub mod StartsLemmas

@@ -1,6 +1,6 @@
 -- What the hooks of a layer over a recorder make of what it keeps.
 use Rattle.std.proofs.Common.{◌≡◌, ℕ, suc, zero, ◌+◌, List, [], ◌∷◌, ◌++◌, Bool, true, false, Option, Some, None, refl, sym, ap, subst, ◌∙◌, inl, inr, if◌then◌else◌, is_some}
-use Rattle.otel_layer.proofs.Common.{remove_entry, cases_Bool, Context, SpanContext, Record, ids_of, RecorderValue, recorder_ids, without_number, empty_context, Lane, Hook, OnNewSpan, OnRecord, OnFollows, OnEvent, OnEnter, OnExit, OnClose, SpanData, record_of, Core, Reserves, SameCore, StartsIf, StartsSpan, StartsAny, parent_source, MakesSpan, FollowsSpan, EntersLane, DetachesOwn, EntersSpan, ExitsSpan, ClosesSpan, IfKnown, all_events, Step, DoesHook, data_at, knows_span, with_op, waits, waits_by, own_or, is_id, Recording, recording_of, with_applied, started_under, with_start, with_starts, made_under, with_new_recorded, with_started_link, with_follow, source_of, with_entry_op, with_entry, without_closed, closed_started, with_close, AttachesOwn, Detaches, Enters, Exits, Stays, RecordsHook}
+use Rattle.otel_layer.proofs.Common.{remove_entry, cases_Bool, Context, SpanContext, Record, ids_of, RecorderValue, recorder_ids, without_number, empty_context, Lane, Hook, OnNewSpan, OnRecord, OnFollows, OnEvent, OnEnter, OnExit, OnClose, SpanData, record_of, Core, Reserves, SameCore, StartsIf, StartsSpan, StartsAny, parent_source, MakesSpan, FollowsSpan, EntersLane, DetachesOwn, EntersSpan, ExitsSpan, ClosesSpan, IfKnown, all_events, Step, DoesHook, data_at, knows_span, with_op, waiting_context, context_unless_started, own_or, is_id, Recording, recording_of, with_applied, started_under, with_start, with_starts, made_under, with_new_recorded, with_started_link, with_follow, source_of, with_entry_op, with_entry, without_closed, closed_started, with_close, AttachesOwn, Detaches, Enters, Exits, Stays, RecordsHook}
 use Rattle.std.proofs.lemmas.Map.Made.{is_some-lookup}
 use Rattle.std.proofs.lemmas.Bool.{true≢false}
 use Rattle.otel_base.specs.Recorder.{Records as RecordsBy}
@@ -31,7 +31,7 @@ if_recording (Some under) id at c d h =
     ∙ ap (λ (own : SpanContext). let x : Recording = record (recording_of c) { started = c.tracer.started + 1; spans = with_op id at (ops.Start own) c.spans } in x) h.1.0
 
 pub start_recording : (id at : ℕ) (c d : Core RecorderValue) → StartsSpan RecordsBy id at c d → recording_of d ≡ with_start id at (recording_of c)
-start_recording id at c d h = if_recording (waits (data_at id c.spans)) id at c d h
+start_recording id at c d h = if_recording (waiting_context (data_at id c.spans)) id at c d h
 
 starts_recording : (o : Option ℕ) (at : ℕ) (c d : Core RecorderValue) → StartsAny RecordsBy o at c d → recording_of d ≡ with_starts o at (recording_of c)
 starts_recording None at c d h = ap recording_of h
@@ -73,7 +73,7 @@ stays c d before later h = (ap recording_of h.0, ap (λ (l : Lane). l.contexts.l
 
 none_of : (o : Option SpanData) → is_some o ≡ false → o ≡ None
 none_of None h = refl
-none_of (Some told) h = absurd (true≢false h)
+none_of (Some span_data) h = absurd (true≢false h)
 
 pub untold : (id : ℕ) (spans : List (ℕ × SpanData)) → knows_span id spans ≡ false → data_at id spans ≡ None
 untold id spans h = none_of (data_at id spans) (is_some-lookup (is_id id) spans ∙ h)
@@ -89,7 +89,7 @@ closes_known c d id at h =
 closes_unknown : (o : Option SpanData) (r : Recording) (id at : ℕ) → o ≡ data_at id r.spans → o ≡ None → with_close id at r ≡ r
 closes_unknown o r id at is none =
     let gone = sym is ∙ none in
-    ap (λ (t : Option SpanData). closed_started id at (started_under (waits t) id at r)) gone ∙ ap (λ (t : Option SpanData). without_closed t id at r) gone
+    ap (λ (t : Option SpanData). closed_started id at (started_under (waiting_context t) id at r)) gone ∙ ap (λ (t : Option SpanData). without_closed t id at r) gone
 
 -- ---- all hooks
 

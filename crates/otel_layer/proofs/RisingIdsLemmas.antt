@@ -36,9 +36,9 @@ ids_added xs e = map-append (λ (x : Entry). x.id) xs (e ∷ [])
 
 pub added_kept : (rising rises : Bool) (known : ℕ) (old new : List Entry) (e : Entry) (state : StateValue) → new ≡ old ++ e ∷ [] → e.state ≡ Some state → (rises ≡ true → RisesTo e.id old) → IsKept rising known old → IsKept rises (known + 1) new
 added_kept rising rises known old new e state is there young h =
-    let long = ap (λ (es : List (ℕ × SpanData)). length es) (ap (λ (xs : List Entry). all_data xs) is ∙ read_added (λ s. s.told) old e ∙ ap (λ (o : Option StateValue). all_data old ++ with_entry_read e.id (λ s. s.told) o []) there) in
+    let long = ap (λ (es : List (ℕ × SpanData)). length es) (ap (λ (xs : List Entry). all_data xs) is ∙ read_added (λ s. s.span_data) old e ∙ ap (λ (o : Option StateValue). all_data old ++ with_entry_read e.id (λ s. s.span_data) o []) there) in
     let counts = h.counts in
-    let sum = length-append (all_data old) ((e.id, state.told) ∷ []) in
+    let sum = length-append (all_data old) ((e.id, state.span_data) ∷ []) in
     record {
       rises = λ so. subst (λ (ks : List ℕ). IdsRise 0 ks) (sym (ap (λ (xs : List Entry). entry_ids xs) is ∙ ids_added old e)) (young so);
       counts = omega (arith, long, counts, sum);
@@ -193,9 +193,9 @@ kept_whole rising known len old now as_many same count h =
 -- one is taken out, and the gaps may be closed
 pub removed_kept : (rising : Bool) (known id len : ℕ) (old now new : List Entry) → length now ≡ len → entry_ids now ≡ entry_ids old → all_data now ≡ remove_entry (is_id id) (all_data old) → knows_span id (all_data old) ≡ true
     → all_data new ≡ all_data (take len (now ++ drop (length now) old)) → (MayRise true (take len (now ++ drop (length now) old)) → MayRise true new) → IsKept rising known old → IsKept rising (known - 1) new
-removed_kept rising known id len old now new as_many same rest there told rise h =
+removed_kept rising known id len old now new as_many same rest there span_data rise h =
     let whole = whole_kept len now (drop (length now) old) as_many in
-    let a = ap (λ (es : List (ℕ × SpanData)). length es) (told ∙ ap (λ (xs : List Entry). all_data xs) whole ∙ rest) in
+    let a = ap (λ (es : List (ℕ × SpanData)). length es) (span_data ∙ ap (λ (xs : List Entry). all_data xs) whole ∙ rest) in
     let b = removed_count id (all_data old) there in
     let counts = h.counts in
     record {

@@ -1,6 +1,6 @@
 -- A table of states, seen as the list of what its spans have come to.
 use Rattle.std.proofs.Common.{◌≡◌, ℕ, suc, zero, ◌+◌, ◌<◌, ◌≤◌, List, [], ◌∷◌, length, Bool, true, false, cond, get_or, Option, Some, None, refl, sym, ap, ◌∙◌, arith, inl, inr, Result, Ok, Err, OnOk, OnErr, unwrap_or, is_some, ◌||◌, ◌&&◌, ◌==◌, nat_lt, slice_set}
-use Rattle.otel_layer.proofs.Common.{position_or_len, list_any, remove_entry, lookup, and_parts, or_parts, cases_Bool, cond-true, cond-false, Context, SpanContext, Entry, SpanData, StateValue, ids_of, is_of_id, ids_at, waits, waits_by, own_or, with_entry_read, read_off, all_data, entry_ids, is_id, knows_span, update}
+use Rattle.otel_layer.proofs.Common.{position_or_len, list_any, remove_entry, lookup, and_parts, or_parts, cases_Bool, cond-true, cond-false, Entry, SpanData, StateValue, is_of_id, with_entry_read, read_off, all_data, entry_ids, is_id, knows_span, update}
 use Rattle.std.specs.List.{position}
 use Rattle.std.proofs.lemmas.Bool.{ltb-false, true≢false}
 use Rattle.std.proofs.lemmas.List.Quantifiers.{position-Some}
@@ -19,13 +19,13 @@ lookup_off {A} id i f (Some s) others off = cond-false {A = Option A} (i == id) 
 lookup_on : {A : Type 0} (id i : ℕ) (f : StateValue → A) (o : Option StateValue) (s : StateValue) (others : List (ℕ × A)) → o ≡ Some s → (i == id) ≡ true → lookup (is_id id) (with_entry_read i f o others) ≡ Some (f s)
 lookup_on {A} id i f o s others is here = ap (λ (x : Option StateValue). lookup (is_id id) (with_entry_read i f x others)) is ∙ cond-true {A = Option A} (i == id) (Some (f s)) (lookup (is_id id) others) here
 
-update_off : (id i : ℕ) (g : SpanData → SpanData) (o : Option StateValue) (others : List (ℕ × SpanData)) → ((i == id) && is_some o) ≡ false → update id g (with_entry_read i (λ s. s.told) o others) ≡ with_entry_read i (λ s. s.told) o (update id g others)
+update_off : (id i : ℕ) (g : SpanData → SpanData) (o : Option StateValue) (others : List (ℕ × SpanData)) → ((i == id) && is_some o) ≡ false → update id g (with_entry_read i (λ s. s.span_data) o others) ≡ with_entry_read i (λ s. s.span_data) o (update id g others)
 update_off id i g None others off = refl
-update_off id i g (Some s) others off = cond-false {A = List (ℕ × SpanData)} (i == id) ((i, g s.told) ∷ others) ((i, s.told) ∷ update id g others) (and_none (i == id) off)
+update_off id i g (Some s) others off = cond-false {A = List (ℕ × SpanData)} (i == id) ((i, g s.span_data) ∷ others) ((i, s.span_data) ∷ update id g others) (and_none (i == id) off)
 
-update_on : (id i : ℕ) (g : SpanData → SpanData) (o : Option StateValue) (s : StateValue) (others : List (ℕ × SpanData)) → o ≡ Some s → (i == id) ≡ true → update id g (with_entry_read i (λ s. s.told) o others) ≡ (i, g s.told) ∷ others
+update_on : (id i : ℕ) (g : SpanData → SpanData) (o : Option StateValue) (s : StateValue) (others : List (ℕ × SpanData)) → o ≡ Some s → (i == id) ≡ true → update id g (with_entry_read i (λ s. s.span_data) o others) ≡ (i, g s.span_data) ∷ others
 update_on id i g o s others is here =
-    ap (λ (x : Option StateValue). update id g (with_entry_read i (λ s. s.told) x others)) is ∙ cond-true {A = List (ℕ × SpanData)} (i == id) ((i, g s.told) ∷ others) ((i, s.told) ∷ update id g others) here
+    ap (λ (x : Option StateValue). update id g (with_entry_read i (λ s. s.span_data) x others)) is ∙ cond-true {A = List (ℕ × SpanData)} (i == id) ((i, g s.span_data) ∷ others) ((i, s.span_data) ∷ update id g others) here
 
 remove_off : {A : Type 0} (id i : ℕ) (f : StateValue → A) (o : Option StateValue) (others : List (ℕ × A)) → ((i == id) && is_some o) ≡ false → remove_entry (is_id id) (with_entry_read i f o others) ≡ with_entry_read i f o (remove_entry (is_id id) others)
 remove_off id i f None others off = refl
@@ -38,7 +38,7 @@ remove_on {A} id i f o s others is here =
 with_some : {A : Type 0} (f : StateValue → A) (i j : ℕ) (o : Option StateValue) (s : StateValue) (others : List (ℕ × A)) → i ≡ j → o ≡ Some s → with_entry_read i f o others ≡ (j, f s) ∷ others
 with_some f i j o s others same is = ap (λ (n : ℕ). with_entry_read n f o others) same ∙ ap (λ (x : Option StateValue). with_entry_read j f x others) is
 
-known_with : (id i : ℕ) (o : Option StateValue) (others : List (ℕ × SpanData)) → knows_span id (with_entry_read i (λ s. s.told) o others) ≡ (((i == id) && is_some o) || knows_span id others)
+known_with : (id i : ℕ) (o : Option StateValue) (others : List (ℕ × SpanData)) → knows_span id (with_entry_read i (λ s. s.span_data) o others) ≡ (((i == id) && is_some o) || knows_span id others)
 known_with id i None others = gap (i == id) (knows_span id others)
   where
     gap : (b k : Bool) → k ≡ ((b && false) || k)
@@ -61,13 +61,13 @@ read_there f id (x ∷ xs) (suc n) d s within here before is =
     ∙ read_there f id xs n d s (omega (arith, within)) here (λ k less. before (suc k) (omega (arith, less))) is
 
 update_there : (id : ℕ) (g : SpanData → SpanData) (xs : List Entry) (n : ℕ) (d e : Entry) (s t : StateValue) → n < length xs → is_of_id id (get_or xs n d) ≡ true → ((k : ℕ) → k < n → is_of_id id (get_or xs k d) ≡ false)
-    → (get_or xs n d).state ≡ Some s → e.id ≡ (get_or xs n d).id → e.state ≡ Some t → t.told ≡ g s.told → all_data (slice_set xs n e) ≡ update id g (all_data xs)
-update_there id g [] n d e s t within here before was same now told = absurd (omega (arith, within))
-update_there id g (x ∷ xs) zero d e s t within here before was same now told =
-    with_some (λ s. s.told) e.id x.id e.state t (all_data xs) same now ∙ ap (λ (u : SpanData). (x.id, u) ∷ all_data xs) told
+    → (get_or xs n d).state ≡ Some s → e.id ≡ (get_or xs n d).id → e.state ≡ Some t → t.span_data ≡ g s.span_data → all_data (slice_set xs n e) ≡ update id g (all_data xs)
+update_there id g [] n d e s t within here before was same now span_data = absurd (omega (arith, within))
+update_there id g (x ∷ xs) zero d e s t within here before was same now span_data =
+    with_some (λ s. s.span_data) e.id x.id e.state t (all_data xs) same now ∙ ap (λ (u : SpanData). (x.id, u) ∷ all_data xs) span_data
     ∙ sym (update_on id x.id g x.state s (all_data xs) was (and_parts (x.id == id) (is_some x.state) here).0)
-update_there id g (x ∷ xs) (suc n) d e s t within here before was same now told =
-    ap (λ (es : List (ℕ × SpanData)). with_entry_read x.id (λ s. s.told) x.state es) (update_there id g xs n d e s t (omega (arith, within)) here (λ k less. before (suc k) (omega (arith, less))) was same now told)
+update_there id g (x ∷ xs) (suc n) d e s t within here before was same now span_data =
+    ap (λ (es : List (ℕ × SpanData)). with_entry_read x.id (λ s. s.span_data) x.state es) (update_there id g xs n d e s t (omega (arith, within)) here (λ k less. before (suc k) (omega (arith, less))) was same now span_data)
     ∙ sym (update_off id x.id g x.state (all_data xs) (before zero (omega arith)))
 
 same_there : {A : Type 0} (f : StateValue → A) (xs : List Entry) (n : ℕ) (d e : Entry) (s t : StateValue) → n < length xs → (get_or xs n d).state ≡ Some s → e.id ≡ (get_or xs n d).id → e.state ≡ Some t → f t ≡ f s → read_off f (slice_set xs n e) ≡ read_off f xs
@@ -141,7 +141,7 @@ none_update : (id : ℕ) (g : SpanData → SpanData) (xs : List Entry) → list_
 none_update id g [] h = refl
 none_update id g (x ∷ xs) h =
     let parts = or_parts (is_of_id id x) (list_any (is_of_id id) xs) h in
-    update_off id x.id g x.state (all_data xs) parts.0 ∙ ap (λ (es : List (ℕ × SpanData)). with_entry_read x.id (λ s. s.told) x.state es) (none_update id g xs parts.1)
+    update_off id x.id g x.state (all_data xs) parts.0 ∙ ap (λ (es : List (ℕ × SpanData)). with_entry_read x.id (λ s. s.span_data) x.state es) (none_update id g xs parts.1)
 
 knows_is : (id : ℕ) (xs : List Entry) → knows_span id (all_data xs) ≡ list_any (is_of_id id) xs
 knows_is id [] = refl
@@ -157,9 +157,9 @@ no_gap id xs n d h gap =
 pub found_read : {A : Type 0} (f : StateValue → A) (id : ℕ) (xs : List Entry) (n : ℕ) (d : Entry) (s : StateValue) → position (is_of_id id) xs ≡ Some n → (get_or xs n d).state ≡ Some s → lookup (is_id id) (read_off f xs) ≡ Some (f s)
 found_read f id xs n d s h is = (let p = position-Some (is_of_id id) xs n d h in read_there f id xs n d s p.0 p.1 p.2 is)
 
-pub found_update : (id : ℕ) (g : SpanData → SpanData) (xs : List Entry) (n : ℕ) (d e : Entry) (s t : StateValue) → position (is_of_id id) xs ≡ Some n → (get_or xs n d).state ≡ Some s → e.id ≡ (get_or xs n d).id → e.state ≡ Some t → t.told ≡ g s.told
+pub found_update : (id : ℕ) (g : SpanData → SpanData) (xs : List Entry) (n : ℕ) (d e : Entry) (s t : StateValue) → position (is_of_id id) xs ≡ Some n → (get_or xs n d).state ≡ Some s → e.id ≡ (get_or xs n d).id → e.state ≡ Some t → t.span_data ≡ g s.span_data
     → all_data (slice_set xs n e) ≡ update id g (all_data xs)
-found_update id g xs n d e s t h was same now told = (let p = position-Some (is_of_id id) xs n d h in update_there id g xs n d e s t p.0 p.1 p.2 was same now told)
+found_update id g xs n d e s t h was same now span_data = (let p = position-Some (is_of_id id) xs n d h in update_there id g xs n d e s t p.0 p.1 p.2 was same now span_data)
 
 pub found_same : {A : Type 0} (f : StateValue → A) (id : ℕ) (xs : List Entry) (n : ℕ) (d e : Entry) (s t : StateValue) → position (is_of_id id) xs ≡ Some n → (get_or xs n d).state ≡ Some s → e.id ≡ (get_or xs n d).id → e.state ≡ Some t → f t ≡ f s
     → read_off f (slice_set xs n e) ≡ read_off f xs
@@ -178,6 +178,9 @@ read_set {A} f id xs n d e t h same now a is =
 
 pub not_read : {A : Type 0} (f : StateValue → A) (id : ℕ) (xs : List Entry) → position (is_of_id id) xs ≡ None → lookup (is_id id) (read_off f xs) ≡ None
 not_read f id xs h = none_read f id xs (none_found id xs h)
+
+pub none_at : {A : Type 0} (f : StateValue → A) (id : ℕ) (xs ys : List Entry) → ys ≡ xs → position (is_of_id id) ys ≡ None → lookup (is_id id) (read_off f xs) ≡ None
+none_at f id xs ys same h = ap (λ (zs : List Entry). lookup (is_id id) (read_off f zs)) (sym same) ∙ not_read f id ys h
 
 pub nothing_read : {A : Type 0} (f : StateValue → A) (id : ℕ) (xs : List Entry) → position (is_of_id id) xs ≡ None → (a : A) → lookup (is_id id) (read_off f xs) ≡ Some a → ⊥
 nothing_read f id xs h a is = some_isnt_none a (sym is ∙ not_read f id xs h)
@@ -202,9 +205,6 @@ found_any id (x ∷ xs) (Some n) is = (let p = position-Some (is_of_id id) (x �
 -- a span is known where a place is found
 pub found_known : (id : ℕ) (xs : List Entry) (o : Option ℕ) → o ≡ position (is_of_id id) xs → is_some o ≡ knows_span id (all_data xs)
 found_known id xs o is = found_any id xs o is ∙ sym (knows_is id xs)
-
-pub not_known : (id : ℕ) (xs : List Entry) → knows_span id (all_data xs) ≡ true → position (is_of_id id) xs ≡ None → ⊥
-not_known id xs known h = true≢false (sym known ∙ knows_is id xs ∙ none_found id xs h)
 
 pub on_ok : {A B : Type 0} (r : Result A B) (P Q : Type 0) → (P → Q) → OnOk r P → OnOk r Q
 on_ok (Ok a) P Q f h = f h

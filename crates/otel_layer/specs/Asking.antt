@@ -77,4 +77,4 @@ pub record AsksContext {S : Type 0} (touches : S → PartCall → S → Type 0) 
 
 -- the parent of an enabled handle's span is set exactly while it isn't started, if the stack shows a layer
 abbrev pub set_while_waiting : SpanData → Result (Unit {0}) SetParentError
-set_while_waiting told = if is_some told.own then Err refusals.AlreadyStarted else Ok tt
+set_while_waiting span_data = if is_some span_data.own then Err refusals.AlreadyStarted else Ok tt

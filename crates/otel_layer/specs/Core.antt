@@ -5,7 +5,7 @@ use Rattle.std.specs.Map.{keys_of}
 use Rattle.trace_base.specs.layers.Hooks.{KnownSpans}
 use Rattle.otel_state.specs.declared.settings.LayerSettings.{LayerSettings}
 use Rattle.otel_state.specs.States.{SpanData, Room}
-use Rattle.otel_layer.specs.declared.tokens.Token.{Token}
+use Rattle.otel_layer.specs.declared.layer.tokens.Token.{Token}
 use Rattle.otel_layer.specs.Table.{is_id, waiting_in}
 
 -- a layer: the spans that it knows, its open entries, its tracer, for how many finishes it has reserved room there, how
@@ -26,9 +26,12 @@ pub record CoreWithRoom (T : Type 0) : Type 0 where
   pub room : ℕ
   pub token_room : ℕ
 
--- the same with other spans, and with other settings
+-- the same with other spans, over another state of its tracer, and with other settings
 abbrev pub on_spans : {T : Type 0} → (List (ℕ × SpanData) → List (ℕ × SpanData)) → Core T → Core T
 on_spans f c = record c { spans = f c.spans }
+
+abbrev pub with_tracer : {T : Type 0} → T → Core T → Core T
+with_tracer tracer c = record c { tracer = tracer }
 
 abbrev pub set_in : {T : Type 0} → (LayerSettings → LayerSettings) → Core T → Core T
 set_in f c = record c { settings = f c.settings }

@@ -17,11 +17,11 @@ use Rattle.otel_layer.specs.Steps.{Events, SameCore, Step, DoesHook, all_events}
 
 -- an event is counted, and applied after that if it is taken
 abbrev pub after_counted : Bool → ℕ → Op → SpanData → SpanData
-after_counted is_taken at op told = if is_taken then after_op (after_op told at ops.Counted) at op else after_op told at ops.Counted
+after_counted is_taken at op span_data = if is_taken then after_op (after_op span_data at ops.Counted) at op else after_op span_data at ops.Counted
 
 -- what events make of their spans, where a filter decides by lane and callsite which it takes
 abbrev pub counted_events : (ℕ → Callsite → Bool) → Events
-counted_events enables settings lane at callsite values told = after_counted (enables lane callsite) at (event_of callsite values settings at) told
+counted_events enables settings lane at callsite values span_data = after_counted (enables lane callsite) at (event_of callsite values settings at) span_data
 
 -- the same where a filter may be given: without one each event is applied, and none is counted
 abbrev pub events_by : {F : Type 0} → (F → ℕ → Callsite → Bool) → Option F → Events
@@ -34,13 +34,13 @@ counting_core counting c = record c { counting = counting }
 
 -- ---- laws
 
-counted_own : (is_taken : Bool) (settings : LayerSettings) (at : ℕ) (callsite : Callsite) (values : ValueSet) (told : SpanData) → (after_counted is_taken at (event_of callsite values settings at) told).own ≡ told.own
-counted_own true settings at callsite values told = refl
-counted_own false settings at callsite values told = refl
+counted_own : (is_taken : Bool) (settings : LayerSettings) (at : ℕ) (callsite : Callsite) (values : ValueSet) (span_data : SpanData) → (after_counted is_taken at (event_of callsite values settings at) span_data).own ≡ span_data.own
+counted_own true settings at callsite values span_data = refl
+counted_own false settings at callsite values span_data = refl
 
 pub events_keep_own : {F : Type 0} (enables : F → ℕ → Callsite → Bool) (filter : Option F) → KeepsOwn (events_by enables filter)
 events_keep_own enables None = all_keep_own
-events_keep_own enables (Some filter) = λ settings lane at callsite values told. counted_own (enables filter lane callsite) settings at callsite values told
+events_keep_own enables (Some filter) = λ settings lane at callsite values span_data. counted_own (enables filter lane callsite) settings at callsite values span_data
 
 pub counted_does : {T F : Type 0} (does : T → TracerCall → T → Type 0) (events : F → Events) (c d : Core T) (hook : Hook) (e : Core T) (f g h : F) → SameCore does c d × (g ≡ f)
     → DoesHook does (events g) d hook e × (h ≡ g) → DoesHook does (events f) c hook e × (h ≡ f)

@@ -5,6 +5,7 @@ pub mod Parts
 pub mod Ready
 pub mod Recording
 pub mod Rooming
+pub mod Starts
 pub mod Steps
 pub mod Table
 pub mod lending

@@ -10,7 +10,7 @@ use Rattle.otel_state.specs.declared.op.Op.{Op}
 use Rattle.otel_state.specs.declared.op.Op.TheVariants as ops
 use Rattle.otel_state.specs.declared.op.OpReply.{OpReply}
 use Rattle.otel_state.specs.States.{SpanData, reply, is_growing}
-use Rattle.otel_layer.specs.Table.{data_at, with_op, waits}
+use Rattle.otel_layer.specs.Table.{data_at, with_op, waiting_context}
 use Rattle.otel_layer.specs.Core.{Core}
 use Rattle.otel_layer.specs.Steps.{StartsSpan}
 
@@ -36,9 +36,9 @@ IsOutside ops.Exit = ⊥
 -- an op of a span that is known or isn't: the answer, and the spans after it
 abbrev pub AppliesTo : Option SpanData → List (ℕ × SpanData) → ℕ → ℕ → Op → Option (Result OpReply Memory) → List (ℕ × SpanData) → Type 0
 AppliesTo None spans id at op answer now = (answer ≡ None) × (now ≡ spans)
-AppliesTo (Some told) spans id at op None now = ⊥
-AppliesTo (Some told) spans id at op (Some (Ok r)) now = (r ≡ reply told op) × (now ≡ with_op id at op spans)
-AppliesTo (Some told) spans id at op (Some (Err memory)) now = IsTrue (is_growing op) × (now ≡ spans)
+AppliesTo (Some span_data) spans id at op None now = ⊥
+AppliesTo (Some span_data) spans id at op (Some (Ok r)) now = (r ≡ reply span_data op) × (now ≡ with_op id at op spans)
+AppliesTo (Some span_data) spans id at op (Some (Err memory)) now = IsTrue (is_growing op) × (now ≡ spans)
 
 -- the same among spans
 abbrev pub AppliesIn : List (ℕ × SpanData) → ℕ → ℕ → Op → Option (Result OpReply Memory) → List (ℕ × SpanData) → Type 0
@@ -47,7 +47,7 @@ AppliesIn spans id at op answer now = AppliesTo (data_at id spans) spans id at o
 -- the own context of a span, if it is known
 abbrev pub context_at : Option SpanData → Option Context
 context_at None = None
-context_at (Some told) = Some (record { span = told.own })
+context_at (Some span_data) = Some (record { span = span_data.own })
 
 -- ---- a layer
 
@@ -66,7 +66,7 @@ ShowsIn (Some under) spans id at answer now = (given : SpanContext) × (now ≡ 
 -- the spans after a call, where they are told
 abbrev pub AnswersCall : List (ℕ × SpanData) → PartCall → List (ℕ × SpanData) → Type 0
 AnswersCall spans (Applies id at op answer) now = AppliesIn spans id at op answer now
-AnswersCall spans (Shows id at answer) now = ShowsIn (waits (data_at id spans)) spans id at answer now
+AnswersCall spans (Shows id at answer) now = ShowsIn (waiting_context (data_at id spans)) spans id at answer now
 
 abbrev pub AnswersCallIf : Option (List (ℕ × SpanData)) → PartCall → Option (List (ℕ × SpanData)) → Type 0
 AnswersCallIf None call now = now ≡ None

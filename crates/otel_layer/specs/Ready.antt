@@ -31,7 +31,7 @@ fresh_data c lane callsite = data_at_making (record { name = callsite.name; pare
 -- its state, and what its fields write
 pub record IsReadyState {T : Type 0} (s : CoreWithRoom T) (lane : Lane) (callsite : Callsite) (values : ValueSet) (state : StateValue) (update : Update) : Type 0 where
   pub span : IsReadySpan s
-  pub told : state.told ≡ fresh_data s.core lane callsite
+  pub span_data : state.span_data ≡ fresh_data s.core lane callsite
   pub is : update ≡ span_update callsite values s.core.settings
   pub room : length update.attributes ≤ state.room.attributes
 
@@ -42,9 +42,9 @@ with_moment at op = op
 
 -- a state with room for what fields write
 abbrev pub HasRoomForUpdate : SpanData → Update → Ready → Type 0
-HasRoomForUpdate told update (ready.Made made) = (made.value.state.told ≡ told) × (made.value.update ≡ update)
+HasRoomForUpdate span_data update (ready.Made made) = (made.value.state.span_data ≡ span_data) × (made.value.update ≡ update)
     × (length made.value.update.attributes ≤ made.value.state.room.attributes)
-HasRoomForUpdate told update _ = ⊥
+HasRoomForUpdate span_data update _ = ⊥
 
 -- an op, with the room that it needs
 abbrev pub IsReadyOp : {T : Type 0} → CoreWithRoom T → ℕ → Op → Ready → Type 0

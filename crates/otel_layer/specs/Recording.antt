@@ -15,7 +15,7 @@ use Rattle.trace_base.specs.declared.span.Parent.{Parent}
 use Rattle.trace_base.specs.Calls.{SubscriberCall, NewSpan, Records, Follows, Event, Enter, Exit, CloneSpan, TryClose}
 use Rattle.trace_base.specs.Gate.{Worlds}
 use Rattle.trace_base.specs.layers.Hooks.{Hook, OnNewSpan, OnRecord, OnFollows, OnEvent, OnEnter, OnExit, OnClose}
-use Rattle.trace_base.specs.Spans.{Spans, span_at, entries_on, current_of, place_on, without_last}
+use Rattle.trace_base.specs.Spans.{Spans, span_at, entries_on, current_of, parent_on, without_last}
 use Rattle.span_registry.specs.declared.layered.Layered.{Layered}
 use Rattle.span_registry.specs.Registering.{RegistryValue}
 use Rattle.span_handles.specs.Worlds.{member_of, ReleasesChain, closed_in}
@@ -27,11 +27,11 @@ use Rattle.otel_state.specs.Settings.{default_settings}
 use Rattle.otel_state.specs.fields.SpanFields.{span_update}
 use Rattle.otel_state.specs.Stack.{last_passing}
 use Rattle.otel_state.specs.States.{SpanData, after_op, record_of}
-use Rattle.otel_layer.specs.declared.tokens.Token.{Token}
+use Rattle.otel_layer.specs.declared.layer.tokens.Token.{Token}
 use Rattle.otel_layer.specs.Core.{Core, CoreWithRoom, is_token}
 use Rattle.otel_layer.specs.Parts.{PartCall, Applies, Shows, AppliesIn, context_at}
-use Rattle.otel_layer.specs.Steps.{IfKnown, parent_source, around, context_from, new_span_data, with_link}
-use Rattle.otel_layer.specs.Table.{data_at, knows_span, with_span_data, with_op, waits, own_or, ids_at, is_id}
+use Rattle.otel_layer.specs.Steps.{IfKnown, parent_source, lane_context, context_from, new_span_data, with_link}
+use Rattle.otel_layer.specs.Table.{data_at, knows_span, with_span_data, with_op, waiting_context, own_or, ids_at, is_id}
 
 -- the spans that are known, with what each has come to, the open entries, how many spans the recorder has started, the
 -- finished ones that weren't taken, and the settings
@@ -71,7 +71,7 @@ started_under (Some under) id at r = record r {
 
 -- a span starts, if it is known and hasn't
 abbrev pub with_start : ℕ → ℕ → Recording → Recording
-with_start id at r = started_under (waits (data_at id r.spans)) id at r
+with_start id at r = started_under (waiting_context (data_at id r.spans)) id at r
 
 -- the span that is named starts, if one is
 abbrev pub with_starts : Option ℕ → ℕ → Recording → Recording
@@ -85,7 +85,7 @@ source_of on id = if on then Some id else None
 -- a span is made, after the one started that gives its parent's context
 abbrev pub made_under : Option ℕ → ℕ → Lane → ℕ → Parent → Callsite → ValueSet → LayerSettings → Bool → Recording → Recording
 made_under source id lane at parent callsite values settings counting r = record r {
-  spans = with_span_data id (new_span_data callsite lane values (context_from r.spans (around lane parent) source) at settings counting) r.spans;
+  spans = with_span_data id (new_span_data callsite lane values (context_from r.spans (lane_context lane parent) source) at settings counting) r.spans;
 }
 
 -- and where spans start early it starts at once
@@ -126,7 +126,7 @@ with_exit id lane at r = record r {
 -- a known span's record is the next that is finished
 abbrev pub without_closed : Option SpanData → ℕ → ℕ → Recording → Recording
 without_closed None id at r = r
-without_closed (Some told) id at r = record r { spans = remove_entry (is_id id) r.spans; finished = r.finished ++ record_of told at ∷ [] }
+without_closed (Some span_data) id at r = record r { spans = remove_entry (is_id id) r.spans; finished = r.finished ++ record_of span_data at ∷ [] }
 
 abbrev pub closed_started : ℕ → ℕ → Recording → Recording
 closed_started id at r = without_closed (data_at id r.spans) id at r
@@ -185,7 +185,7 @@ abbrev pub RecordsCall : Spans → Recording → SubscriberCall → Recording �
 RecordsCall spans r (NewSpan lane at parent site callsite values) t = RecordsHook r (OnNewSpan (length spans.made) lane at parent (current_of (entries_on lane.id spans.lanes)) callsite values) t
 RecordsCall spans r (Records id at callsite values) t = RecordsHook r (OnRecord id at callsite values) t
 RecordsCall spans r (Follows id from at) t = RecordsHook r (OnFollows id from at) t
-RecordsCall spans r (Event lane at parent site callsite values) t = RecordsHook r (OnEvent (place_on (entries_on lane.id spans.lanes) parent) lane at callsite values) t
+RecordsCall spans r (Event lane at parent site callsite values) t = RecordsHook r (OnEvent (parent_on (entries_on lane.id spans.lanes) parent) lane at callsite values) t
 RecordsCall spans r (Enter id at before later) t = RecordsHook r (OnEnter id at before later) t
 RecordsCall spans r (Exit id at before later) t = RecordsHook r (OnExit id at before later) t
 RecordsCall spans r (CloneSpan id) t = t ≡ r
@@ -218,28 +218,28 @@ recording_in world dispatch = member_of layer_recording no_recording world dispa
 
 -- what an op of one span makes of the state of any
 abbrev pub data_after : Bool → ℕ → Op → Option SpanData → Option SpanData
-data_after false at op told = told
+data_after false at op span_data = span_data
 data_after true at op None = None
-data_after true at op (Some told) = Some (after_op told at op)
+data_after true at op (Some span_data) = Some (after_op span_data at op)
 
 -- the same for a start as the recorder's next span, if there is a context to start under
 abbrev pub data_started : Option Context → Bool → ℕ → ℕ → Option SpanData → Option SpanData
-data_started None same count at told = told
-data_started (Some under) same count at told = data_after same at (ops.Start (recorder_ids (count + 1) (ids_of under))) told
+data_started None same count at span_data = span_data
+data_started (Some under) same count at span_data = data_after same at (ops.Start (recorder_ids (count + 1) (ids_of under))) span_data
 
 -- a state with a start as the recorder's next span, where it hasn't started
 abbrev pub started_by : Option SpanContext → ℕ → ℕ → SpanData → SpanData
-started_by (Some own) count at told = told
-started_by None count at told = after_op told at (ops.Start (recorder_ids (count + 1) (ids_of told.parent)))
+started_by (Some own) count at span_data = span_data
+started_by None count at span_data = after_op span_data at (ops.Start (recorder_ids (count + 1) (ids_of span_data.parent)))
 
 abbrev pub count_after : Option SpanContext → ℕ → ℕ
 count_after (Some own) count = count
 count_after None count = count + 1
 
 -- what a close of a known span leaves
-pub record Closes (id at : ℕ) (r : Recording) (told : SpanData) (t : Recording) : Type 0 where
-  pub finished : t.finished ≡ r.finished ++ record_of (started_by told.own r.started at told) at ∷ []
-  pub started : t.started ≡ count_after told.own r.started
+pub record Closes (id at : ℕ) (r : Recording) (span_data : SpanData) (t : Recording) : Type 0 where
+  pub finished : t.finished ≡ r.finished ++ record_of (started_by span_data.own r.started at span_data) at ∷ []
+  pub started : t.started ≡ count_after span_data.own r.started
   pub tokens : t.tokens ≡ r.tokens
   pub settings : t.settings ≡ r.settings
   pub counting : t.counting ≡ r.counting

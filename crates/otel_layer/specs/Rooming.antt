@@ -25,5 +25,5 @@ pub same_core_does : {T : Type 0} (does : T → TracerCall → T → Type 0) (ev
 same_core_does does events c d hook e a h = record { prepared = h.prepared; room = same_core_trans does c d h.prepared a h.room; step = h.step }
 
 -- a hook that was prepared before
-pub stepped : {T : Type 0} (does : T → TracerCall → T → Type 0) (events : Events) (c : Core T) (hook : Hook) (d : Core T) → Step does events c hook d → DoesHook does events c hook d
-stepped does events c hook d step = record { prepared = c; room = same_core_refl does c; step = step }
+pub step_from_prepared : {T : Type 0} (does : T → TracerCall → T → Type 0) (events : Events) (c : Core T) (hook : Hook) (d : Core T) → Step does events c hook d → DoesHook does events c hook d
+step_from_prepared does events c hook d step = record { prepared = c; room = same_core_refl does c; step = step }

@@ -23,8 +23,8 @@ use Rattle.otel_state.specs.fields.FirstAttributes.{first_attributes}
 use Rattle.otel_state.specs.fields.SpanFields.{span_update}
 use Rattle.otel_state.specs.Stack.{last_passing}
 use Rattle.otel_state.specs.States.{SpanData, data_at_making, after_op, record_of}
-use Rattle.otel_layer.specs.declared.tokens.Token.{Token}
-use Rattle.otel_layer.specs.Table.{data_at, knows_span, with_span_data, update, with_op, waits, own_or, ids_at, is_id}
+use Rattle.otel_layer.specs.declared.layer.tokens.Token.{Token}
+use Rattle.otel_layer.specs.Table.{data_at, knows_span, with_span_data, update, with_op, waiting_context, own_or, ids_at, is_id}
 use Rattle.otel_layer.specs.Core.{Core, on_spans, is_token}
 
 -- ---- room
@@ -49,7 +49,7 @@ StartsIf does (Some under) id at c d =
     (given : SpanContext) × does c.tracer (Start (ids_of under) given) d.tracer × (d ≡ record c { tracer = d.tracer; spans = with_op id at (ops.Start given) c.spans })
 
 abbrev pub StartsSpan : {T : Type 0} → (T → TracerCall → T → Type 0) → ℕ → ℕ → Core T → Core T → Type 0
-StartsSpan does id at c d = StartsIf does (waits (data_at id c.spans)) id at c d
+StartsSpan does id at c d = StartsIf does (waiting_context (data_at id c.spans)) id at c d
 
 -- the span that is named starts, if one is
 abbrev pub StartsAny : {T : Type 0} → (T → TracerCall → T → Type 0) → Option ℕ → ℕ → Core T → Core T → Type 0
@@ -66,10 +66,10 @@ parent_source true parent.Current current = None
 parent_source false parent.Current current = current
 
 -- the context where there is no such span: the lane's current one for a contextual span, else the empty one
-abbrev pub around : Lane → Parent → Context
-around lane parent.Root = empty_context
-around lane (parent.Of id) = empty_context
-around lane parent.Current = last_context empty_context lane.contexts.live
+abbrev pub lane_context : Lane → Parent → Context
+lane_context lane parent.Root = empty_context
+lane_context lane (parent.Of id) = empty_context
+lane_context lane parent.Current = last_context empty_context lane.contexts.live
 
 abbrev pub context_from : List (ℕ × SpanData) → Context → Option ℕ → Context
 context_from spans other None = other
@@ -88,7 +88,7 @@ new_span_data callsite lane values context at settings counting = after_op
 
 -- a span that was made is added
 abbrev pub with_added_span : {T : Type 0} → ℕ → SpanData → Core T → Core T
-with_added_span id told c = record c { spans = with_span_data id told c.spans; span_count = c.span_count + 1 }
+with_added_span id span_data c = record c { spans = with_span_data id span_data c.spans; span_count = c.span_count + 1 }
 
 -- the span that gives the parent's context starts, the new one is added, and it starts if spans start early
 pub record MakesSpan {T : Type 0} (does : T → TracerCall → T → Type 0) (c : Core T) (id : ℕ) (lane : Lane) (at : ℕ) (parent : Parent) (current : Option ℕ) (callsite : Callsite) (values : ValueSet) (d : Core T) : Type 0 where
@@ -97,7 +97,7 @@ pub record MakesSpan {T : Type 0} (does : T → TracerCall → T → Type 0) (c 
   pub few : c.span_count + 1 < 2 ^ 62
   pub starts : StartsAny does (parent_source c.settings.activation parent current) at c between
   pub added : Core T
-  pub rest : added ≡ with_added_span id (new_span_data callsite lane values (context_from between.spans (around lane parent) (parent_source c.settings.activation parent current)) at c.settings c.counting) between
+  pub rest : added ≡ with_added_span id (new_span_data callsite lane values (context_from between.spans (lane_context lane parent) (parent_source c.settings.activation parent current)) at c.settings c.counting) between
   pub begins : StartsAny does (if c.settings.eager then Some id else None) at added d
 
 -- ---- follows
@@ -125,7 +125,7 @@ Events = LayerSettings → ℕ → ℕ → Callsite → ValueSet → SpanData �
 
 -- each event is told to its span
 abbrev pub all_events : Events
-all_events settings lane at callsite values told = after_op told at (event_of callsite values settings at)
+all_events settings lane at callsite values span_data = after_op span_data at (event_of callsite values settings at)
 
 -- ---- entries and exits
 
@@ -186,10 +186,10 @@ with_finish tracer c = record c { tracer = tracer; reserved = c.reserved - 1 }
 -- the span starts, and its record is finished
 pub record ClosesSpan {T : Type 0} (does : T → TracerCall → T → Type 0) (c : Core T) (id at : ℕ) (d : Core T) : Type 0 where
   pub between : Core T
-  pub told : SpanData
+  pub span_data : SpanData
   pub starts : StartsSpan does id at c between
-  pub is : data_at id between.spans ≡ Some told
-  pub finishes : does between.tracer (Finish (record_of told at)) d.tracer
+  pub is : data_at id between.spans ≡ Some span_data
+  pub finishes : does between.tracer (Finish (record_of span_data at)) d.tracer
   pub rest : d ≡ record between { spans = remove_entry (is_id id) between.spans; reserved = between.reserved - 1; tracer = d.tracer }
 
 -- ---- all hooks

@@ -27,7 +27,7 @@ read_off f [] = []
 read_off f (e ∷ es) = with_entry_read e.id f e.state (read_off f es)
 
 abbrev pub all_data : List Entry → List (ℕ × SpanData)
-all_data entries = read_off (λ state. state.told) entries
+all_data entries = read_off (λ state. state.span_data) entries
 
 abbrev pub rooms : List Entry → List (ℕ × Room)
 rooms entries = read_off (λ state. state.room) entries
@@ -54,7 +54,7 @@ knows_span id spans = list_any (is_id id) (keys_of spans)
 
 -- one span more
 abbrev pub with_span_data : ℕ → SpanData → List (ℕ × SpanData) → List (ℕ × SpanData)
-with_span_data id told spans = spans ++ (id, told) ∷ []
+with_span_data id span_data spans = spans ++ (id, span_data) ∷ []
 
 -- the spans with one of them changed; nothing changes where it isn't known
 abbrev pub update : ℕ → (SpanData → SpanData) → List (ℕ × SpanData) → List (ℕ × SpanData)
@@ -62,7 +62,7 @@ update id f [] = []
 update id f (e ∷ es) = if e.0 == id then (e.0, f e.1) ∷ es else e ∷ update id f es
 
 abbrev pub with_op : ℕ → ℕ → Op → List (ℕ × SpanData) → List (ℕ × SpanData)
-with_op id at op spans = update id (λ told. after_op told at op) spans
+with_op id at op spans = update id (λ span_data. after_op span_data at op) spans
 
 -- how many spans haven't started
 abbrev pub one_waiting : Option SpanContext → ℕ
@@ -74,23 +74,23 @@ waiting_in [] = 0
 waiting_in (e ∷ es) = one_waiting e.1.own + waiting_in es
 
 -- the context that a span will start under, if it is known and hasn't started
-abbrev pub waits_by : Option SpanContext → Context → Option Context
-waits_by None context = Some context
-waits_by (Some own) context = None
+abbrev pub context_unless_started : Option SpanContext → Context → Option Context
+context_unless_started None context = Some context
+context_unless_started (Some own) context = None
 
-abbrev pub waits : Option SpanData → Option Context
-waits None = None
-waits (Some told) = waits_by told.own told.parent
+abbrev pub waiting_context : Option SpanData → Option Context
+waiting_context None = None
+waiting_context (Some span_data) = context_unless_started span_data.own span_data.parent
 
 -- the own context of a span, the other one where it isn't known
 abbrev pub own_or : Context → Option SpanData → Context
 own_or other None = other
-own_or other (Some told) = record { span = told.own }
+own_or other (Some span_data) = record { span = span_data.own }
 
 -- the ids of a span, if it is known
 abbrev pub ids_at : Option SpanData → Option SpanContext
 ids_at None = None
-ids_at (Some told) = Some (ids_of (record { span = told.own }))
+ids_at (Some span_data) = Some (ids_of (record { span = span_data.own }))
 
 -- the room for one op at a span
 abbrev pub RoomFor : ℕ → Op → List (ℕ × Room) → Type 0

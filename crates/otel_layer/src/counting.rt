@@ -19,6 +19,8 @@ use trace_base::discard::Discard;
 use trace_base::filter::Filter;
 use trace_base::span::Id;
 
+mod hooks;
+
 /// A layer that may count events; `tracing_opentelemetry::FilteredOpenTelemetryLayer`. With a filter, as there, it counts
 /// each event that reaches it with a span, and tells its span those that the filter takes; records tell the count.
 /// Without one it does what the layer inside does.
@@ -107,7 +109,7 @@ impl<T: Drop, F: Drop> Discard for FilteredOpenTelemetryLayer<T, F> {
 impl<T: Tracer, F: Filter> OtelPart for FilteredOpenTelemetryLayer<T, F> {
     ghost has = { λ s. true };
 
-    ghost told = { λ s. Some s.inner.core.spans };
+    ghost span_data = { λ s. Some s.inner.core.spans };
 
     ghost touches = { λ s call t. Touches T.does s.inner.core call t.inner.core × (t.filter ≡ s.filter) };
 

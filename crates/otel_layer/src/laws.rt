@@ -14,7 +14,7 @@ use crate::part::OtelPart;
 /// A parent is set exactly while the span, of an enabled handle over a layer that shows it, hasn't started.
 pub fn parents<S: OtelPart>()
     ensures { (s t : S) (id at : ℕ) (context : Context) (answer : Option (Result OpReply Memory))
-        (spans : List (ℕ × SpanData)) (told : SpanData) (held : ℕ × ℕ) → S.touches s (Applies id at (ops.SetParent context) answer) t
-        → S.told s ≡ Some spans → data_at id spans ≡ Some told
-        → parent_answer (Some held) answer ≡ set_while_waiting told }
+        (spans : List (ℕ × SpanData)) (span_data : SpanData) (held : ℕ × ℕ) → S.touches s (Applies id at (ops.SetParent context) answer) t
+        → S.span_data s ≡ Some spans → data_at id spans ≡ Some span_data
+        → parent_answer (Some held) answer ≡ set_while_waiting span_data }
 {}

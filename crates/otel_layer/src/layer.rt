@@ -6,14 +6,19 @@ ghost use Rattle.otel_layer.specs.Counting.{counting_core};
 ghost use Rattle.otel_layer.specs.lending.Lending.{LendsTracer};
 ghost use Rattle.std.specs.Borrow.{sem};
 
+use crate::layer::tokens::Token;
 use crate::table::Table;
-use crate::tokens::Token;
 use otel_base::noop::NoopTracer;
 use otel_base::tracer::Tracer;
 use otel_state::settings::LayerSettings;
 use std::alloc::Global;
 use std::marker::Model;
 use trace_base::discard::Discard;
+
+mod calls;
+mod hooks;
+mod room;
+pub(crate) mod tokens;
 
 /// The layer that keeps a state for each span, and hands its record to a tracer when it closes;
 /// `tracing_opentelemetry::OpenTelemetryLayer`.
@@ -125,197 +130,119 @@ impl<T: Tracer> OpenTelemetryLayer<T> {
 
 impl<T: Tracer> OpenTelemetryLayer<T> {
     // The same layer, which counts events or doesn't.
-    pub(crate) fn counting(self, counting: bool) -> OpenTelemetryLayer<T>
+    pub(crate) fn counting(mut self, counting: bool) -> OpenTelemetryLayer<T>
         ensures value { result ≡ record self { core = counting_core counting self.core } }
         ensures whole { StaysWhole T.spare T.started self.core result.core }
     {
-        let OpenTelemetryLayer {
-            alloc,
-            table,
-            tokens,
-            tracer,
-            reserved,
-            span_count,
-            settings,
-            counting: _,
-        } = self;
-        OpenTelemetryLayer {
-            alloc,
-            table,
-            tokens,
-            tracer,
-            reserved,
-            span_count,
-            settings,
-            counting,
-        }
+        self.counting = counting;
+        self
     }
 }
 
 /// The settings, each of which is a flag of `LayerSettings`.
 impl<T: Tracer> OpenTelemetryLayer<T> {
-    // The same layer with these settings.
-    fn set(self, settings: LayerSettings) -> OpenTelemetryLayer<T>
-        ensures core { result.core ≡ record self.core { settings = settings } }
-        ensures whole { StaysWhole T.spare T.started self.core result.core }
-    {
-        let OpenTelemetryLayer {
-            alloc,
-            table,
-            tokens,
-            tracer,
-            reserved,
-            span_count,
-            settings: _,
-            counting,
-        } = self;
-        OpenTelemetryLayer {
-            alloc,
-            table,
-            tokens,
-            tracer,
-            reserved,
-            span_count,
-            settings,
-            counting,
-        }
-    }
-
     /// Sets whether an error among the fields of a span or an event is told as an exception too;
     /// `OpenTelemetryLayer::with_error_fields_to_exceptions`.
-    pub fn with_error_fields_to_exceptions(self, on: bool) -> OpenTelemetryLayer<T>
+    pub fn with_error_fields_to_exceptions(mut self, on: bool) -> OpenTelemetryLayer<T>
         ensures core { result.core ≡ set_in (λ s. record s { error_fields_to_exceptions = on }) self.core }
         ensures whole { StaysWhole T.spare T.started self.core result.core }
     {
-        let settings = LayerSettings {
-            error_fields_to_exceptions: on,
-            ..self.settings
-        };
-        self.set(settings)
+        self.settings.error_fields_to_exceptions = on;
+        self
     }
 
     /// Sets whether an error among the fields of an event is told as an exception of the span;
     /// `OpenTelemetryLayer::with_error_records_to_exceptions`.
-    pub fn with_error_records_to_exceptions(self, on: bool) -> OpenTelemetryLayer<T>
+    pub fn with_error_records_to_exceptions(mut self, on: bool) -> OpenTelemetryLayer<T>
         ensures core { result.core ≡ set_in (λ s. record s { error_records_to_exceptions = on }) self.core }
         ensures whole { StaysWhole T.spare T.started self.core result.core }
     {
-        let settings = LayerSettings {
-            error_records_to_exceptions: on,
-            ..self.settings
-        };
-        self.set(settings)
+        self.settings.error_records_to_exceptions = on;
+        self
     }
 
     /// Sets whether the special error of an event makes it an exception;
     /// `OpenTelemetryLayer::with_error_events_to_exceptions`.
-    pub fn with_error_events_to_exceptions(self, on: bool) -> OpenTelemetryLayer<T>
+    pub fn with_error_events_to_exceptions(mut self, on: bool) -> OpenTelemetryLayer<T>
         ensures core { result.core ≡ set_in (λ s. record s { error_events_to_exceptions = on }) self.core }
         ensures whole { StaysWhole T.spare T.started self.core result.core }
     {
-        let settings = LayerSettings {
-            error_events_to_exceptions: on,
-            ..self.settings
-        };
-        self.set(settings)
+        self.settings.error_events_to_exceptions = on;
+        self
     }
 
     /// Sets whether the special error of an event is an error of its span;
     /// `OpenTelemetryLayer::with_error_events_to_status`.
-    pub fn with_error_events_to_status(self, on: bool) -> OpenTelemetryLayer<T>
+    pub fn with_error_events_to_status(mut self, on: bool) -> OpenTelemetryLayer<T>
         ensures core { result.core ≡ set_in (λ s. record s { error_events_to_status = on }) self.core }
         ensures whole { StaysWhole T.spare T.started self.core result.core }
     {
-        let settings = LayerSettings {
-            error_events_to_status: on,
-            ..self.settings
-        };
-        self.set(settings)
+        self.settings.error_events_to_status = on;
+        self
     }
 
     /// Sets whether spans and events tell the file, module and line of their callsite;
     /// `OpenTelemetryLayer::with_location`.
-    pub fn with_location(self, on: bool) -> OpenTelemetryLayer<T>
+    pub fn with_location(mut self, on: bool) -> OpenTelemetryLayer<T>
         ensures core { result.core ≡ set_in (λ s. record s { location = on }) self.core }
         ensures whole { StaysWhole T.spare T.started self.core result.core }
     {
-        let settings = LayerSettings {
-            location: on,
-            ..self.settings
-        };
-        self.set(settings)
+        self.settings.location = on;
+        self
     }
 
     /// Sets whether closes tell busy and idle times; `OpenTelemetryLayer::with_tracked_inactivity`.
-    pub fn with_tracked_inactivity(self, on: bool) -> OpenTelemetryLayer<T>
+    pub fn with_tracked_inactivity(mut self, on: bool) -> OpenTelemetryLayer<T>
         ensures core { result.core ≡ set_in (λ s. record s { inactivity = on }) self.core }
         ensures whole { StaysWhole T.spare T.started self.core result.core }
     {
-        let settings = LayerSettings {
-            inactivity: on,
-            ..self.settings
-        };
-        self.set(settings)
+        self.settings.inactivity = on;
+        self
     }
 
     /// Sets whether spans tell the lane on which they are made; `OpenTelemetryLayer::with_threads`.
-    pub fn with_threads(self, on: bool) -> OpenTelemetryLayer<T>
+    pub fn with_threads(mut self, on: bool) -> OpenTelemetryLayer<T>
         ensures core { result.core ≡ set_in (λ s. record s { threads = on }) self.core }
         ensures whole { StaysWhole T.spare T.started self.core result.core }
     {
-        let settings = LayerSettings {
-            threads: on,
-            ..self.settings
-        };
-        self.set(settings)
+        self.settings.threads = on;
+        self
     }
 
     /// Sets whether spans tell their level; `OpenTelemetryLayer::with_level`.
-    pub fn with_level(self, on: bool) -> OpenTelemetryLayer<T>
+    pub fn with_level(mut self, on: bool) -> OpenTelemetryLayer<T>
         ensures core { result.core ≡ set_in (λ s. record s { level = on }) self.core }
         ensures whole { StaysWhole T.spare T.started self.core result.core }
     {
-        let settings = LayerSettings {
-            level: on,
-            ..self.settings
-        };
-        self.set(settings)
+        self.settings.level = on;
+        self
     }
 
     /// Sets whether spans tell their target; `OpenTelemetryLayer::with_target`.
-    pub fn with_target(self, on: bool) -> OpenTelemetryLayer<T>
+    pub fn with_target(mut self, on: bool) -> OpenTelemetryLayer<T>
         ensures core { result.core ≡ set_in (λ s. record s { target = on }) self.core }
         ensures whole { StaysWhole T.spare T.started self.core result.core }
     {
-        let settings = LayerSettings {
-            target: on,
-            ..self.settings
-        };
-        self.set(settings)
+        self.settings.target = on;
+        self
     }
 
     /// Sets whether a span starts at its making.
-    pub fn with_eager_start(self, on: bool) -> OpenTelemetryLayer<T>
+    pub fn with_eager_start(mut self, on: bool) -> OpenTelemetryLayer<T>
         ensures core { result.core ≡ set_in (λ s. record s { eager = on }) self.core }
         ensures whole { StaysWhole T.spare T.started self.core result.core }
     {
-        let settings = LayerSettings {
-            eager: on,
-            ..self.settings
-        };
-        self.set(settings)
+        self.settings.eager = on;
+        self
     }
 
     /// Sets whether an entry attaches its span's context to the lane; `OpenTelemetryLayer::with_context_activation`.
-    pub fn with_context_activation(self, on: bool) -> OpenTelemetryLayer<T>
+    pub fn with_context_activation(mut self, on: bool) -> OpenTelemetryLayer<T>
         ensures core { result.core ≡ set_in (λ s. record s { activation = on }) self.core }
         ensures whole { StaysWhole T.spare T.started self.core result.core }
     {
-        let settings = LayerSettings {
-            activation: on,
-            ..self.settings
-        };
-        self.set(settings)
+        self.settings.activation = on;
+        self
     }
 }
 

@@ -2,22 +2,17 @@
 //! that a tracer gets. Everything turns on `OpenTelemetryLayer`: each hook applies ops to the state of a span.
 #![tactic(auto)]
 
-mod calls;
 pub mod counting;
-mod counting_hooks;
-mod filters;
-mod hooks;
 pub mod laws;
 pub mod layer;
 pub mod part;
 pub mod ready;
 pub mod recording;
-mod room;
 pub mod span_ext;
+mod starts;
 mod table;
-mod tokens;
 
 pub use counting::FilteredOpenTelemetryLayer;
 pub use layer::OpenTelemetryLayer;
-pub use part::OtelPart;
+pub use part::{OtelPart, WithoutOtel};
 pub use span_ext::{OpenTelemetrySpanExt, get_otel_context};

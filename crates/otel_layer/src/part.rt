@@ -1,13 +1,16 @@
 //! What a stack shows of its OpenTelemetry layer to handles.
 ghost use Rattle.std.specs.Prelude.{◌≡◌, ◌||◌, ◌^◌, ◌<◌, if◌then◌else◌, ℕ, Bool, true, false, List, Option, None, Some};
-ghost use Rattle.std.proofs.Common.{refl, ap};
+ghost use Rattle.std.proofs.Common.{refl};
 ghost use Rattle.std.proofs.lemmas.Bool.{true≢false};
 ghost use Rattle.otel_state.specs.States.{SpanData};
 ghost use Rattle.otel_layer.specs.Parts.{PartCall, Applies, Shows, IsOutside, Touches, TouchesNone, TouchesFirst, AnswersCallIf, IsUnanswered, StaysLayer, StaysStack};
-ghost use Rattle.otel_layer.specs.laws.CallsLemmas.{touches_tell, core_stays, layer_can_start, first_tells, first_none, first_has, first_stay, layered_is};
+ghost use Rattle.otel_layer.specs.laws.CallsLemmas.{touches_tell, core_stays, layer_can_start, first_tells, first_none, first_has, first_stay, layered_is, still_layer, still_stack};
 ghost use Rattle.span_registry.specs.Layering.{kept_same, or_same, whole_both, in_step_same};
 
 use crate::layer::OpenTelemetryLayer;
+use env_directives::targets::Targets;
+use env_filter::filter::EnvFilter;
+use env_filter::reload;
 use otel_base::context::Context;
 use otel_base::memory::Memory;
 use otel_base::tracer::Tracer;
@@ -25,7 +28,7 @@ pub trait OtelPart {
     ghost has: { Self → Bool };
 
     /// What the spans that the layer knows have come to, where that is told.
-    ghost told: { Self → Option (List (ℕ × SpanData)) };
+    ghost span_data: { Self → Option (List (ℕ × SpanData)) };
 
     /// A call, and what it makes of it.
     ghost touches: { Self → PartCall → Self → Type 0 };
@@ -54,7 +57,7 @@ pub trait OtelPart {
     ghost none: { (s : Self) (call : PartCall) (t : Self) → touches s call t → has s ≡ false → IsUnanswered call × (t ≡ s) };
 
     /// What is told is told again after a call, as the call makes it.
-    ghost tells: { (s : Self) (call : PartCall) (t : Self) → touches s call t → AnswersCallIf (told s) call (told t) };
+    ghost tells: { (s : Self) (call : PartCall) (t : Self) → touches s call t → AnswersCallIf (span_data s) call (span_data t) };
 
     ghost keeps_has: { (s : Self) (call : PartCall) (t : Self) → touches s call t → has t ≡ has s };
 }
@@ -78,7 +81,7 @@ pub trait OtelSubscriber: Subscriber + OtelPart {
 impl<T: Tracer> OtelPart for OpenTelemetryLayer<T> {
     ghost has = { λ s. true };
 
-    ghost told = { λ s. Some s.core.spans };
+    ghost span_data = { λ s. Some s.core.spans };
 
     ghost touches = { λ s call t. Touches T.does s.core call t.core };
 
@@ -99,8 +102,7 @@ impl<T: Tracer> OtelPart for OpenTelemetryLayer<T> {
     }
 
     fn otel_context(&mut self, id: Id, at: u64) -> Option<Context> {
-        self.start(id, at);
-        self.table.context(id)
+        self.start(id, at)
     }
 }
 
@@ -112,11 +114,22 @@ impl<T: Tracer> OtelLayer for OpenTelemetryLayer<T> {
     ghost starts = { λ s w. layer_can_start T.spare T.started s.core w };
 }
 
-/// It has none.
-impl OtelPart for Registry {
+/// A part of a stack that has no OpenTelemetry layer, and answers so.
+pub trait WithoutOtel {}
+
+impl WithoutOtel for Registry {}
+
+impl WithoutOtel for EnvFilter {}
+
+impl WithoutOtel for Targets {}
+
+/// Whatever it is over.
+impl<L> WithoutOtel for reload::Layer<L> {}
+
+impl<P: WithoutOtel> OtelPart for P {
     ghost has = { λ s. false };
 
-    ghost told = { λ s. None };
+    ghost span_data = { λ s. None };
 
     ghost touches = { λ s call t. TouchesNone s call t };
 
@@ -142,9 +155,14 @@ impl OtelPart for Registry {
     }
 }
 
-impl OtelSubscriber for Registry {
-    ghost stays = { λ s call t d.
-        record { spans_same = ap (λ r. r.spans) d.1; kept_same = refl; attaches_same = refl; whole = λ w. tt } };
+impl<L: Layer + WithoutOtel> OtelLayer for L {
+    ghost stays = { λ s call t d. still_layer L.seen L.kept L.attaches L.is_whole s t d.1 };
+
+    ghost starts = { λ s w. tt };
+}
+
+impl<S: Subscriber + WithoutOtel> OtelSubscriber for S {
+    ghost stays = { λ s call t d. still_stack S.spans S.kept S.attaches S.is_whole s t d.1 };
 
     ghost starts = { λ s w. tt };
 }
@@ -153,7 +171,7 @@ impl OtelSubscriber for Registry {
 impl<L: Layer + OtelPart, S: Subscriber + OtelPart> OtelPart for Layered<L, S> {
     ghost has = { λ s. L.has s.layer || S.has s.inner };
 
-    ghost told = { λ s. if L.has s.layer then L.told s.layer else S.told s.inner };
+    ghost span_data = { λ s. if L.has s.layer then L.span_data s.layer else S.span_data s.inner };
 
     ghost touches = { λ s call t. TouchesFirst (L.has s.layer) L.touches S.touches s.layer s.inner call t.layer t.inner };
 
@@ -164,7 +182,7 @@ impl<L: Layer + OtelPart, S: Subscriber + OtelPart> OtelPart for Layered<L, S> {
         (n.0, layered_is s t n.1 n.2) };
 
     ghost tells = { λ s call t d.
-        first_tells L.has S.has L.touches S.touches L.keeps_has L.told S.told L.tells S.tells
+        first_tells L.has S.has L.touches S.touches L.keeps_has L.span_data S.span_data L.tells S.tells
         s.layer s.inner call t.layer t.inner d };
 
     ghost keeps_has = { λ s call t d.

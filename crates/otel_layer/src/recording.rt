@@ -8,7 +8,7 @@ ghost use Rattle.span_handles.specs.Worlds.{Replaced, Alike, Chain, spans_in};
 ghost use Rattle.otel_state.specs.declared.op.Op.{Op};
 ghost use Rattle.otel_state.specs.States.{SpanData};
 ghost use Rattle.otel_layer.specs.Parts.{PartCall};
-ghost use Rattle.otel_layer.specs.Table.{data_at, with_op, with_span_data, waits, is_id};
+ghost use Rattle.otel_layer.specs.Table.{data_at, with_op, with_span_data, waiting_context, is_id};
 ghost use Rattle.otel_layer.specs.Recording.{RecordingWorlds, Recording, RecordsCall, RecordsChain, RecordsPart, recording_in};
 ghost use Rattle.otel_layer.specs.Recording.{with_start, with_close, data_after, data_started, Closes};
 
@@ -20,30 +20,30 @@ use span_registry::registry::Registry;
 use trace_base::subscriber::Subscriber;
 
 /// The layer over a recorder, straight over the registry.
-pub type RecordedStack = Layered<OpenTelemetryLayer<Recorder>, Registry>;
+pub type PlainRecordedStack = Layered<OpenTelemetryLayer<Recorder>, Registry>;
 
 /// One call is one step of what the layer keeps.
 pub fn calls()
     ensures { (old new : RecordingWorlds) (dispatch : ℕ) (call : SubscriberCall)
-        → Replaced (λ s t. ⟦<RecordedStack as Subscriber>⟧.does s call t) old new dispatch
-        → RecordsCall (spans_in ⟦<RecordedStack as Subscriber>⟧.spans old dispatch) (recording_in old dispatch)
+        → Replaced (λ s t. ⟦<PlainRecordedStack as Subscriber>⟧.does s call t) old new dispatch
+        → RecordsCall (spans_in ⟦<PlainRecordedStack as Subscriber>⟧.spans old dispatch) (recording_in old dispatch)
         call (recording_in new dispatch) }
 {}
 
 /// Spare room is nothing that is kept.
 pub fn same()
     ensures { (old new : RecordingWorlds) (dispatch : ℕ)
-        → Replaced ⟦<RecordedStack as Subscriber>⟧.same old new dispatch
+        → Replaced ⟦<PlainRecordedStack as Subscriber>⟧.same old new dispatch
         → recording_in new dispatch ≡ recording_in old dispatch }
 {}
 
 /// A chain of closes closes each span that it closes in the recording, in order.
 pub fn chains()
     ensures { (old new : RecordingWorlds) (dispatch at id : ℕ)
-        → Replaced (λ s t. Chain ⟦<RecordedStack as Subscriber>⟧.spans ⟦<RecordedStack as Subscriber>⟧.does at
+        → Replaced (λ s t. Chain ⟦<PlainRecordedStack as Subscriber>⟧.spans ⟦<PlainRecordedStack as Subscriber>⟧.does at
         (Some id) s t) old new dispatch
-        → RecordsChain at (Some id) (spans_in ⟦<RecordedStack as Subscriber>⟧.spans old dispatch)
-        (spans_in ⟦<RecordedStack as Subscriber>⟧.spans new dispatch) (recording_in old dispatch)
+        → RecordsChain at (Some id) (spans_in ⟦<PlainRecordedStack as Subscriber>⟧.spans old dispatch)
+        (spans_in ⟦<PlainRecordedStack as Subscriber>⟧.spans new dispatch) (recording_in old dispatch)
         (recording_in new dispatch) }
 {}
 
@@ -52,27 +52,27 @@ pub fn states()
     ensures op { (id other at : ℕ) (op : Op) (spans : List (ℕ × SpanData))
         → data_at other (with_op id at op spans) ≡ data_after (other == id) at op (data_at other spans) }
     ensures start { (id other at : ℕ) (r : Recording) → data_at other (with_start id at r).spans
-        ≡ data_started (waits (data_at id r.spans)) (other == id) r.started at (data_at other r.spans) }
-    ensures made { (id other : ℕ) (told : SpanData) (spans : List (ℕ × SpanData)) → data_at id spans ≡ None
-        → data_at other (with_span_data id told spans) ≡ (if other == id then Some told else data_at other spans) }
+        ≡ data_started (waiting_context (data_at id r.spans)) (other == id) r.started at (data_at other r.spans) }
+    ensures made { (id other : ℕ) (span_data : SpanData) (spans : List (ℕ × SpanData)) → data_at id spans ≡ None
+        → data_at other (with_span_data id span_data spans) ≡ (if other == id then Some span_data else data_at other spans) }
     ensures removed { (id other : ℕ) (spans : List (ℕ × SpanData)) → other ≢ id
         → data_at other (remove_entry (is_id id) spans) ≡ data_at other spans }
-    ensures closes { (id at : ℕ) (r : Recording) (told : SpanData) → data_at id r.spans ≡ Some told
-        → Closes id at r told (with_close id at r) }
+    ensures closes { (id at : ℕ) (r : Recording) (span_data : SpanData) → data_at id r.spans ≡ Some span_data
+        → Closes id at r span_data (with_close id at r) }
 {}
 
 /// No span is known yet under the id of the next one.
 pub fn next()
     ensures { (world : RecordingWorlds) (dispatch : ℕ) (s : _)
-        → slice_get world.subscribers dispatch ≡ Some s → ⟦<RecordedStack as Subscriber>⟧.is_whole s
-        → data_at (length (spans_in ⟦<RecordedStack as Subscriber>⟧.spans world dispatch).made)
+        → slice_get world.subscribers dispatch ≡ Some s → ⟦<PlainRecordedStack as Subscriber>⟧.is_whole s
+        → data_at (length (spans_in ⟦<PlainRecordedStack as Subscriber>⟧.spans world dispatch).made)
         (recording_in world dispatch).spans ≡ None }
 {}
 
 /// A call from outside is one step of what the layer keeps.
 pub fn asks()
     ensures { (old new : RecordingWorlds) (dispatch : ℕ) (call : PartCall)
-        → Replaced (λ s t. ⟦<RecordedStack as OtelPart>⟧.touches s call t) old new dispatch
+        → Replaced (λ s t. ⟦<PlainRecordedStack as OtelPart>⟧.touches s call t) old new dispatch
         → RecordsPart (recording_in old dispatch) call (recording_in new dispatch) }
 {}
 

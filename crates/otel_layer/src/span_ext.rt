@@ -152,7 +152,7 @@ impl OpenTelemetrySpanExt for Span {
             context: cx,
             attributes,
         };
-        done(apply(self, world, at, Op::Link { link }))
+        done_result(apply(self, world, at, Op::Link { link }))
     }
 
     fn context<S: Subscriber + OtelPart>(&self, world: &mut World<S>, at: u64) -> Context {
@@ -170,7 +170,7 @@ impl OpenTelemetrySpanExt for Span {
         value: OtelValue,
     ) -> Result<(), Memory> {
         let pair = KeyValue { key, value };
-        done(apply(self, world, at, Op::SetAttribute { pair }))
+        done_result(apply(self, world, at, Op::SetAttribute { pair }))
     }
 
     fn set_status<S: Subscriber + OtelPart>(&self, world: &mut World<S>, at: u64, status: Status) {
@@ -200,7 +200,7 @@ impl OpenTelemetrySpanExt for Span {
             time,
             attributes,
         };
-        done(apply(self, world, at, Op::AddEvent { event }))
+        done_result(apply(self, world, at, Op::AddEvent { event }))
     }
 }
 
@@ -274,7 +274,7 @@ fn held_by(span: &Span) -> Option<(Id, Dispatch)>
 }
 
 // Whether memory was wanted.
-fn done(answer: Option<Result<OpReply, Memory>>) -> Result<(), Memory>
+fn done_result(answer: Option<Result<OpReply, Memory>>) -> Result<(), Memory>
     ensures { result ≡ done_answer answer }
 {
     match answer {

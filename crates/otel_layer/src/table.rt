@@ -1,13 +1,17 @@
 //! The states of the spans that a layer knows.
-ghost use Rattle.std.specs.Prelude.{◌≡◌, ◌==◌, ℕ, ◌<◌, ◌≤◌, ◌^◌, [], true, false, length, Some, IfSome, OnOk, option_map};
+ghost use Rattle.std.specs.Prelude.{◌≡◌, ◌==◌, ℕ, ◌<◌, ◌≤◌, ◌+◌, ◌^◌, [], true, false, length, Some, IfSome, OnOk, option_map};
 ghost use Rattle.std.specs.List.{position};
 ghost use Rattle.std.specs.Map.{remove_entry};
 ghost use Rattle.otel_state.specs.States.{is_growing};
+ghost use Rattle.otel_layer.specs.Counting.{after_counted};
 ghost use Rattle.otel_layer.specs.Parts.{AppliesIn, context_at};
-ghost use Rattle.otel_layer.specs.Table.{MayRise, RisesTo, is_of_id, all_data, rooms, entry_ids, is_id, data_at, knows_span, with_op, with_span_data, waits, own_or, ids_at, RoomFor, RoomForLink};
+ghost use Rattle.otel_layer.specs.Starts.{StartsIn, EntersIn};
+ghost use Rattle.otel_layer.specs.Table.{MayRise, RisesTo, is_of_id, all_data, rooms, entry_ids, is_id, data_at, knows_span, update, with_op, with_span_data, RoomFor, RoomForLink};
 
-use otel_base::context::{Context, SpanContext};
+use crate::starts::{count_event, enter_state, start_state};
+use otel_base::context::Context;
 use otel_base::memory::Memory;
+use otel_base::tracer::Tracer;
 use otel_state::op::{Op, OpReply};
 use otel_state::state::SpanState;
 use std::alloc::Global;
@@ -73,36 +77,44 @@ impl Table {
         is_known(self.entries.as_slice(), &self.places, self.rising, id)
     }
 
-    // The context that a span will start under, if it is there and hasn't started.
-    pub(crate) fn waits(&self, id: Id) -> Option<Context>
-        ensures { result ≡ waits (data_at id self.now.spans) }
+    // Starts a span, if it is there and hasn't started, and gives its own context.
+    pub(crate) fn start<T: Tracer>(&mut self, id: Id, at: u64, tracer: &mut T) -> Option<Context>
+        requires { T.started tracer.old < 2 ^ 63 }
+        ensures starts { StartsIn T.does id at self.old.spans tracer.old tracer.new self.new.spans }
+        ensures context { result ≡ context_at (data_at id self.new.spans) }
+        ensures rooms { self.new.rooms ≡ self.old.rooms }
+        ensures room { self.new.room ≡ self.old.room }
+        ensures few { T.started tracer.new ≤ T.started tracer.old + 1 }
     {
-        waiting_context(self.entries.as_slice(), &self.places, self.rising, id)
-    }
-
-    // The own context of a span, the other one where it isn't there.
-    pub(crate) fn own_or(&self, id: Id, other: Context) -> Context
-        ensures { result ≡ own_or other (data_at id self.now.spans) }
-    {
-        own_context(
-            self.entries.as_slice(),
+        start(
+            self.entries.as_mut_slice(),
             &self.places,
             self.rising,
             id,
-            other,
+            at,
+            tracer,
         )
     }
 
-    // The ids of a span that is there.
-    pub(crate) fn ids(&self, id: Id) -> Option<SpanContext>
-        ensures { result ≡ ids_at (data_at id self.now.spans) }
+    // Starts a span that is there and hasn't started, enters it, and gives its own context.
+    pub(crate) fn enter<T: Tracer>(&mut self, id: Id, at: u64, tracer: &mut T) -> Option<Context>
+        requires { T.started tracer.old < 2 ^ 63 }
+        ensures { EntersIn T.does id at self.old.spans tracer.old tracer.new self.new.spans result }
     {
-        own_ids(self.entries.as_slice(), &self.places, self.rising, id)
+        enter(
+            self.entries.as_mut_slice(),
+            &self.places,
+            self.rising,
+            id,
+            at,
+            tracer,
+        )
     }
 
-    // Applies an op to a span, if it is there, in room that was reserved.
-    pub(crate) fn put(&mut self, id: Id, at: u64, op: Op)
+    // Applies an op to a span, if it is there, in room that was reserved, and says whether it is.
+    pub(crate) fn put(&mut self, id: Id, at: u64, op: Op) -> bool
         requires { RoomFor id op self.old.rooms }
+        ensures known { result ≡ knows_span id self.old.spans }
         ensures spans { self.new.spans ≡ with_op id at op self.old.spans }
         ensures rooms { is_growing op ≡ false → self.new.rooms ≡ self.old.rooms }
         ensures room { self.new.room ≡ self.old.room }
@@ -114,6 +126,22 @@ impl Table {
             id,
             at,
             op,
+        )
+    }
+
+    // Counts an event, and tells it to its span where it is taken, in room that was reserved.
+    pub(crate) fn count(&mut self, id: Id, at: u64, op: Op, is_taken: bool)
+        requires { RoomFor id op self.old.rooms }
+        ensures { self.new.spans ≡ update id (after_counted is_taken at op) self.old.spans }
+    {
+        count(
+            self.entries.as_mut_slice(),
+            &self.places,
+            self.rising,
+            id,
+            at,
+            op,
+            is_taken,
         );
     }
 
@@ -129,13 +157,6 @@ impl Table {
             at,
             op,
         )
-    }
-
-    // The own context of a span, none where it isn't there.
-    pub(crate) fn context(&self, id: Id) -> Option<Context>
-        ensures { result ≡ context_at (data_at id self.now.spans) }
-    {
-        shown_context(self.entries.as_slice(), &self.places, self.rising, id)
     }
 
     // Takes the room for an op in the state of a span, if it is there.
@@ -175,7 +196,7 @@ impl Table {
     // Adds a span, in room that was reserved.
     pub(crate) fn add(&mut self, id: Id, state: SpanState)
         requires { 0 < self.old.room }
-        ensures { self.new.spans ≡ with_span_data id state.told self.old.spans }
+        ensures { self.new.spans ≡ with_span_data id state.span_data self.old.spans }
     {
         note(&mut self.places, id, self.entries.len());
         self.rising = self.rising && is_youngest(self.entries.as_slice(), id);
@@ -189,18 +210,18 @@ impl Table {
         }
     }
 
-    // Takes out the state of a span.
-    pub(crate) fn remove(&mut self, id: Id) -> SpanState
-        requires { knows_span id self.old.spans ≡ true }
-        ensures told { data_at id self.old.spans ≡ Some result.told }
+    // Takes out the state of a span, if it is there.
+    pub(crate) fn remove(&mut self, id: Id) -> Option<SpanState>
+        ensures span_data { option_map (λ state. state.span_data) result ≡ data_at id self.old.spans }
         ensures spans { self.new.spans ≡ remove_entry (is_id id) self.old.spans }
     {
-        let state = take(self.entries.as_mut_slice(), &self.places, self.rising, id);
+        let place = find(self.entries.as_slice(), &self.places, self.rising, id)?;
+        let state = take(self.entries.as_mut_slice(), id, place);
         self.known -= 1;
         let before = self.entries.len();
         close_gaps(&mut self.entries, self.known);
         note_moved(before, &mut self.places, self.entries.as_slice());
-        state
+        Some(state)
     }
 }
 
@@ -299,89 +320,93 @@ fn is_known(entries: &[Entry], places: &Vec<u32>, rising: bool, id: Id) -> bool
     find(entries, places, rising, id).is_some()
 }
 
-// The state of a span, if it is there.
-fn state_of<'a>(
-    entries: &'a [Entry],
+fn start<T: Tracer>(
+    entries: &mut [Entry],
     places: &Vec<u32>,
     rising: bool,
     id: Id,
-) -> Option<&'a SpanState>
-    requires { MayRise rising entries.now }
-    ensures { option_map (λ state. state.now.told) result ≡ data_at id (all_data entries.now) }
+    at: u64,
+    tracer: &mut T,
+) -> Option<Context>
+    requires rises { MayRise rising entries.old }
+    requires few { T.started tracer.old < 2 ^ 63 }
+    ensures starts { StartsIn T.does id at (all_data entries.old) tracer.old tracer.new (all_data entries.new) }
+    ensures context { result ≡ context_at (data_at id (all_data entries.new)) }
+    ensures rooms { rooms entries.new ≡ rooms entries.old }
+    ensures ids { entry_ids entries.new ≡ entry_ids entries.old }
+    ensures few { T.started tracer.new ≤ T.started tracer.old + 1 }
 {
     match find(entries, places, rising, id) {
-        Some(place) => match &entries[place].state {
-            Some(state) => Some(state),
-            None => None,
+        Some(place) => match &mut entries[place].state {
+            Some(state) => Some(start_state(state, at, tracer)),
+            None => unreachable!(),
         },
         None => None,
     }
 }
 
-fn waiting_context(entries: &[Entry], places: &Vec<u32>, rising: bool, id: Id) -> Option<Context>
-    requires rises { MayRise rising entries.now }
-    ensures { result ≡ waits (data_at id (all_data entries.now)) }
-{
-    let state = state_of(entries, places, rising, id)?;
-    match state.own_context() {
-        Some(_) => None,
-        None => Some(state.parent()),
-    }
-}
-
-fn own_context(
-    entries: &[Entry],
+fn enter<T: Tracer>(
+    entries: &mut [Entry],
     places: &Vec<u32>,
     rising: bool,
     id: Id,
-    other: Context,
-) -> Context
-    requires rises { MayRise rising entries.now }
-    ensures { result ≡ own_or other (data_at id (all_data entries.now)) }
+    at: u64,
+    tracer: &mut T,
+) -> Option<Context>
+    requires rises { MayRise rising entries.old }
+    requires few { T.started tracer.old < 2 ^ 63 }
+    ensures enters { EntersIn T.does id at (all_data entries.old) tracer.old tracer.new (all_data entries.new) result }
+    ensures ids { entry_ids entries.new ≡ entry_ids entries.old }
 {
-    match state_of(entries, places, rising, id) {
-        Some(state) => Context {
-            span: state.own_context(),
+    match find(entries, places, rising, id) {
+        Some(place) => match &mut entries[place].state {
+            Some(state) => Some(enter_state(state, at, tracer)),
+            None => unreachable!(),
         },
-        None => other,
-    }
-}
-
-fn own_ids(entries: &[Entry], places: &Vec<u32>, rising: bool, id: Id) -> Option<SpanContext>
-    requires rises { MayRise rising entries.now }
-    ensures { result ≡ ids_at (data_at id (all_data entries.now)) }
-{
-    match state_of(entries, places, rising, id) {
-        Some(state) => Some(Context {
-            span: state.own_context(),
-        }
-        .span_context()),
         None => None,
     }
 }
 
-fn shown_context(entries: &[Entry], places: &Vec<u32>, rising: bool, id: Id) -> Option<Context>
-    requires rises { MayRise rising entries.now }
-    ensures { result ≡ context_at (data_at id (all_data entries.now)) }
-{
-    match state_of(entries, places, rising, id) {
-        Some(state) => Some(Context {
-            span: state.own_context(),
-        }),
-        None => None,
-    }
-}
-
-fn put(entries: &mut [Entry], places: &Vec<u32>, rising: bool, id: Id, at: u64, op: Op)
+fn put(entries: &mut [Entry], places: &Vec<u32>, rising: bool, id: Id, at: u64, op: Op) -> bool
     requires rises { MayRise rising entries.old }
     requires room { RoomFor id op (rooms entries.old) }
-    ensures told { all_data entries.new ≡ with_op id at op (all_data entries.old) }
+    ensures known { result ≡ knows_span id (all_data entries.old) }
+    ensures span_data { all_data entries.new ≡ with_op id at op (all_data entries.old) }
     ensures rooms { is_growing op ≡ false → rooms entries.new ≡ rooms entries.old }
     ensures ids { entry_ids entries.new ≡ entry_ids entries.old }
 {
     match find(entries, places, rising, id) {
         Some(place) => match &mut entries[place].state {
-            Some(state) => state.put(at, op),
+            Some(state) => {
+                state.put(at, op);
+                true
+            }
+            None => unreachable!(),
+        },
+        None => {
+            drop(op);
+            false
+        }
+    }
+}
+
+fn count(
+    entries: &mut [Entry],
+    places: &Vec<u32>,
+    rising: bool,
+    id: Id,
+    at: u64,
+    op: Op,
+    is_taken: bool,
+)
+    requires rises { MayRise rising entries.old }
+    requires room { RoomFor id op (rooms entries.old) }
+    ensures span_data { all_data entries.new ≡ update id (after_counted is_taken at op) (all_data entries.old) }
+    ensures ids { entry_ids entries.new ≡ entry_ids entries.old }
+{
+    match find(entries, places, rising, id) {
+        Some(place) => match &mut entries[place].state {
+            Some(state) => count_event(state, at, op, is_taken),
             None => unreachable!(),
         },
         None => drop(op),
@@ -396,7 +421,7 @@ fn reserve_op(
     op: &Op,
 ) -> Result<(), Memory>
     requires rises { MayRise rising entries.old }
-    ensures told { all_data entries.new ≡ all_data entries.old }
+    ensures span_data { all_data entries.new ≡ all_data entries.old }
     ensures room { OnOk result (RoomFor id op.now (rooms entries.new)) }
     ensures ids { entry_ids entries.new ≡ entry_ids entries.old }
 {
@@ -416,7 +441,7 @@ fn reserve_link(
     id: Id,
 ) -> Result<(), Memory>
     requires rises { MayRise rising entries.old }
-    ensures told { all_data entries.new ≡ all_data entries.old }
+    ensures span_data { all_data entries.new ≡ all_data entries.old }
     ensures room { OnOk result (RoomForLink id (rooms entries.new)) }
     ensures ids { entry_ids entries.new ≡ entry_ids entries.old }
 {
@@ -453,26 +478,22 @@ fn apply(
     }
 }
 
-// Takes out the state of a span, and leaves a gap.
-fn take(entries: &mut [Entry], places: &Vec<u32>, rising: bool, id: Id) -> SpanState
-    requires rises { MayRise rising entries.old }
-    requires known { knows_span id (all_data entries.old) ≡ true }
-    ensures told { data_at id (all_data entries.old) ≡ Some result.told }
+// Takes out the state of a span by the place of its entry, and leaves a gap.
+fn take(entries: &mut [Entry], id: Id, place: usize) -> SpanState
+    requires { position (is_of_id id) entries.old ≡ Some place }
+    ensures span_data { data_at id (all_data entries.old) ≡ Some result.span_data }
     ensures rest { all_data entries.new ≡ remove_entry (is_id id) (all_data entries.old) }
     ensures ids { entry_ids entries.new ≡ entry_ids entries.old }
 {
-    match find(entries, places, rising, id) {
-        Some(place) => match entries[place].state.take() {
-            Some(state) => state,
-            None => unreachable!(),
-        },
+    match entries[place].state.take() {
+        Some(state) => state,
         None => unreachable!(),
     }
 }
 
 // Moves the states together where gaps outnumber them: each gap then costs little, whichever spans are taken out.
 fn close_gaps(entries: &mut Vec<Entry>, known: usize)
-    ensures told { all_data entries.new.items ≡ all_data entries.old.items }
+    ensures span_data { all_data entries.new.items ≡ all_data entries.old.items }
     ensures rises { MayRise true entries.old.items → MayRise true entries.new.items }
 {
     if known < entries.len() / 2 {

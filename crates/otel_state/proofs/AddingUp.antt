@@ -52,12 +52,12 @@ one_bounded busy entries made_at last at left d later most bounded false false =
 later_moment : (last at : ℕ) → last ≤ GREATEST → (last ≤ moment last at) × (moment last at ≤ GREATEST)
 later_moment last at most = (omega (arith, most), omega arith)
 
-all_bounded : (told : SpanData) (ops : List TimedOp) → Bounded told.busy told.entries told.made_at told.last told.left
-    → Bounded (fold after_stamped told ops).busy (fold after_stamped told ops).entries (fold after_stamped told ops).made_at (fold after_stamped told ops).last (fold after_stamped told ops).left
-all_bounded told [] bounded = bounded
-all_bounded told (op ∷ ops) bounded =
-    let later = later_moment told.last op.at bounded.is_moment in
-    all_bounded (after_stamped told op) ops (one_bounded told.busy told.entries told.made_at told.last (moment told.last op.at) told.left (deed op.op) later.0 later.1 bounded (deed op.op).exits (deed op.op).enters)
+all_bounded : (span_data : SpanData) (ops : List TimedOp) → Bounded span_data.busy span_data.entries span_data.made_at span_data.last span_data.left
+    → Bounded (fold after_stamped span_data ops).busy (fold after_stamped span_data ops).entries (fold after_stamped span_data ops).made_at (fold after_stamped span_data ops).last (fold after_stamped span_data ops).left
+all_bounded span_data [] bounded = bounded
+all_bounded span_data (op ∷ ops) bounded =
+    let later = later_moment span_data.last op.at bounded.is_moment in
+    all_bounded (after_stamped span_data op) ops (one_bounded span_data.busy span_data.entries span_data.made_at span_data.last (moment span_data.last op.at) span_data.left (deed op.op) later.0 later.1 bounded (deed op.op).exits (deed op.op).enters)
 
 -- ---- a span that was entered and has no open entry was left
 
@@ -128,7 +128,7 @@ tells_times making ops closed tracked order shut =
       others = making.first ++ attributes_of ops ++ counted;
       busy = busy;
       idle = idle_of (last_exit ops) making.made_at busy;
-      told = simp (tracked, append_assoc) refl;
+      last = simp (tracked, append_assoc) refl;
       was_left = λ entered. some_unless (last_exit ops) (λ none. left_if_entered 0 ops None shut entered none);
       add_up = λ has. sum_is making.made_at busy closed (last_exit ops) has reach;
       are_none = λ none. (no_busy making.made_at busy (last_exit ops) none reach, no_idle making.made_at busy (last_exit ops) none);

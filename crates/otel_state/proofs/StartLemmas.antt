@@ -13,7 +13,7 @@ use Rattle.otel_state.specs.declared.times.TheConstants.{GREATEST}
 use Rattle.otel_state.specs.declared.op.Op.{Op}
 use Rattle.otel_state.specs.Deeds.{Deed, TimedOp, deed}
 use Rattle.otel_state.specs.Opening.{is_start, before_start, own_of, last_or, name_of, kind_of, parent_context_of}
-use Rattle.otel_state.specs.Statuses.{writes, greatest, status_of}
+use Rattle.otel_state.specs.Statuses.{statuses_written, greatest_status, status_of}
 use Rattle.otel_state.specs.Times.{open_after, open_by, gap, busy_from, busy_of, exit_in, last_exit, MomentsRise}
 use Rattle.otel_state.specs.Content.{Making, attributes_of, events_of, links_of, counted_of, content}
 use Rattle.otel_state.specs.Laws.{other_deeds, SameButSettled, SettlesNothing, start_at, with_early, with_late, SameButIds}
@@ -144,7 +144,7 @@ late_is_nothing making before after at closed a b started same =
     (flat_swap (λ op. (deed op.op).attributes) before x y after (ap (λ (d : Deed). d.attributes) same))
     (filter_swap (λ op. (deed op.op).event) before x y after (ap (λ (d : Deed). d.event) same))
     (filter_swap (λ op. (deed op.op).link) before x y after (ap (λ (d : Deed). d.link) same))
-    (ap (λ (w : List Status). greatest Unset w) (flat_swap (λ op. writes (deed op.op)) before x y after (ap (λ (d : Deed). writes d) same)))
+    (ap (λ (w : List Status). greatest_status Unset w) (flat_swap (λ op. statuses_written (deed op.op)) before x y after (ap (λ (d : Deed). statuses_written d) same)))
     (ap (λ (n : ℕ). min n GREATEST) (count_swap (λ op. (deed op.op).counts) before x y after (ap (λ (d : Deed). d.counts) same)))
     (busy_swap 0 making.made_at at before a b after same)
     (ap (λ (moments : List ℕ). fold (λ _ n. Some n) None moments) (filter_swap exit_in before x y after (ap (λ (d : Deed). if d.exits then Some at else None) same)))
@@ -167,7 +167,7 @@ early_is_late making before between after early late own given closed all shut o
     (flat_moved (λ op. (deed op.op).attributes) before between after x y refl refl)
     (filter_moved (λ op. (deed op.op).event) before between after x y refl refl)
     (filter_moved (λ op. (deed op.op).link) before between after x y refl refl)
-    (ap (λ (w : List Status). greatest Unset w) (flat_moved (λ op. writes (deed op.op)) before between after x y refl refl))
+    (ap (λ (w : List Status). greatest_status Unset w) (flat_moved (λ op. statuses_written (deed op.op)) before between after x y refl refl))
     (ap (λ (n : ℕ). min n GREATEST) (count_skip (λ op. (deed op.op).counts) before x (between ++ after) refl ∙ ap (λ (ops : List TimedOp). count_by (λ op. (deed op.op).counts) ops) (sym joined)
     ∙ sym (count_skip (λ op. (deed op.op).counts) (before ++ between) y after refl)))
     (busy_skip 0 making.made_at early own before (between ++ after) order (ap (λ (ops : List TimedOp). open_by 0 ops) (sym joined) ∙ shut) ∙ ap (λ (ops : List TimedOp). busy_from 0 making.made_at ops) (sym joined)

@@ -13,7 +13,7 @@ use Rattle.otel_base.specs.declared.status.Status.{Status}
 use Rattle.otel_base.specs.declared.status.Status.TheVariants.{Unset, Error, Ok}
 use Rattle.otel_base.specs.Statuses.{status_cmp}
 use Rattle.otel_state.specs.Deeds.{TimedOp, deed}
-use Rattle.otel_state.specs.Statuses.{writes, greatest, status_of}
+use Rattle.otel_state.specs.Statuses.{statuses_written, greatest_status, status_of}
 use Rattle.otel_state.specs.Laws.{StatusNeverFalls}
 
 -- a text for each status, in the same order
@@ -70,5 +70,5 @@ status_total = record {
 pub never_falls : (ops more : List TimedOp) → StatusNeverFalls ops more
 never_falls ops more =
     ap (λ (s : Status). is_le (status_cmp (status_of ops) s))
-    (ap (λ (w : List Status). greatest Unset w) (flat_map-append (λ op. writes (deed op.op)) ops more) ∙ fold-append (ord_max status_cmp) Unset (flat_map (λ op. writes (deed op.op)) ops) (flat_map (λ op. writes (deed op.op)) more))
-    ∙ at_most_greatest status_total (status_of ops) (status_of ops) (flat_map (λ op. writes (deed op.op)) more) (at_most_itself status_total (status_of ops))
+    (ap (λ (w : List Status). greatest_status Unset w) (flat_map-append (λ op. statuses_written (deed op.op)) ops more) ∙ fold-append (ord_max status_cmp) Unset (flat_map (λ op. statuses_written (deed op.op)) ops) (flat_map (λ op. statuses_written (deed op.op)) more))
+    ∙ at_most_greatest status_total (status_of ops) (status_of ops) (flat_map (λ op. statuses_written (deed op.op)) more) (at_most_itself status_total (status_of ops))

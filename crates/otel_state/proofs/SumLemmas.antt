@@ -12,21 +12,21 @@ use Rattle.otel_state.specs.declared.times.TheConstants.{GREATEST}
 use Rattle.otel_state.specs.declared.op.Op.{Op}
 use Rattle.otel_state.specs.Deeds.{Deed, TimedOp, deed}
 use Rattle.otel_state.specs.Opening.{before_start, own_of, last_or, name_of, kind_of, parent_context_of}
-use Rattle.otel_state.specs.Statuses.{writes, greatest, status_of}
+use Rattle.otel_state.specs.Statuses.{statuses_written, greatest_status, status_of}
 use Rattle.otel_state.specs.Times.{open_after, open_by, gap, busy_from, busy_of, exit_in, last_exit, MomentsRise}
 use Rattle.otel_state.specs.Content.{Making, attributes_of, events_of, links_of, counted_of, content}
 use Rattle.otel_state.specs.States.{SpanData, data_at_making, moment, unless_started, first_start, with_all, with_one, after_op, after_stamped, Stands, AppendsOp, IsReadOff, reply, reply_after, record_of}
 
 -- a field that each op changes by itself
-pub folded : {B : Type 0} (field : SpanData → B) (step : B → TimedOp → B) → ((told : SpanData) (op : TimedOp) → field (after_stamped told op) ≡ step (field told) op)
-    → (told : SpanData) (ops : List TimedOp) → field (fold after_stamped told ops) ≡ fold step (field told) ops
-folded field step one told [] = refl
-folded field step one told (op ∷ ops) = folded field step one (after_stamped told op) ops ∙ ap (λ b. fold step b ops) (one told op)
+pub folded : {B : Type 0} (field : SpanData → B) (step : B → TimedOp → B) → ((span_data : SpanData) (op : TimedOp) → field (after_stamped span_data op) ≡ step (field span_data) op)
+    → (span_data : SpanData) (ops : List TimedOp) → field (fold after_stamped span_data ops) ≡ fold step (field span_data) ops
+folded field step one span_data [] = refl
+folded field step one span_data (op ∷ ops) = folded field step one (after_stamped span_data op) ops ∙ ap (λ b. fold step b ops) (one span_data op)
 
 -- a field that no op changes
-pub constant : {B : Type 0} (field : SpanData → B) → ((told : SpanData) (op : TimedOp) → field (after_stamped told op) ≡ field told) → (told : SpanData) (ops : List TimedOp) → field (fold after_stamped told ops) ≡ field told
-constant field one told [] = refl
-constant field one told (op ∷ ops) = constant field one (after_stamped told op) ops ∙ one told op
+pub constant : {B : Type 0} (field : SpanData → B) → ((span_data : SpanData) (op : TimedOp) → field (after_stamped span_data op) ≡ field span_data) → (span_data : SpanData) (ops : List TimedOp) → field (fold after_stamped span_data ops) ≡ field span_data
+constant field one span_data [] = refl
+constant field one span_data (op ∷ ops) = constant field one (after_stamped span_data op) ops ∙ one span_data op
 
 -- ---- what is added
 
@@ -92,7 +92,7 @@ own_all (op ∷ ops) = by_start (own_all ops) (deed op.op).own
     by_start none (Some own) = started_stays own ops
 
 -- a field that is settled by the start
-module _ {A : Type 0} (field : SpanData → A) (write : Deed → Option A) (one : (told : SpanData) (op : TimedOp) → field (after_stamped told op) ≡ unless_started (first_start told.own (deed op.op).own) (field told) (write (deed op.op))) where
+module _ {A : Type 0} (field : SpanData → A) (write : Deed → Option A) (one : (span_data : SpanData) (op : TimedOp) → field (after_stamped span_data op) ≡ unless_started (first_start span_data.own (deed op.op).own) (field span_data) (write (deed op.op))) where
   kept_by : (own : SpanContext) (before : A) (written : Option A) → unless_started (Some own) before written ≡ before
   kept_by own before None = refl
   kept_by own before (Some new) = refl
@@ -101,30 +101,30 @@ module _ {A : Type 0} (field : SpanData → A) (write : Deed → Option A) (one 
   own_stays own None = refl
   own_stays own (Some given) = refl
 
-  settled : (own : SpanContext) (told : SpanData) (ops : List TimedOp) → told.own ≡ Some own → field (fold after_stamped told ops) ≡ field told
-  settled own told [] is = refl
-  settled own told (op ∷ ops) is =
-      let now : first_start told.own (deed op.op).own ≡ Some own = ap (λ o. first_start o (deed op.op).own) is ∙ own_stays own (deed op.op).own in
-      settled own (after_stamped told op) ops now ∙ one told op ∙ ap (λ o. unless_started o (field told) (write (deed op.op))) now ∙ kept_by own (field told) (write (deed op.op))
+  settled : (own : SpanContext) (span_data : SpanData) (ops : List TimedOp) → span_data.own ≡ Some own → field (fold after_stamped span_data ops) ≡ field span_data
+  settled own span_data [] is = refl
+  settled own span_data (op ∷ ops) is =
+      let now : first_start span_data.own (deed op.op).own ≡ Some own = ap (λ o. first_start o (deed op.op).own) is ∙ own_stays own (deed op.op).own in
+      settled own (after_stamped span_data op) ops now ∙ one span_data op ∙ ap (λ o. unless_started o (field span_data) (write (deed op.op))) now ∙ kept_by own (field span_data) (write (deed op.op))
 
   written_last : (before : A) (written : Option A) (rest : List A) → last_or (unless_started None before written) rest ≡ last_or before (cons_option written rest)
   written_last before None rest = refl
   written_last before (Some new) rest = refl
 
-  waiting : (told : SpanData) (ops : List TimedOp) → told.own ≡ None → field (fold after_stamped told ops) ≡ last_or (field told) (filter_map (λ op. write (deed op.op)) (before_start ops))
-  waiting told [] is = refl
-  waiting told (op ∷ ops) is = by_start (waiting (after_stamped told op) ops) (deed op.op).own refl
+  waiting : (span_data : SpanData) (ops : List TimedOp) → span_data.own ≡ None → field (fold after_stamped span_data ops) ≡ last_or (field span_data) (filter_map (λ op. write (deed op.op)) (before_start ops))
+  waiting span_data [] is = refl
+  waiting span_data (op ∷ ops) is = by_start (waiting (after_stamped span_data op) ops) (deed op.op).own refl
     where
-      by_start : ((after_stamped told op).own ≡ None → field (fold after_stamped (after_stamped told op) ops) ≡ last_or (field (after_stamped told op)) (filter_map (λ o. write (deed o.op)) (before_start ops)))
+      by_start : ((after_stamped span_data op).own ≡ None → field (fold after_stamped (after_stamped span_data op) ops) ≡ last_or (field (after_stamped span_data op)) (filter_map (λ o. write (deed o.op)) (before_start ops)))
           → (given : Option SpanContext) → (deed op.op).own ≡ given
-          → field (fold after_stamped (after_stamped told op) ops) ≡ last_or (field told) (filter_map (λ o. write (deed o.op)) (if is_some given then [] else op ∷ before_start ops))
+          → field (fold after_stamped (after_stamped span_data op) ops) ≡ last_or (field span_data) (filter_map (λ o. write (deed o.op)) (if is_some given then [] else op ∷ before_start ops))
       by_start later None e =
-          let now : first_start told.own (deed op.op).own ≡ None = ap (λ o. first_start told.own o) e ∙ is in
-          later now ∙ ap (λ a. last_or a (filter_map (λ o. write (deed o.op)) (before_start ops))) (one told op ∙ ap (λ o. unless_started o (field told) (write (deed op.op))) now)
-          ∙ written_last (field told) (write (deed op.op)) (filter_map (λ o. write (deed o.op)) (before_start ops))
+          let now : first_start span_data.own (deed op.op).own ≡ None = ap (λ o. first_start span_data.own o) e ∙ is in
+          later now ∙ ap (λ a. last_or a (filter_map (λ o. write (deed o.op)) (before_start ops))) (one span_data op ∙ ap (λ o. unless_started o (field span_data) (write (deed op.op))) now)
+          ∙ written_last (field span_data) (write (deed op.op)) (filter_map (λ o. write (deed o.op)) (before_start ops))
       by_start later (Some own) e =
-          let now : first_start told.own (deed op.op).own ≡ Some own = ap (λ o. first_start o (deed op.op).own) is ∙ ap (λ o. first_start None o) e in
-          settled own (after_stamped told op) ops now ∙ one told op ∙ ap (λ o. unless_started o (field told) (write (deed op.op))) now ∙ kept_by own (field told) (write (deed op.op))
+          let now : first_start span_data.own (deed op.op).own ≡ Some own = ap (λ o. first_start o (deed op.op).own) is ∙ ap (λ o. first_start None o) e in
+          settled own (after_stamped span_data op) ops now ∙ one span_data op ∙ ap (λ o. unless_started o (field span_data) (write (deed op.op))) now ∙ kept_by own (field span_data) (write (deed op.op))
 
 -- ---- times
 
@@ -135,24 +135,24 @@ pub first_within : (last : ℕ) (ops : List TimedOp) → MomentsRise last ops �
 first_within last [] order = order
 first_within last (op ∷ ops) order = let within = first_within op.at ops order.1 in omega (arith, order.0, within)
 
-pub left_all : (told : SpanData) (ops : List TimedOp) → MomentsRise told.last ops → (fold after_stamped told ops).left ≡ fold (λ _ at. Some at) told.left (filter_map exit_in ops)
-left_all told [] order = refl
-left_all told (op ∷ ops) order =
-    let is = moment_is told.last op.at order.0 (first_within op.at ops order.1) in
-    left_all (after_stamped told op) ops (subst (λ n. MomentsRise n ops) (sym is) order.1) ∙ by_exit (deed op.op).exits is
+pub left_all : (span_data : SpanData) (ops : List TimedOp) → MomentsRise span_data.last ops → (fold after_stamped span_data ops).left ≡ fold (λ _ at. Some at) span_data.left (filter_map exit_in ops)
+left_all span_data [] order = refl
+left_all span_data (op ∷ ops) order =
+    let is = moment_is span_data.last op.at order.0 (first_within op.at ops order.1) in
+    left_all (after_stamped span_data op) ops (subst (λ n. MomentsRise n ops) (sym is) order.1) ∙ by_exit (deed op.op).exits is
   where
-    by_exit : (exits : Bool) → moment told.last op.at ≡ op.at → fold (λ _ at. Some at) (if exits then Some (moment told.last op.at) else told.left) (filter_map exit_in ops)
-        ≡ fold (λ _ at. Some at) told.left (cons_option (if exits then Some op.at else None) (filter_map exit_in ops))
+    by_exit : (exits : Bool) → moment span_data.last op.at ≡ op.at → fold (λ _ at. Some at) (if exits then Some (moment span_data.last op.at) else span_data.left) (filter_map exit_in ops)
+        ≡ fold (λ _ at. Some at) span_data.left (cons_option (if exits then Some op.at else None) (filter_map exit_in ops))
     by_exit true is = ap (λ n. fold (λ _ at. Some at) (Some n) (filter_map exit_in ops)) is
     by_exit false is = refl
 
-pub busy_all : (told : SpanData) (ops : List TimedOp) → MomentsRise told.last ops → (fold after_stamped told ops).busy ≡ told.busy + busy_from told.entries told.last ops
-busy_all told [] order = omega arith
-busy_all told (op ∷ ops) order =
-    let is = moment_is told.last op.at order.0 (first_within op.at ops order.1) in
-    let rest = busy_all (after_stamped told op) ops (subst (λ n. MomentsRise n ops) (sym is) order.1) in
-    let here = ap (λ n. gap told.entries told.last n) is in
-    let after = ap (λ n. busy_from (open_after told.entries (deed op.op)) n ops) is in
+pub busy_all : (span_data : SpanData) (ops : List TimedOp) → MomentsRise span_data.last ops → (fold after_stamped span_data ops).busy ≡ span_data.busy + busy_from span_data.entries span_data.last ops
+busy_all span_data [] order = omega arith
+busy_all span_data (op ∷ ops) order =
+    let is = moment_is span_data.last op.at order.0 (first_within op.at ops order.1) in
+    let rest = busy_all (after_stamped span_data op) ops (subst (λ n. MomentsRise n ops) (sym is) order.1) in
+    let here = ap (λ n. gap span_data.entries span_data.last n) is in
+    let after = ap (λ n. busy_from (open_after span_data.entries (deed op.op)) n ops) is in
     omega (arith, rest, here, after)
 
 -- ---- the record
@@ -160,31 +160,31 @@ busy_all told (op ∷ ops) order =
 busy_is : (made_at within busy : ℕ) (ops : List TimedOp) → busy ≡ 0 + busy_from 0 within ops → within ≡ made_at → busy ≡ busy_of made_at ops
 busy_is made_at within busy ops is same = let here = ap (λ n. busy_from 0 n ops) same in omega (arith, is, here)
 
-the_record : (told : SpanData) (making : Making) (ops : List TimedOp) (closed : ℕ) → told.name ≡ name_of making.name ops → told.kind ≡ kind_of ops → told.parent ≡ parent_context_of making.parent ops → told.made_at ≡ making.made_at
-    → told.counting ≡ making.counting → told.inactivity ≡ making.inactivity → told.own ≡ own_of ops → told.attributes ≡ making.first ++ attributes_of ops → told.events ≡ events_of ops → told.links ≡ links_of ops
-    → told.status ≡ status_of ops → told.counted ≡ counted_of ops → told.busy ≡ busy_of making.made_at ops → told.left ≡ last_exit ops → record_of told closed ≡ content making ops closed
-the_record told making ops closed name kind parent made_at counting inactivity own attributes events links status counted busy left =
+the_record : (span_data : SpanData) (making : Making) (ops : List TimedOp) (closed : ℕ) → span_data.name ≡ name_of making.name ops → span_data.kind ≡ kind_of ops → span_data.parent ≡ parent_context_of making.parent ops → span_data.made_at ≡ making.made_at
+    → span_data.counting ≡ making.counting → span_data.inactivity ≡ making.inactivity → span_data.own ≡ own_of ops → span_data.attributes ≡ making.first ++ attributes_of ops → span_data.events ≡ events_of ops → span_data.links ≡ links_of ops
+    → span_data.status ≡ status_of ops → span_data.counted ≡ counted_of ops → span_data.busy ≡ busy_of making.made_at ops → span_data.left ≡ last_exit ops → record_of span_data closed ≡ content making ops closed
+the_record span_data making ops closed name kind parent made_at counting inactivity own attributes events links status counted busy left =
     simp (name, kind, parent, made_at, counting, inactivity, own, attributes, events, links, status, counted, busy, left, append_assoc) refl
 
 -- ---- what a state is asked
 
-pub appended : (told : SpanData) (at : ℕ) (op : Op) → AppendsOp at op told (after_op told at op)
-appended told at op making ops stands = ap (λ (t : SpanData). after_op t at op) stands ∙ sym (fold_push after_stamped (data_at_making making) ops (record { at = at; op = op }))
+pub appended : (span_data : SpanData) (at : ℕ) (op : Op) → AppendsOp at op span_data (after_op span_data at op)
+appended span_data at op making ops stands = ap (λ (t : SpanData). after_op t at op) stands ∙ sym (fold_push after_stamped (data_at_making making) ops (record { at = at; op = op }))
 
-pub own_is : (told : SpanData) → IsReadOff (λ _ ops. own_of ops) told told.own
-own_is told making ops stands = ap (λ (t : SpanData). t.own) stands ∙ folded (λ t. t.own) (λ o op. first_start o (deed op.op).own) (λ t op. refl) (data_at_making making) ops ∙ own_all ops
+pub own_is : (span_data : SpanData) → IsReadOff (λ _ ops. own_of ops) span_data span_data.own
+own_is span_data making ops stands = ap (λ (t : SpanData). t.own) stands ∙ folded (λ t. t.own) (λ o op. first_start o (deed op.op).own) (λ t op. refl) (data_at_making making) ops ∙ own_all ops
 
-pub parent_is : (told : SpanData) → IsReadOff (λ making ops. parent_context_of making.parent ops) told told.parent
-parent_is told making ops stands = ap (λ (t : SpanData). t.parent) stands ∙ waiting (λ t. t.parent) (λ d. d.parent) (λ t op. refl) (data_at_making making) ops refl
+pub parent_is : (span_data : SpanData) → IsReadOff (λ making ops. parent_context_of making.parent ops) span_data span_data.parent
+parent_is span_data making ops stands = ap (λ (t : SpanData). t.parent) stands ∙ waiting (λ t. t.parent) (λ d. d.parent) (λ t op. refl) (data_at_making making) ops refl
 
-pub entries_is : (told : SpanData) → IsReadOff (λ _ ops. open_by 0 ops) told told.entries
-entries_is told making ops stands = ap (λ (t : SpanData). t.entries) stands ∙ folded (λ t. t.entries) (λ n op. open_after n (deed op.op)) (λ t op. refl) (data_at_making making) ops
+pub entries_is : (span_data : SpanData) → IsReadOff (λ _ ops. open_by 0 ops) span_data span_data.entries
+entries_is span_data making ops stands = ap (λ (t : SpanData). t.entries) stands ∙ folded (λ t. t.entries) (λ n op. open_after n (deed op.op)) (λ t op. refl) (data_at_making making) ops
 
-pub reply_is : (told : SpanData) (op : Op) → IsReadOff (λ _ ops. reply_after (own_of ops) op) told (reply told op)
-reply_is told op making ops stands = ap (λ (own : Option SpanContext). reply_after own op) (own_is told making ops stands)
+pub reply_is : (span_data : SpanData) (op : Op) → IsReadOff (λ _ ops. reply_after (own_of ops) op) span_data (reply span_data op)
+reply_is span_data op making ops stands = ap (λ (own : Option SpanContext). reply_after own op) (own_is span_data making ops stands)
 
-pub content_is : (making : Making) (ops : List TimedOp) (told : SpanData) (closed : ℕ) → Stands making ops told → MomentsRise making.made_at ops → record_of told closed ≡ content making ops closed
-content_is making ops told closed stands order =
+pub content_is : (making : Making) (ops : List TimedOp) (span_data : SpanData) (closed : ℕ) → Stands making ops span_data → MomentsRise making.made_at ops → record_of span_data closed ≡ content making ops closed
+content_is making ops span_data closed stands order =
     let start = data_at_making making in
     let made_at = first_within making.made_at ops order in
     let within : min making.made_at GREATEST ≡ making.made_at = omega (arith, made_at) in
@@ -201,7 +201,7 @@ content_is making ops told closed stands order =
     (folded (λ t. t.attributes) (λ xs op. with_all xs (deed op.op).attributes) (λ t op. refl) start ops ∙ all_added (λ op. (deed op.op).attributes) making.first ops)
     (folded (λ t. t.events) (λ xs op. with_one xs (deed op.op).event) (λ t op. refl) start ops ∙ one_added (λ op. (deed op.op).event) [] ops)
     (folded (λ t. t.links) (λ xs op. with_one xs (deed op.op).link) (λ t op. refl) start ops ∙ one_added (λ op. (deed op.op).link) [] ops)
-    (folded (λ t. t.status) (λ s op. greatest s (writes (deed op.op))) (λ t op. refl) start ops ∙ folded_flat (ord_max status_cmp) (λ op. writes (deed op.op)) Unset ops)
+    (folded (λ t. t.status) (λ s op. greatest_status s (statuses_written (deed op.op))) (λ t op. refl) start ops ∙ folded_flat (ord_max status_cmp) (λ op. statuses_written (deed op.op)) Unset ops)
     (folded (λ t. t.counted) (λ n op. if (deed op.op).counts then min (n + 1) GREATEST else n) (λ t op. refl) start ops ∙ counted_is ops)
     busy
     (left_all start ops in_order)

@@ -37,15 +37,15 @@ abbrev pub counted_of : List TimedOp → ℕ
 counted_of ops = min (count_by (λ op. (deed op.op).counts) ops) GREATEST
 
 -- an attribute that tells a number
-abbrev pub number : List ℕ → ℕ → KeyValue
-number key n = record { key = key; value = I64 (pos n) }
+abbrev pub number_attribute : List ℕ → ℕ → KeyValue
+number_attribute key n = record { key = key; value = I64 (pos n) }
 
 -- the attributes that a close adds: the count where events are counted, then the times where inactivity is tracked
 abbrev pub closing_count : Bool → ℕ → List KeyValue
-closing_count counting counted = if counting then number (codes "otel.tracing_event_count") counted ∷ [] else []
+closing_count counting counted = if counting then number_attribute (codes "otel.tracing_event_count") counted ∷ [] else []
 
 abbrev pub closing_times : Bool → ℕ → ℕ → List KeyValue
-closing_times inactivity busy idle = if inactivity then number (codes "busy_ns") busy ∷ number (codes "idle_ns") idle ∷ [] else []
+closing_times inactivity busy idle = if inactivity then number_attribute (codes "busy_ns") busy ∷ number_attribute (codes "idle_ns") idle ∷ [] else []
 
 -- the record
 abbrev pub content : Making → List TimedOp → ℕ → Record

@@ -10,7 +10,7 @@ use Rattle.otel_state.specs.declared.op.Op.{Op}
 use Rattle.otel_state.specs.declared.op.Op.TheVariants as ops
 use Rattle.otel_state.specs.Deeds.{Deed, TimedOp, deed}
 use Rattle.otel_state.specs.Statuses.{status_of}
-use Rattle.otel_state.specs.Content.{number}
+use Rattle.otel_state.specs.Content.{number_attribute}
 
 -- ---- busy and idle
 
@@ -24,7 +24,7 @@ pub record TellsTimes (entered : Bool) (left : Option ℕ) (r : Record) : Type 0
   pub others : List KeyValue
   pub busy : ℕ
   pub idle : ℕ
-  pub told : r.attributes ≡ others ++ number (codes "busy_ns") busy ∷ number (codes "idle_ns") idle ∷ []
+  pub last : r.attributes ≡ others ++ number_attribute (codes "busy_ns") busy ∷ number_attribute (codes "idle_ns") idle ∷ []
   pub was_left : IsTrue entered → IsTrue (is_some left)
   pub add_up : IsTrue (is_some left) → r.start + busy + idle ≡ r.end
   pub are_none : left ≡ None → (busy ≡ 0) × (idle ≡ 0)

@@ -19,7 +19,7 @@ use Rattle.otel_state.specs.declared.op.OpReply.TheVariants.{Done, Parent}
 use Rattle.otel_state.specs.declared.op.SetParentError.TheVariants.{AlreadyStarted}
 use Rattle.otel_state.specs.declared.times.TheConstants.{GREATEST}
 use Rattle.otel_state.specs.Deeds.{Deed, TimedOp, deed}
-use Rattle.otel_state.specs.Statuses.{writes, greatest}
+use Rattle.otel_state.specs.Statuses.{statuses_written, greatest_status}
 use Rattle.otel_state.specs.Times.{open_after, gap, end_of, idle_of, MomentsRise}
 use Rattle.otel_state.specs.Content.{Making, content, closing_count, closing_times}
 
@@ -51,7 +51,7 @@ pub record Room : Type 0 where
 
 -- a state: what the span has come to, and the spare room
 pub record StateValue : Type 0 where
-  pub told : SpanData
+  pub span_data : SpanData
   pub room : Room
 
 -- a span without ops
@@ -102,37 +102,37 @@ with_one items (Some one) = items ++ one ∷ []
 
 -- time passes up to a moment
 abbrev pub after_time : SpanData → ℕ → SpanData
-after_time told at = record told { busy = told.busy + gap told.entries told.last (moment told.last at); last = moment told.last at }
+after_time span_data at = record span_data { busy = span_data.busy + gap span_data.entries span_data.last (moment span_data.last at); last = moment span_data.last at }
 
 -- what an op does at the last moment
-abbrev pub did : SpanData → Deed → SpanData
-did told d =
-    let own = first_start told.own d.own in
-    record told {
-      name = unless_started own told.name d.name;
-      kind = unless_started own told.kind d.kind;
-      parent = unless_started own told.parent d.parent;
+abbrev pub after_deed : SpanData → Deed → SpanData
+after_deed span_data d =
+    let own = first_start span_data.own d.own in
+    record span_data {
+      name = unless_started own span_data.name d.name;
+      kind = unless_started own span_data.kind d.kind;
+      parent = unless_started own span_data.parent d.parent;
       own = own;
-      attributes = with_all told.attributes d.attributes;
-      events = with_one told.events d.event;
-      links = with_one told.links d.link;
-      status = greatest told.status (writes d);
-      counted = if d.counts then min (told.counted + 1) GREATEST else told.counted;
-      entries = open_after told.entries d;
-      left = if d.exits then Some told.last else told.left;
+      attributes = with_all span_data.attributes d.attributes;
+      events = with_one span_data.events d.event;
+      links = with_one span_data.links d.link;
+      status = greatest_status span_data.status (statuses_written d);
+      counted = if d.counts then min (span_data.counted + 1) GREATEST else span_data.counted;
+      entries = open_after span_data.entries d;
+      left = if d.exits then Some span_data.last else span_data.left;
     }
 
 abbrev pub after_op : SpanData → ℕ → Op → SpanData
-after_op told at op = did (after_time told at) (deed op)
+after_op span_data at op = after_deed (after_time span_data at) (deed op)
 
 -- ---- a list of ops
 
 abbrev pub after_stamped : SpanData → TimedOp → SpanData
-after_stamped told op = after_op told op.at op.op
+after_stamped span_data op = after_op span_data op.at op.op
 
 -- a state stands for a making and the ops since
 abbrev pub Stands : Making → List TimedOp → SpanData → Type 0
-Stands making ops told = told ≡ fold after_stamped (data_at_making making) ops
+Stands making ops span_data = span_data ≡ fold after_stamped (data_at_making making) ops
 
 -- a state stands for one op more, whatever making and ops it stood for
 abbrev pub AppendsOp : ℕ → Op → SpanData → SpanData → Type 0
@@ -140,11 +140,11 @@ AppendsOp at op before now = (making : Making) (ops : List TimedOp) → Stands m
 
 -- a value is read off the making and the ops that a state stands for
 abbrev pub IsReadOff : {A : Type 0} → (Making → List TimedOp → A) → SpanData → A → Type 0
-IsReadOff read told value = (making : Making) (ops : List TimedOp) → Stands making ops told → value ≡ read making ops
+IsReadOff read span_data value = (making : Making) (ops : List TimedOp) → Stands making ops span_data → value ≡ read making ops
 
 -- a state gets the parent and the moment of its making anew, and no time has passed since
 abbrev pub with_making : Context → ℕ → SpanData → SpanData
-with_making parent made_at told = record told { parent = parent; made_at = made_at; last = min made_at GREATEST; busy = 0; left = None }
+with_making parent made_at span_data = record span_data { parent = parent; made_at = made_at; last = min made_at GREATEST; busy = 0; left = None }
 
 -- a state that stood for a making and no ops stands for the same making with another parent and moment, and no ops
 abbrev pub BeginsAt : Context → ℕ → SpanData → SpanData → Type 0
@@ -152,7 +152,7 @@ BeginsAt parent made_at before now = (making : Making) → Stands making [] befo
 
 -- a record is the content of the making and the ops that a state stands for, where moments don't fall
 abbrev pub IsContent : ℕ → SpanData → Record → Type 0
-IsContent at told result = (making : Making) (ops : List TimedOp) → Stands making ops told → MomentsRise making.made_at ops → result ≡ content making ops at
+IsContent at span_data result = (making : Making) (ops : List TimedOp) → Stands making ops span_data → MomentsRise making.made_at ops → result ≡ content making ops at
 
 -- ---- answers
 
@@ -162,7 +162,7 @@ reply_after own (ops.SetParent context) = Parent (if is_some own then Err Alread
 reply_after own _ = Done
 
 abbrev pub reply : SpanData → Op → OpReply
-reply told op = reply_after told.own op
+reply span_data op = reply_after span_data.own op
 
 -- the ops for which memory may be wanted
 abbrev pub is_growing : Op → Bool
@@ -180,8 +180,8 @@ pub record HasRoom (room : Room) (op : Op) : Type 0 where
   pub links : length (option_to_list (deed op).link) ≤ room.links
 
 -- the room that an op leaves of some room
-abbrev pub less : Room → Deed → Room
-less room d = record {
+abbrev pub room_after : Room → Deed → Room
+room_after room d = record {
   attributes = room.attributes - length d.attributes;
   events = room.events - length (option_to_list d.event);
   links = room.links - length (option_to_list d.link);
@@ -197,18 +197,18 @@ pub record Keeps (room now : Room) : Type 0 where
 
 -- the record of a state that is closed at a moment
 abbrev pub record_of : SpanData → ℕ → Record
-record_of told closed = record {
-  name = told.name;
-  kind = told.kind;
-  context = ids_or_zeros told.own;
-  parent = parent_id (ids_of told.parent);
-  start = told.made_at;
-  end = end_of told.left closed;
-  attributes = told.attributes ++ closing_count told.counting told.counted
-      ++ closing_times told.inactivity told.busy (idle_of told.left told.made_at told.busy);
-  events = told.events;
-  links = told.links;
-  status = told.status;
+record_of span_data closed = record {
+  name = span_data.name;
+  kind = span_data.kind;
+  context = ids_or_zeros span_data.own;
+  parent = parent_id (ids_of span_data.parent);
+  start = span_data.made_at;
+  end = end_of span_data.left closed;
+  attributes = span_data.attributes ++ closing_count span_data.counting span_data.counted
+      ++ closing_times span_data.inactivity span_data.busy (idle_of span_data.left span_data.made_at span_data.busy);
+  events = span_data.events;
+  links = span_data.links;
+  status = span_data.status;
 }
 
 -- ---- what always holds of what is kept

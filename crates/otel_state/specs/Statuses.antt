@@ -11,13 +11,13 @@ use Rattle.otel_state.specs.Deeds.{TimedOp, Deed, deed}
 abbrev pub error_in : Bool → List Status
 error_in is_error = if is_error then Error [] ∷ [] else []
 
-abbrev pub writes : Deed → List Status
-writes d = error_in d.is_error ++ option_to_list d.status
+abbrev pub statuses_written : Deed → List Status
+statuses_written d = error_in d.is_error ++ option_to_list d.status
 
 -- the greatest of some statuses and one before them
-abbrev pub greatest : Status → List Status → Status
-greatest before statuses = fold (ord_max status_cmp) before statuses
+abbrev pub greatest_status : Status → List Status → Status
+greatest_status before statuses = fold (ord_max status_cmp) before statuses
 
 -- the status of a span, Unset where nothing is written
 abbrev pub status_of : List TimedOp → Status
-status_of ops = greatest Unset (flat_map (λ op. writes (deed op.op)) ops)
+status_of ops = greatest_status Unset (flat_map (λ op. statuses_written (deed op.op)) ops)

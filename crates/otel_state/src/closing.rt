@@ -2,7 +2,7 @@
 ghost use Rattle.std.specs.Prelude.{◌≡◌, ◌+◌, ◌≤◌, ◌<◌, ◌++◌, ◌∷◌, [], vec_len, vec_capacity};
 ghost use Rattle.otel_base.specs.Words.{word_text};
 ghost use Rattle.otel_state.specs.declared.times.TheConstants.{GREATEST};
-ghost use Rattle.otel_state.specs.Content.{closing_count, closing_times, number};
+ghost use Rattle.otel_state.specs.Content.{closing_count, closing_times, number_attribute};
 
 use crate::times::GREATEST;
 use otel_base::text::Text;
@@ -13,7 +13,7 @@ use std::alloc::Global;
 // Adds how many events were counted, where that is told, in room that is there.
 pub(crate) fn add_count(alloc: Global, attributes: &mut Vec<KeyValue>, counting: bool, counted: u64)
     requires room { vec_len attributes.old + 3 ≤ vec_capacity attributes.old }
-    requires number { counted ≤ GREATEST }
+    requires number_attribute { counted ≤ GREATEST }
     ensures items { attributes.new.items ≡ attributes.old.items ++ closing_count counting counted }
     ensures room { vec_len attributes.new + 2 ≤ vec_capacity attributes.new }
 {
@@ -44,8 +44,8 @@ pub(crate) fn add_times(
 // Adds an attribute that tells a number, in room that is there.
 fn add_number(alloc: Global, attributes: &mut Vec<KeyValue>, key: Word, told: u64)
     requires room { vec_len attributes.old < vec_capacity attributes.old }
-    requires number { told ≤ GREATEST }
-    ensures items { attributes.new.items ≡ attributes.old.items ++ number (word_text key) told ∷ [] }
+    requires number_attribute { told ≤ GREATEST }
+    ensures items { attributes.new.items ≡ attributes.old.items ++ number_attribute (word_text key) told ∷ [] }
     ensures len { vec_len attributes.new ≡ vec_len attributes.old + 1 }
     ensures capacity { vec_capacity attributes.old ≤ vec_capacity attributes.new }
 {

@@ -3,7 +3,7 @@ ghost use Rattle.std.specs.Prelude.{◌≡◌, ◌++◌, ◌∷◌, [], OnOk, If
 ghost use Rattle.std.specs.Option.{option_copied};
 ghost use Rattle.otel_base.specs.Words.{word_text};
 ghost use Rattle.otel_base.specs.declared.word.Word.TheVariants.{LineNumber};
-ghost use Rattle.otel_state.specs.fields.Fields.{with_text, if_wanted, known_text, known_number, location, plain_text, debug_text, as_exception, as_field};
+ghost use Rattle.otel_state.specs.fields.Fields.{text_attribute, if_wanted, known_text, known_number, location_attributes, plain_text, debug_text, as_exception, as_field};
 
 use otel_base::list::Items;
 use otel_base::memory::Memory;
@@ -27,7 +27,7 @@ fn field_name(callsite: &Callsite, place: usize) -> Option<&Text>
 }
 
 fn add_text(attributes: &mut Items<KeyValue>, key: Text, text: Text) -> Result<(), Memory>
-    ensures { OnOk result (attributes.new ≡ attributes.old ++ with_text key text ∷ []) }
+    ensures { OnOk result (attributes.new ≡ attributes.old ++ text_attribute key text ∷ []) }
 {
     attributes.push(KeyValue {
         key,
@@ -72,7 +72,7 @@ fn add_location(
     is_wanted: bool,
     callsite: &Callsite,
 ) -> Result<(), Memory>
-    ensures { OnOk result (attributes.new ≡ attributes.old ++ if_wanted is_wanted (location callsite.now)) }
+    ensures { OnOk result (attributes.new ≡ attributes.old ++ if_wanted is_wanted (location_attributes callsite.now)) }
 {
     if is_wanted {
         add_known_text(alloc, attributes, Word::FilePath, &callsite.file)?;

@@ -11,7 +11,7 @@ ghost use Rattle.otel_state.specs.Laws.{TellsTimes, was_entered, SameButSettled,
 
 /// A state that stands for some ops stands, after one more, for these and that one.
 pub fn appends()
-    ensures { (told : SpanData) (at : ℕ) (op : Op) → AppendsOp at op told (after_op told at op) }
+    ensures { (span_data : SpanData) (at : ℕ) (op : Op) → AppendsOp at op span_data (after_op span_data at op) }
 {}
 
 /// Where inactivity is tracked, moments don't fall and no entry is left open: the record's busy and idle times add up to

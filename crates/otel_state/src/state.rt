@@ -5,9 +5,9 @@ ghost use Rattle.std.specs.Ordering.{ord_max};
 ghost use Rattle.otel_base.specs.Statuses.{status_cmp};
 ghost use Rattle.otel_state.specs.Deeds.{deed, no_deed, written_by};
 ghost use Rattle.otel_state.specs.Opening.{own_of, parent_context_of};
-ghost use Rattle.otel_state.specs.Statuses.{greatest, error_in};
+ghost use Rattle.otel_state.specs.Statuses.{greatest_status, error_in};
 ghost use Rattle.otel_state.specs.Times.{open_by};
-ghost use Rattle.otel_state.specs.States.{after_time, unless_started, with_all, did, after_op, reply, reply_after, is_growing, record_of, with_making, less, Stands, AppendsOp, BeginsAt, IsReadOff, IsContent, HasRoom, Keeps};
+ghost use Rattle.otel_state.specs.States.{after_time, unless_started, with_all, after_deed, after_op, reply, reply_after, is_growing, record_of, with_making, room_after, Stands, AppendsOp, BeginsAt, IsReadOff, IsContent, HasRoom, Keeps};
 
 use crate::closing::{add_count, add_times};
 use crate::op::{Op, OpReply, SetParentError};
@@ -61,7 +61,7 @@ impl Model for SpanState {
     ghost Value = { StateValue };
 
     ghost view = { λ s. record {
-      told = record {
+      span_data = record {
         name = s.opening.name;
         kind = s.opening.kind;
         parent = s.opening.parent;
@@ -108,10 +108,10 @@ impl SpanState {
           first = first;
           counting = counting;
           inactivity = inactivity;
-        }) [] state.told) }
+        }) [] state.span_data) }
     {
         let mut attributes = first.into_vec();
-        attributes.reserve(CLOSING)?;
+        attributes.reserve_exact(CLOSING)?;
         Ok(SpanState {
             alloc,
             opening: Opening {
@@ -138,8 +138,8 @@ impl SpanState {
     /// Its ids, once it has started.
     #[tactic(auto, using(crate::proofs::SumLemmas::own_is))]
     pub fn own_context(&self) -> Option<SpanContext>
-        ensures value { result ≡ self.now.told.own }
-        ensures listed { IsReadOff (λ _ ops. own_of ops) self.now.told result }
+        ensures value { result ≡ self.now.span_data.own }
+        ensures listed { IsReadOff (λ _ ops. own_of ops) self.now.span_data result }
     {
         self.own
     }
@@ -147,8 +147,8 @@ impl SpanState {
     /// The context of its parent.
     #[tactic(auto, using(crate::proofs::SumLemmas::parent_is))]
     pub fn parent(&self) -> Context
-        ensures value { result ≡ self.now.told.parent }
-        ensures listed { IsReadOff (λ making ops. parent_context_of making.parent ops) self.now.told result }
+        ensures value { result ≡ self.now.span_data.parent }
+        ensures listed { IsReadOff (λ making ops. parent_context_of making.parent ops) self.now.span_data result }
     {
         self.opening.parent
     }
@@ -156,8 +156,8 @@ impl SpanState {
     /// How many entries are open.
     #[tactic(auto, using(crate::proofs::SumLemmas::entries_is))]
     pub fn entries(&self) -> u64
-        ensures value { result ≡ self.now.told.entries }
-        ensures listed { IsReadOff (λ _ ops. open_by 0 ops) self.now.told result }
+        ensures value { result ≡ self.now.span_data.entries }
+        ensures listed { IsReadOff (λ _ ops. open_by 0 ops) self.now.span_data result }
     {
         self.entries
     }
@@ -167,17 +167,17 @@ impl SpanState {
     /// lost.
     #[tactic(auto, using(crate::proofs::SumLemmas::appended))]
     pub fn apply(&mut self, at: Moment, op: Op) -> Result<OpReply, Memory>
-        ensures appends { OnOk result (AppendsOp at op self.old.told self.new.told) }
-        ensures did { OnOk result (self.new.told ≡ after_op self.old.told at op) }
-        ensures reply { IfOk result (λ r. r ≡ reply self.old.told op) }
-        ensures listed { IfOk result (IsReadOff (λ _ ops. reply_after (own_of ops) op) self.old.told) }
+        ensures appends { OnOk result (AppendsOp at op self.old.span_data self.new.span_data) }
+        ensures did { OnOk result (self.new.span_data ≡ after_op self.old.span_data at op) }
+        ensures reply { IfOk result (λ r. r ≡ reply self.old.span_data op) }
+        ensures listed { IfOk result (IsReadOff (λ _ ops. reply_after (own_of ops) op) self.old.span_data) }
 
-        ensures memory_leaves { OnErr result (self.new.told ≡ self.old.told) }
+        ensures memory_leaves { OnErr result (self.new.span_data ≡ self.old.span_data) }
         ensures memory { OnErr result (IsTrue (is_growing op)) }
         ensures had_room { HasRoom self.old.room op → IsOk result }
 
         // Room that the op doesn't fill stays.
-        ensures rest { OnOk result (Keeps (less self.old.room (deed op)) self.new.room) }
+        ensures rest { OnOk result (Keeps (room_after self.old.room (deed op)) self.new.room) }
         ensures keeps { OnErr result (Keeps self.old.room self.new.room) }
     {
         let answer = self.answer(&op);
@@ -189,9 +189,9 @@ impl SpanState {
     /// Applies an op in room that was reserved for it. The rest of the room stays.
     pub fn put(&mut self, at: Moment, op: Op)
         requires room { HasRoom self.old.room op }
-        ensures told { self.new.told ≡ after_op self.old.told at op }
+        ensures span_data { self.new.span_data ≡ after_op self.old.span_data at op }
         ensures room { is_growing op ≡ false → self.new.room ≡ self.old.room }
-        ensures rest { Keeps (less self.old.room (deed op)) self.new.room }
+        ensures rest { Keeps (room_after self.old.room (deed op)) self.new.room }
     {
         self.pass(at);
         match op {
@@ -230,7 +230,7 @@ impl SpanState {
 
     // Time passes up to a moment.
     fn pass(&mut self, at: Moment)
-        ensures told { self.new.told ≡ after_time self.old.told at }
+        ensures span_data { self.new.span_data ≡ after_time self.old.span_data at }
         ensures room { self.new.room ≡ self.old.room }
     {
         let at = moment_after(self.last, at);
@@ -242,8 +242,8 @@ impl SpanState {
 
     fn put_update(&mut self, update: Update)
         requires { length update.attributes ≤ self.old.room.attributes }
-        ensures told { self.new.told ≡ did self.old.told (written_by update) }
-        ensures rest { Keeps (less self.old.room (written_by update)) self.new.room }
+        ensures span_data { self.new.span_data ≡ after_deed self.old.span_data (written_by update) }
+        ensures rest { Keeps (room_after self.old.room (written_by update)) self.new.room }
     {
         let Update {
             name,
@@ -258,7 +258,7 @@ impl SpanState {
     }
 
     fn put_name(&mut self, name: Option<Text>)
-        ensures told { self.new.told ≡ record self.old.told { name = unless_started self.old.told.own self.old.told.name name } }
+        ensures span_data { self.new.span_data ≡ record self.old.span_data { name = unless_started self.old.span_data.own self.old.span_data.name name } }
         ensures room { self.new.room ≡ self.old.room }
     {
         if let Some(name) = name
@@ -269,7 +269,7 @@ impl SpanState {
     }
 
     fn put_kind(&mut self, kind: Option<SpanKind>)
-        ensures told { self.new.told ≡ record self.old.told { kind = unless_started self.old.told.own self.old.told.kind kind } }
+        ensures span_data { self.new.span_data ≡ record self.old.span_data { kind = unless_started self.old.span_data.own self.old.span_data.kind kind } }
         ensures room { self.new.room ≡ self.old.room }
     {
         if self.own.is_none()
@@ -281,7 +281,7 @@ impl SpanState {
 
     // An error without a description is written, if there is one.
     fn put_error(&mut self, is_error: bool)
-        ensures told { self.new.told ≡ record self.old.told { status = greatest self.old.told.status (error_in is_error) } }
+        ensures span_data { self.new.span_data ≡ record self.old.span_data { status = greatest_status self.old.span_data.status (error_in is_error) } }
         ensures room { self.new.room ≡ self.old.room }
     {
         if is_error {
@@ -292,7 +292,7 @@ impl SpanState {
     }
 
     fn put_written(&mut self, status: Option<Status>)
-        ensures told { self.new.told ≡ record self.old.told { status = greatest self.old.told.status (option_to_list status) } }
+        ensures span_data { self.new.span_data ≡ record self.old.span_data { status = greatest_status self.old.span_data.status (option_to_list status) } }
         ensures room { self.new.room ≡ self.old.room }
     {
         if let Some(status) = status {
@@ -301,7 +301,7 @@ impl SpanState {
     }
 
     fn put_status(&mut self, status: Status)
-        ensures told { self.new.told ≡ record self.old.told { status = ord_max status_cmp self.old.told.status status } }
+        ensures span_data { self.new.span_data ≡ record self.old.span_data { status = ord_max status_cmp self.old.span_data.status status } }
         ensures room { self.new.room ≡ self.old.room }
     {
         if status >= self.status {
@@ -311,8 +311,8 @@ impl SpanState {
 
     fn put_attributes(&mut self, attributes: Items<KeyValue>)
         requires { length attributes ≤ self.old.room.attributes }
-        ensures told { self.new.told ≡ record self.old.told { attributes = with_all self.old.told.attributes attributes } }
-        ensures rest { Keeps (less self.old.room (record no_deed { attributes = attributes })) self.new.room }
+        ensures span_data { self.new.span_data ≡ record self.old.span_data { attributes = with_all self.old.span_data.attributes attributes } }
+        ensures rest { Keeps (room_after self.old.room (record no_deed { attributes = attributes })) self.new.room }
     {
         let mut attributes = attributes.into_vec();
         match self.attributes.append(&mut attributes) {
@@ -323,8 +323,8 @@ impl SpanState {
 
     fn put_attribute(&mut self, pair: KeyValue)
         requires { 1 ≤ self.old.room.attributes }
-        ensures told { self.new.told ≡ record self.old.told { attributes = self.old.told.attributes ++ pair ∷ [] } }
-        ensures rest { Keeps (less self.old.room (record no_deed { attributes = pair ∷ [] })) self.new.room }
+        ensures span_data { self.new.span_data ≡ record self.old.span_data { attributes = self.old.span_data.attributes ++ pair ∷ [] } }
+        ensures rest { Keeps (room_after self.old.room (record no_deed { attributes = pair ∷ [] })) self.new.room }
     {
         match self.attributes.push(pair) {
             Ok(()) => {}
@@ -334,8 +334,8 @@ impl SpanState {
 
     fn put_event(&mut self, event: OtelEvent)
         requires { 1 ≤ self.old.room.events }
-        ensures told { self.new.told ≡ record self.old.told { events = self.old.told.events ++ event ∷ [] } }
-        ensures rest { Keeps (less self.old.room (record no_deed { event = Some event })) self.new.room }
+        ensures span_data { self.new.span_data ≡ record self.old.span_data { events = self.old.span_data.events ++ event ∷ [] } }
+        ensures rest { Keeps (room_after self.old.room (record no_deed { event = Some event })) self.new.room }
     {
         match self.events.push(event) {
             Ok(()) => {}
@@ -345,8 +345,8 @@ impl SpanState {
 
     fn put_link(&mut self, link: Link)
         requires { 1 ≤ self.old.room.links }
-        ensures told { self.new.told ≡ record self.old.told { links = self.old.told.links ++ link ∷ [] } }
-        ensures rest { Keeps (less self.old.room (record no_deed { link = Some link })) self.new.room }
+        ensures span_data { self.new.span_data ≡ record self.old.span_data { links = self.old.span_data.links ++ link ∷ [] } }
+        ensures rest { Keeps (room_after self.old.room (record no_deed { link = Some link })) self.new.room }
     {
         match self.links.push(link) {
             Ok(()) => {}
@@ -357,8 +357,8 @@ impl SpanState {
     /// Gives a state the parent and the moment of its making, where these weren't known when its room was taken. Its last
     /// moment, its busy time and its last exit start anew; all else stays.
     pub fn begin(&mut self, parent: Context, made_at: Moment)
-        ensures told { self.new.told ≡ with_making parent made_at self.old.told }
-        ensures begins { BeginsAt parent made_at self.old.told self.new.told }
+        ensures span_data { self.new.span_data ≡ with_making parent made_at self.old.span_data }
+        ensures begins { BeginsAt parent made_at self.old.span_data self.new.span_data }
         ensures room { self.new.room ≡ self.old.room }
     {
         self.opening.parent = parent;
@@ -370,7 +370,7 @@ impl SpanState {
 
     /// What an op will answer.
     pub fn answer(&self, op: &Op) -> OpReply
-        ensures { result ≡ reply self.now.told op.now }
+        ensures { result ≡ reply self.now.span_data op.now }
     {
         match op {
             Op::SetParent { context: _ } => {
@@ -391,7 +391,7 @@ impl SpanState {
         ensures keeps { Keeps self.old.room self.new.room }
         ensures memory { OnErr result (IsTrue (is_growing op.now)) }
         ensures had_room { HasRoom self.old.room op.now → IsOk result }
-        ensures leaves { self.new.told ≡ self.old.told }
+        ensures leaves { self.new.span_data ≡ self.old.span_data }
     {
         match op {
             Op::Update { update } => self.reserve_room(update.attributes.as_slice().len(), 0, 0),
@@ -421,7 +421,7 @@ impl SpanState {
         ensures keeps { Keeps self.old.room self.new.room }
         ensures had_room { attributes ≤ self.old.room.attributes → events ≤ self.old.room.events
             → links ≤ self.old.room.links → attributes + 3 < 2 ^ 64 → IsOk result }
-        ensures leaves { self.new.told ≡ self.old.told }
+        ensures leaves { self.new.span_data ≡ self.old.span_data }
     {
         let all = attributes.checked_add(CLOSING).ok_or(Memory)?;
         self.attributes.reserve(all)?;
@@ -432,14 +432,14 @@ impl SpanState {
 
     /// The record of the span, which is closed at a moment. It takes no memory.
     pub fn close(self, at: Moment) -> Record
-        ensures value { result ≡ record_of self.told at }
-        ensures content { IsContent at self.told result }
+        ensures value { result ≡ record_of self.span_data at }
+        ensures content { IsContent at self.span_data result }
     {
         self.into_record(at)
     }
 
     fn into_record(self, at: Moment) -> Record
-        ensures { result ≡ record_of self.told at }
+        ensures { result ≡ record_of self.span_data at }
     {
         let idle = idle(self.left, self.made_at, self.busy);
         let context = self.own.unwrap_or(SpanContext { trace: 0, span: 0 });

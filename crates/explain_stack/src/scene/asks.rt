@@ -1,7 +1,7 @@
 //! What handles in a scene ask of the OpenTelemetry layer, and events.
 ghost use Rattle.std.specs.Prelude.{◌≡◌, ◌<◌, length, OnOk, OnErr};
 ghost use Rattle.trace_base.specs.Calls.{Event};
-ghost use Rattle.trace_base.specs.Conditions.{IsLivePlace};
+ghost use Rattle.trace_base.specs.Conditions.{IsLiveParent};
 ghost use Rattle.span_handles.specs.Worlds.{Has, Replaced};
 ghost use Rattle.span_handles.specs.Handles.{IsKnown};
 ghost use Rattle.explain_stack.specs.Order.{SceneInOrder, KeepsScene};
@@ -109,12 +109,13 @@ fn tell<S: Subscriber>(
     requires there { dispatch < length world.old.subscribers }
     requires site { site < length world.old.sites }
     requires whole { Has S.is_whole world.old dispatch }
-    requires live { Has (λ s. IsLivePlace (S.spans s).made parent) world.old dispatch }
+    requires live { Has (λ s. IsLiveParent (S.spans s).made parent) world.old dispatch }
     ensures did { OnOk result ((callsite : _)
         × Replaced (λ s t. S.does s (Event lane.now at parent site callsite values.now) t) world.old world.new
         dispatch) }
     ensures memory_leaves { OnErr result (Replaced S.same world.old world.new dispatch) }
 {
     let (subscriber, callsite) = world.subscriber_and_site(dispatch, site);
-    subscriber.event(lane, at, parent, site, callsite, values)
+    let current = subscriber.current_id(lane.id);
+    subscriber.event(lane, at, parent, current, site, callsite, values)
 }

@@ -14,11 +14,11 @@ use Rattle.otel_state.specs.declared.op.Op.{Op}
 use Rattle.otel_state.specs.declared.op.Op.TheVariants as ops
 use Rattle.otel_state.specs.declared.op.OpReply.{OpReply}
 use Rattle.otel_state.specs.States.{SpanData, after_op}
-use Rattle.otel_layer.specs.Table.{data_at, with_op, waits, waiting_in}
+use Rattle.otel_layer.specs.Table.{data_at, with_op, waiting_context, waiting_in}
 use Rattle.otel_layer.specs.Core.{Core, seen_in, kept_in, seen_by, IsWholeCore}
 use Rattle.otel_layer.specs.Steps.{StartsIf, StartsSpan}
 use Rattle.otel_layer.specs.Parts.{PartCall, Applies, Shows, IsOutside, AppliesTo, context_at, Touches, ShowsIn, AnswersCallIf, IsUnanswered, TouchesFirst, StaysLayer, StaysStack}
-use Rattle.otel_layer.specs.laws.HookLemmas.{Kin, update_keys, update_waiting_same, whole_kin, starts_kin}
+use Rattle.otel_layer.specs.laws.HookLemmas.{KeepsBudget, update_keys, update_waiting_same, whole_kin, starts_kin}
 use Rattle.otel_layer.specs.laws.KnownSpansLemmas.{Quiet, starts_quiet}
 
 -- ---- what is told
@@ -30,29 +30,29 @@ shows_tell does (Some under) c d id at answer starts is = (starts.0, ap (λ x. x
 
 pub touches_tell : {T : Type 0} (does : T → TracerCall → T → Type 0) (c : Core T) (call : PartCall) (d : Core T) → Touches does c call d → AnswersCallIf (Some c.spans) call (Some d.spans)
 touches_tell does c (Applies id at op answer) d h = (d.spans, refl, h.1)
-touches_tell does c (Shows id at answer) d h = (d.spans, refl, shows_tell does (waits (data_at id c.spans)) c d id at answer h.0 h.1)
+touches_tell does c (Shows id at answer) d h = (d.spans, refl, shows_tell does (waiting_context (data_at id c.spans)) c d id at answer h.0 h.1)
 
 -- ---- what stays of a layer
 
-outside_own : (op : Op) → IsOutside op → (told : SpanData) (at : ℕ) → (after_op told at op).own ≡ told.own
-outside_own (ops.AddEvent event) h told at = refl
-outside_own (ops.Link link) h told at = refl
-outside_own (ops.SetAttribute pair) h told at = refl
-outside_own (ops.SetStatus status) h told at = refl
-outside_own (ops.SetParent context) h told at = refl
-outside_own (ops.Update update) h told at = absurd h
-outside_own (ops.Event is_error update event) h told at = absurd h
-outside_own ops.Counted h told at = absurd h
-outside_own (ops.Start own) h told at = absurd h
-outside_own ops.Enter h told at = absurd h
-outside_own ops.Exit h told at = absurd h
+outside_own : (op : Op) → IsOutside op → (span_data : SpanData) (at : ℕ) → (after_op span_data at op).own ≡ span_data.own
+outside_own (ops.AddEvent event) h span_data at = refl
+outside_own (ops.Link link) h span_data at = refl
+outside_own (ops.SetAttribute pair) h span_data at = refl
+outside_own (ops.SetStatus status) h span_data at = refl
+outside_own (ops.SetParent context) h span_data at = refl
+outside_own (ops.Update update) h span_data at = absurd h
+outside_own (ops.Event is_error update event) h span_data at = absurd h
+outside_own ops.Counted h span_data at = absurd h
+outside_own (ops.Start own) h span_data at = absurd h
+outside_own ops.Enter h span_data at = absurd h
+outside_own ops.Exit h span_data at = absurd h
 
 applied_keeps : (o : Option SpanData) (spans now : List (ℕ × SpanData)) (id at : ℕ) (op : Op) (answer : Option (Result OpReply Memory)) → AppliesTo o spans id at op answer now → IsOutside op → (keys_of now ≡ keys_of spans) × (waiting_in now ≡ waiting_in spans)
 applied_keeps None spans now id at op answer h out = (ap (λ (xs : List (ℕ × SpanData)). keys_of xs) h.1, ap waiting_in h.1)
-applied_keeps (Some told) spans now id at op None h out = absurd h
-applied_keeps (Some told) spans now id at op (Some (Ok r)) h out =
+applied_keeps (Some span_data) spans now id at op None h out = absurd h
+applied_keeps (Some span_data) spans now id at op (Some (Ok r)) h out =
     (ap (λ (xs : List (ℕ × SpanData)). keys_of xs) h.1 ∙ update_keys id (λ t. after_op t at op) spans, ap waiting_in h.1 ∙ update_waiting_same id (λ t. after_op t at op) spans (λ t. outside_own op out t at))
-applied_keeps (Some told) spans now id at op (Some (Err memory)) h out = (ap (λ (xs : List (ℕ × SpanData)). keys_of xs) h.1, ap waiting_in h.1)
+applied_keeps (Some span_data) spans now id at op (Some (Err memory)) h out = (ap (λ (xs : List (ℕ × SpanData)). keys_of xs) h.1, ap waiting_in h.1)
 
 quiet_seen : {T : Type 0} (c d : Core T) → Quiet c d → seen_in d ≡ seen_in c
 quiet_seen c d q = ap (λ ks. seen_by ks d.tokens) q.keys ∙ ap (λ ts. seen_by (keys_of c.spans) ts) q.tokens
@@ -61,7 +61,7 @@ quiet_kept : {T : Type 0} (c d : Core T) → Quiet c d → kept_in d ≡ kept_in
 quiet_kept {T} c d q = ap (λ s. kept_in (let x : Core T = record d { settings = s } in x)) q.settings ∙ ap (λ ts. kept_in (let x : Core T = record d { settings = c.settings; tokens = ts } in x)) q.tokens
 
 module _ {T : Type 0} (does : T → TracerCall → T → Type 0) (spare started : T → ℕ) (counts : (s : T) (call : TracerCall) (t : T) → does s call t → CountsSpares (spare s) call (spare t) × CountsStarts (started s) call (started t)) where
-  touched : (c : Core T) (call : PartCall) (d : Core T) → Touches does c call d → Kin spare started c d × Quiet c d
+  touched : (c : Core T) (call : PartCall) (d : Core T) → Touches does c call d → KeepsBudget spare started c d × Quiet c d
   touched c (Applies id at op answer) d h =
       let same = applied_keeps (data_at id c.spans) c.spans d.spans id at op answer h.1 h.0 in
       let tracer = ap (λ x. x.tracer) h.2 in (
@@ -126,7 +126,7 @@ layered_is {L} {S} s t l i = ap (λ (x : L). let r : Layered L S = record { laye
 pub still_layer : {L : Type 0} (seen : L → KnownSpans) (kept : L → ℕ → ℕ → ℕ) (attaches : L → Bool) (is_whole : L → Type 0) (l m : L) → m ≡ l → StaysLayer seen kept attaches is_whole l m
 still_layer seen kept attaches is_whole l m e = record { seen_same = ap seen e; kept_same = ap kept e; attaches_same = ap attaches e; whole = λ w. subst is_whole (sym e) w }
 
-still_stack : {S : Type 0} (spans : S → Spans) (kept : S → ℕ → ℕ → ℕ) (attaches : S → Bool) (is_whole : S → Type 0) (s t : S) → t ≡ s → StaysStack spans kept attaches is_whole s t
+pub still_stack : {S : Type 0} (spans : S → Spans) (kept : S → ℕ → ℕ → ℕ) (attaches : S → Bool) (is_whole : S → Type 0) (s t : S) → t ≡ s → StaysStack spans kept attaches is_whole s t
 still_stack spans kept attaches is_whole s t e = record { spans_same = ap spans e; kept_same = ap kept e; attaches_same = ap attaches e; whole = λ w. subst is_whole (sym e) w }
 
 -- the part that isn't asked stays as it is

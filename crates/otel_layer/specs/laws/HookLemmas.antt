@@ -18,9 +18,9 @@ use Rattle.otel_state.specs.States.{SpanData, after_op, first_start, record_of}
 use Rattle.otel_state.specs.declared.settings.LayerSettings.{LayerSettings}
 use Rattle.otel_state.specs.fields.SpanFields.{span_update}
 use Rattle.trace_base.specs.declared.field.ValueSet.{ValueSet}
-use Rattle.otel_layer.specs.Table.{is_id, data_at, knows_span, update, with_op, one_waiting, waiting_in, waits_by, waits, ids_at}
+use Rattle.otel_layer.specs.Table.{is_id, data_at, knows_span, update, with_op, one_waiting, waiting_in, context_unless_started, waiting_context, ids_at}
 use Rattle.otel_layer.specs.Core.{Core, IsWholeCore}
-use Rattle.otel_layer.specs.Steps.{Reserves, SameCore, StartsIf, StartsSpan, StartsAny, parent_source, around, context_from, MakesSpan, new_span_data, with_link, Events, all_events, EntersSpan, ExitsSpan, ClosesSpan, Step, DoesHook}
+use Rattle.otel_layer.specs.Steps.{Reserves, SameCore, StartsIf, StartsSpan, StartsAny, parent_source, lane_context, context_from, MakesSpan, new_span_data, with_link, Events, all_events, EntersSpan, ExitsSpan, ClosesSpan, Step, DoesHook}
 
 -- one span changed
 pub update_keys : (id : ℕ) (f : SpanData → SpanData) (spans : List (ℕ × SpanData)) → keys_of (update id f spans) ≡ keys_of spans
@@ -31,7 +31,7 @@ update_keys id f (e ∷ es) =
       | inr apart ↦ ap (λ (xs : List (ℕ × SpanData)). keys_of xs) (cond-false {A = List (ℕ × SpanData)} (e.0 == id) ((e.0, f e.1) ∷ es) (e ∷ update id f es) apart) ∙ ap (λ ks. e.0 ∷ ks) (update_keys id f es)
     ]
 
-pub update_waiting_same : (id : ℕ) (f : SpanData → SpanData) (spans : List (ℕ × SpanData)) → ((told : SpanData) → (f told).own ≡ told.own) → waiting_in (update id f spans) ≡ waiting_in spans
+pub update_waiting_same : (id : ℕ) (f : SpanData → SpanData) (spans : List (ℕ × SpanData)) → ((span_data : SpanData) → (f span_data).own ≡ span_data.own) → waiting_in (update id f spans) ≡ waiting_in spans
 update_waiting_same id f [] keeps = refl
 update_waiting_same id f (e ∷ es) keeps =
     elim (cases_Bool (e.0 == id)) [
@@ -39,18 +39,18 @@ update_waiting_same id f (e ∷ es) keeps =
       | inr apart ↦ ap waiting_in (cond-false {A = List (ℕ × SpanData)} (e.0 == id) ((e.0, f e.1) ∷ es) (e ∷ update id f es) apart) ∙ ap (λ n. one_waiting e.1.own + n) (update_waiting_same id f es keeps)
     ]
 
-pub update_waiting : (id : ℕ) (f : SpanData → SpanData) (spans : List (ℕ × SpanData)) (told : SpanData) → data_at id spans ≡ Some told → waiting_in (update id f spans) + one_waiting told.own ≡ waiting_in spans + one_waiting (f told).own
-update_waiting id f [] told is = absurd (cc)
-update_waiting id f (e ∷ es) told is =
+pub update_waiting : (id : ℕ) (f : SpanData → SpanData) (spans : List (ℕ × SpanData)) (span_data : SpanData) → data_at id spans ≡ Some span_data → waiting_in (update id f spans) + one_waiting span_data.own ≡ waiting_in spans + one_waiting (f span_data).own
+update_waiting id f [] span_data is = absurd (cc)
+update_waiting id f (e ∷ es) span_data is =
     elim (cases_Bool (e.0 == id)) [
       | inl here ↦ (
-          let found = ap (λ o. unwrap_or o told) (sym (cond-true {A = Option SpanData} (e.0 == id) (Some e.1) (data_at id es) here) ∙ is) in
+          let found = ap (λ o. unwrap_or o span_data) (sym (cond-true {A = Option SpanData} (e.0 == id) (Some e.1) (data_at id es) here) ∙ is) in
           let now = ap waiting_in (cond-true {A = List (ℕ × SpanData)} (e.0 == id) ((e.0, f e.1) ∷ es) (e ∷ update id f es) here) in
           let x = ap (λ (t : SpanData). one_waiting t.own) found in
           let y = ap (λ (t : SpanData). one_waiting (f t).own) found in
           omega (arith, now, x, y))
       | inr apart ↦ (
-          let rest = update_waiting id f es told (sym (cond-false {A = Option SpanData} (e.0 == id) (Some e.1) (data_at id es) apart) ∙ is) in
+          let rest = update_waiting id f es span_data (sym (cond-false {A = Option SpanData} (e.0 == id) (Some e.1) (data_at id es) apart) ∙ is) in
           let now = ap waiting_in (cond-false {A = List (ℕ × SpanData)} (e.0 == id) ((e.0, f e.1) ∷ es) (e ∷ update id f es) apart) in
           omega (arith, now, rest))
     ]
@@ -66,23 +66,23 @@ removed_waiting id (e ∷ es) =
           omega (arith, now, rest))
     ]
 
-pub removed_length : (id : ℕ) (spans : List (ℕ × SpanData)) (told : SpanData) → data_at id spans ≡ Some told → length (remove_entry (is_id id) spans) + 1 ≡ length spans
-removed_length id [] told is = absurd (cc)
-removed_length id (e ∷ es) told is =
+pub removed_length : (id : ℕ) (spans : List (ℕ × SpanData)) (span_data : SpanData) → data_at id spans ≡ Some span_data → length (remove_entry (is_id id) spans) + 1 ≡ length spans
+removed_length id [] span_data is = absurd (cc)
+removed_length id (e ∷ es) span_data is =
     elim (cases_Bool (e.0 == id)) [
       | inl here ↦ (let now = ap (λ (xs : List (ℕ × SpanData)). length xs) (cond-true {A = List (ℕ × SpanData)} (e.0 == id) es (e ∷ remove_entry (is_id id) es) here) in omega (arith, now))
       | inr apart ↦ (
-          let rest = removed_length id es told (sym (cond-false {A = Option SpanData} (e.0 == id) (Some e.1) (data_at id es) apart) ∙ is) in
+          let rest = removed_length id es span_data (sym (cond-false {A = Option SpanData} (e.0 == id) (Some e.1) (data_at id es) apart) ∙ is) in
           let now = ap (λ (xs : List (ℕ × SpanData)). length xs) (cond-false {A = List (ℕ × SpanData)} (e.0 == id) es (e ∷ remove_entry (is_id id) es) apart) in
           omega (arith, now, rest))
     ]
 
 -- events that start no span
 abbrev pub KeepsOwn : Events → Type 0
-KeepsOwn events = (settings : LayerSettings) (lane at : ℕ) (callsite : Callsite) (values : ValueSet) (told : SpanData) → (events settings lane at callsite values told).own ≡ told.own
+KeepsOwn events = (settings : LayerSettings) (lane at : ℕ) (callsite : Callsite) (values : ValueSet) (span_data : SpanData) → (events settings lane at callsite values span_data).own ≡ span_data.own
 
 pub all_keep_own : KeepsOwn all_events
-all_keep_own settings lane at callsite values told = refl
+all_keep_own settings lane at callsite values span_data = refl
 
 pub or_right_true : (a b : Bool) → b ≡ true → (a || b) ≡ true
 or_right_true true b h = refl
@@ -125,7 +125,7 @@ removed_other id other (e ∷ es) knew not =
     ]
 
 -- what all steps but a making and a close keep
-pub record Kin {T : Type 0} (spare started : T → ℕ) (c d : Core T) : Type 0 where
+pub record KeepsBudget {T : Type 0} (spare started : T → ℕ) (c d : Core T) : Type 0 where
   pub keys : keys_of d.spans ≡ keys_of c.spans
   pub settings : d.settings ≡ c.settings
   pub reserved : d.reserved ≡ c.reserved
@@ -136,7 +136,7 @@ pub record Kin {T : Type 0} (spare started : T → ℕ) (c d : Core T) : Type 0 
 Counts : {T : Type 0} → (T → TracerCall → T → Type 0) → (spare started : T → ℕ) → Type 0
 Counts {T} does spare started = (s : T) (call : TracerCall) (t : T) → does s call t → CountsSpares (spare s) call (spare t) × CountsStarts (started s) call (started t)
 
-kin_same : {T : Type 0} (spare started : T → ℕ) (c d : Core T) → d ≡ c → Kin spare started c d
+kin_same : {T : Type 0} (spare started : T → ℕ) (c d : Core T) → d ≡ c → KeepsBudget spare started c d
 kin_same spare started c d e = record {
   keys = ap (λ x. keys_of x.spans) e;
   settings = ap (λ x. x.settings) e;
@@ -146,7 +146,7 @@ kin_same spare started c d e = record {
   budget = (let h = ap (λ x. started x.tracer + waiting_in x.spans) e in omega (arith, h));
 }
 
-kin_trans : {T : Type 0} (spare started : T → ℕ) (c d e : Core T) → Kin spare started c d → Kin spare started d e → Kin spare started c e
+kin_trans : {T : Type 0} (spare started : T → ℕ) (c d e : Core T) → KeepsBudget spare started c d → KeepsBudget spare started d e → KeepsBudget spare started c e
 kin_trans spare started c d e a b = record {
   keys = b.keys ∙ a.keys;
   settings = b.settings ∙ a.settings;
@@ -156,8 +156,8 @@ kin_trans spare started c d e a b = record {
   budget = (let x = a.budget in let y = b.budget in omega (arith, x, y));
 }
 
-op_kin : {T : Type 0} (spare started : T → ℕ) (c d : Core T) (id at : ℕ) (op : Op) → ((told : SpanData) → (after_op told at op).own ≡ told.own)
-    → d.spans ≡ with_op id at op c.spans → d.tracer ≡ c.tracer → d.settings ≡ c.settings → d.reserved ≡ c.reserved → d.span_count ≡ c.span_count → Kin spare started c d
+op_kin : {T : Type 0} (spare started : T → ℕ) (c d : Core T) (id at : ℕ) (op : Op) → ((span_data : SpanData) → (after_op span_data at op).own ≡ span_data.own)
+    → d.spans ≡ with_op id at op c.spans → d.tracer ≡ c.tracer → d.settings ≡ c.settings → d.reserved ≡ c.reserved → d.span_count ≡ c.span_count → KeepsBudget spare started c d
 op_kin spare started c d id at op keeps spans tracer settings reserved span_count = record {
   keys = ap (λ (xs : List (ℕ × SpanData)). keys_of xs) spans ∙ update_keys id (λ t. after_op t at op) c.spans;
   settings = settings;
@@ -167,16 +167,16 @@ op_kin spare started c d id at op keeps spans tracer settings reserved span_coun
   budget = (let h = ap started tracer in let w = ap waiting_in spans ∙ update_waiting_same id (λ t. after_op t at op) c.spans keeps in omega (arith, h, w));
 }
 
-waits_none : (own : Option SpanContext) (context under : Context) → waits_by own context ≡ Some under → own ≡ None
+waits_none : (own : Option SpanContext) (context under : Context) → context_unless_started own context ≡ Some under → own ≡ None
 waits_none None context under h = refl
 waits_none (Some own) context under h = absurd (cc)
 
-waits_some : (o : Option SpanData) (under : Context) → waits o ≡ Some under → (told : SpanData) × (o ≡ Some told) × (told.own ≡ None)
+waits_some : (o : Option SpanData) (under : Context) → waiting_context o ≡ Some under → (span_data : SpanData) × (o ≡ Some span_data) × (span_data.own ≡ None)
 waits_some None under h = absurd (cc)
-waits_some (Some told) under h = (told, refl, waits_none told.own told.parent under h)
+waits_some (Some span_data) under h = (span_data, refl, waits_none span_data.own span_data.parent under h)
 
 module _ {T : Type 0} (does : T → TracerCall → T → Type 0) (spare started : T → ℕ) (counts : (s : T) (call : TracerCall) (t : T) → does s call t → CountsSpares (spare s) call (spare t) × CountsStarts (started s) call (started t)) where
-  starts_if_kin : (under : Option Context) (id at : ℕ) (c d : Core T) → waits (data_at id c.spans) ≡ under → StartsIf does under id at c d → Kin spare started c d
+  starts_if_kin : (under : Option Context) (id at : ℕ) (c d : Core T) → waiting_context (data_at id c.spans) ≡ under → StartsIf does under id at c d → KeepsBudget spare started c d
   starts_if_kin None id at c d is h = kin_same spare started c d h
   starts_if_kin (Some under) id at c d is h =
       let w = waits_some (data_at id c.spans) under is in
@@ -193,14 +193,14 @@ module _ {T : Type 0} (does : T → TracerCall → T → Type 0) (spare started 
         budget = (let now = ap (λ x. waiting_in x.spans) h.2 in let m = n.1 in omega (arith, less, none, some, now, m));
       }
 
-  pub starts_kin : (id at : ℕ) (c d : Core T) → StartsSpan does id at c d → Kin spare started c d
-  starts_kin id at c d h = starts_if_kin (waits (data_at id c.spans)) id at c d refl h
+  pub starts_kin : (id at : ℕ) (c d : Core T) → StartsSpan does id at c d → KeepsBudget spare started c d
+  starts_kin id at c d h = starts_if_kin (waiting_context (data_at id c.spans)) id at c d refl h
 
-  pub any_kin : (o : Option ℕ) (at : ℕ) (c d : Core T) → StartsAny does o at c d → Kin spare started c d
+  pub any_kin : (o : Option ℕ) (at : ℕ) (c d : Core T) → StartsAny does o at c d → KeepsBudget spare started c d
   any_kin None at c d h = kin_same spare started c d h
   any_kin (Some id) at c d h = starts_kin id at c d h
 
-  pub whole_kin : (c d : Core T) → Kin spare started c d → IsWholeCore spare started c → IsWholeCore spare started d
+  pub whole_kin : (c d : Core T) → KeepsBudget spare started c d → IsWholeCore spare started c → IsWholeCore spare started d
   whole_kin c d k w =
       let a = w.spares in
       let b = k.spares in
@@ -213,16 +213,16 @@ module _ {T : Type 0} (does : T → TracerCall → T → Type 0) (spare started 
       let m = k.span_count in
       record { spares = omega (arith, a, b, r); rooms = omega (arith, l, rooms, r); budget = omega (arith, budget, less, m); few = omega (arith, few, m) }
 
-  link_kin : (o : Option SpanContext) (id at : ℕ) (c d : Core T) → d ≡ record c { spans = with_link id at o c.spans } → Kin spare started c d
+  link_kin : (o : Option SpanContext) (id at : ℕ) (c d : Core T) → d ≡ record c { spans = with_link id at o c.spans } → KeepsBudget spare started c d
   link_kin None id at c d e = kin_same spare started c d e
   link_kin (Some context) id at c d e =
       op_kin spare started c d id at (ops.Link (record { context = context; attributes = [] })) (λ t. refl) (ap (λ x. x.spans) e) (ap (λ x. x.tracer) e) (ap (λ x. x.settings) e) (ap (λ x. x.reserved) e) (ap (λ x. x.span_count) e)
 
-  one_op_kin : (c d : Core T) (id at : ℕ) (op : Op) → ((told : SpanData) → (after_op told at op).own ≡ told.own) → d ≡ record c { spans = with_op id at op c.spans } → Kin spare started c d
+  one_op_kin : (c d : Core T) (id at : ℕ) (op : Op) → ((span_data : SpanData) → (after_op span_data at op).own ≡ span_data.own) → d ≡ record c { spans = with_op id at op c.spans } → KeepsBudget spare started c d
   one_op_kin c d id at op keeps e =
       op_kin spare started c d id at op keeps (ap (λ x. x.spans) e) (ap (λ x. x.tracer) e) (ap (λ x. x.settings) e) (ap (λ x. x.reserved) e) (ap (λ x. x.span_count) e)
 
-  event_kin : (c d : Core T) (id : ℕ) (f : SpanData → SpanData) → ((told : SpanData) → (f told).own ≡ told.own) → d ≡ record c { spans = update id f c.spans } → Kin spare started c d
+  event_kin : (c d : Core T) (id : ℕ) (f : SpanData → SpanData) → ((span_data : SpanData) → (f span_data).own ≡ span_data.own) → d ≡ record c { spans = update id f c.spans } → KeepsBudget spare started c d
   event_kin c d id f keeps e = record {
     keys = ap (λ x. keys_of x.spans) e ∙ update_keys id f c.spans;
     settings = ap (λ x. x.settings) e;
@@ -232,12 +232,12 @@ module _ {T : Type 0} (does : T → TracerCall → T → Type 0) (spare started 
     budget = (let h = ap (λ x. started x.tracer) e in let w = ap (λ x. waiting_in x.spans) e ∙ update_waiting_same id f c.spans keeps in omega (arith, h, w));
   }
 
-  pub enters_kin : (c d : Core T) (id at : ℕ) (before later : Lane) → EntersSpan does c id at before later d → Kin spare started c d
+  pub enters_kin : (c d : Core T) (id at : ℕ) (before later : Lane) → EntersSpan does c id at before later d → KeepsBudget spare started c d
   enters_kin c d id at before later h =
       kin_trans spare started c h.between d (any_kin (if c.settings.activation then Some id else None) at c h.between h.starts)
       (op_kin spare started h.between d id at ops.Enter (λ t. refl) (ap (λ x. x.spans) h.rest) (ap (λ x. x.tracer) h.rest) (ap (λ x. x.settings) h.rest) (ap (λ x. x.reserved) h.rest) (ap (λ x. x.span_count) h.rest))
 
-  pub exits_kin : (c d : Core T) (id at : ℕ) (before later : Lane) → ExitsSpan c id at before later d → Kin spare started c d
+  pub exits_kin : (c d : Core T) (id at : ℕ) (before later : Lane) → ExitsSpan c id at before later d → KeepsBudget spare started c d
   exits_kin c d id at before later h =
       op_kin spare started c d id at ops.Exit (λ t. refl) (ap (λ x. x.spans) h.rest) (ap (λ x. x.tracer) h.rest) (ap (λ x. x.settings) h.rest) (ap (λ x. x.reserved) h.rest) (ap (λ x. x.span_count) h.rest)
 
@@ -251,7 +251,7 @@ module _ {T : Type 0} (does : T → TracerCall → T → Type 0) (spare started 
       let k = any_kin (parent_source c.settings.activation parent current) at c h.between h.starts in
       let v = whole_kin c h.between k w in
       let b = h.between in
-      let new : ℕ × SpanData = (id, new_span_data callsite lane values (context_from b.spans (around lane parent) (parent_source c.settings.activation parent current)) at c.settings c.counting) in
+      let new : ℕ × SpanData = (id, new_span_data callsite lane values (context_from b.spans (lane_context lane parent) (parent_source c.settings.activation parent current)) at c.settings c.counting) in
       let spans = ap (λ x. x.spans) h.rest in
       let tracer = ap (λ x. spare x.tracer) h.rest in
       let begins = ap (λ x. started x.tracer) h.rest in
@@ -273,12 +273,12 @@ module _ {T : Type 0} (does : T → TracerCall → T → Type 0) (spare started 
   closes_whole c d id at h w =
       let v = whole_kin c h.between (starts_kin id at c h.between h.starts) w in
       let b = h.between in
-      let n = counts b.tracer (Finish (record_of h.told at)) d.tracer h.finishes in
+      let n = counts b.tracer (Finish (record_of h.span_data at)) d.tracer h.finishes in
       let spans = ap (λ x. x.spans) h.rest in
       let r = ap (λ x. x.reserved) h.rest in
       let m = ap (λ x. x.span_count) h.rest in
       let len = ap (λ (xs : List (ℕ × SpanData)). length xs) spans in
-      let less = removed_length id b.spans h.told h.is in
+      let less = removed_length id b.spans h.span_data h.is in
       let wait = ap waiting_in spans in
       let fewer = removed_waiting id b.spans in
       let spares = v.spares in

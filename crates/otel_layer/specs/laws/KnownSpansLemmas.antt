@@ -12,18 +12,18 @@ use Rattle.otel_base.specs.Tracer.{TracerCall}
 use Rattle.trace_base.specs.declared.callsite.Callsite.{Callsite}
 use Rattle.trace_base.specs.declared.lane.Lane.{Lane}
 use Rattle.trace_base.specs.declared.span.Parent.{Parent}
-use Rattle.trace_base.specs.layers.Hooks.{Hook, OnNewSpan, OnRecord, OnFollows, OnEvent, OnEnter, OnExit, OnClose, KnownSpans, Sees, comes, goes, one_if}
+use Rattle.trace_base.specs.layers.Hooks.{Hook, OnNewSpan, OnRecord, OnFollows, OnEvent, OnEnter, OnExit, OnClose, KnownSpans, Sees, one_if_entered, one_if_exited, one_if}
 use Rattle.trace_base.proofs.EntryLemmas.{count_push}
 use Rattle.trace_base.specs.Spans.{without_last}
 use Rattle.otel_state.specs.Stack.{last_passing}
 use Rattle.otel_state.specs.declared.op.Op.{Op}
 use Rattle.otel_state.specs.declared.op.Op.TheVariants as ops
-use Rattle.otel_layer.specs.declared.tokens.Token.{Token}
+use Rattle.otel_layer.specs.declared.layer.tokens.Token.{Token}
 use Rattle.otel_state.specs.States.{SpanData, after_op}
 use Rattle.otel_state.specs.fields.SpanFields.{span_update}
-use Rattle.otel_layer.specs.Table.{is_id, data_at, knows_span, update, with_op, waits, ids_at}
+use Rattle.otel_layer.specs.Table.{is_id, data_at, knows_span, update, with_op, waiting_context, ids_at}
 use Rattle.otel_layer.specs.Core.{Core, is_token, entries_by, seen_by, seen_in}
-use Rattle.otel_layer.specs.Steps.{StartsIf, StartsSpan, StartsAny, parent_source, around, context_from, new_span_data, with_link, FollowsSpan, Events, EntersSpan, ExitsSpan, Step, DoesHook}
+use Rattle.otel_layer.specs.Steps.{StartsIf, StartsSpan, StartsAny, parent_source, lane_context, context_from, new_span_data, with_link, FollowsSpan, Events, EntersSpan, ExitsSpan, Step, DoesHook}
 use Rattle.otel_layer.specs.laws.CountsLemmas.{last_passes, last_counted}
 use Rattle.otel_layer.specs.laws.HookLemmas.{update_keys, removed_knows, removed_other}
 
@@ -48,7 +48,7 @@ pub record Quiet {T : Type 0} (c d : Core T) : Type 0 where
 
 pub starts_quiet : {T : Type 0} (does : T → TracerCall → T → Type 0) (id at : ℕ) (c d : Core T) → StartsSpan does id at c d → Quiet c d
 starts_quiet does id at c d h =
-    let under = waits (data_at id c.spans) in
+    let under = waiting_context (data_at id c.spans) in
     record { keys = starts_if_keys does under id at c d h; tokens = starts_if_tokens does under id at c d h; settings = starts_if_settings does under id at c d h }
 
 pub any_quiet : {T : Type 0} (does : T → TracerCall → T → Type 0) (o : Option ℕ) (at : ℕ) (c d : Core T) → StartsAny does o at c d → Quiet c d
@@ -78,7 +78,7 @@ pub same_quiet : {T : Type 0} (c d : Core T) → d ≡ c → Quiet c d
 same_quiet c d h = record { keys = ap (λ x. keys_of x.spans) h; tokens = ap (λ x. x.tokens) h; settings = ap (λ x. x.settings) h }
 
 -- what is seen where the same spans are known
-moved_sees : (ids now : List ℕ) (tokens left : List Token) (hook : Hook) → now ≡ ids → ((lane id : ℕ) → list_any (is_id id) ids ≡ true → entries_by left lane id + goes hook lane id ≡ entries_by tokens lane id + comes hook lane id)
+moved_sees : (ids now : List ℕ) (tokens left : List Token) (hook : Hook) → now ≡ ids → ((lane id : ℕ) → list_any (is_id id) ids ≡ true → entries_by left lane id + one_if_exited hook lane id ≡ entries_by tokens lane id + one_if_entered hook lane id)
     → ((lane id : ℕ) → list_any (is_id id) ids ≡ false → entries_by left lane id ≡ entries_by tokens lane id) → Sees (seen_by ids tokens) hook (seen_by now left)
 moved_sees ids now tokens left hook same known unknown = record {
   gains = λ id knows not. absurd (true≢false (sym knows ∙ ap (λ (xs : List ℕ). list_any (is_id id) xs) same ∙ not));
@@ -87,7 +87,7 @@ moved_sees ids now tokens left hook same known unknown = record {
   unknown = unknown;
 }
 
-quiet_sees : {T : Type 0} (c d : Core T) (hook : Hook) → Quiet c d → ((lane id : ℕ) → (goes hook lane id ≡ 0) × (comes hook lane id ≡ 0)) → Sees (seen_in c) hook (seen_in d)
+quiet_sees : {T : Type 0} (c d : Core T) (hook : Hook) → Quiet c d → ((lane id : ℕ) → (one_if_exited hook lane id ≡ 0) × (one_if_entered hook lane id ≡ 0)) → Sees (seen_in c) hook (seen_in d)
 quiet_sees c d hook q none =
     moved_sees (keys_of c.spans) (keys_of d.spans) c.tokens d.tokens hook q.keys
     (λ lane id knew. (
@@ -194,7 +194,7 @@ step_sees does events c (OnNewSpan id lane at parent current callsite values) d 
     let b = h.between in
     let q = any_quiet does (parent_source c.settings.activation parent current) at c b h.starts in
     let r = any_quiet does (if c.settings.eager then Some id else None) at h.added d h.begins in
-    let new : ℕ × SpanData = (id, new_span_data callsite lane values (context_from b.spans (around lane parent) (parent_source c.settings.activation parent current)) at c.settings c.counting) in
+    let new : ℕ × SpanData = (id, new_span_data callsite lane values (context_from b.spans (lane_context lane parent) (parent_source c.settings.activation parent current)) at c.settings c.counting) in
     makes_sees (keys_of c.spans) (keys_of d.spans) c.tokens d.tokens id lane at parent current callsite values
     (r.keys ∙ ap (λ x. keys_of x.spans) h.rest ∙ map-append (λ (e : ℕ × SpanData). e.0) b.spans (new ∷ []) ∙ ap (λ (ks : List ℕ). ks ++ id ∷ []) q.keys) (r.tokens ∙ ap (λ x. x.tokens) h.rest ∙ q.tokens)
 step_sees does events c (OnRecord id at callsite values) d h = quiet_sees c d (OnRecord id at callsite values) (op_quiet c d id at (ops.Update (span_update callsite values c.settings)) h) (λ lane other. (refl, refl))

@@ -7,15 +7,15 @@ use Rattle.otel_base.specs.Tracer.{TracerCall}
 use Rattle.trace_base.specs.declared.lane.Lane.{Lane}
 use Rattle.trace_base.specs.lanes.Contexts.{attached_as, attached_on, KeepsAttached, KeepsLane}
 use Rattle.trace_base.specs.layers.Hooks.{Hook, OnNewSpan, OnRecord, OnFollows, OnEvent, OnEnter, OnExit, OnClose, HookLanes}
-use Rattle.trace_base.proofs.EntryLemmas.{count_push}
+use Rattle.trace_base.proofs.EntryLemmas.{count_cons, count_push}
 use Rattle.trace_base.specs.Spans.{without_last}
 use Rattle.otel_state.specs.Stack.{last_passing}
 use Rattle.otel_state.specs.declared.op.Op.TheVariants as ops
-use Rattle.otel_layer.specs.declared.tokens.Token.{Token}
+use Rattle.otel_layer.specs.declared.layer.tokens.Token.{Token}
 use Rattle.otel_state.specs.declared.settings.LayerSettings.{LayerSettings}
 use Rattle.otel_state.specs.fields.SpanFields.{span_update}
 use Rattle.otel_layer.specs.Table.{data_at, knows_span, own_or}
-use Rattle.otel_layer.specs.Core.{Core, is_token, is_number, keeps_as, kept_by, kept_in}
+use Rattle.otel_layer.specs.Core.{Core, is_token, entries_by, is_number, keeps_as, kept_by, kept_in}
 use Rattle.otel_layer.specs.Steps.{parent_source, Events, DetachesOwn, EntersLane, Step, DoesHook}
 use Rattle.otel_base.specs.Stack.{empty_context}
 use Rattle.otel_layer.specs.laws.CountsLemmas.{last_passes, last_counted, count_without}
@@ -149,6 +149,27 @@ step_lanes does events c (OnClose id at) d h =
 
 pub does_lanes : {T : Type 0} (does : T → TracerCall → T → Type 0) (events : Events) (c : Core T) (hook : Hook) (d : Core T) → DoesHook does events c hook d → HookLanes c.settings.activation (kept_in c) hook (kept_in d)
 does_lanes {T} does events c hook d h = subst (λ (x : Core T). HookLanes x.settings.activation (kept_in x) hook (kept_in d)) h.room.rest (step_lanes does events h.prepared hook d h.step)
+
+-- without entries on a lane nothing is kept attached to it
+none_counted : (lane number : ℕ) (tokens : List Token) → ((id : ℕ) → entries_by tokens lane id ≡ 0) → count_by (keeps_as lane number) tokens ≡ 0
+none_counted lane number [] none = refl
+none_counted lane number (token ∷ tokens) none =
+    elim (cases_Bool (token.lane == lane)) [
+      | inl on ↦ (
+          let one = count_cons (is_token lane token.id) token tokens in
+          let is = cond-true {A = ℕ} (token.lane == lane && token.id == token.id) 1 0 (ap (λ b. b && token.id == token.id) on ∙ eq-eqb token.id token.id refl) in
+          let no = none token.id in
+          absurd (omega (arith, no, one, is)))
+      | inr off ↦ (
+          let all = count_cons (keeps_as lane number) token tokens in
+          let rest = none_counted lane number tokens (λ id. let more = count_cons (is_token lane id) token tokens in let no = none id in omega (arith, more, no)) in
+          let isnt = cond-false {A = ℕ} (token.lane == lane && is_number number token.attached) 1 0 (ap (λ b. b && is_number number token.attached) off) in
+          omega (arith, all, rest, isnt))
+    ]
+
+pub kept_by_tokens : (activation : Bool) (tokens : List Token) (lane number : ℕ) → ((id : ℕ) → entries_by tokens lane id ≡ 0) → kept_by activation tokens lane number ≡ 0
+kept_by_tokens true tokens lane number none = none_counted lane number tokens none
+kept_by_tokens false tokens lane number none = refl
 
 -- an entry of a span that isn't known leaves the lane as it is
 pub does_passive : {T : Type 0} (does : T → TracerCall → T → Type 0) (events : Events) (c : Core T) (id at : ℕ) (before later : Lane) (d : Core T) → DoesHook does events c (OnEnter id at before later) d → knows_span id c.spans ≡ false

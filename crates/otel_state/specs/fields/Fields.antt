@@ -3,7 +3,7 @@ use Rattle.std.specs.Prelude.{ℕ, ℤ, pos, List, [], ◌∷◌, ◌++◌, Bool
 use Rattle.std.specs.Option.{option_to_list, option_map_or}
 use Rattle.std.specs.Fmt.{decimal, signed_decimal}
 use Rattle.otel_base.specs.declared.value.KeyValue.{KeyValue}
-use Rattle.otel_base.specs.declared.value.OtelValue.TheVariants as told
+use Rattle.otel_base.specs.declared.value.OtelValue.TheVariants as otel
 use Rattle.trace_base.specs.declared.callsite.Callsite.{Callsite}
 use Rattle.trace_base.specs.declared.field.Value.{Value}
 use Rattle.trace_base.specs.declared.field.Value.TheVariants as given
@@ -16,11 +16,11 @@ by_name step c a pair = option_map_or (λ name. step a name pair.1) (slice_get c
 
 -- ---- attributes
 
-abbrev pub with_text : List ℕ → List ℕ → KeyValue
-with_text key text = record { key = key; value = told.Str text }
+abbrev pub text_attribute : List ℕ → List ℕ → KeyValue
+text_attribute key text = record { key = key; value = otel.Str text }
 
-abbrev pub with_number : List ℕ → ℤ → KeyValue
-with_number key n = record { key = key; value = told.I64 n }
+abbrev pub integer_attribute : List ℕ → ℤ → KeyValue
+integer_attribute key n = record { key = key; value = otel.I64 n }
 
 -- some attributes, if they are wanted
 abbrev pub if_wanted : Bool → List KeyValue → List KeyValue
@@ -28,21 +28,21 @@ if_wanted is_on attributes = if is_on then attributes else []
 
 -- the attribute of a text, or of a number, if it is known
 abbrev pub known_text : List ℕ → Option (List ℕ) → List KeyValue
-known_text key text = option_to_list (option_map (with_text key) text)
+known_text key text = option_to_list (option_map (text_attribute key) text)
 
 abbrev pub known_number : List ℕ → Option ℕ → List KeyValue
-known_number key n = option_to_list (option_map (λ m. with_number key (pos m)) n)
+known_number key n = option_to_list (option_map (λ m. integer_attribute key (pos m)) n)
 
 -- the file, the module and the line of a callsite
-abbrev pub location : Callsite → List KeyValue
-location c = known_text (codes "code.file.path") c.file ++ known_text (codes "code.module.name") c.module_path ++ known_number (codes "code.line.number") c.line
+abbrev pub location_attributes : Callsite → List KeyValue
+location_attributes c = known_text (codes "code.file.path") c.file ++ known_text (codes "code.module.name") c.module_path ++ known_number (codes "code.line.number") c.line
 
 -- the level of a callsite in upper case, and its target
 abbrev pub level_attribute : Callsite → List KeyValue
-level_attribute c = with_text (codes "level") (level_text c.level) ∷ []
+level_attribute c = text_attribute (codes "level") (level_text c.level) ∷ []
 
 abbrev pub target_attribute : Callsite → List KeyValue
-target_attribute c = with_text (codes "target") c.target ∷ []
+target_attribute c = text_attribute (codes "target") c.target ∷ []
 
 -- ---- texts of values
 
@@ -64,8 +64,8 @@ debug_text value = plain_text value
 
 -- an error as an exception: its message, and the messages of its sources
 abbrev pub as_exception : List ℕ → List (List ℕ) → List KeyValue
-as_exception message chain = with_text (codes "exception.message") message ∷ record { key = codes "exception.stacktrace"; value = told.List chain } ∷ []
+as_exception message chain = text_attribute (codes "exception.message") message ∷ record { key = codes "exception.stacktrace"; value = otel.List chain } ∷ []
 
 -- an error under its own name, and its sources under that name and `.chain`
 abbrev pub as_field : List ℕ → List ℕ → List (List ℕ) → List KeyValue
-as_field name message chain = with_text name message ∷ record { key = name ++ codes ".chain"; value = told.List chain } ∷ []
+as_field name message chain = text_attribute name message ∷ record { key = name ++ codes ".chain"; value = otel.List chain } ∷ []

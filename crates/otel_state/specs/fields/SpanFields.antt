@@ -6,7 +6,7 @@ use Rattle.otel_base.specs.declared.record.SpanKind.TheVariants.{Server, Client,
 use Rattle.otel_base.specs.declared.status.Status.{Status}
 use Rattle.otel_base.specs.declared.status.Status.TheVariants.{Unset, Error, Ok}
 use Rattle.otel_base.specs.declared.value.KeyValue.{KeyValue}
-use Rattle.otel_base.specs.declared.value.OtelValue.TheVariants as told
+use Rattle.otel_base.specs.declared.value.OtelValue.TheVariants as otel
 use Rattle.trace_base.specs.declared.callsite.Callsite.{Callsite}
 use Rattle.trace_base.specs.declared.field.Value.{Value}
 use Rattle.trace_base.specs.declared.field.Value.TheVariants as given
@@ -15,7 +15,7 @@ use Rattle.otel_state.specs.declared.fields.span.Special.{Special}
 use Rattle.otel_state.specs.declared.fields.span.Special.TheVariants as special
 use Rattle.otel_state.specs.declared.settings.LayerSettings.{LayerSettings}
 use Rattle.otel_state.specs.declared.update.Update.{Update}
-use Rattle.otel_state.specs.fields.Fields.{by_name, with_text, with_number, if_wanted, plain_text, as_exception, as_field}
+use Rattle.otel_state.specs.fields.Fields.{by_name, text_attribute, integer_attribute, if_wanted, plain_text, as_exception, as_field}
 
 -- the names that don't stand for an attribute
 abbrev pub special_of : List ℕ → Option Special
@@ -59,7 +59,7 @@ with_special update special.StatusDescription text = record update { status = So
 -- under a special name or another
 abbrev pub with_named : Update → Option Special → List ℕ → List ℕ → Update
 with_named update (Some name) field text = with_special update name text
-with_named update None field text = with_attributes update (with_text field text ∷ [])
+with_named update None field text = with_attributes update (text_attribute field text ∷ [])
 
 abbrev pub with_any_text : Update → List ℕ → Option (List ℕ) → Update
 with_any_text update name None = update
@@ -67,8 +67,8 @@ with_any_text update name (Some text) = with_named update (special_of name) name
 
 -- what a value writes under a name
 abbrev pub with_value : LayerSettings → Update → List ℕ → Value → Update
-with_value settings update name (given.Bool b) = with_attributes update (record { key = name; value = told.Bool b } ∷ [])
-with_value settings update name (given.I64 n) = with_attributes update (with_number name n ∷ [])
+with_value settings update name (given.Bool b) = with_attributes update (record { key = name; value = otel.Bool b } ∷ [])
+with_value settings update name (given.I64 n) = with_attributes update (integer_attribute name n ∷ [])
 with_value settings update name (given.Error message chain) =
     record update { attributes = update.attributes ++ if_wanted settings.error_fields_to_exceptions (as_exception message chain) ++ as_field name message chain }
 with_value settings update name value = with_any_text update name (plain_text value)

@@ -6,10 +6,10 @@ use Rattle.otel_layer.proofs.Gaps.{is_kept, closed_read}
 use Rattle.otel_layer.proofs.RisingIdsLemmas.{filtered_rise}
 use Rattle.otel_layer.proofs.table.close_gaps.Goals as goal
 
-pub returns-then-known-len-clause-told : goal.returns-then-known-len-clause-told
-returns-then-known-len-clause-told c =
+pub returns-then-known-len-clause-span_data : goal.returns-then-known-len-clause-span_data
+returns-then-known-len-clause-span_data c =
     let left = filter_same _ is_kept _ (λ x b f' k. search rules) c.args.entries.now.items _ c.retain.ensures.filtered in
-    ap (λ (xs : List Entry). all_data xs) left ∙ closed_read (λ s. s.told) c.args.entries.now.items
+    ap (λ (xs : List Entry). all_data xs) left ∙ closed_read (λ s. s.span_data) c.args.entries.now.items
 
 pub returns-then-known-len-clause-rises : goal.returns-then-known-len-clause-rises
 returns-then-known-len-clause-rises c =

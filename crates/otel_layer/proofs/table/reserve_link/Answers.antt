@@ -1,48 +1,28 @@
 -- The span is found, or isn't known.
-use Rattle.std.proofs.Common.{◌≡◌, ◌≤◌, Some, None, get_or, sym, subst, refl, arith, ◌∙◌}
+use Rattle.std.proofs.Common.{◌≤◌, sym, subst, refl, arith, ◌∙◌}
 use Rattle.otel_layer.proofs.Common.{Room}
 use Rattle.otel_layer.proofs.TableLemmas.{no_gap, found_same, found_ids, read_set, nothing_read, on_ok}
 use Rattle.otel_layer.proofs.table.reserve_link.Goals as goal
 
-pub returns-in-Some-state-clause-told : goal.returns-in-Some-state-clause-told
-returns-in-Some-state-clause-told c =
-    let xs = c.args.entries.now in
-    let n = c.in-Some.place in
-    let d = c.index-entries-place.result in
-    let place = sym c.find.ensures ∙ c.in-Some.is in
-    let was : (get_or xs n d).state ≡ Some c.in-Some-state.state = c.in-Some-state.is in
-    found_same (λ s. s.told) c.args.id xs n d _ c.in-Some-state.state c.reserve_room.new.self place was refl refl c.reserve_room.ensures.leaves
+pub returns-in-Some-state-clause-span_data : goal.returns-in-Some-state-clause-span_data
+returns-in-Some-state-clause-span_data c =
+    found_same (λ s. s.span_data) c.args.id c.args.entries.now c.in-Some.place c.index-entries-place.result _ c.in-Some-state.state c.reserve_room.new.self (sym c.find.ensures ∙ c.in-Some.is) c.in-Some-state.is refl refl c.reserve_room.ensures.leaves
 
 pub returns-in-Some-state-clause-room : goal.returns-in-Some-state-clause-room
 returns-in-Some-state-clause-room c =
-    let xs = c.args.entries.now in
-    let n = c.in-Some.place in
-    let d = c.index-entries-place.result in
-    let place = sym c.find.ensures ∙ c.in-Some.is in
     on_ok c.reserve_room.result _ _ (λ h. record {
       any = λ link room is. record {
         attributes = omega arith;
         events = omega arith;
-        links = subst (λ (r : Room). 1 ≤ r.links) (read_set (λ s. s.room) c.args.id xs n d _ c.reserve_room.new.self place refl refl room is) h;
+        links = subst (λ (r : Room). 1 ≤ r.links) (read_set (λ s. s.room) c.args.id c.args.entries.now c.in-Some.place c.index-entries-place.result _ c.reserve_room.new.self (sym c.find.ensures ∙ c.in-Some.is) refl refl room is) h;
       };
     }) c.reserve_room.ensures.links
 
 pub returns-in-Some-state-clause-ids : goal.returns-in-Some-state-clause-ids
-returns-in-Some-state-clause-ids c =
-    let xs = c.args.entries.now in
-    let n = c.in-Some.place in
-    let d = c.index-entries-place.result in
-    let place = sym c.find.ensures ∙ c.in-Some.is in
-    found_ids c.args.id xs n d _ place refl
+returns-in-Some-state-clause-ids c = found_ids c.args.id c.args.entries.now c.in-Some.place c.index-entries-place.result _ (sym c.find.ensures ∙ c.in-Some.is) refl
 
 pub returns-in-None-state-clause-room : goal.returns-in-None-state-clause-room
-returns-in-None-state-clause-room c =
-    let xs = c.args.entries.now in
-    let n = c.in-Some.place in
-    let d = c.index-entries-place.result in
-    let place = sym c.find.ensures ∙ c.in-Some.is in
-    let gap : (get_or xs n d).state ≡ None = c.in-None-state.is in
-    absurd (no_gap c.args.id xs n d place gap)
+returns-in-None-state-clause-room c = absurd (no_gap c.args.id c.args.entries.now c.in-Some.place c.index-entries-place.result (sym c.find.ensures ∙ c.in-Some.is) c.in-None-state.is)
 
 pub returns-in-None-clause-room : goal.returns-in-None-clause-room
 returns-in-None-clause-room c = record { any = λ link room is. absurd (nothing_read (λ s. s.room) c.args.id c.args.entries.now (sym c.find.ensures ∙ c.in-None.is) room is) }

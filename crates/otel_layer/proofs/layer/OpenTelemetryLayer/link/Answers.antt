@@ -2,4 +2,4 @@
 use Rattle.otel_layer.proofs.layer.OpenTelemetryLayer.link.Goals as goal
 
 pub put_op-requires : goal.put_op-requires
-put_op-requires g c = c.requires.any (record { context = c.in-Some.context; attributes = c.new-attributes.result })
+put_op-requires g c = c.requires.any (record { context = c.args.context; attributes = c.new-attributes.result })

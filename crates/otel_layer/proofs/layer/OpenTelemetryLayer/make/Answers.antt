@@ -1,19 +1,34 @@
 -- A making, step by step.
-use Rattle.std.proofs.Common.{ap, ◌∙◌}
-use Rattle.otel_layer.proofs.Common.{empty_context, first_attributes, context_from}
+use Rattle.std.proofs.Common.{sym, ap, subst, ◌∙◌}
+use Rattle.otel_layer.proofs.Common.{empty_context, first_attributes, context_from, list_any, is_id}
 use Rattle.otel_layer.proofs.HookStepsLemmas.{makes, told_by}
+use Rattle.otel_layer.proofs.StartsLemmas.{added_early}
+use Rattle.otel_layer.specs.Core.{with_tracer}
+use Rattle.otel_layer.specs.Starts.{StartsEarly}
+use Rattle.otel_layer.specs.Steps.{with_added_span}
+use Rattle.otel_layer.specs.laws.KnownSpansLemmas.{any_quiet}
 use Rattle.otel_layer.proofs.layer.OpenTelemetryLayer.make.Goals as goal
 
 pub returns : goal.returns
 returns g c =
+    let does = g.T.Tracer.does in
     let s = c.args.self.now.core in
+    let between = c.context_from-context.new.self.core in
+    let starts = c.context_from-context.ensures.starts in
     let callsite = c.args.callsite.now in
     let lane = c.args.lane.now in
-    makes g.T.Tracer.does s c.start_any.new.self.core c.add.new.self.core c.start_any-3.new.self.core c.args.id lane c.args.at c.args.parent c.args.current callsite c.args._values.now c.above-source.result c.if_on.result
-    c.self.inside.settings.activation c.start_any-2.inside.settings.eager c.context_from-context.result c.begun_state.result.told
-    (ap (λ s. s.core.settings.activation) c.self.view_is) c.above-source.ensures c.start_any.ensures.starts
-    (c.context_from-context.ensures ∙ ap (λ x. context_from c.start_any.new.self.core.spans x c.above-source.result) c.around.ensures)
-    (c.begun_state.ensures (record { name = callsite.name; parent = empty_context; made_at = 0; first = first_attributes callsite lane s.settings; counting = s.counting; inactivity = s.settings.inactivity }) c.requires.ready.told
+    let source = c.parent_source-source.result in
+    let d = c.add.new.self.core in
+    let unknown = ap (λ xs. list_any (is_id c.args.id) xs) (any_quiet does source c.args.at s between starts).keys ∙ c.requires.unknown in
+    let begun = c.start_early.new.state.span_data in
+    let tracer = sym (ap (λ x. x.tracer) c.add.ensures) in
+    let rest = c.add.ensures ∙ ap (λ x. with_added_span c.args.id begun x) c.start_early.ensures.core ∙ ap (λ x. with_added_span c.args.id begun (with_tracer x between)) tracer in
+    makes does s between d c.args.id lane c.args.at c.args.parent c.args.current callsite c.args._values.now source
+    c.self.inside.settings.activation c.context_from-context.result c.begun_state-state.result.span_data
+    (ap (λ s. s.core.settings.activation) c.self.view_is) c.parent_source-source.ensures starts
+    (c.context_from-context.ensures.context ∙ ap (λ x. context_from between.spans x source) c.lane_context.ensures)
+    (c.begun_state-state.ensures (record { name = callsite.name; parent = empty_context; made_at = 0; first = first_attributes callsite lane s.settings; counting = s.counting; inactivity = s.settings.inactivity }) c.requires.ready.span_data
     ∙ ap (told_by callsite lane c.context_from-context.result c.args.at s.settings s.counting) c.requires.ready.is)
-    c.requires.ready.span.spare c.requires.ready.span.few c.add.ensures
-    (ap (λ s. s.core.settings.eager) c.start_any-2.view_is ∙ ap (λ x. x.settings.eager) c.add.ensures ∙ ap (λ x. x.eager) c.start_any.ensures.settings) c.if_on.ensures c.start_any-3.ensures.starts
+    c.requires.ready.span.spare c.requires.ready.span.few c.context_from-context.ensures.settings
+    (added_early does between d c.args.id c.args.at c.begun_state-state.result.span_data begun unknown rest between.settings.eager
+    (subst (λ x. StartsEarly does between.settings.eager c.args.at c.begun_state-state.result.span_data between.tracer x begun) tracer c.start_early.ensures.starts))

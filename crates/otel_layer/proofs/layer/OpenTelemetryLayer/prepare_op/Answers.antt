@@ -9,6 +9,6 @@ returns-in_ok-op-in-Some-clause-ready g c =
     let callsite = c.args.callsite.now in
     let values = c.args.values.now in
     let settings : c.self.inside.settings ≡ s.core.settings = ap (λ t. t.core.settings) c.self.view_is ∙ sym (ap (λ t. t.settings) c.reserve_op.ensures.core) in
-    let told = c.in_ok-op-in-Some.ensures ∙ ap (λ (t : LayerSettings). event_of callsite values t 0) settings in
+    let span_data = c.in_ok-op-in-Some.ensures ∙ ap (λ (t : LayerSettings). event_of callsite values t 0) settings in
     subst (λ (o : Option ℕ). IfOk c.reserve_op.result (IsReadyOtel s (ForEvent o callsite values))) (sym c.in-Some.is)
-    (subst (λ (o : Op). IfOk c.reserve_op.result (IsReadyOp s c.in-Some.id o)) told c.reserve_op.ensures.ready)
+    (subst (λ (o : Op). IfOk c.reserve_op.result (IsReadyOp s c.in-Some.id o)) span_data c.reserve_op.ensures.ready)

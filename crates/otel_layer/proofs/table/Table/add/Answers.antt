@@ -9,7 +9,7 @@ use Rattle.otel_layer.proofs.table.Table.add.Goals.{then-self, else-self}
 
 pub overflow_add-self : goal.overflow_add-self
 overflow_add-self c =
-    let most = within (λ s. s.told) c.self.inside.entries.items in
+    let most = within (λ s. s.span_data) c.self.inside.entries.items in
     let counts = c.self.invariant.counts in
     let long = c.self.inside.entries.ok.0 in
     let fits = c.self.inside.entries.ok.1 in
@@ -30,5 +30,5 @@ invariant_of-self c =
 
 pub returns : goal.returns
 returns c =
-    ap (λ (xs : List Entry). all_data xs) c.in-Ok.ensures.items ∙ read_added (λ s. s.told) c.self.inside.entries.items _
-    ∙ ap (λ s. with_span_data c.args.id c.args.state.told s.spans) c.self.view_is
+    ap (λ (xs : List Entry). all_data xs) c.in-Ok.ensures.items ∙ read_added (λ s. s.span_data) c.self.inside.entries.items _
+    ∙ ap (λ s. with_span_data c.args.id c.args.state.span_data s.spans) c.self.view_is

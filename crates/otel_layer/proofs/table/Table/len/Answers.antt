@@ -5,7 +5,7 @@ use Rattle.otel_layer.proofs.table.Table.len.Goals as goal
 
 pub returns-clause-most : goal.returns-clause-most
 returns-clause-most c =
-    let most = within (λ s. s.told) c.self.inside.entries.items in
+    let most = within (λ s. s.span_data) c.self.inside.entries.items in
     let counts = c.self.invariant.counts in
     let long = c.self.inside.entries.ok.0 in
     let fits = c.self.inside.entries.ok.1 in

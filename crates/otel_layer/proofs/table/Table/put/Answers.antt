@@ -10,6 +10,6 @@ invariant_of-self c =
     let old : List Entry = c.self.inside.entries.items in
     let now = c.put.new.entries in
     let as_many : length now ≡ c.self.inside.entries.len = search rules in
-    let told = c.put.ensures.told ∙ ap (λ (xs : List Entry). with_op c.args.id c.args.at c.args.op (all_data xs)) c.as_mut_slice.ensures.value in
+    let span_data = c.put.ensures.span_data ∙ ap (λ (xs : List Entry). with_op c.args.id c.args.at c.args.op (all_data xs)) c.as_mut_slice.ensures.value in
     let same = c.put.ensures.ids ∙ ap (λ (xs : List Entry). entry_ids xs) c.as_mut_slice.ensures.value in
-    kept_whole c.self.inside.rising c.self.inside.known c.self.inside.entries.len old now as_many same (ap (λ (es : List (ℕ × SpanData)). length es) told ∙ updated_count c.args.id (λ t. after_op t c.args.at c.args.op) (all_data old)) c.self.invariant
+    kept_whole c.self.inside.rising c.self.inside.known c.self.inside.entries.len old now as_many same (ap (λ (es : List (ℕ × SpanData)). length es) span_data ∙ updated_count c.args.id (λ t. after_op t c.args.at c.args.op) (all_data old)) c.self.invariant

@@ -9,6 +9,6 @@ invariant_of-self c =
     let old : List Entry = c.self.inside.entries.items in
     let now = c.reserve_op.new.entries in
     let as_many : length now ≡ c.self.inside.entries.len = search rules in
-    let told = c.reserve_op.ensures.told ∙ ap (λ (xs : List Entry). all_data xs) c.as_mut_slice.ensures.value in
+    let span_data = c.reserve_op.ensures.span_data ∙ ap (λ (xs : List Entry). all_data xs) c.as_mut_slice.ensures.value in
     let same = c.reserve_op.ensures.ids ∙ ap (λ (xs : List Entry). entry_ids xs) c.as_mut_slice.ensures.value in
-    kept_whole c.self.inside.rising c.self.inside.known c.self.inside.entries.len old now as_many same (ap (λ (es : List (ℕ × SpanData)). length es) told) c.self.invariant
+    kept_whole c.self.inside.rising c.self.inside.known c.self.inside.entries.len old now as_many same (ap (λ (es : List (ℕ × SpanData)). length es) span_data) c.self.invariant

@@ -1,6 +1,0 @@
--- The hook's step, with no room taken before.
-use Rattle.otel_layer.proofs.Common.{OnClose, all_events, stepped}
-use Rattle.otel_layer.proofs.hooks.OpenTelemetryLayerLayer.on_close.Goals as goal
-
-pub returns : goal.returns
-returns g c = stepped g.T.Tracer.does all_events c.args.self.now.core (OnClose c.args.id c.args.at) _ c.close_if_known.ensures

@@ -1,6 +1,0 @@
--- The hook's step, with no room taken before.
-use Rattle.otel_layer.proofs.Common.{OnFollows, all_events, stepped}
-use Rattle.otel_layer.proofs.hooks.OpenTelemetryLayerLayer.on_follows_from.Goals as goal
-
-pub returns : goal.returns
-returns g c = stepped g.T.Tracer.does all_events c.args.self.now.core (OnFollows c.args.id c.args.from c.args.at) _ c.follow.ensures

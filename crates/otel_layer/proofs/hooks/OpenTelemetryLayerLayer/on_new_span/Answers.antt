@@ -1,6 +1,0 @@
--- The hook's step, with no room taken before.
-use Rattle.otel_layer.proofs.Common.{OnNewSpan, all_events, stepped}
-use Rattle.otel_layer.proofs.hooks.OpenTelemetryLayerLayer.on_new_span.Goals as goal
-
-pub returns : goal.returns
-returns g c = stepped g.T.Tracer.does all_events c.args.self.now.core (OnNewSpan c.args.id c.args.lane.now c.args.at c.args.parent c.args.current c.args.callsite.now c.args.values.now) _ c.make.ensures

@@ -1,6 +1,0 @@
--- The context is among the live ones.
-use Rattle.otel_layer.proofs.Common.{has_if_counted}
-use Rattle.otel_layer.proofs.tokens.detach.Goals as goal
-
-pub detach-requires : goal.detach-requires
-detach-requires c = has_if_counted _ c.args.lane.now.contexts.live c.requires
