@@ -1,6 +1,6 @@
 -- What an early start makes of effects and of tables, and that it is kept by one effect more.
 use Rattle.std.proofs.Common.{◌≡◌, ℕ, suc, ◌≤◌, ◌==◌, ◌||◌, List, [], ◌∷◌, ◌++◌, length, map, fold, Bool, true, false, Option, Some, None, refl, sym, ap, ap₂, subst, subst₂, ◌∙◌, arith, append_assoc, if◌then◌else◌, option_map}
-use Rattle.span_eager.proofs.Common.{AllByRecursion, list_any, map-append, LayerSettings, GREATEST, deed, Recording, with_start, with_starts, with_applied, without_last, MadeSpan, SpanOp, Owner, Attached, is_by, Effect, Tables, with_item, with_attached, with_detached, with_span_made, begun_by, done_by, recorded_by, open_part, after_effect, starts_from, closes_from, IsSettled, context_by, reply_by}
+use Rattle.span_eager.proofs.Common.{AllByRecursion, list_any, map-append, LayerSettings, GREATEST, deed, Recording, with_start, with_starts, with_applied, without_last, MadeSpan, SpanOp, Owner, Attached, is_attached_by, Effect, Tables, with_item, with_attached, with_detached, with_span_made, begun_by, done_by, recorded_by, open_part, after_effect, starts_from, closes_from, IsSettled, context_by, reply_by}
 use Rattle.std.proofs.lemmas.List.{length-append}
 use Rattle.span_eager.proofs.SameSpan.{Ids, told_by}
 use Rattle.span_eager.proofs.SameRecordings.{SameRecording, Shut, AreOnce, done_with, later_same, starts_same, made_same, ops_same, closes_same}
@@ -37,18 +37,18 @@ map_new : {A : Type 0} (g : A → A) (xs : List A) (x : Option A) → with_item 
 map_new g xs None = refl
 map_new g xs (Some x) = sym (map-append g xs (x ∷ []))
 
-any_by : (f : ℕ → ℕ) (o : Owner) (xs : List Attached) → list_any (is_by o) (map (attached_by f) xs) ≡ list_any (is_by o) xs
+any_by : (f : ℕ → ℕ) (o : Owner) (xs : List Attached) → list_any (is_attached_by o) (map (attached_by f) xs) ≡ list_any (is_attached_by o) xs
 any_by f o [] = refl
-any_by f o (x ∷ xs) = ap (λ (b : Bool). is_by o x || b) (any_by f o xs)
+any_by f o (x ∷ xs) = ap (λ (b : Bool). is_attached_by o x || b) (any_by f o xs)
 
-map_without : (f : ℕ → ℕ) (o : Owner) (xs : List Attached) → without_last (is_by o) (map (attached_by f) xs) ≡ map (attached_by f) (without_last (is_by o) xs)
+map_without : (f : ℕ → ℕ) (o : Owner) (xs : List Attached) → without_last (is_attached_by o) (map (attached_by f) xs) ≡ map (attached_by f) (without_last (is_attached_by o) xs)
 map_without f o [] = refl
 map_without f o (x ∷ xs) =
-    ap₂ (λ (b : Bool) (ys : List Attached). if b then attached_by f x ∷ ys else if is_by o x then map (attached_by f) xs else attached_by f x ∷ map (attached_by f) xs) (any_by f o xs) (map_without f o xs)
-    ∙ pushed (list_any (is_by o) xs) (is_by o x)
+    ap₂ (λ (b : Bool) (ys : List Attached). if b then attached_by f x ∷ ys else if is_attached_by o x then map (attached_by f) xs else attached_by f x ∷ map (attached_by f) xs) (any_by f o xs) (map_without f o xs)
+    ∙ pushed (list_any (is_attached_by o) xs) (is_attached_by o x)
   where
-    pushed : (b c : Bool) → (if b then attached_by f x ∷ map (attached_by f) (without_last (is_by o) xs) else if c then map (attached_by f) xs else attached_by f x ∷ map (attached_by f) xs)
-        ≡ map (attached_by f) (if b then x ∷ without_last (is_by o) xs else if c then xs else x ∷ xs)
+    pushed : (b c : Bool) → (if b then attached_by f x ∷ map (attached_by f) (without_last (is_attached_by o) xs) else if c then map (attached_by f) xs else attached_by f x ∷ map (attached_by f) xs)
+        ≡ map (attached_by f) (if b then x ∷ without_last (is_attached_by o) xs else if c then xs else x ∷ xs)
     pushed true c = refl
     pushed false true = refl
     pushed false false = refl
@@ -67,8 +67,8 @@ map_attached f cs lane (Some a) l =
 map_detached : (f : ℕ → ℕ) (ds cs : ℕ → List Attached) (lane : ℕ) (o : Option Owner) → ((l : ℕ) → ds l ≡ map (attached_by f) (cs l)) → (l : ℕ) → with_detached ds lane o l ≡ map (attached_by f) (with_detached cs lane o l)
 map_detached f ds cs lane None same l = same l
 map_detached f ds cs lane (Some o) same l =
-    ap₂ (λ (xs ys : List Attached). if lane == l then xs else ys) (ap (without_last (is_by o)) (same lane) ∙ map_without f o (cs lane)) (same l)
-    ∙ map_if f (lane == l) (without_last (is_by o) (cs lane)) (cs l)
+    ap₂ (λ (xs ys : List Attached). if lane == l then xs else ys) (ap (without_last (is_attached_by o)) (same lane) ∙ map_without f o (cs lane)) (same l)
+    ∙ map_if f (lane == l) (without_last (is_attached_by o) (cs lane)) (cs l)
 
 pub after_by : (f : ℕ → ℕ) (n : ℕ) (r : Recording) (t : Tables) (e : Effect)
     → after_effect (tables_by f r t) (effect_by f n e) ≡ tables_by f (open_part (recorded_by (length (map (made_by f) t.spans)) (effect_by f n e) r)) (after_effect t e)

@@ -1,6 +1,6 @@
 -- What a request changes where spans start at their making is what it changes where they don't, with other ids.
 use Rattle.std.proofs.Common.{◌≡◌, ℕ, zero, suc, ◌≤◌, ◌==◌, ◌&&◌, List, [], ◌∷◌, length, map, fold, min, max, Bool, true, false, Option, Some, None, Ok, Err, IfSome, refl, sym, ap, subst, subst₂, ◌∙◌, arith, if◌then◌else◌, is_some, option_map, slice_get, option_and_then, not}
-use Rattle.span_eager.proofs.Common.{AllByRecursion, length-map, slice_get-map, Context, SpanContext, is_valid, ids_of, Op, LayerSettings, GREATEST, deed, SpanData, Recording, source_of, with_start, with_starts, data_at, waits, own_or, current_of, Reply, Refusal, Request, Setup, span_site, event_site, Here, here_at, Resolved, refuse_if, ◌>>=◌, need, op_on, ops_on, ops_effect, effect_of_call, is_bad_moment, effect_of, scope_at, disabled_effect, parent_at, last_attached, context_around, lane_in, span_effect, new_effect, clone_effect, drop_effect, is_borrowed, current_scope, scope_or_current, exchange_effect, Scope, SpanOp, MadeSpan, EntryOf, Attached, HookNew, Tables, slot_at, own_span, site_of, scope_of, made_of, begun_by, quiet_effect, lazy, IsSettled, is_far, gives_far, ids_by, context_by, reply_by}
+use Rattle.span_eager.proofs.Common.{AllByRecursion, length-map, slice_get-map, Context, SpanContext, is_valid, ids_of, Op, LayerSettings, GREATEST, deed, SpanData, Recording, source_of, with_start, with_starts, data_at, waiting_context, own_or, current_of, Reply, Refusal, Request, Setup, span_site, event_site, Here, here_at, Resolved, refuse_if, ◌>>=◌, need, op_on, ops_on, ops_effect, effect_of_call, is_bad_moment, effect_of, scope_at, disabled_effect, parent_at, last_attached, context_around, lane_in, span_effect, new_effect, clone_effect, drop_effect, is_borrowed, current_scope, scope_or_current, exchange_effect, Scope, SpanOp, MadeSpan, EntryOf, Attached, HookNew, Tables, slot_at, own_span, site_of, scope_of, made_of, begun_by, quiet_effect, lazy_setup, IsSettled, is_far, gives_far, ids_by, context_by, reply_by}
 use Rattle.std.specs.Option.{option_to_list}
 use Rattle.env_directives.specs.orders.Choice.{admits}
 use Rattle.otel_base.specs.declared.value.KeyValue.{KeyValue}
@@ -20,18 +20,18 @@ use Rattle.span_script.specs.declared.reply.Reply.TheVariants as reply
 use Rattle.span_script.specs.declared.reply.Refusal.TheVariants as refusal
 use Rattle.span_script.specs.declared.reply.What.{What}
 use Rattle.span_script.specs.declared.reply.What.TheVariants as what
-use Rattle.span_script.specs.declared.request.Place.{Place}
-use Rattle.span_script.specs.declared.request.Place.TheVariants as places
+use Rattle.span_script.specs.declared.request.RequestParent.{RequestParent}
+use Rattle.span_script.specs.declared.request.RequestParent.TheVariants as places
 use Rattle.span_script.specs.declared.request.Call.{Call}
 use Rattle.span_script.specs.declared.request.Call.TheVariants as call
 use Rattle.span_script.specs.Admission.{TextRead, text_read, text_filter}
 use Rattle.span_script.specs.Fields.{Fields, all_values, declared_by}
 use Rattle.span_script.specs.calls.Contexts.{context_effect, own_context, attach_effect, detach_effect}
-use Rattle.span_script.specs.calls.Entries.{active, enter_effect, is_full, meets_full, entry_call, exit_effect, is_shared, attached_by as attaches_by}
-use Rattle.span_script.specs.calls.Events.{if_enabled, counted_ops, event_effect}
+use Rattle.span_script.specs.calls.Entries.{activated_span, enter_effect, is_full, meets_full, entry_call, exit_effect, is_shared, attached_by as attaches_by}
+use Rattle.span_script.specs.calls.Events.{if_enabled, event_ops, event_effect}
 use Rattle.span_script.specs.calls.Fields.{callsite_of, update_ops, hooks_of_values, record_effect}
 use Rattle.span_script.specs.calls.Filter.{admits_at, enabled_effect, reload_by}
-use Rattle.span_script.specs.calls.Links.{follow_effect, set_while, is_set, link_ops, happens_at}
+use Rattle.span_script.specs.calls.Links.{follow_effect, set_result, set_parent_result, link_ops, happens_at}
 use Rattle.span_eager.proofs.SameSpan.{Ids, early_ids, op_by, told_by, valid_by, ids_of_by}
 use Rattle.span_eager.proofs.SameSpans.{SameAt, same_at}
 use Rattle.span_eager.proofs.SameRecordings.{SameRecording, done_with, early_stays, none_waits, has_started}
@@ -94,7 +94,7 @@ module _ (f : Ids) (setup : Setup) (eager : setup.layer.eager ≡ true) (t : Tab
   he = here_at setup te at place
 
   abbrev hl : Here
-  hl = here_at (lazy setup) t at place
+  hl = here_at (lazy_setup setup) t at place
 
   abbrev id : ℕ
   id = hl.lane
@@ -131,7 +131,7 @@ module _ (f : Ids) (setup : Setup) (eager : setup.layer.eager ≡ true) (t : Tab
       let now = with_start s at t.recording in
       ap (λ (x : Recording). own_or d (data_at s x.spans)) (early_stays f setup.layer (length t.spans) at at s pending r now same)
       ∙ own_by s (data_at s r.spans) (data_at s now.spans) d c (same_at f.new at r.spans now.spans s same.spans)
-      (λ m found. has_started f setup.layer s at t.recording m (waits (data_at s t.recording.spans)) refl found) others
+      (λ m found. has_started f setup.layer s at t.recording m (waiting_context (data_at s t.recording.spans)) refl found) others
 
   -- ---- handles
 
@@ -187,10 +187,10 @@ module _ (f : Ids) (setup : Setup) (eager : setup.layer.eager ≡ true) (t : Tab
       named_agrees what.Handle (slot_at t.handles handle)
       (λ scope. refuse_if (meets_full setup.layer.activation scope (te.contexts id)) (refusal.Full place) (Ok (enter_effect he handle owns scope)))
       (λ scope. refuse_if (meets_full setup.layer.activation scope (t.contexts id)) (refusal.Full place) (Ok (enter_effect hl handle owns scope))) ready
-      (λ scope given. subst (λ (b : Bool). A (refuse_if (is_some (active setup.layer.activation scope) && b) (refusal.Full place) (Ok (enter_effect he handle owns scope))) (refuse_if (meets_full setup.layer.activation scope (t.contexts id)) (refusal.Full place) (Ok (enter_effect hl handle owns scope))))
+      (λ scope given. subst (λ (b : Bool). A (refuse_if (is_some (activated_span setup.layer.activation scope) && b) (refusal.Full place) (Ok (enter_effect he handle owns scope))) (refuse_if (meets_full setup.layer.activation scope (t.contexts id)) (refusal.Full place) (Ok (enter_effect hl handle owns scope))))
       (sym full_by)
       (if_agrees (meets_full setup.layer.activation scope (t.contexts id)) (refusal.Full place) (Ok (enter_effect he handle owns scope)) (Ok (enter_effect hl handle owns scope)) given
-      (λ go. entered_agrees handle owns scope (active setup.layer.activation scope) go)))
+      (λ go. entered_agrees handle owns scope (activated_span setup.layer.activation scope) go)))
 
   exits_agree : (guard : ℕ) (scope : Scope) → A (Ok (exit_effect he guard scope)) (Ok (exit_effect hl guard scope))
   exits_agree guard scope = (
@@ -208,30 +208,30 @@ module _ (f : Ids) (setup : Setup) (eager : setup.layer.eager ≡ true) (t : Tab
     record { at_is = refl; begins = refl; made = tt; starts_none = on_plain scope op none },
   )
 
-  callsite_by : (scope : Scope) → callsite_of setup te scope ≡ callsite_of (lazy setup) t scope
+  callsite_by : (scope : Scope) → callsite_of setup te scope ≡ callsite_of (lazy_setup setup) t scope
   callsite_by scope = ap (option_and_then (λ (site : ℕ). slice_get setup.sites site)) (sited f.new t.spans scope)
 
   records_agree : (scope : Scope) (fields : Fields) (c : Option Callsite)
       → A (Ok (record (ops_effect hl reply.Done (update_ops setup.layer scope fields c)) { hooks = hooks_of_values scope fields c }))
-      (Ok (record (ops_effect hl reply.Done (update_ops (lazy setup).layer scope fields c)) { hooks = hooks_of_values scope fields c }))
+      (Ok (record (ops_effect hl reply.Done (update_ops (lazy_setup setup).layer scope fields c)) { hooks = hooks_of_values scope fields c }))
   records_agree scope fields None = (refl, record { at_is = refl; begins = refl; made = tt; starts_none = tt })
   records_agree [] fields (Some c) = (refl, record { at_is = refl; begins = refl; made = tt; starts_none = tt })
   records_agree (s ∷ up) fields (Some c) = (refl, record { at_is = refl; begins = refl; made = tt; starts_none = (refl, tt) })
 
   events_agree : (c : Callsite) (values : ValueSet) (enabled : Bool) (reached : Scope) (counting : Option (List ℕ))
-      → A (Ok (record (ops_effect hl (reply.Enabled enabled) (if_enabled enabled (ops_on reached (counted_ops counting c (event_of c values setup.layer at))))) { measures = if_enabled enabled (measures c values) }))
-      (Ok (record (ops_effect hl (reply.Enabled enabled) (if_enabled enabled (ops_on reached (counted_ops counting c (event_of c values (lazy setup).layer at))))) { measures = if_enabled enabled (measures c values) }))
+      → A (Ok (record (ops_effect hl (reply.Enabled enabled) (if_enabled enabled (ops_on reached (event_ops counting c (event_of c values setup.layer at))))) { measures = if_enabled enabled (measures c values) }))
+      (Ok (record (ops_effect hl (reply.Enabled enabled) (if_enabled enabled (ops_on reached (event_ops counting c (event_of c values (lazy_setup setup).layer at))))) { measures = if_enabled enabled (measures c values) }))
   events_agree c values false reached counting = (refl, record { at_is = refl; begins = refl; made = tt; starts_none = tt })
   events_agree c values true [] counting = (refl, record { at_is = refl; begins = refl; made = tt; starts_none = tt })
   events_agree c values true (s ∷ up) None = (refl, record { at_is = refl; begins = refl; made = tt; starts_none = (refl, tt) })
   events_agree c values true (s ∷ up) (Some text) = by_test (admits (text_filter text).statics.directives c)
     where
       by_test : (b : Bool) → A (Ok (record (ops_effect hl (reply.Enabled true) (ops_on (s ∷ up) (ops.Counted ∷ if_enabled b (event_of c values setup.layer at ∷ [])))) { measures = measures c values }))
-          (Ok (record (ops_effect hl (reply.Enabled true) (ops_on (s ∷ up) (ops.Counted ∷ if_enabled b (event_of c values (lazy setup).layer at ∷ [])))) { measures = measures c values }))
+          (Ok (record (ops_effect hl (reply.Enabled true) (ops_on (s ∷ up) (ops.Counted ∷ if_enabled b (event_of c values (lazy_setup setup).layer at ∷ [])))) { measures = measures c values }))
       by_test true = (refl, record { at_is = refl; begins = refl; made = tt; starts_none = (refl, (refl, tt)) })
       by_test false = (refl, record { at_is = refl; begins = refl; made = tt; starts_none = (refl, tt) })
 
-  scope_at_by : (under : Place) → scope_at te id under ≡ scope_at t id under
+  scope_at_by : (under : RequestParent) → scope_at te id under ≡ scope_at t id under
   scope_at_by places.Root = refl
   scope_at_by places.Contextual = ap (λ (s : Scope). Some s) (scoped f.new t.spans (current_of (t.entries id)))
   scope_at_by (places.Under handle) = refl
@@ -275,15 +275,15 @@ module _ (f : Ids) (setup : Setup) (eager : setup.layer.eager ≡ true) (t : Tab
         record { at_is = refl; begins = refl; made = tt; starts_none = (refl, tt) },
       )
 
-  sets_agree : (scope : Scope) (given : Context) → P (Ok (ops_effect hl (reply.Set (is_set t.recording scope)) (op_on scope (ops.SetParent given))))
-      → A (Ok (ops_effect he (reply.Set (is_set r scope)) (op_on scope (ops.SetParent (context_by f.new given))))) (Ok (ops_effect hl (reply.Set (is_set t.recording scope)) (op_on scope (ops.SetParent given))))
+  sets_agree : (scope : Scope) (given : Context) → P (Ok (ops_effect hl (reply.Set (set_parent_result t.recording scope)) (op_on scope (ops.SetParent given))))
+      → A (Ok (ops_effect he (reply.Set (set_parent_result r scope)) (op_on scope (ops.SetParent (context_by f.new given))))) (Ok (ops_effect hl (reply.Set (set_parent_result t.recording scope)) (op_on scope (ops.SetParent given))))
   sets_agree [] given ready = (refl, record { at_is = refl; begins = refl; made = tt; starts_none = tt })
   sets_agree (s ∷ up) given ready = (
-    (λ i. record (ops_effect hl (reply.Set (set_while (waits_not i))) (op_on (s ∷ up) (ops.SetParent given))) { ops = op_on (s ∷ up) (ops.SetParent (context_by f.new given)) }),
+    (λ i. record (ops_effect hl (reply.Set (set_result (waits_not i))) (op_on (s ∷ up) (ops.SetParent given))) { ops = op_on (s ∷ up) (ops.SetParent (context_by f.new given)) }),
     record { at_is = refl; begins = refl; made = tt; starts_none = (refl, tt) },
   )
     where
-      waits_not : is_some (waits (data_at s r.spans)) ≡ is_some (waits (data_at s t.recording.spans))
+      waits_not : is_some (waiting_context (data_at s r.spans)) ≡ is_some (waiting_context (data_at s t.recording.spans))
       waits_not =
           ap (λ (o : Option Context). is_some o) (none_waits f setup.layer s at (data_at s r.spans) (data_at s t.recording.spans) (same_at f.new at r.spans t.recording.spans s (ready refl).0.1.spans))
           ∙ sym (ready refl).1.0
@@ -298,7 +298,7 @@ module _ (f : Ids) (setup : Setup) (eager : setup.layer.eager ≡ true) (t : Tab
   last_of : (m : ℕ) → min (max m (min m GREATEST)) GREATEST ≤ m
   last_of m = omega arith
 
-  told_alike : (c : Callsite) (l : Lane) (values : ValueSet) (d x : Context) (se sl : LayerSettings) (ke kl : Bool) → d ≡ context_by f.new x → se ≡ setup.layer → sl ≡ (lazy setup).layer → ke ≡ kl
+  told_alike : (c : Callsite) (l : Lane) (values : ValueSet) (d x : Context) (se sl : LayerSettings) (ke kl : Bool) → d ≡ context_by f.new x → se ≡ setup.layer → sl ≡ (lazy_setup setup).layer → ke ≡ kl
       → new_span_data c l values d at se ke ≡ told_by f.new (new_span_data c l values x at sl kl)
   told_alike c l values d x se sl ke kl same e_set l_set count =
       (λ i. new_span_data c l values (same i) at (e_set i) (count i))
@@ -317,7 +317,7 @@ module _ (f : Ids) (setup : Setup) (eager : setup.layer.eager ≡ true) (t : Tab
       (ap (λ (y : Recording). y.settings) still ∙ ready.e_settings) ready.l_settings
       (ap (λ (y : Recording). y.counting) still ∙ ready.counting)
 
-  spans_agree : (site : ℕ) (c : Callsite) (values : ValueSet) (under : Place) (up : Scope) → P (Ok (span_effect hl site c values under up))
+  spans_agree : (site : ℕ) (c : Callsite) (values : ValueSet) (under : RequestParent) (up : Scope) → P (Ok (span_effect hl site c values under up))
       → A (Ok (span_effect he site c values under up)) (Ok (span_effect hl site c values under up))
   spans_agree site c values under up ready =
       let k : length te.spans ≡ length t.spans = length-map t.spans (made_by f.new) in
@@ -333,7 +333,7 @@ module _ (f : Ids) (setup : Setup) (eager : setup.layer.eager ≡ true) (t : Tab
         record { at_is = refl; begins = refl; made = (refl, last_of at); starts_none = tt },
       )
 
-  makes_agree : (site : ℕ) (c : Callsite) (values : ValueSet) (under : Place) (up : Scope) (b : Bool)
+  makes_agree : (site : ℕ) (c : Callsite) (values : ValueSet) (under : RequestParent) (up : Scope) (b : Bool)
       → P (Ok (if b then span_effect hl site c values under up else disabled_effect hl))
       → A (Ok (if b then span_effect he site c values under up else disabled_effect he)) (Ok (if b then span_effect hl site c values under up else disabled_effect hl))
   makes_agree site c values under up true ready = spans_agree site c values under up ready
@@ -341,7 +341,7 @@ module _ (f : Ids) (setup : Setup) (eager : setup.layer.eager ≡ true) (t : Tab
 
   -- ---- all calls
 
-  pub call_agrees : (c : Call) → gives_far f.many c ≡ true → P (effect_of_call (lazy setup) t at place c) → A (effect_of_call setup te at place c) (effect_of_call (lazy setup) t at place c)
+  pub call_agrees : (c : Call) → gives_far f.many c ≡ true → P (effect_of_call (lazy_setup setup) t at place c) → A (effect_of_call setup te at place c) (effect_of_call (lazy_setup setup) t at place c)
   call_agrees (call.New site under fields) far ready =
       named_agrees what.Site (span_site setup.sites site)
       (λ c. need what.Handle (scope_at te id under) >>= (λ up. need what.Field (all_values c fields) >>= (λ values. Ok (new_effect he site c values under up))))
@@ -384,11 +384,11 @@ module _ (f : Ids) (setup : Setup) (eager : setup.layer.eager ≡ true) (t : Tab
       named_agrees what.Handle (slot_at t.handles handle)
       (λ scope. Ok (record_effect he scope fields)) (λ scope. Ok (record_effect hl scope fields)) ready
       (λ scope given. subst (λ (c : Option Callsite). A (Ok (record (ops_effect hl reply.Done (update_ops setup.layer scope fields c)) { hooks = hooks_of_values scope fields c })) (Ok (record_effect hl scope fields)))
-      (sym (callsite_by scope)) (records_agree scope fields (callsite_of (lazy setup) t scope)))
+      (sym (callsite_by scope)) (records_agree scope fields (callsite_of (lazy_setup setup) t scope)))
   call_agrees (call.HasField handle name) far ready =
       named_agrees what.Handle (slot_at t.handles handle)
-      (λ scope. Ok (quiet_effect at id (reply.Has (declared_by (callsite_of setup te scope) name)))) (λ scope. Ok (quiet_effect at id (reply.Has (declared_by (callsite_of (lazy setup) t scope) name)))) ready
-      (λ scope given. subst (λ (c : Option Callsite). A (Ok (quiet_effect at id (reply.Has (declared_by c name)))) (Ok (quiet_effect at id (reply.Has (declared_by (callsite_of (lazy setup) t scope) name)))))
+      (λ scope. Ok (quiet_effect at id (reply.Has (declared_by (callsite_of setup te scope) name)))) (λ scope. Ok (quiet_effect at id (reply.Has (declared_by (callsite_of (lazy_setup setup) t scope) name)))) ready
+      (λ scope given. subst (λ (c : Option Callsite). A (Ok (quiet_effect at id (reply.Has (declared_by c name)))) (Ok (quiet_effect at id (reply.Has (declared_by (callsite_of (lazy_setup setup) t scope) name)))))
       (sym (callsite_by scope)) (refl, record { at_is = refl; begins = refl; made = tt; starts_none = tt }))
   call_agrees (call.Event site under fields) far ready =
       named_agrees what.Site (event_site setup.sites site)
@@ -408,7 +408,7 @@ module _ (f : Ids) (setup : Setup) (eager : setup.layer.eager ≡ true) (t : Tab
       (λ scope. Ok (context_effect he (own_span scope) (own_context r at scope))) (λ scope. Ok (context_effect hl (own_span scope) (own_context t.recording at scope))) ready
       (λ scope given. context_agrees scope given)
   call_agrees (call.Attach context) far ready =
-      subst₂ (λ (o : Option Context) (b : Bool). A (need what.Context o >>= (λ given. refuse_if b (refusal.Full place) (Ok (attach_effect he given)))) (effect_of_call (lazy setup) t at place (call.Attach context)))
+      subst₂ (λ (o : Option Context) (b : Bool). A (need what.Context o >>= (λ given. refuse_if b (refusal.Full place) (Ok (attach_effect he given)))) (effect_of_call (lazy_setup setup) t at place (call.Attach context)))
       (sym (slice_get-map (context_by f.new) t.named_contexts context)) (sym full_by) (by_slot (slice_get t.named_contexts context) ready)
     where
       by_slot : (o : Option Context) → P (need what.Context o >>= (λ given. refuse_if (is_full (t.contexts id)) (refusal.Full place) (Ok (attach_effect hl given))))
@@ -426,15 +426,15 @@ module _ (f : Ids) (setup : Setup) (eager : setup.layer.eager ≡ true) (t : Tab
       (λ followed last. follows_agree scope followed last))
   call_agrees (call.SetParent handle context) far ready =
       named_agrees what.Handle (slot_at t.handles handle)
-      (λ scope. need what.Context (slice_get te.named_contexts context) >>= (λ given. Ok (ops_effect he (reply.Set (is_set r scope)) (op_on scope (ops.SetParent given)))))
-      (λ scope. need what.Context (slice_get t.named_contexts context) >>= (λ given. Ok (ops_effect hl (reply.Set (is_set t.recording scope)) (op_on scope (ops.SetParent given))))) ready
-      (λ scope more. subst (λ (o : Option Context). A (need what.Context o >>= (λ given. Ok (ops_effect he (reply.Set (is_set r scope)) (op_on scope (ops.SetParent given)))))
-      (need what.Context (slice_get t.named_contexts context) >>= (λ given. Ok (ops_effect hl (reply.Set (is_set t.recording scope)) (op_on scope (ops.SetParent given))))))
+      (λ scope. need what.Context (slice_get te.named_contexts context) >>= (λ given. Ok (ops_effect he (reply.Set (set_parent_result r scope)) (op_on scope (ops.SetParent given)))))
+      (λ scope. need what.Context (slice_get t.named_contexts context) >>= (λ given. Ok (ops_effect hl (reply.Set (set_parent_result t.recording scope)) (op_on scope (ops.SetParent given))))) ready
+      (λ scope more. subst (λ (o : Option Context). A (need what.Context o >>= (λ given. Ok (ops_effect he (reply.Set (set_parent_result r scope)) (op_on scope (ops.SetParent given)))))
+      (need what.Context (slice_get t.named_contexts context) >>= (λ given. Ok (ops_effect hl (reply.Set (set_parent_result t.recording scope)) (op_on scope (ops.SetParent given))))))
       (sym (slice_get-map (context_by f.new) t.named_contexts context)) (by_slot scope (slice_get t.named_contexts context) more))
     where
-      by_slot : (scope : Scope) (o : Option Context) → P (need what.Context o >>= (λ given. Ok (ops_effect hl (reply.Set (is_set t.recording scope)) (op_on scope (ops.SetParent given)))))
-          → A (need what.Context (option_map (context_by f.new) o) >>= (λ given. Ok (ops_effect he (reply.Set (is_set r scope)) (op_on scope (ops.SetParent given)))))
-          (need what.Context o >>= (λ given. Ok (ops_effect hl (reply.Set (is_set t.recording scope)) (op_on scope (ops.SetParent given)))))
+      by_slot : (scope : Scope) (o : Option Context) → P (need what.Context o >>= (λ given. Ok (ops_effect hl (reply.Set (set_parent_result t.recording scope)) (op_on scope (ops.SetParent given)))))
+          → A (need what.Context (option_map (context_by f.new) o) >>= (λ given. Ok (ops_effect he (reply.Set (set_parent_result r scope)) (op_on scope (ops.SetParent given)))))
+          (need what.Context o >>= (λ given. Ok (ops_effect hl (reply.Set (set_parent_result t.recording scope)) (op_on scope (ops.SetParent given)))))
       by_slot scope None ready = refl
       by_slot scope (Some given) ready = sets_agree scope given ready
   call_agrees (call.AddLink handle context attributes) far ready =
@@ -474,12 +474,12 @@ module _ (f : Ids) (setup : Setup) (eager : setup.layer.eager ≡ true) (t : Tab
 -- ---- all requests
 
 pub request_agrees : (f : Ids) (setup : Setup) → setup.layer.eager ≡ true → (t : Tables) (r : Recording) (request : Request) → gives_far f.many request.call ≡ true
-    → IsReady f setup.layer (length t.spans) request.at r t.recording (effect_of (lazy setup) t request)
-    → Agrees f.new (length t.spans) request.at (effect_of setup (tables_by f.new r t) request) (effect_of (lazy setup) t request)
+    → IsReady f setup.layer (length t.spans) request.at r t.recording (effect_of (lazy_setup setup) t request)
+    → Agrees f.new (length t.spans) request.at (effect_of setup (tables_by f.new r t) request) (effect_of (lazy_setup setup) t request)
 request_agrees f setup eager t r request far ready =
-    if_agrees f setup eager t r request.at request.lane (is_bad_moment t.moment request.at) (refusal.BadMoment t.moment request.at)
-    (need what.Lane (slice_get setup.ids request.lane) >>= (λ id. effect_of_call setup (tables_by f.new r t) request.at request.lane request.call))
-    (need what.Lane (slice_get setup.ids request.lane) >>= (λ id. effect_of_call (lazy setup) t request.at request.lane request.call)) ready
-    (λ go. named_agrees f setup eager t r request.at request.lane what.Lane (slice_get setup.ids request.lane)
-    (λ id. effect_of_call setup (tables_by f.new r t) request.at request.lane request.call) (λ id. effect_of_call (lazy setup) t request.at request.lane request.call) go
-    (λ id given. call_agrees f setup eager t r request.at request.lane request.call far given))
+    if_agrees f setup eager t r request.at request.lane_place (is_bad_moment t.moment request.at) (refusal.BadMoment t.moment request.at)
+    (need what.Lane (slice_get setup.ids request.lane_place) >>= (λ id. effect_of_call setup (tables_by f.new r t) request.at request.lane_place request.call))
+    (need what.Lane (slice_get setup.ids request.lane_place) >>= (λ id. effect_of_call (lazy_setup setup) t request.at request.lane_place request.call)) ready
+    (λ go. named_agrees f setup eager t r request.at request.lane_place what.Lane (slice_get setup.ids request.lane_place)
+    (λ id. effect_of_call setup (tables_by f.new r t) request.at request.lane_place request.call) (λ id. effect_of_call (lazy_setup setup) t request.at request.lane_place request.call) go
+    (λ id given. call_agrees f setup eager t r request.at request.lane_place request.call far given))

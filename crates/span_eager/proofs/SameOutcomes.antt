@@ -1,6 +1,6 @@
 -- An early start changes ids alone.
 use Rattle.std.proofs.Common.{◌≡◌, ℕ, zero, suc, ◌+◌, ◌≤◌, List, [], ◌∷◌, ◌++◌, length, map, true, Option, Some, None, refl, ap, ◌∙◌, arith, slice_get, count_by}
-use Rattle.span_eager.proofs.Common.{option_map_or, range_with_len, nat_tests, length-map, slice_get_past, Reply, Request, Setup, Effect, History, Tables, no_tables, nothing_recorded, tables, after_effect, is_open, open_spans, history_of, outcome_of, none, starting_order, lazy, eager_id, answers, is_far, MayStartEarly, new_id, reply_by, answer_by, outcome_with}
+use Rattle.span_eager.proofs.Common.{option_map_or, range_with_len, nat_tests, length-map, slice_get_past, Reply, Request, Setup, Effect, History, Tables, no_tables, nothing_recorded, tables, after_effect, is_open, open_spans, history_of, outcome_of, none, starting_order, lazy_setup, eager_id, answers, is_far, MayStartEarly, new_id, reply_by, answer_by, outcome_with}
 use Rattle.span_laws.proofs.spans.AllSpansLemmas.{started_few}
 use Rattle.span_laws.proofs.steps.LegalLemmas.{scripts_are_legal}
 use Rattle.span_eager.proofs.SameSpan.{Ids}
@@ -43,14 +43,14 @@ as_many f t [] = refl
 as_many f t (e ∷ h) = ap suc (as_many f (after_effect t e) h)
 
 -- both scripts from their beginnings
-beside : (setup : Setup) (requests : List Request) → setup.layer.eager ≡ true → MayStartEarly (lazy setup) requests
-    → Beside (eager_id (lazy setup) requests) setup (no_tables setup) (no_tables (lazy setup)) requests (history_of setup requests) (history_of (lazy setup) requests)
+beside : (setup : Setup) (requests : List Request) → setup.layer.eager ≡ true → MayStartEarly (lazy_setup setup) requests
+    → Beside (eager_id (lazy_setup setup) requests) setup (no_tables setup) (no_tables (lazy_setup setup)) requests (history_of setup requests) (history_of (lazy_setup setup) requests)
 beside setup requests eager may =
-    let t = no_tables (lazy setup) in
-    let h = history_of (lazy setup) requests in
+    let t = no_tables (lazy_setup setup) in
+    let h = history_of (lazy_setup setup) requests in
     let order = starting_order h in
-    let many = length (tables (lazy setup) h).spans in
-    let on = goes_on (lazy setup) refl requests [] none in
+    let many = length (tables (lazy_setup setup) h).spans in
+    let on = goes_on (lazy_setup setup) refl requests [] none in
     let f : Ids = record {
       new = new_id order;
       order = order;
@@ -58,27 +58,27 @@ beside setup requests eager may =
       none = refl;
       some = ids_some order;
       placed = ids_placed order;
-      far = ids_far order many (started_few (lazy setup) h (scripts_are_legal (lazy setup) requests));
+      far = ids_far order many (started_few (lazy_setup setup) h (scripts_are_legal (lazy_setup setup) requests));
     } in
     along f setup eager requests t (nothing_recorded setup) may.far
     (record { spans = tt; below = tt; made = refl; front = []; order_is = on.1; count = refl; finished = refl; e_settings = refl; l_settings = refl; counting = refl })
     may.settled on.0
 
-pub each_early_is_late : (setup : Setup) (requests : List Request) → setup.layer.eager ≡ true → MayStartEarly (lazy setup) requests
-    → answers setup requests ≡ map (answer_by (eager_id (lazy setup) requests)) (answers (lazy setup) requests)
+pub each_early_is_late : (setup : Setup) (requests : List Request) → setup.layer.eager ≡ true → MayStartEarly (lazy_setup setup) requests
+    → answers setup requests ≡ map (answer_by (eager_id (lazy_setup setup) requests)) (answers (lazy_setup setup) requests)
 each_early_is_late setup requests eager may = (beside setup requests eager may).answers
 
-pub early_is_late : (setup : Setup) (requests : List Request) → setup.layer.eager ≡ true → MayStartEarly (lazy setup) requests
-    → outcome_of setup requests ≡ outcome_with (eager_id (lazy setup) requests) (outcome_of (lazy setup) requests)
+pub early_is_late : (setup : Setup) (requests : List Request) → setup.layer.eager ≡ true → MayStartEarly (lazy_setup setup) requests
+    → outcome_of setup requests ≡ outcome_with (eager_id (lazy_setup setup) requests) (outcome_of (lazy_setup setup) requests)
 early_is_late setup requests eager may =
-    let t = no_tables (lazy setup) in
-    let f = eager_id (lazy setup) requests in
-    let h = history_of (lazy setup) requests in
+    let t = no_tables (lazy_setup setup) in
+    let f = eager_id (lazy_setup setup) requests in
+    let h = history_of (lazy_setup setup) requests in
     let early = history_of setup requests in
     let both = beside setup requests eager may in
     λ i. record {
       replies = (ap (map (λ (e : Effect). e.reply)) both.history ∙ replies_by f t h) i;
       records = both.records i;
-      refused = (both.refused (length early) ∙ ap (λ (place : ℕ). refused_from (lazy setup) t place requests h) (ap length both.history ∙ as_many f t h)) i;
-      left_open = (ap open_spans both.final ∙ ap (λ (n : ℕ). count_by (is_open (tables (lazy setup) h).handles) (range_with_len 0 n)) (length-map (tables (lazy setup) h).spans (made_by f))) i;
+      refused = (both.refused (length early) ∙ ap (λ (place : ℕ). refused_from (lazy_setup setup) t place requests h) (ap length both.history ∙ as_many f t h)) i;
+      left_open = (ap open_spans both.final ∙ ap (λ (n : ℕ). count_by (is_open (tables (lazy_setup setup) h).handles) (range_with_len 0 n)) (length-map (tables (lazy_setup setup) h).spans (made_by f))) i;
     }

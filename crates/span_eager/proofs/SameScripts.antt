@@ -1,6 +1,6 @@
 -- A script whose spans start at their making, beside the same one without that.
 use Rattle.std.proofs.Common.{◌≡◌, ℕ, ◌≤◌, ◌||◌, List, [], ◌∷◌, ◌++◌, length, map, fold, Bool, true, false, Option, Ok, Err, refl, sym, ap, ap₂, subst, subst₂, ◌∙◌, arith, append_assoc, if◌then◌else◌, slice_get, option_and_then, nat_lt}
-use Rattle.span_eager.proofs.Common.{nat_tests, map-append, length-map, Record, LayerSettings, GREATEST, Recording, with_start, Reply, Refusal, Request, Setup, Effect, History, Tables, done_by, recorded_by, open_part, records_of, after_effect, Resolved, ◌>>=◌, need, effect_of, effect_of_call, is_bad_moment, followed_by, history_from, records_from, refusal_at, starts_from, closes_from, lazy, answers_from, AreSettled, AreFar, record_by, reply_by, answer_by}
+use Rattle.span_eager.proofs.Common.{nat_tests, map-append, length-map, Record, LayerSettings, GREATEST, Recording, with_start, Reply, Refusal, Request, Setup, Effect, History, Tables, done_by, recorded_by, open_part, records_of, after_effect, Resolved, ◌>>=◌, need, effect_of, effect_of_call, is_bad_moment, followed_by, history_from, records_from, refusal_at, starts_from, closes_from, lazy_setup, answers_from, AreSettled, AreFar, record_by, reply_by, answer_by}
 use Rattle.span_script.specs.declared.reply.Refusal.TheVariants as refusal
 use Rattle.span_script.specs.declared.reply.What.TheVariants as what
 use Rattle.span_eager.proofs.SameSpan.{Ids}
@@ -25,7 +25,7 @@ pub record Beside (f : ℕ → ℕ) (setup : Setup) (u t : Tables) (requests : L
   pub answers : answers_from u early ≡ map (answer_by f) (answers_from t late)
   pub last : Recording
   pub final : fold after_effect u early ≡ tables_by f last (fold after_effect t late)
-  pub refused : (place : ℕ) → refused_from setup u place requests early ≡ refused_from (lazy setup) t place requests late
+  pub refused : (place : ℕ) → refused_from setup u place requests early ≡ refused_from (lazy_setup setup) t place requests late
 
 -- ---- a moment that isn't refused
 
@@ -39,7 +39,7 @@ or_none false b is = (refl, is)
 
 good_moment : (setup : Setup) (t : Tables) (request : Request) (e : Effect) → effect_of setup t request ≡ Ok e → (t.moment ≤ request.at) × (request.at ≤ GREATEST)
 good_moment setup t request e is =
-    let good = no_bad (is_bad_moment t.moment request.at) (refusal.BadMoment t.moment request.at) (need what.Lane (slice_get setup.ids request.lane) >>= (λ id. effect_of_call setup t request.at request.lane request.call)) e is in
+    let good = no_bad (is_bad_moment t.moment request.at) (refusal.BadMoment t.moment request.at) (need what.Lane (slice_get setup.ids request.lane_place) >>= (λ id. effect_of_call setup t request.at request.lane_place request.call)) e is in
     let parts = or_none (nat_lt request.at t.moment) (nat_lt GREATEST request.at) good in
     let first = parts.0 in
     let last = parts.1 in
@@ -66,13 +66,13 @@ module _ (f : Ids) (setup : Setup) (eager : setup.layer.eager ≡ true) where
   Same = SameRecording f setup.layer
 
   -- a request that gives an effect is ready for the calls' lemmas
-  ready_by : (t : Tables) (r : Recording) (request : Request) (behind : Effect → History) (res : Resolved) → effect_of (lazy setup) t request ≡ res
+  ready_by : (t : Tables) (r : Recording) (request : Request) (behind : Effect → History) (res : Resolved) → effect_of (lazy_setup setup) t request ≡ res
       → Same (length t.spans) t.moment (order_from t (followed_by res behind)) r t.recording → AreSettled t (followed_by res behind)
       → IsReady f setup.layer (length t.spans) request.at r t.recording res
   ready_by t r request behind (Err why) is same settled = tt
   ready_by t r request behind (Ok e) is same settled = λ at_is.
       let n = length t.spans in
-      let good = good_moment (lazy setup) t request e is in
+      let good = good_moment (lazy_setup setup) t request e is in
       let rest = order_from (after_effect t e) (behind e) in
       let closing = closes_from e.at (done_by n e t.recording) e.closes in
       let order_is : order_from t (e ∷ behind e) ≡ starts_from request.at t.recording e.starts ++ (closing ++ rest) =
@@ -87,11 +87,11 @@ module _ (f : Ids) (setup : Setup) (eager : setup.layer.eager ≡ true) where
       stay n at (s ∷ ss) pending e l same = ap (λ (x : Recording). fold (λ r s. with_start s at r) x ss) (early_stays f setup.layer n at at s pending e l same) ∙ stay n at ss pending e l same
 
   -- one effect more
-  next_same : (t : Tables) (r : Recording) (request : Request) (e : Effect) (h : History) → effect_of (lazy setup) t request ≡ Ok e → IsPlain request.at e
+  next_same : (t : Tables) (r : Recording) (request : Request) (e : Effect) (h : History) → effect_of (lazy_setup setup) t request ≡ Ok e → IsPlain request.at e
       → Same (length t.spans) t.moment (order_from t (e ∷ h)) r t.recording → AreSettled t (e ∷ h) → AreShut t (e ∷ h)
       → Same (count_made (length t.spans) e.new_span) e.at (order_from (after_effect t e) h) (recorded_by (length t.spans) (effect_by f.new (length t.spans) e) r) (recorded_by (length t.spans) e t.recording)
   next_same t r request e h is plain same settled shut =
-      let good = good_moment (lazy setup) t request e is in
+      let good = good_moment (lazy_setup setup) t request e is in
       let past = good.0 in
       let within = good.1 in
       let at_is = plain.at_is in
@@ -99,14 +99,14 @@ module _ (f : Ids) (setup : Setup) (eager : setup.layer.eager ≡ true) where
       (record { at_is = refl; begins = plain.begins; made = subst (λ (m : ℕ). IsJustMade m e.new_span) (sym at_is) plain.made; starts_none = plain.starts_none }) settled.0 shut.0.once shut.0.shut same
 
   by_both : (t : Tables) (r : Recording) (request : Request) (requests : List Request)
-      → ((s : Tables) (q : Recording) → Same (length s.spans) s.moment (order_from s (history_from (lazy setup) s requests)) q s.recording
-      → AreSettled s (history_from (lazy setup) s requests) → AreShut s (history_from (lazy setup) s requests)
-      → Beside f.new setup (tables_by f.new q s) s requests (history_from setup (tables_by f.new q s) requests) (history_from (lazy setup) s requests))
-      → (re : Resolved) → effect_of setup (tables_by f.new r t) request ≡ re → (rl : Resolved) → effect_of (lazy setup) t request ≡ rl → Agrees f.new (length t.spans) request.at re rl
-      → Same (length t.spans) t.moment (order_from t (followed_by rl (λ e. history_from (lazy setup) (after_effect t e) requests))) r t.recording
-      → AreSettled t (followed_by rl (λ e. history_from (lazy setup) (after_effect t e) requests)) → AreShut t (followed_by rl (λ e. history_from (lazy setup) (after_effect t e) requests))
+      → ((s : Tables) (q : Recording) → Same (length s.spans) s.moment (order_from s (history_from (lazy_setup setup) s requests)) q s.recording
+      → AreSettled s (history_from (lazy_setup setup) s requests) → AreShut s (history_from (lazy_setup setup) s requests)
+      → Beside f.new setup (tables_by f.new q s) s requests (history_from setup (tables_by f.new q s) requests) (history_from (lazy_setup setup) s requests))
+      → (re : Resolved) → effect_of setup (tables_by f.new r t) request ≡ re → (rl : Resolved) → effect_of (lazy_setup setup) t request ≡ rl → Agrees f.new (length t.spans) request.at re rl
+      → Same (length t.spans) t.moment (order_from t (followed_by rl (λ e. history_from (lazy_setup setup) (after_effect t e) requests))) r t.recording
+      → AreSettled t (followed_by rl (λ e. history_from (lazy_setup setup) (after_effect t e) requests)) → AreShut t (followed_by rl (λ e. history_from (lazy_setup setup) (after_effect t e) requests))
       → Beside f.new setup (tables_by f.new r t) t (request ∷ requests)
-      (followed_by re (λ e. history_from setup (after_effect (tables_by f.new r t) e) requests)) (followed_by rl (λ e. history_from (lazy setup) (after_effect t e) requests))
+      (followed_by re (λ e. history_from setup (after_effect (tables_by f.new r t) e) requests)) (followed_by rl (λ e. history_from (lazy_setup setup) (after_effect t e) requests))
   by_both t r request requests rest (Err a) is_e (Err b) is_l agrees same settled shut = record {
     history = refl;
     records = refl;
@@ -125,7 +125,7 @@ module _ (f : Ids) (setup : Setup) (eager : setup.layer.eager ≡ true) where
       let k : length (map (made_by f.new) t.spans) ≡ n = length-map t.spans (made_by f.new) in
       let q = open_part (recorded_by (length (map (made_by f.new) t.spans)) ee r) in
       let is : after_effect u ee ≡ tables_by f.new q s = after_by f.new n r t l in
-      let hl = history_from (lazy setup) s requests in
+      let hl = history_from (lazy_setup setup) s requests in
       let next = next_same t r request l hl is_l agrees.1 same settled shut in
       let opened = open_same f setup.layer (count_made n l.new_span) l.at (order_from s hl) (recorded_by n ee r) (recorded_by n l t.recording) next in
       let ready : Same (length s.spans) s.moment (order_from s hl) q s.recording =
@@ -142,11 +142,11 @@ module _ (f : Ids) (setup : Setup) (eager : setup.layer.eager ≡ true) where
       })
 
   pub along : (requests : List Request) (t : Tables) (r : Recording) → AreFar f.many requests
-      → Same (length t.spans) t.moment (order_from t (history_from (lazy setup) t requests)) r t.recording
-      → AreSettled t (history_from (lazy setup) t requests) → AreShut t (history_from (lazy setup) t requests)
-      → Beside f.new setup (tables_by f.new r t) t requests (history_from setup (tables_by f.new r t) requests) (history_from (lazy setup) t requests)
+      → Same (length t.spans) t.moment (order_from t (history_from (lazy_setup setup) t requests)) r t.recording
+      → AreSettled t (history_from (lazy_setup setup) t requests) → AreShut t (history_from (lazy_setup setup) t requests)
+      → Beside f.new setup (tables_by f.new r t) t requests (history_from setup (tables_by f.new r t) requests) (history_from (lazy_setup setup) t requests)
   along [] t r far same settled shut = record { history = refl; records = refl; answers = refl; last = r; final = refl; refused = λ place. refl }
   along (request ∷ requests) t r far same settled shut =
-      by_both t r request requests (λ s q. along requests s q far.1) (effect_of setup (tables_by f.new r t) request) refl (effect_of (lazy setup) t request) refl
-      (request_agrees f setup eager t r request far.0 (ready_by t r request (λ e. history_from (lazy setup) (after_effect t e) requests) (effect_of (lazy setup) t request) refl same settled))
+      by_both t r request requests (λ s q. along requests s q far.1) (effect_of setup (tables_by f.new r t) request) refl (effect_of (lazy_setup setup) t request) refl
+      (request_agrees f setup eager t r request far.0 (ready_by t r request (λ e. history_from (lazy_setup setup) (after_effect t e) requests) (effect_of (lazy_setup setup) t request) refl same settled))
       same settled shut

@@ -4,7 +4,7 @@ use Rattle.std.specs.List.{AllByRecursion}
 use Rattle.otel_base.specs.declared.record.Record.{Record}
 use Rattle.otel_state.specs.Deeds.{Deed, deed}
 use Rattle.otel_layer.specs.Recording.{Recording}
-use Rattle.otel_layer.specs.Table.{data_at, waits}
+use Rattle.otel_layer.specs.Table.{data_at, waiting_context}
 use Rattle.span_script.specs.declared.reply.Reply.{Reply}
 use Rattle.span_script.specs.declared.request.Call.{Call}
 use Rattle.span_script.specs.declared.request.Call.TheVariants as call
@@ -16,8 +16,8 @@ use Rattle.span_laws.specs.Starts.{starting_order}
 use Rattle.span_eager.specs.Renaming.{new_id}
 
 -- the same script where no span starts at its making
-abbrev pub lazy : Setup → Setup
-lazy setup = record setup { layer = record setup.layer { eager = false } }
+abbrev pub lazy_setup : Setup → Setup
+lazy_setup setup = record setup { layer = record setup.layer { eager = false } }
 
 -- each id by the place of a start, and the id by the number of the making
 abbrev pub eager_id : Setup → List Request → ℕ → ℕ
@@ -39,7 +39,7 @@ settles d = is_some d.name || is_some d.kind || is_some d.parent
 
 -- an op that does isn't done to a span that hasn't started
 abbrev pub IsSettled : Recording → SpanOp → Type 0
-IsSettled r d = (settles (deed d.op) && is_some (waits (data_at d.span r.spans))) ≡ false
+IsSettled r d = (settles (deed d.op) && is_some (waiting_context (data_at d.span r.spans))) ≡ false
 
 -- no op of an effect is, the making's own left aside
 abbrev pub AreSettled : Tables → History → Type 0

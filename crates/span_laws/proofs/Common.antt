@@ -13,14 +13,14 @@ pub use Rattle.otel_base.specs.declared.context.SpanContext.{SpanContext}
 pub use Rattle.otel_base.specs.declared.record.Record.{Record}
 pub use Rattle.trace_base.proofs.EntryLemmas.{any_if_counted, count_cons, count_push, counted_if_any, length_held, made_if_held}
 pub use Rattle.trace_base.proofs.HoldLemmas.{current_in, holds_other, holds_set, in_push, in_push_same, less_holds, times_without}
-pub use Rattle.trace_base.specs.Spans.{Span, Spans, current_of, entries_on, held_by_child, is_in, less_hold, next_of, no_span, place_on, span_at, times_in, with_hold, without_hold, without_last}
+pub use Rattle.trace_base.specs.Spans.{Span, Spans, current_of, entries_on, with_hold_of_child, is_in, less_hold, next_of, no_span, parent_on, span_at, times_in, with_hold, without_hold, without_last}
 pub use Rattle.trace_base.specs.declared.callsite.Callsite.{Callsite}
 pub use Rattle.trace_base.specs.declared.field.ValueSet.{ValueSet}
 pub use Rattle.trace_base.specs.declared.lane.Lane.{Lane}
 pub use Rattle.trace_base.specs.layers.Hooks.{Hook, OnClose, OnEnter, OnEvent, OnExit, OnFollows, OnNewSpan, OnRecord, one_if}
 pub use Rattle.env_directives.specs.declared.env.directive.Directive.{Directive}
 pub use Rattle.env_filter.proofs.kept.StackedLemmas.{IsBefore, all_more, all_push, in_order, new_if}
-pub use Rattle.env_filter.specs.Filtering.{Each, FilterState, after_hook, enables_in, fresh, span_level}
+pub use Rattle.env_filter.specs.Filtering.{Each, FilterState, after_hook, enables_in, fresh_filter, span_level}
 pub use Rattle.env_filter.specs.spans.Histories.{AreInOrder, IsNext, NeverFalls, is_close_of, is_ended, level_by_calls, levels_by_calls}
 pub use Rattle.otel_state.proofs.SumLemmas.{appended, content_is, entries_is, own_is, parent_is}
 pub use Rattle.otel_state.specs.Content.{Making, attributes_of, closing_count, closing_times, content, counted_of}
@@ -38,7 +38,7 @@ pub use Rattle.otel_state.specs.fields.SpanFields.{span_update}
 pub use Rattle.otel_layer.proofs.FoundSpanLemmas.{told_at_made, told_at_op, told_at_removed}
 pub use Rattle.otel_layer.specs.Recording.{Enters, Exits, Recording, RecordsCall, RecordsChain, RecordsPart, Stays, data_after, made_under, source_of, started_under, with_applied, with_close, with_entry, with_event, with_exit, with_follow, with_new_recorded, with_start, with_starts, without_closed}
 pub use Rattle.otel_layer.specs.Steps.{IfKnown, context_from, new_span_data, parent_source, with_link}
-pub use Rattle.otel_layer.specs.Table.{data_at, ids_at, is_id, knows_span, own_or, waits, waits_by, with_span_data}
+pub use Rattle.otel_layer.specs.Table.{data_at, ids_at, is_id, knows_span, own_or, waiting_context, context_unless_started, with_span_data}
 pub use Rattle.span_script.proofs.runs.RunLemmas.{goes_on_with, records_push, stays_with}
 pub use Rattle.span_script.proofs.spans.OpenCountLemmas.{range_more}
 pub use Rattle.span_script.proofs.spans.OpenSpansLemmas.{any_counted, pick, slot_open}
@@ -47,21 +47,21 @@ pub use Rattle.span_script.specs.Admission.{TextRead, filter_if, text_filter, te
 pub use Rattle.span_script.specs.Effects.{effect_of, effect_of_call, is_bad_moment}
 pub use Rattle.span_script.specs.Fields.{Fields, all_values, values_of}
 pub use Rattle.span_script.specs.Setups.{Setup, event_site, id_at, span_site}
-pub use Rattle.span_script.specs.Tables.{Effect, FilterHook, History, HookClose, HookEnter, HookExit, HookNew, HookRecord, MadeSpan, Scope, ScopeGuard, SpanOp, Tables, after_effect, done_by, either_after, hooks_since, lanes_with_entry, lanes_with_exit, made_of, newer, no_made_span, no_tables, open_part, own_span, recorded_by, records_of, scope_of, slot_at, spend, tables, with_item, with_span_made}
+pub use Rattle.span_script.specs.Tables.{Effect, FilterHook, History, HookClose, HookEnter, HookExit, HookNew, HookRecord, MadeSpan, Scope, ScopeGuard, SpanOp, Tables, after_effect, done_by, either_after, hooks_since, lanes_with_entry, lanes_with_exit, made_of, newer_text, no_made_span, no_tables, open_part, own_span, recorded_by, records_of, scope_of, slot_at, spend, tables, with_item, with_span_made}
 pub use Rattle.span_script.specs.calls.Contexts.{attach_effect, context_effect, detach_effect, own_context}
-pub use Rattle.span_script.specs.calls.Entries.{active, enter_effect, entry_call, exit_effect, is_full, is_shared, meets_full}
-pub use Rattle.span_script.specs.calls.Events.{counted_ops, if_enabled}
+pub use Rattle.span_script.specs.calls.Entries.{activated_span, enter_effect, entry_call, exit_effect, is_full, is_shared, meets_full}
+pub use Rattle.span_script.specs.calls.Events.{event_ops, if_enabled}
 pub use Rattle.span_script.specs.calls.Fields.{callsite_of, hooks_of_values, update_ops}
 pub use Rattle.span_script.specs.calls.Filter.{admits_at, after_filter_hook, filter_at, hook_of, hooks_of_span, in_force, reload_by, reload_effect}
 pub use Rattle.span_script.specs.calls.Here.{Here, Resolved, here_at, need, op_on, ops_effect, ops_on, refuse_if, ◌>>=◌}
 pub use Rattle.span_script.specs.calls.Links.{follow_effect, happens_at}
 pub use Rattle.span_script.specs.calls.Spans.{borrows, clone_effect, closed_of, context_around, current_scope, disabled_effect, drop_effect, exchange_effect, holds, is_borrowed, is_open, lane_in, new_span_data_at, open_spans, parent_at, scope_at, scope_or_current, span_effect}
 pub use Rattle.span_script.specs.declared.request.Call.{Call}
-pub use Rattle.span_script.specs.declared.request.Place.{Place}
+pub use Rattle.span_script.specs.declared.request.RequestParent.{RequestParent}
 pub use Rattle.span_script.specs.declared.request.Request.{Request}
 pub use Rattle.span_laws.specs.Closes.{BeginsWith, is_drop}
 pub use Rattle.span_laws.specs.Laws.{IsHistory, more, none, occurrences}
 pub use Rattle.span_laws.specs.Makings.{HasContextOf, IsMadeBy, IsRecordOf, SeesOwn, asks_admitted, context_of_lane, context_span, is_making, parent_context}
-pub use Rattle.span_laws.specs.Records.{Began, EachRecord, IsRecord, all_ops, closed_at, ops_from, ops_in, ops_of, records_of_history, start_in}
+pub use Rattle.span_laws.specs.Records.{IsMadeWith, EachRecord, IsRecord, all_ops, closed_at, ops_from, ops_in, ops_of, records_of_history, start_in}
 pub use Rattle.span_laws.specs.Starts.{at_making, place_from, place_in, starting_order, starts_of, with_started}
 pub use Rattle.span_laws.specs.Telling.{TellsAttributes, TellsSpan, id_in_data, id_of}

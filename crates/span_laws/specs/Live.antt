@@ -12,12 +12,12 @@ abbrev pub is_live : Spans → ℕ → Bool
 is_live spans id = nat_lt 0 (span_at spans.made id).holds
 
 -- how many states of a span are kept
-abbrev pub states_of : Recording → ℕ → ℕ
-states_of r id = count_by (is_id id) (keys_of r.spans)
+abbrev pub state_count : Recording → ℕ → ℕ
+state_count r id = count_by (is_id id) (keys_of r.spans)
 
 -- one state of each span that is live is kept, and none of another
 abbrev pub KeepsLive : Spans → Recording → Type 0
-KeepsLive spans r = (id : ℕ) → states_of r id ≡ one_if (is_live spans id)
+KeepsLive spans r = (id : ℕ) → state_count r id ≡ one_if (is_live spans id)
 
 -- a call from outside is answered exactly where its span is live
 abbrev pub IsAnsweredLive : Spans → PartCall → Type 0

@@ -14,8 +14,8 @@ use Rattle.trace_base.specs.declared.field.ValueSet.{ValueSet}
 use Rattle.trace_base.specs.Spans.{current_of}
 use Rattle.span_script.specs.declared.request.Call.{Call}
 use Rattle.span_script.specs.declared.request.Call.TheVariants as call
-use Rattle.span_script.specs.declared.request.Place.{Place}
-use Rattle.span_script.specs.declared.request.Place.TheVariants as place
+use Rattle.span_script.specs.declared.request.RequestParent.{RequestParent}
+use Rattle.span_script.specs.declared.request.RequestParent.TheVariants as request_parent
 use Rattle.span_script.specs.declared.request.Request.{Request}
 use Rattle.span_script.specs.calls.Here.{here_at}
 use Rattle.span_script.specs.Effects.{effect_of}
@@ -25,7 +25,7 @@ use Rattle.span_script.specs.calls.Spans.{lane_in, last_attached, scope_at}
 use Rattle.span_script.specs.Fields.{Fields, all_values}
 use Rattle.span_script.specs.Setups.{Setup, span_site}
 use Rattle.span_script.specs.Tables.{Effect, History, MadeSpan, Scope, Tables, own_span, tables}
-use Rattle.span_laws.specs.Records.{Began, IsRecord, closed_at, ops_of}
+use Rattle.span_laws.specs.Records.{IsMadeWith, IsRecord, closed_at, ops_of}
 use Rattle.span_laws.specs.Starts.{place_in, starting_order}
 
 -- a call asks for a span of a callsite that the directives in force admit, on the lane of an id
@@ -35,7 +35,7 @@ asks_admitted setup t id _ = false
 
 -- so does a request
 abbrev pub is_making : Setup → Tables → Request → Bool
-is_making setup t request = asks_admitted setup t (here_at setup t request.at request.lane).lane request.call
+is_making setup t request = asks_admitted setup t (here_at setup t request.at request.lane_place).lane request.call
 
 -- the own context of a span, which has started by then, if one is named; else the one that was attached last to the lane of an id
 abbrev pub context_of_lane : Tables → ℕ → ℕ → Option ℕ → Context
@@ -44,14 +44,14 @@ context_of_lane t at id (Some s) = own_or (last_attached empty_context (t.contex
 
 -- The context that a new span is put under: none's for a root, the own one of an explicit parent, and for a contextual span that
 -- of the lane: with activation the one that was attached last, without it that of the current span.
-abbrev pub parent_context : Setup → Tables → ℕ → ℕ → Place → Scope → Context
-parent_context setup t at id place.Root up = empty_context
-parent_context setup t at id (place.Under handle) up = own_context t.recording at up
-parent_context setup t at id place.Contextual up = context_of_lane t at id (if setup.layer.activation then None else current_of (t.entries id))
+abbrev pub parent_context : Setup → Tables → ℕ → ℕ → RequestParent → Scope → Context
+parent_context setup t at id request_parent.Root up = empty_context
+parent_context setup t at id (request_parent.Under handle) up = own_context t.recording at up
+parent_context setup t at id request_parent.Contextual up = context_of_lane t at id (if setup.layer.activation then None else current_of (t.entries id))
 
 -- A span was made as a request says: of its callsite, under its place, at its moment, with the values of its fields.
 pub record IsMadeBy (setup : Setup) (t : Tables) (at place : ℕ) (what_for : Call) (m : MadeSpan) : Type 0 where
-  pub under : Place
+  pub under : RequestParent
   pub fields : Fields
   pub up : Scope
   pub callsite : Callsite
@@ -65,7 +65,7 @@ pub record IsMadeBy (setup : Setup) (t : Tables) (at place : ℕ) (what_for : Ca
   pub name : making.name ≡ callsite.name
   pub context : making.parent ≡ parent_context setup t at (here_at setup t at place).lane under up
   pub first : making.first ≡ first_attributes callsite (lane_in (here_at setup t at place)) setup.layer
-  pub began : Began setup at m.made_with making
+  pub began : IsMadeWith setup at m.made_with making
   pub written : began.update ≡ span_update callsite values setup.layer
 
 -- a request behind the front of a history made the span of a number, as it says
@@ -77,7 +77,7 @@ pub record RequestMakes (setup : Setup) (h : History) (s : ℕ) (fore : History)
   pub effect : effect_of setup (tables setup fore) request ≡ Ok e
   pub made : e.new_span ≡ Some m
   pub number : length (tables setup fore).spans ≡ s
-  pub by : IsMadeBy setup (tables setup fore) request.at request.lane request.call m
+  pub by : IsMadeBy setup (tables setup fore) request.at request.lane_place request.call m
 
 -- The record of a span in a history: it is made with what the request says that made it, and has the span's ops in the history.
 pub record IsRecordOf (setup : Setup) (h : History) (s : ℕ) (r : Record) : Type 0 where
@@ -87,15 +87,15 @@ pub record IsRecordOf (setup : Setup) (h : History) (s : ℕ) (r : Record) : Typ
   pub told : IsRecord made.by.making made.by.began.update (λ own. ops_of own h s) (place_in (starting_order h) s) (closed_at h s) r
 
 -- the span whose own context a new span is put under: an explicit parent, or without activation the current span
-abbrev pub context_span : Bool → Place → Scope → Option ℕ → Option ℕ
-context_span activation place.Root up current = None
-context_span activation (place.Under handle) up current = own_span up
-context_span activation place.Contextual up current = if activation then None else current
+abbrev pub context_span : Bool → RequestParent → Scope → Option ℕ → Option ℕ
+context_span activation request_parent.Root up current = None
+context_span activation (request_parent.Under handle) up current = own_span up
+context_span activation request_parent.Contextual up current = if activation then None else current
 
 -- what is put under a span is put under the context of the span's record
 abbrev pub HasContextOf : Setup → History → ℕ → Record → Type 0
 HasContextOf setup h p r = (s : ℕ) (fore : History) (request : Request) (made : RequestMakes setup h s fore request)
-    → context_span setup.layer.activation made.by.under made.by.up (current_of ((tables setup fore).entries (here_at setup (tables setup fore) request.at request.lane).lane)) ≡ Some p
+    → context_span setup.layer.activation made.by.under made.by.up (current_of ((tables setup fore).entries (here_at setup (tables setup fore) request.at request.lane_place).lane)) ≡ Some p
     → made.by.making.parent ≡ record { span = Some r.context }
 
 -- and so what any request sees of a span's own context that starts the span, or finds it started

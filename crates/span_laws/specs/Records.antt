@@ -54,7 +54,7 @@ abbrev pub closed_at : History → ℕ → ℕ
 closed_at h s = fold (λ at e. if is_in s e.closes then e.at else at) 0 h
 
 -- what a span was made with: an update at the moment of its making, under the settings of the layer
-pub record Began (setup : Setup) (at : ℕ) (first : SpanData) (making : Making) : Type 0 where
+pub record IsMadeWith (setup : Setup) (at : ℕ) (first : SpanData) (making : Making) : Type 0 where
   pub update : Update
   pub is : first ≡ after_op (data_at_making making) at (ops.Update update)
   pub made_at : making.made_at ≡ at

@@ -14,7 +14,7 @@ id_of r = r.context.span
 
 abbrev pub id_in_data : Option SpanData → ℕ
 id_in_data None = 0
-id_in_data (Some told) = (ids_or_zeros told.own).span
+id_in_data (Some span_data) = (ids_or_zeros span_data.own).span
 
 -- It starts with the making, and ends with the last exit, else with the close.
 pub record TellsSpan (made : ℕ) (left : Option ℕ) (closed : ℕ) (r : Record) : Type 0 where

@@ -16,7 +16,7 @@ pub fn makings()
         → effect_of setup (tables setup h) request ≡ Ok e → is_some e.new_span ≡ is_making setup (tables setup h) request }
     ensures told { (setup : Setup) (h : History) (request : Request) (e : Effect) (m : MadeSpan) → IsHistory setup h
         → effect_of setup (tables setup h) request ≡ Ok e → e.new_span ≡ Some m
-        → IsMadeBy setup (tables setup h) request.at request.lane request.call m }
+        → IsMadeBy setup (tables setup h) request.at request.lane_place request.call m }
 {}
 
 /// Which contexts spans are put under: that of its record, where it is the own context of a span. So is what any request sees

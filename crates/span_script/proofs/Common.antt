@@ -16,22 +16,22 @@ pub use Rattle.otel_base.specs.declared.value.KeyValue.{KeyValue}
 pub use Rattle.trace_base.proofs.EntryLemmas.{any_if_counted, count_cons, count_push, counted_if_any, length_held, made_if_held, with_other, with_same}
 pub use Rattle.trace_base.proofs.HoldLemmas.{children_set, current_in, first_if_in, holds_other, holds_set, keeps_children, less_holds, less_last, less_more, times_without}
 pub use Rattle.trace_base.specs.Calls.{CloneSpan, Enter, Exit, NewSpan, SubscriberCall, with_new_span, with_span_entry, with_span_exit}
-pub use Rattle.trace_base.specs.Conditions.{AreFew, HasFewHolds, HasFewHoldsAbove, HasOwnHold, IsLive, IsLivePlace, MayExit}
+pub use Rattle.trace_base.specs.Conditions.{AreFew, HasFewHolds, HasFewHoldsAbove, HasOwnHold, IsLive, IsLiveParent, MayExit}
 pub use Rattle.trace_base.specs.Gate.{AreSame, IsFresh, Worlds, interests_of_sites}
 pub use Rattle.trace_base.specs.Sound.{OneEach, has_lane}
-pub use Rattle.trace_base.specs.Spans.{Entries, Span, Spans, current_of, entries_on, first_entries, has_entry, held_by_child, is_child_of, is_in, is_open_child, less_hold, next_of, no_span, open_children, place_on, span_at, times_in, with_entries, with_hold, without_hold, without_last}
+pub use Rattle.trace_base.specs.Spans.{Entries, Span, Spans, current_of, entries_on, entered_lane_count, has_entry, with_hold_of_child, is_child_of, is_in, is_open_child, less_hold, next_of, no_span, open_child_count, parent_on, span_at, times_in, with_entries, with_hold, without_hold, without_last}
 pub use Rattle.trace_base.specs.declared.callsite.Callsite.{Callsite}
 pub use Rattle.trace_base.specs.declared.callsite.Kind.{Kind}
 pub use Rattle.trace_base.specs.declared.field.ValueSet.{ValueSet}
 pub use Rattle.trace_base.specs.declared.lane.Lane.{Lane}
 pub use Rattle.trace_base.specs.declared.span.Parent.{Parent}
 pub use Rattle.trace_base.specs.declared.subscriber.Interest.{Interest}
-pub use Rattle.trace_base.specs.lanes.Contexts.{AreAttached, KeepsAttached, Lanes, attached_as}
+pub use Rattle.trace_base.specs.lanes.Contexts.{AreAttached, KeepsAttached, CallLanes, attached_as}
 pub use Rattle.span_handles.specs.Entries.{IsThere, LeavesLane, MeetsFullLane}
 pub use Rattle.span_handles.specs.Handles.{AreOfOne, Copies, FollowsOn, Handle, HasOn, Held, IsCurrent, IsKnown, IsSite, Makes, MayMake, RecordsAt, RecordsOn, ReplacedOn, callsite_in, field_at, field_in, id_of, no_handle, place_under}
 pub use Rattle.span_handles.specs.Worlds.{Alike, Chain, ChainShown, Has, ReleasesChain, Replaced, Shown, all_released, closed_in, kept_in, member_of, no_spans, releases, spans_in}
 pub use Rattle.env_directives.specs.declared.env.directive.Directive.{Directive}
-pub use Rattle.env_filter.specs.Filtering.{FilterState, FilterWithRoom, IsNewFilter, enables_in, interest_in, is_admitted, plain}
+pub use Rattle.env_filter.specs.Filtering.{FilterState, FilterWithRoom, IsNewFilter, enables_in, interest_in, is_admitted, plain_filter}
 pub use Rattle.env_filter.specs.Reloading.{layer_or, none_kept, sometimes}
 pub use Rattle.otel_state.specs.Stack.{last_passing}
 pub use Rattle.otel_state.specs.States.{SpanData, after_op, data_at_making, is_growing, reply_after}
@@ -41,34 +41,34 @@ pub use Rattle.otel_layer.specs.Asking.{AppliesOn, AsksContext, AsksDone, AsksPa
 pub use Rattle.otel_layer.specs.Core.{is_number, is_token, keeps_as, kept_by}
 pub use Rattle.otel_layer.specs.Parts.{Applies, AppliesTo, PartCall, Shows, context_at}
 pub use Rattle.otel_layer.specs.Recording.{AttachesOwn, Detaches, Enters, Exits, Recording, RecordsCall, RecordsChain, closed_started, data_after, data_started, no_recording, source_of, started_under, with_applied, with_close, with_start, with_starts, without_closed}
-pub use Rattle.otel_layer.specs.Steps.{around, context_from, new_span_data, parent_source, with_link}
-pub use Rattle.otel_layer.specs.Table.{data_at, ids_at, knows_span, own_or, waits, waits_by, with_op, with_span_data}
-pub use Rattle.otel_layer.specs.declared.tokens.Token.{Token}
+pub use Rattle.otel_layer.specs.Steps.{lane_context, context_from, new_span_data, parent_source, with_link}
+pub use Rattle.otel_layer.specs.Table.{data_at, ids_at, knows_span, own_or, waiting_context, context_unless_started, with_op, with_span_data}
+pub use Rattle.otel_layer.specs.declared.layer.tokens.Token.{Token}
 pub use Rattle.otel_metrics.specs.declared.measure.Measure.{Measure}
 pub use Rattle.span_stack.specs.Counting.{RecordsCallBy, with_counted, with_event_by}
 pub use Rattle.span_stack.specs.Filtered.{FiltersChain, filter_after, without_span}
 pub use Rattle.span_stack.specs.Measured.{measured_by}
-pub use Rattle.span_stack.specs.Reading.{StackWorlds, Stacks, counter_in, in_place, measures_in, new_recording, stack_interest}
+pub use Rattle.span_stack.specs.Reading.{StackWorlds, Stacks, counter_in, filter_in_place, measures_in, new_recording, stack_interest}
 pub use Rattle.span_script.specs.Admission.{IsCounter, IsTextFilter, IsUnread, TextRead, fault_in, filter_if, pieces_read, text_filter, text_read, unread_by, with_piece, with_piece_read}
-pub use Rattle.span_script.specs.Balance.{Balanced, OpenGuard, guards, named_by, names_span, opened_by, opened_on}
+pub use Rattle.span_script.specs.Balance.{Balanced, OpenGuard, guards_span, named_by, names_span, opened_by, opened_on}
 pub use Rattle.span_script.specs.Effects.{effect_of, effect_of_call, is_bad_moment}
 pub use Rattle.span_script.specs.Fields.{Fields, all_values, declared_by, declared_value, declares, values_by, values_of}
 pub use Rattle.span_script.specs.Fits.{AllContextsFit, ContextSlots, ContextsFit, FilteringFits, HaveOwnNumbers, IsKept, IsLaterThanParent, IsRefusal, IsScope, LaneValue, LanesFit, MadeFit, Parts, RecordingFits, Served, ServedByHistory, Serves, ServesResolved, ShownFilter, StandsFor, State, Views, counter_by, first_of, guard_of, held_by, held_of, is_for_memory, kept_on, lane_at, lane_of, lane_value, no_lane_value, numbers_by, numbers_of, parent_in, shown_of, site_by, stack_views, state_of, tokens_of}
 pub use Rattle.span_script.specs.Setups.{HasOwnIds, Setup, event_site, id_at, if_event, if_span, name_at, span_site}
 pub use Rattle.span_script.specs.Slots.{LetsThrough, MakesOnly, TellsOnly, is_named, is_shared_by, names_handle, parent_for}
 pub use Rattle.span_script.specs.SubscriberLaws.{AddsMeasures, Aside, AsksLaw, CallsLaw, ChainsLaw, SameLaw, aside_in}
-pub use Rattle.span_script.specs.Tables.{Attached, Effect, EntryOf, FilterHook, GuardOf, History, HookClose, HookEnter, HookExit, HookNew, HookRecord, MadeSpan, Owner, Scope, ScopeGuard, SpanOp, Tables, after_effect, either_after, hooks_since, is_by, is_owner, lanes_with, lanes_with_entry, lanes_with_exit, made_of, newer, no_made_span, no_tables, nothing_recorded, open_part, own_span, quiet_effect, recorded_by, records_of, scope_of, site_of, slot_at, slots_after, spend, tables, with_attached, with_detached, with_either, with_item, with_span_made}
+pub use Rattle.span_script.specs.Tables.{Attached, Effect, EntryOf, FilterHook, GuardOf, History, HookClose, HookEnter, HookExit, HookNew, HookRecord, MadeSpan, Owner, Scope, ScopeGuard, SpanOp, Tables, after_effect, either_after, hooks_since, is_attached_by, is_owner, lanes_with, lanes_with_entry, lanes_with_exit, made_of, newer_text, no_made_span, no_tables, nothing_recorded, open_part, own_span, quiet_effect, recorded_by, records_of, scope_of, site_of, slot_at, slots_after, spend, tables, with_attached, with_detached, with_either, with_item, with_span_made}
 pub use Rattle.span_script.specs.calls.Contexts.{attach_effect, context_effect, detach_effect, own_context}
-pub use Rattle.span_script.specs.calls.Entries.{active, attached_by, enter_effect, entry_call, exit_effect, is_full, is_shared, meets_full}
-pub use Rattle.span_script.specs.calls.Events.{counted_ops, event_effect, if_enabled}
+pub use Rattle.span_script.specs.calls.Entries.{activated_span, attached_by, enter_effect, entry_call, exit_effect, is_full, is_shared, meets_full}
+pub use Rattle.span_script.specs.calls.Events.{event_ops, event_effect, if_enabled}
 pub use Rattle.span_script.specs.calls.Filter.{admits_at, after_filter_hook, enabled_effect, filter_at, hooks_of_span, in_force, reload_by, reload_effect}
 pub use Rattle.span_script.specs.calls.Here.{Here, Resolved, here_at, need, op_on, ops_effect, ops_on, refuse_if, ◌>>=◌}
-pub use Rattle.span_script.specs.calls.Links.{follow_effect, happens_at, is_set, link_ops, set_while}
+pub use Rattle.span_script.specs.calls.Links.{follow_effect, happens_at, set_parent_result, link_ops, set_result}
 pub use Rattle.span_script.specs.calls.Refusals.{refused_entry}
 pub use Rattle.span_script.specs.calls.Spans.{borrows, clone_effect, closed_of, context_around, current_scope, disabled_effect, drop_effect, exchange_effect, holds, is_borrowed, is_open, lane_in, last_attached, new_effect, new_span_data_at, open_spans, parent_at, scope_at, scope_or_current, span_effect}
 pub use Rattle.span_script.specs.declared.contexts.Attach.{Attach}
 pub use Rattle.span_script.specs.declared.reply.Refusal.{Refusal}
 pub use Rattle.span_script.specs.declared.reply.Reply.{Reply}
-pub use Rattle.span_script.specs.declared.request.Place.{Place}
+pub use Rattle.span_script.specs.declared.request.RequestParent.{RequestParent}
 pub use Rattle.span_script.specs.declared.request.Request.{Request}
 pub use Rattle.span_script.specs.declared.slots.Guard.{Guard}

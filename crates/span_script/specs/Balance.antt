@@ -1,6 +1,6 @@
 -- The holds and entries of spans, by what the history says of handles and guards.
 use Rattle.std.specs.Prelude.{◌≡◌, ℕ, ◌+◌, ◌==◌, ◌&&◌, Bool, false, List, [], ◌∷◌, Option, Some, None, count_by}
-use Rattle.trace_base.specs.Spans.{Spans, span_at, entries_on, times_in, first_entries, open_children}
+use Rattle.trace_base.specs.Spans.{Spans, span_at, entries_on, times_in, entered_lane_count, open_child_count}
 use Rattle.span_script.specs.Tables.{Scope, ScopeGuard, slot_at, own_span}
 use Rattle.span_script.specs.Setups.{id_at}
 
@@ -15,17 +15,17 @@ abbrev pub names_span : ℕ → Option ℕ → Bool
 names_span s None = false
 names_span s (Some t) = t == s
 
-abbrev pub guards : ℕ → ℕ → Option OpenGuard → Bool
-guards lane s None = false
-guards lane s (Some g) = g.lane == lane && g.span == s
+abbrev pub guards_span : ℕ → ℕ → Option OpenGuard → Bool
+guards_span lane s None = false
+guards_span lane s (Some g) = g.lane == lane && g.span == s
 
 -- The holds of a span are its unspent handles, its first entries and its open children. The entries of a lane are
 -- those of the history, and each has an open guard, whose handle is unspent and names the span.
 pub record Balanced (spans : Spans) (hs : List (Option ℕ)) (gs : List (Option OpenGuard)) (es : ℕ → List ℕ) : Type 0 where
   pub holds : (s : ℕ) → (span_at spans.made s).holds
-      ≡ count_by (names_span s) hs + first_entries spans.lanes s + open_children spans.made s
+      ≡ count_by (names_span s) hs + entered_lane_count spans.lanes s + open_child_count spans.made s
   pub entries : (lane : ℕ) → entries_on lane spans.lanes ≡ es lane
-  pub guarded : (lane s : ℕ) → times_in s (es lane) ≡ count_by (guards lane s) gs
+  pub guarded : (lane s : ℕ) → times_in s (es lane) ≡ count_by (guards_span lane s) gs
   pub borrowed : (n : ℕ) (g : OpenGuard) → slot_at gs n ≡ Some g → slot_at hs g.handle ≡ Some g.span
 
 -- the span that an unspent handle names, and what an open guard of an enabled one stands for

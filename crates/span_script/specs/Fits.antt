@@ -9,7 +9,7 @@ use Rattle.trace_base.specs.Spans.{Spans, Span, span_at}
 use Rattle.trace_base.specs.Sound.{OneEach}
 use Rattle.otel_base.specs.Stack.{has_number}
 use Rattle.otel_state.specs.declared.settings.LayerSettings.{LayerSettings}
-use Rattle.otel_layer.specs.declared.tokens.Token.{Token}
+use Rattle.otel_layer.specs.declared.layer.tokens.Token.{Token}
 use Rattle.otel_layer.specs.Core.{is_token}
 use Rattle.otel_layer.specs.Table.{data_at}
 use Rattle.otel_layer.specs.Recording.{Recording, no_recording}
@@ -22,7 +22,7 @@ use Rattle.env_filter.specs.spans.Watching.{MatchState}
 use Rattle.span_handles.specs.Worlds.{Has, member_of, spans_in, kept_in}
 use Rattle.span_handles.specs.Handles.{Handle, Held}
 use Rattle.otel_metrics.specs.declared.measure.Measure.{Measure}
-use Rattle.span_stack.specs.Reading.{Stacks, stack_recording, in_place, counts_by, stack_measures}
+use Rattle.span_stack.specs.Reading.{Stacks, stack_recording, filter_in_place, counting_filter, stack_measures}
 use Rattle.span_script.specs.declared.slots.Guard.{Guard}
 use Rattle.span_script.specs.declared.contexts.Attach.{Attach}
 use Rattle.span_script.specs.declared.reply.Reply.{Reply}
@@ -33,7 +33,7 @@ use Rattle.span_script.specs.declared.settings.Texts.{Texts}
 use Rattle.span_script.specs.Admission.{text_filter}
 use Rattle.span_script.specs.Setups.{Setup}
 use Rattle.span_script.specs.Balance.{Balanced, named_by, opened_by}
-use Rattle.span_script.specs.Tables.{Scope, MadeSpan, Owner, EntryOf, GuardOf, Attached, is_by, ScopeGuard, Effect, Tables, History, tables, after_effect, open_part, records_of, slot_at, own_span, site_of, made_of}
+use Rattle.span_script.specs.Tables.{Scope, MadeSpan, Owner, EntryOf, GuardOf, Attached, is_attached_by, ScopeGuard, Effect, Tables, History, tables, after_effect, open_part, records_of, slot_at, own_span, site_of, made_of}
 use Rattle.span_script.specs.calls.Here.{Resolved}
 use Rattle.span_script.specs.Effects.{effect_of_call}
 use Rattle.span_script.specs.calls.Filter.{filter_at}
@@ -68,7 +68,7 @@ pub record Views (S : Type 0) : Type 0 where
 
 -- those of the stack that pipelines run on
 abbrev pub stack_views : Views Stacks
-stack_views = record { recorded = stack_recording; filtered = in_place; counter = counts_by; measured = stack_measures }
+stack_views = record { recorded = stack_recording; filtered = filter_in_place; counter = counting_filter; measured = stack_measures }
 
 -- What is seen of a filter at the spans of the first ids, from the last one on, and at the lanes of some ids.
 pub record ShownFilter : Type 0 where
@@ -187,7 +187,7 @@ pub record LanesFit (dispatch : ℕ) (kept : ℕ → ℕ → ℕ) (lanes : List 
 abbrev pub numbers_of : Owner → List (ℕ × Context) → List Attached → List (Option ℕ)
 numbers_of o [] items = []
 numbers_of o (x ∷ live) [] = []
-numbers_of o (x ∷ live) (a ∷ items) = if is_by o a then Some x.0 ∷ numbers_of o live items else numbers_of o live items
+numbers_of o (x ∷ live) (a ∷ items) = if is_attached_by o a then Some x.0 ∷ numbers_of o live items else numbers_of o live items
 
 -- the same of a span by the layer's open entries, and of an attach on the lane at a place by its guard
 abbrev pub tokens_of : ℕ → ℕ → List Token → List (Option ℕ)

@@ -3,24 +3,24 @@ use Rattle.std.specs.Prelude.{◌≡◌, ℕ, List, Bool, true, false, ◌==◌,
 use Rattle.std.specs.List.{list_any}
 use Rattle.trace_base.specs.declared.field.ValueSet.{ValueSet}
 use Rattle.trace_base.specs.declared.lane.Lane.{Lane}
-use Rattle.trace_base.specs.Calls.{SubscriberCall, Event}
+use Rattle.trace_base.specs.Calls.{SubscriberCall}
 use Rattle.trace_base.specs.declared.callsite.Callsite.{Callsite}
 use Rattle.env_filter.specs.Filtering.{FilterState, is_admitted}
-use Rattle.span_handles.specs.Worlds.{Replaced}
+use Rattle.span_handles.specs.Events.{TellsEventIf}
 use Rattle.trace_base.specs.Gate.{Worlds}
 use Rattle.trace_base.specs.Spans.{Spans}
 use Rattle.trace_base.specs.declared.span.Parent.{Parent}
 use Rattle.trace_base.specs.declared.span.Parent.TheVariants as parent
 use Rattle.span_handles.specs.Handles.{Handle, Held, MakesIf, no_handle, place_under}
-use Rattle.span_script.specs.declared.request.Place.{Place}
-use Rattle.span_script.specs.declared.request.Place.TheVariants as place
+use Rattle.span_script.specs.declared.request.RequestParent.{RequestParent}
+use Rattle.span_script.specs.declared.request.RequestParent.TheVariants as request_parent
 use Rattle.span_script.specs.declared.slots.Guard.{Guard}
 
 -- under what a new span is put, by a request's place, if the handle is there
-abbrev pub parent_for : List (Option Held) → Place → Option Parent
-parent_for handles place.Root = Some parent.Root
-parent_for handles place.Contextual = Some parent.Current
-parent_for handles (place.Under handle) = option_map place_under (slice_index_or handles handle None)
+abbrev pub parent_for : List (Option Held) → RequestParent → Option Parent
+parent_for handles request_parent.Root = Some parent.Root
+parent_for handles request_parent.Contextual = Some parent.Current
+parent_for handles (request_parent.Under handle) = option_map place_under (slice_index_or handles handle None)
 
 abbrev pub names_handle : ℕ → Option Guard → Bool
 names_handle handle None = false
@@ -38,14 +38,9 @@ abbrev pub MakesOnly : {S : Type 0} → (S → Spans) → (S → SubscriberCall 
 MakesOnly spans does true old new lane at parent site values dispatch handle = MakesIf spans does old new lane at parent site values dispatch handle
 MakesOnly spans does false old new lane at parent site values dispatch handle = (handle ≡ no_handle) × (new ≡ old)
 
--- an event was told to a subscriber with its parent, or nothing happened
-pub record Tells {S : Type 0} (does : S → SubscriberCall → S → Type 0) (old new : Worlds S) (lane : Lane) (at : ℕ) (parent : Parent) (site : ℕ) (values : ValueSet) (dispatch : ℕ) : Type 0 where
-  pub callsite : Callsite
-  pub is : slice_get old.sites site ≡ Some callsite
-  pub told : Replaced (λ s t. does s (Event lane at parent site callsite values) t) old new dispatch
-
-abbrev pub TellsOnly : {S : Type 0} → (S → SubscriberCall → S → Type 0) → Bool → Worlds S → Worlds S → Lane → ℕ → Parent → ℕ → ValueSet → ℕ → Type 0
-TellsOnly does true old new lane at parent site values dispatch = Tells does old new lane at parent site values dispatch
+-- an event was told by one call, or nothing happened
+abbrev pub TellsOnly : {S : Type 0} → (S → SubscriberCall → S → Type 0) → Bool → Worlds S → Worlds S → Lane → ℕ → Parent → ℕ → ValueSet → Option ℕ → Type 0
+TellsOnly does true old new lane at parent site values dispatch = TellsEventIf does old new lane at parent site values dispatch
 TellsOnly does false old new lane at parent site values dispatch = new ≡ old
 
 -- the gate's answer for a callsite on a lane, by the filter in place

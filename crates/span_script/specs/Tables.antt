@@ -50,8 +50,8 @@ pub record Attached : Type 0 where
   pub owner : Owner
   pub context : Context
 
-abbrev pub is_by : Owner → Attached → Bool
-is_by owner = λ a. is_owner a.owner owner
+abbrev pub is_attached_by : Owner → Attached → Bool
+is_attached_by owner = λ a. is_owner a.owner owner
 
 -- what the guard of an entry keeps: its handle, the place of the lane that it was made on, whether it owns the handle, and the scope
 -- that the handle had
@@ -223,7 +223,7 @@ with_attached cs lane (Some a) = λ l. if lane == l then cs lane ++ a ∷ [] els
 
 abbrev pub with_detached : (ℕ → List Attached) → ℕ → Option Owner → ℕ → List Attached
 with_detached cs lane None = cs
-with_detached cs lane (Some owner) = λ l. if lane == l then without_last (is_by owner) (cs lane) else cs l
+with_detached cs lane (Some owner) = λ l. if lane == l then without_last (is_attached_by owner) (cs lane) else cs l
 
 -- What an effect makes of what was recorded: spans start, one is made, and may start, ops are done, and spans close.
 abbrev pub with_span_made : ℕ → Option MadeSpan → Recording → Recording
@@ -248,9 +248,9 @@ abbrev pub records_of : Tables → Effect → List Record
 records_of t e = (recorded_by (length t.spans) e t.recording).finished
 
 -- the newer of two texts, and what was heard since
-abbrev pub newer : Option (List ℕ) → Option (List ℕ) → Option (List ℕ)
-newer old None = old
-newer old (Some text) = Some text
+abbrev pub newer_text : Option (List ℕ) → Option (List ℕ) → Option (List ℕ)
+newer_text old None = old
+newer_text old (Some text) = Some text
 
 abbrev pub hooks_since : List FilterHook → Option (List ℕ) → List FilterHook
 hooks_since past None = past
@@ -268,7 +268,7 @@ after_effect t e = record {
   entries = lanes_with_exit (lanes_with_entry t.entries e.lane e.entry) e.lane e.exit;
   contexts = with_detached (with_attached t.contexts e.lane e.attach) e.lane e.detach;
   recording = open_part (recorded_by (length t.spans) e t.recording);
-  filter = newer t.filter e.filter;
+  filter = newer_text t.filter e.filter;
   hooks = hooks_since t.hooks e.filter ++ e.hooks;
   moment = e.at;
 }

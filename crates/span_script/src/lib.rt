@@ -18,5 +18,5 @@ pub mod slots;
 pub use open_error::OpenError;
 pub use outcome::Outcome;
 pub use reply::{Refusal, Reply, What};
-pub use request::{Call, LAST_MOMENT, Place, Request};
+pub use request::{Call, LAST_MOMENT, Request, RequestParent};
 pub use settings::Settings;

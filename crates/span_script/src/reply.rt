@@ -56,9 +56,9 @@ pub enum Refusal {
     /// The handle has an open guard, and the request would spend or own it.
     InUse,
     /// The guard is of another lane, which is told by its place.
-    WrongLane { lane: u64 },
+    WrongLane { lane_place: u64 },
     /// The lane, which is told by its place, has as many contexts as may be.
-    Full { lane: u64 },
+    Full { lane_place: u64 },
     /// A piece of a filter's text is no directive, which is told by its number, from 1; empty pieces count.
     Directive { piece: u64 },
     /// Out of memory.
@@ -71,7 +71,7 @@ impl Refusal {
         ensures { result ≡ refused_entry place error }
     {
         match error {
-            EnterError::Full => Refusal::Full { lane: place },
+            EnterError::Full => Refusal::Full { lane_place: place },
             EnterError::Memory => Refusal::Memory,
         }
     }

@@ -7,12 +7,12 @@ pub use Rattle.trace_base.proofs.InterestLemmas.{fresh_admits, registered_same}
 pub use Rattle.trace_base.specs.Calls.{CloneSpan, Enter, Event, Exit, Follows, NewSpan, Records, SubscriberCall, TryClose, spans_after_call}
 pub use Rattle.trace_base.specs.Conditions.{Allowed}
 pub use Rattle.trace_base.specs.Gate.{Admits, AreSame, IsFresh, Worlds, interests_in, interests_of_sites}
-pub use Rattle.trace_base.specs.Spans.{Spans, entries_on, next_of, place_on, span_at, times_in}
+pub use Rattle.trace_base.specs.Spans.{Spans, entries_on, next_of, parent_on, span_at, times_in}
 pub use Rattle.trace_base.specs.declared.callsite.Callsite.{Callsite}
 pub use Rattle.trace_base.specs.declared.lane.Lane.{Lane}
 pub use Rattle.trace_base.specs.declared.level.LevelFilter.{LevelFilter}
 pub use Rattle.trace_base.specs.declared.subscriber.Interest.{Interest}
-pub use Rattle.trace_base.specs.lanes.Contexts.{AreAttached, Lanes}
+pub use Rattle.trace_base.specs.lanes.Contexts.{AreAttached, CallLanes}
 pub use Rattle.trace_base.specs.layers.Hooks.{Hook, HookLanes, KnownSpans, OnEnter, OnEvent, OnExit}
 pub use Rattle.trace_base.specs.layers.Unseeing.{LeavesLanes, no_known_spans}
 pub use Rattle.span_registry.specs.Both.{DoesBoth, InStep, IsWholeBoth, KnowsNone, hint_both, joint_interest}
@@ -22,7 +22,7 @@ pub use Rattle.span_registry.specs.declared.layered.Layered.{Layered}
 pub use Rattle.span_handles.proofs.ChangedSubscriberLemmas.{alike, as_many, now_there, seen_before, seen_later}
 pub use Rattle.span_handles.specs.Worlds.{Alike, Chain, Has, Replaced, closed_in, closes, ended, member_of, no_spans}
 pub use Rattle.env_filter.proofs.kept.StackedLemmas.{Steps, does_in_place, over_hears, same_in_place, step_in_place}
-pub use Rattle.env_filter.specs.Filtering.{AreWhole, DoesFilter, Each, FilterState, FilterWithRoom, IsAtMostLevel, IsNewFilter, enables_in, has_dynamics, hint_in, interest_in, is_admitted, levels_admit, plain, span_level}
+pub use Rattle.env_filter.specs.Filtering.{AreWhole, DoesFilter, Each, FilterState, FilterWithRoom, IsAtMostLevel, IsNewFilter, enables_in, has_dynamics, hint_in, interest_in, is_admitted, levels_admit, plain_filter, span_level}
 pub use Rattle.env_filter.specs.Reloading.{Both, HoldsIfThere, Swaps, both_alike, both_refl, layer_or, never_enabled, none_kept, sometimes}
 pub use Rattle.env_filter.specs.declared.reload.Layer.{Layer}
 pub use Rattle.otel_layer.specs.Core.{Core, CoreWithRoom, IsWholeCore, kept_by, kept_in, seen_in}
@@ -34,6 +34,6 @@ pub use Rattle.otel_layer.specs.declared.counting.FilteredOpenTelemetryLayer.{Fi
 pub use Rattle.otel_metrics.specs.declared.measure.Measure.{Measure}
 pub use Rattle.span_stack.specs.Counting.{RecordsCallBy, with_counted, with_event_by}
 pub use Rattle.span_stack.specs.Measured.{measured_by, waiting_measures}
-pub use Rattle.span_stack.specs.Reading.{HasCurrentInterests, StackWorlds, Stacks, counts_by, in_place, interest_over, stack_interest, stack_measures, stack_recording, without_first, without_record}
-pub use Rattle.span_stack.specs.Through.{below, inner_of}
+pub use Rattle.span_stack.specs.Reading.{HasCurrentInterests, StackWorlds, Stacks, counting_filter, filter_in_place, interest_over, stack_interest, stack_measures, stack_recording, without_first, without_record}
+pub use Rattle.span_stack.specs.Through.{inner_worlds, inner_of}
 pub use Rattle.span_stack.specs.declared.measuring.Measuring.{Measuring}

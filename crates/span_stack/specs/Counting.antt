@@ -2,7 +2,7 @@
 use Rattle.std.specs.Prelude.{◌≡◌, ℕ, Bool, true, false, Option, Some, None}
 use Rattle.trace_base.specs.declared.callsite.Callsite.{Callsite}
 use Rattle.trace_base.specs.declared.field.ValueSet.{ValueSet}
-use Rattle.trace_base.specs.Spans.{Spans, entries_on, place_on}
+use Rattle.trace_base.specs.Spans.{Spans, entries_on, parent_on}
 use Rattle.trace_base.specs.Calls.{SubscriberCall, NewSpan, Records, Follows, Event, Enter, Exit, CloneSpan, TryClose}
 use Rattle.otel_state.specs.declared.op.Op.TheVariants as ops
 use Rattle.otel_state.specs.fields.EventFields.{event_of}
@@ -22,9 +22,9 @@ with_event_by (Some f) (Some id) lane at callsite values r = with_counted (enabl
 
 -- each call but an event is as it is where none is counted
 abbrev pub RecordsCallBy : Option FilterState → Spans → Recording → SubscriberCall → Recording → Type 0
-RecordsCallBy counter spans r (Event lane at place site callsite values) t =
-    t ≡ with_event_by counter (place_on (entries_on lane.id spans.lanes) place) lane.id at callsite values r
-RecordsCallBy counter spans r (NewSpan lane at place site callsite values) t = RecordsCall spans r (NewSpan lane at place site callsite values) t
+RecordsCallBy counter spans r (Event lane at parent site callsite values) t =
+    t ≡ with_event_by counter (parent_on (entries_on lane.id spans.lanes) parent) lane.id at callsite values r
+RecordsCallBy counter spans r (NewSpan lane at parent site callsite values) t = RecordsCall spans r (NewSpan lane at parent site callsite values) t
 RecordsCallBy counter spans r (Records id at callsite values) t = RecordsCall spans r (Records id at callsite values) t
 RecordsCallBy counter spans r (Follows id from at) t = RecordsCall spans r (Follows id from at) t
 RecordsCallBy counter spans r (Enter id at before later) t = RecordsCall spans r (Enter id at before later) t

@@ -16,5 +16,5 @@ measures_over world dispatch = member_of waiting_measures [] world dispatch
 
 -- what a call adds
 abbrev pub measured_by : SubscriberCall → List Measure
-measured_by (Event lane at place site callsite values) = measures callsite values
+measured_by (Event lane at parent site callsite values) = measures callsite values
 measured_by _ = []

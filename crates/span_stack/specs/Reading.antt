@@ -13,7 +13,7 @@ use Rattle.otel_base.specs.Recorder.{RecorderValue}
 use Rattle.otel_layer.specs.Recording.{Recording, no_recording, recording_of}
 use Rattle.otel_layer.specs.declared.counting.FilteredOpenTelemetryLayer.{FilteredOpenTelemetryLayer}
 use Rattle.env_filter.specs.declared.reload.Layer.{Layer}
-use Rattle.env_filter.specs.Filtering.{FilterState, FilterWithRoom, plain, interest_in}
+use Rattle.env_filter.specs.Filtering.{FilterState, FilterWithRoom, plain_filter, interest_in}
 use Rattle.env_filter.specs.Reloading.{layer_or, sometimes}
 use Rattle.otel_metrics.specs.declared.measure.Measure.{Measure}
 use Rattle.otel_state.specs.declared.settings.LayerSettings.{LayerSettings}
@@ -39,15 +39,15 @@ abbrev pub recording_in : StackWorlds → ℕ → Recording
 recording_in world dispatch = member_of stack_recording no_recording world dispatch
 
 -- the filter in place over any subscriber, if it wasn't retired
-abbrev pub in_place : {S : Type 0} → Layered (Layer FilterWithRoom) S → Option FilterState
-in_place s = option_map plain s.layer.inner
+abbrev pub filter_in_place : {S : Type 0} → Layered (Layer FilterWithRoom) S → Option FilterState
+filter_in_place s = option_map plain_filter s.layer.inner
 
 abbrev pub filter_in : {S : Type 0} → Worlds (Layered (Layer FilterWithRoom) S) → ℕ → Option FilterState
-filter_in world dispatch = member_of in_place None world dispatch
+filter_in world dispatch = member_of filter_in_place None world dispatch
 
 -- The cached interests are those of the filters that are in place; what lies below a filter is interested in everything.
 abbrev pub interest_over : Layer FilterWithRoom → Callsite → Interest
-interest_over l = λ c. joint_interest (layer_or sometimes (λ f. interest_in (plain f)) l.inner c) interests.Always
+interest_over l = λ c. joint_interest (layer_or sometimes (λ f. interest_in (plain_filter f)) l.inner c) interests.Always
 
 abbrev pub stack_interest : Stacks → Callsite → Interest
 stack_interest s = interest_over s.layer
@@ -56,11 +56,11 @@ abbrev pub HasCurrentInterests : StackWorlds → Type 0
 HasCurrentInterests world = IsFresh stack_interest world
 
 -- the filter that counts events, if they are counted
-abbrev pub counts_by : Stacks → Option FilterState
-counts_by s = option_map plain s.inner.inner.layer.filter
+abbrev pub counting_filter : Stacks → Option FilterState
+counting_filter s = option_map plain_filter s.inner.inner.layer.filter
 
 abbrev pub counter_in : StackWorlds → ℕ → Option FilterState
-counter_in world dispatch = member_of counts_by None world dispatch
+counter_in world dispatch = member_of counting_filter None world dispatch
 
 -- the measures that weren't taken
 abbrev pub stack_measures : Stacks → List Measure

@@ -7,8 +7,8 @@ abbrev pub inner_of : {L S : Type 0} → Layered L S → S
 inner_of s = s.inner
 
 -- the world whose subscribers are what lies below the outer layers
-abbrev pub below : {L S : Type 0} → Worlds (Layered L S) → Worlds S
-below world = record { sites = world.sites; subscribers = map inner_of world.subscribers; cached = world.cached; global = world.global }
+abbrev pub inner_worlds : {L S : Type 0} → Worlds (Layered L S) → Worlds S
+inner_worlds world = record { sites = world.sites; subscribers = map inner_of world.subscribers; cached = world.cached; global = world.global }
 
 -- a layer of which something is never so
 abbrev pub Never : {L : Type 0} → (L → Bool) → Type 0

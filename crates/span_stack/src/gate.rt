@@ -1,10 +1,11 @@
 //! The gate of a stack, and the exchange of its filter.
-ghost use Rattle.std.specs.Prelude.{◌≡◌, ◌≢◌, ◌<◌, ℕ, true, None, Some, length, is_some, slice_get, OnOk, OnErr};
+ghost use Rattle.std.specs.Prelude.{◌≡◌, ◌≢◌, ◌<◌, ℕ, true, false, None, Some, length, is_some, slice_get, OnOk, OnErr};
 ghost use Rattle.trace_base.specs.declared.callsite.Callsite.{Callsite};
-ghost use Rattle.trace_base.specs.Gate.{AreSame, IsOwn};
-ghost use Rattle.span_handles.specs.Worlds.{Has, Replaced, Alike};
+ghost use Rattle.trace_base.specs.Gate.{AreSame, IsInWorld, dispatch_on};
+ghost use Rattle.span_handles.specs.Handles.{HasIf};
+ghost use Rattle.span_handles.specs.Worlds.{Replaced, Alike};
 ghost use Rattle.otel_layer.specs.Parts.{StaysStack};
-ghost use Rattle.env_filter.specs.Filtering.{FilterState, plain, is_admitted, IsNewFilter};
+ghost use Rattle.env_filter.specs.Filtering.{FilterState, plain_filter, is_admitted, IsNewFilter};
 ghost use Rattle.env_filter.specs.Reloading.{Swaps};
 ghost use Rattle.span_stack.specs.Reading.{recording_in, filter_in, counter_in, measures_in, HasCurrentInterests};
 
@@ -17,17 +18,18 @@ use trace_base::lane::Lane;
 use trace_base::subscriber::Subscriber;
 use trace_base::world::World;
 
-/// Whether what a callsite makes is let through on a lane of its own stack, by the interest that was cached: what the
-/// macros of `tracing` ask.
+/// Whether what a callsite makes is let through on a lane, by the interest that was cached: what the macros of `tracing`
+/// ask. No where no stack serves the lane.
 pub fn admits(world: &World<Stack>, lane: &Lane, site: SiteId) -> bool
     requires site { site < length world.now.sites }
-    requires own { IsOwn world.now lane.now.default }
-    requires whole { (dispatch : ℕ) → lane.now.default ≡ Some dispatch
-        → Has ⟦<Stack as Subscriber>⟧.is_whole world.now dispatch }
+    requires own { IsInWorld world.now lane.now.default }
+    requires whole { HasIf ⟦<Stack as Subscriber>⟧.is_whole world.now
+        (dispatch_on lane.now.default world.now.global) }
     requires current { HasCurrentInterests world.now }
-    ensures { (dispatch : ℕ) (f : FilterState) (c : Callsite) → lane.now.default ≡ Some dispatch
-        → filter_in world.now dispatch ≡ Some f → slice_get world.now.sites site ≡ Some c
-        → result ≡ is_admitted f lane.now.id c }
+    ensures served { (dispatch : ℕ) (f : FilterState) (c : Callsite)
+        → dispatch_on lane.now.default world.now.global ≡ Some dispatch → filter_in world.now dispatch ≡ Some f
+        → slice_get world.now.sites site ≡ Some c → result ≡ is_admitted f lane.now.id c }
+    ensures none { dispatch_on lane.now.default world.now.global ≡ None → result ≡ false }
 {
     world.admits(lane, site)
 }
@@ -53,11 +55,11 @@ pub fn put_in_force(
     dispatch: Dispatch,
     filter: EnvFilter,
 ) -> Result<(), Memory>
-    requires new { IsNewFilter (plain filter) }
+    requires new { IsNewFilter (plain_filter filter) }
     requires there { dispatch < length world.old.subscribers }
     requires in_place { is_some (filter_in world.old dispatch) ≡ true }
 
-    ensures filter { OnOk result (filter_in world.new dispatch ≡ Some (plain filter)) }
+    ensures filter { OnOk result (filter_in world.new dispatch ≡ Some (plain_filter filter)) }
     ensures recording { recording_in world.new dispatch ≡ recording_in world.old dispatch }
     ensures measures { measures_in world.new dispatch ≡ measures_in world.old dispatch }
     ensures counter { counter_in world.new dispatch ≡ counter_in world.old dispatch }

@@ -1,19 +1,15 @@
 //! The layer of metrics as a part of a stack: it has no OpenTelemetry layer.
-ghost use Rattle.std.specs.Prelude.{◌≡◌, [], ◌∷◌, ◌++◌, drop, false, None, MatchOption};
+ghost use Rattle.std.specs.Prelude.{◌≡◌, [], ◌∷◌, ◌++◌, drop, MatchOption};
 ghost use Rattle.std.proofs.Common.{refl, ap, ◌∙◌};
 ghost use Rattle.trace_base.specs.declared.lane.Lane.{Lane};
 ghost use Rattle.trace_base.specs.layers.Unseeing.{unseeing_sees, unseeing_lanes};
 ghost use Rattle.otel_metrics.specs.Waiting.{measures_of_hook};
-ghost use Rattle.otel_layer.specs.Parts.{TouchesNone};
-ghost use Rattle.otel_layer.specs.laws.CallsLemmas.{still_layer};
 
-use otel_base::context::Context;
 use otel_base::enter_error::EnterError;
 use otel_base::memory::Memory;
-use otel_layer::part::{OtelLayer, OtelPart};
+use otel_layer::part::WithoutOtel;
 use otel_metrics::layer::{MetricsLayer, Prepared};
 use otel_metrics::measure::Measure;
-use otel_state::op::{Op, OpReply};
 use std::alloc::Global;
 use trace_base::callsite::Callsite;
 use trace_base::discard::Discard;
@@ -101,6 +97,8 @@ impl Layer for Measuring {
     ghost sees = { λ s hook t d. unseeing_sees hook };
 
     ghost lanes = { λ s hook t d. unseeing_lanes hook d.1 };
+
+    ghost kept_by_entries = { λ s lane number none. refl };
 
     ghost passive = { λ s id at before later t d unknown. ap (λ (l : Lane). l.contexts.live) d.1 };
 
@@ -213,37 +211,4 @@ impl Layer for Measuring {
     }
 }
 
-/// It has none.
-impl OtelPart for Measuring {
-    ghost has = { λ s. false };
-
-    ghost told = { λ s. None };
-
-    ghost touches = { λ s call t. TouchesNone s call t };
-
-    ghost can_start = { λ s. Unit {0} };
-
-    ghost none = { λ s call t d h. d };
-
-    ghost tells = { λ s call t d. refl };
-
-    ghost keeps_has = { λ s call t d. refl };
-
-    fn has_otel(&self) -> bool {
-        false
-    }
-
-    fn otel_apply(&mut self, _id: Id, _at: u64, _op: Op) -> Option<Result<OpReply, Memory>> {
-        None
-    }
-
-    fn otel_context(&mut self, _id: Id, _at: u64) -> Option<Context> {
-        None
-    }
-}
-
-impl OtelLayer for Measuring {
-    ghost stays = { λ s call t d. still_layer ⟦<Measuring as Layer>⟧.seen ⟦<Measuring as Layer>⟧.kept ⟦<Measuring as Layer>⟧.attaches ⟦<Measuring as Layer>⟧.is_whole s t d.1 };
-
-    ghost starts = { λ s w. tt };
-}
+impl WithoutOtel for Measuring {}

@@ -3,9 +3,9 @@ ghost use Rattle.std.specs.Prelude.{◌≡◌, ◌<◌, ℕ, Some, MatchOption, 
 ghost use Rattle.std.specs.Option.{option_map};
 ghost use Rattle.span_registry.specs.Registering.{no_spans};
 ghost use Rattle.otel_layer.specs.Core.{new_core};
-ghost use Rattle.env_filter.specs.Filtering.{plain, IsNewFilter};
+ghost use Rattle.env_filter.specs.Filtering.{plain_filter, IsNewFilter};
 ghost use Rattle.span_handles.specs.Worlds.{Replaced, spans_in};
-ghost use Rattle.span_stack.specs.Reading.{stack_recording, counts_by, stack_measures, in_place, recording_in, measures_in, new_recording, without_first, WithoutMeasure};
+ghost use Rattle.span_stack.specs.Reading.{stack_recording, counting_filter, stack_measures, filter_in_place, recording_in, measures_in, new_recording, without_first, WithoutMeasure};
 
 use crate::measuring::Measuring;
 use env_filter::filter::EnvFilter;
@@ -60,14 +60,14 @@ pub fn new_stack(
     filter: EnvFilter,
     counting: Option<EnvFilter>,
 ) -> Stack
-    requires new { IsNewFilter (plain filter) }
+    requires new { IsNewFilter (plain_filter filter) }
 
     ensures spans { ⟦<Stack as Subscriber>⟧.spans result ≡ no_spans }
     ensures kept { (lane number : ℕ) → ⟦<Stack as Subscriber>⟧.kept result lane number ≡ 0 }
     ensures recording { stack_recording result ≡ new_recording settings (is_some counting) }
-    ensures counter { counts_by result ≡ option_map plain counting }
+    ensures counter { counting_filter result ≡ option_map plain_filter counting }
     ensures measures { stack_measures result ≡ [] }
-    ensures filter { in_place result ≡ Some (plain filter) }
+    ensures filter { filter_in_place result ≡ Some (plain_filter filter) }
     ensures whole { ⟦<Stack as Subscriber>⟧.is_whole result }
 {
     Registry::new(alloc)

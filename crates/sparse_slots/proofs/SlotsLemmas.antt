@@ -1,5 +1,5 @@
 -- Numbers and their values, as one more is given and one is taken out.
-use Rattle.std.proofs.Common.{◌≡◌, ℕ, suc, zero, ◌+◌, ◌-◌, ◌<◌, ◌≤◌, List, [], ◌∷◌, ◌++◌, length, get_or, set, map, Option, Some, None, IfSome, option_map, slice_get, refl, sym, ap, subst, ◌∙◌, ◌⊎◌, inl, inr, arith, eqb}
+use Rattle.std.proofs.Common.{◌≡◌, ℕ, suc, zero, ◌+◌, ◌-◌, ◌<◌, ◌≤◌, List, [], ◌∷◌, ◌++◌, length, get_or, set, map, Option, Some, None, IfSome, is_some, true, option_map, slice_get, refl, sym, ap, subst, ◌∙◌, ◌⊎◌, inl, inr, arith, eqb}
 use Rattle.std.proofs.lemmas.Bool.{cases_eq, cases_lt, cases_order, cond-false, ne_eqb}
 use Rattle.std.proofs.lemmas.List.{get_or_append_left, get_or_past, get_or_push, get_or-set_same, get_or-set_other, get_or-map, length-set, length_push, map_push, map-set}
 use Rattle.std.proofs.lemmas.Option.{none-some, same_Some, slice_get-get_or, slice_get_past, IfSome_then}
@@ -305,6 +305,19 @@ none_taken [] live n is = refl
 none_taken (p ∷ ps) live zero is = ap (λ v. v ∷ map (value_at live) ps) (ap (value_at live) is)
 none_taken (p ∷ ps) live (suc n) is = ap (λ vs. value_at live p ∷ vs) (none_taken ps live n is)
 
+-- the value at the place of a number that was read
+pub read_value : {X : Type 0} (places read : List ℕ) (live : List (ℕ × X)) (n place : ℕ) (value : X) → read ≡ places → (n < length read) × ((d : ℕ) → place ≡ get_or read n d) → value_at live place ≡ Some value
+    → get_or (map (value_at live) places) n None ≡ Some value
+read_value places read live n place value same at is =
+    ap (λ ps. get_or (map (value_at live) ps) n None) (sym same) ∙ get_or-map (value_at live) read n 0 None at.0 ∙ ap (value_at live) (sym (at.1 0)) ∙ is
+
+-- a number that has a value has a place
+has_place : {X : Type 0} (places : List ℕ) (live : List (ℕ × X)) (n : ℕ) → is_some (get_or (map (value_at live) places) n None) ≡ true → 0 < get_or places n 0
+has_place [] live n there = absurd (cc there)
+has_place (zero ∷ ps) live zero there = absurd (cc there)
+has_place (suc p ∷ ps) live zero there = omega arith
+has_place (p ∷ ps) live (suc n) there = has_place ps live n there
+
 pub taken_value : {X : Type 0} (places : List ℕ) (live : List (ℕ × X)) (n : ℕ) (taken : ℕ × X) → 0 < get_or places n 0 → slice_get live (get_or places n 0 - 1) ≡ Some taken
     → Some taken.1 ≡ get_or (map (value_at live) places) n None
 taken_value {X} places live n taken was is =
@@ -348,3 +361,16 @@ moves_linked places live left n place moved at is = subst (λ p. AreLinked (set 
 pub moves_items : {X : Type 0} (places : List ℕ) (live left : List (ℕ × X)) (n place : ℕ) (moved : ℕ × X) → get_or places n 0 ≡ place → IsMoved places live left n moved
     → map (value_at left) (set (set places n 0) moved.0 place) ≡ set (map (value_at live) places) n None
 moves_items places live left n place moved at is = ap (λ p. map (value_at left) (set (set places n 0) moved.0 p)) (sym at) ∙ moved_items places live left n moved is
+
+read_place : (places : List ℕ) (n place : ℕ) → n < length places → place ≡ get_or places n place → get_or places n 0 ≡ place
+read_place [] n place within at = absurd (omega (arith, within))
+read_place (p ∷ ps) zero place within at = sym at
+read_place (p ∷ ps) (suc n) place within at = read_place ps n place (omega (arith, within)) at
+
+pub reads : {X : Type 0} (places : List ℕ) (live : List (ℕ × X)) (n place many : ℕ) → AreLinked places live → is_some (get_or (map (value_at live) places) n None) ≡ true → many ≡ length live → place ≡ get_or places n place
+    → (get_or places n 0 ≡ place) × (0 < place) × (place - 1 < many)
+reads places live n place many linked some long at =
+    let was = has_place places live n some in
+    let read = read_place places n place (given places n was) at in
+    let positive = subst (λ p. 0 < p) read was in
+    (read, positive, there places live n place many linked read positive long)

@@ -3,7 +3,9 @@
 //! All turns on `Slots::take`: what is spent leaves four bytes behind, so what is kept grows with the values that are there.
 #![tactic(auto)]
 
-ghost use Rattle.std.specs.Prelude.{◌≡◌, ◌<◌, ◌≤◌, ◌^◌, ◌++◌, ◌∷◌, [], Some, None, OnOk, option_map, length, slice_index_or, slice_set};
+ghost use Rattle.std.specs.Prelude.{◌≡◌, ◌<◌, ◌≤◌, ◌^◌, ◌++◌, ◌∷◌, [], true, is_some, Some, None, OnOk, option_map, map, length, slice_index_or, slice_set, vec_capacity};
+ghost use Rattle.std.specs.Fn.{FnOnceReturnsAt};
+ghost use Rattle.sparse_slots.specs.Slots.{value_at, AreLinked, TakesIf};
 
 use otel_base::memory::Memory;
 use std::alloc::Global;
@@ -60,12 +62,16 @@ impl<T> Slots<T> {
     pub fn get(&self, number: u64) -> Option<&T>
         ensures { option_map (λ x. x.now) result ≡ slice_index_or self.now.items number None }
     {
-        let place = *self.places.get(number as usize)? as usize;
-        if place == 0 {
-            return None;
-        }
-        let (_, value) = self.live.get(place - 1)?;
-        Some(value)
+        value_at(&self.live, *self.places.get(number as usize)?)
+    }
+
+    /// The value of a number that is there.
+    pub fn at(&self, number: u64) -> &T
+        requires { is_some (slice_index_or self.now.items number None) ≡ true }
+        ensures { slice_index_or self.now.items number None ≡ Some result.now }
+    {
+        let (_, value) = &self.live[self.places[number as usize] as usize - 1];
+        value
     }
 
     /// Takes room for a number more, and for its value.
@@ -111,16 +117,67 @@ impl<T> Slots<T> {
         if place == 0 {
             return None;
         }
-        self.places[number as usize] = 0;
-        let index = place as usize - 1;
-        let (_, value) = self.live.swap_remove(index);
-        let Some((moved, _)) = self.live.get(index) else {
-            return Some(value);
-        };
-        // The last of them stands there now.
-        self.places[*moved as usize] = place;
-        Some(value)
+        Some(take_at(&mut self.places, &mut self.live, number, place))
     }
+
+    /// Takes out the value of a number, if it is there and a test lets it go. Else the test's error, and the value stays.
+    pub fn take_if<E, F: FnOnce(&T) -> Result<(), E>>(
+        &mut self,
+        number: u64,
+        test: F,
+    ) -> Option<Result<T, E>>
+        requires { F.IsAlwaysCallable test }
+        ensures { TakesIf (FnOnceReturnsAt F.FnOnce test) number self.old.items result self.new.items }
+    {
+        let place = *self.places.get(number as usize)?;
+        if let Err(error) = ask(test, value_at(&self.live, place)?) {
+            return Some(Err(error));
+        }
+        Some(Ok(take_at(&mut self.places, &mut self.live, number, place)))
+    }
+}
+
+// The value at a place, which is counted from 1.
+fn value_at<T>(live: &Vec<(u64, T)>, place: u32) -> Option<&T>
+    ensures { option_map (λ x. x.now) result ≡ value_at live.now.items place }
+{
+    if place == 0 {
+        return None;
+    }
+    let (_, value) = live.get(place as usize - 1)?;
+    Some(value)
+}
+
+// What a test says of a value.
+fn ask<T, E, F: FnOnce(&T) -> Result<(), E>>(test: F, value: &T) -> Result<(), E>
+    requires { F.IsAlwaysCallable test }
+    ensures { FnOnceReturnsAt F.FnOnce test value.now result }
+{
+    test(value)
+}
+
+// Takes out the value that stands at the place of a number.
+fn take_at<T>(places: &mut Vec<u32>, live: &mut Vec<(u64, T)>, number: u64, place: u32) -> T
+    requires linked { AreLinked places.old.items live.old.items }
+    requires placed { slice_index_or places.old.items number 0 ≡ place }
+    requires there { 0 < place }
+    ensures value { slice_index_or (map (value_at live.old.items) places.old.items) number None ≡ Some result }
+    ensures linked { AreLinked places.new.items live.new.items }
+    ensures spent { map (value_at live.new.items) places.new.items
+        ≡ slice_set (map (value_at live.old.items) places.old.items) number None }
+    ensures places { length places.new.items ≡ length places.old.items }
+    ensures live { length live.new.items ≤ length live.old.items }
+    ensures room { vec_capacity places.new ≡ vec_capacity places.old }
+    ensures space { vec_capacity live.new ≡ vec_capacity live.old }
+{
+    places[number as usize] = 0;
+    let index = place as usize - 1;
+    let (_, value) = live.swap_remove(index);
+    if let Some((moved, _)) = live.get(index) {
+        // The last of them stands there now.
+        places[*moved as usize] = place;
+    }
+    value
 }
 
 /// Each value that is there is given up.

@@ -1,9 +1,9 @@
 -- Names of other modules that proofs of the crate import, passed on from one place. Declares nothing.
 pub use Rattle.span_handles.specs.Handles.{HasOn, Held, place_under}
-pub use Rattle.env_filter.specs.Filtering.{plain}
+pub use Rattle.env_filter.specs.Filtering.{plain_filter}
 pub use Rattle.span_stack.specs.Reading.{StackWorlds, stack_interest}
-pub use Rattle.span_script.proofs.entries.EntriesLemmas.{alone_at, by_view_opens, by_view_opens_refused, entered_is, entered_ok, entered_refused, keeps_entered, keeps_exited, refuses_shared, refuses_wrong_lane, serves_entered, serves_exited}
-pub use Rattle.span_script.proofs.fields.FieldsLemmas.{all_given, keeps_asked, keeps_recorded, needs_site, not_given, refuses_event, refuses_new, refuses_place, serves_asked, serves_recorded}
+pub use Rattle.span_script.proofs.entries.EntriesLemmas.{by_view_opens, by_view_opens_refused, entered_is, entered_ok, entered_refused, keeps_entered, keeps_exited, serves_entered, serves_exited}
+pub use Rattle.span_script.proofs.fields.FieldsLemmas.{all_given, keeps_asked, keeps_recorded, needs_site, not_given, refuses_event, refuses_event_place, refuses_event_site, refuses_new, refuses_place, refuses_span_site, serves_asked, serves_recorded}
 pub use Rattle.span_script.proofs.filter.CounterLemmas.{stack_same}
 pub use Rattle.span_script.proofs.filter.FilterLemmas.{stack_shows}
 pub use Rattle.span_script.proofs.filter.GateLemmas.{is_current}
@@ -17,7 +17,7 @@ pub use Rattle.span_script.proofs.spans.CurrentsLemmas.{keeps_current, keeps_exc
 pub use Rattle.span_script.proofs.spans.MakingsLemmas.{keeps_new, made_alike, made_alike_own, make_may, make_may_own, serves_new, tell_live}
 pub use Rattle.span_script.proofs.spans.OpenCountLemmas.{counts_held, counts_none, open_counted}
 pub use Rattle.span_script.proofs.steps.BalanceLemmas.{set_none}
-pub use Rattle.span_script.proofs.steps.LanesLemmas.{has_own, on_err, own_has, own_lane, own_there, refused_kept, refused_state, same_kept, same_state, within_view}
+pub use Rattle.span_script.proofs.steps.LanesLemmas.{has_own, on_err, own_serves, own_lane, own_there, refused_kept, refused_state, same_kept, same_state, within_view}
 pub use Rattle.span_script.proofs.steps.RequiresLemmas.{exit_may, exit_still, guard_entry, guard_named, needs_few, needs_known, needs_there, needs_whole}
 pub use Rattle.span_script.proofs.steps.ServesLemmas.{by_view, by_view_refused, serves_refusal}
 pub use Rattle.span_script.proofs.steps.SlotsLemmas.{found_parent}

@@ -1,3 +1,3 @@
 mod Common
 mod NamedHandlesLemmas
-mod PlacesLemmas
+mod SpendingLemmas

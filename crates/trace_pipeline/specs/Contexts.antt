@@ -2,5 +2,5 @@
 use Rattle.span_script.specs.Fits.{ContextSlots}
 use Rattle.trace_pipeline.specs.declared.contexts.Contexts.{Contexts}
 
-abbrev pub named_in : Contexts → ContextSlots
-named_in contexts = record { contexts = contexts.made.items; attaches = contexts.attaches.items }
+abbrev pub context_slots : Contexts → ContextSlots
+context_slots contexts = record { contexts = contexts.contexts.items; attaches = contexts.attaches.items }

@@ -1,3 +1,4 @@
 pub mod Contexts
 pub mod Guards
 pub mod Parts
+pub mod Spending

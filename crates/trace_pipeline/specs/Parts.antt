@@ -1,7 +1,7 @@
 -- The parts that a pipeline is made of.
 use Rattle.span_stack.specs.Reading.{Stacks}
 use Rattle.span_script.specs.Fits.{Parts}
-use Rattle.trace_pipeline.specs.Contexts.{named_in}
+use Rattle.trace_pipeline.specs.Contexts.{context_slots}
 use Rattle.trace_pipeline.specs.declared.pipeline.Pipeline.TheInside.{Inside}
 
 abbrev pub parts_of : Inside → Parts Stacks
@@ -12,6 +12,6 @@ parts_of p = record {
   lanes = p.lanes.items;
   handles = p.handles.items;
   guards = p.guards.items;
-  contexts = named_in p.contexts;
+  contexts = context_slots p.contexts;
   moment = p.moment;
 }

@@ -1,6 +1,6 @@
 //! Filters of texts.
 ghost use Rattle.std.specs.Prelude.{◌≡◌, IfOk, OnOk, IfErr, Ok, option_map};
-ghost use Rattle.env_filter.specs.Filtering.{plain, IsNewFilter};
+ghost use Rattle.env_filter.specs.Filtering.{plain_filter, IsNewFilter};
 ghost use Rattle.span_script.specs.Admission.{text_read, fault_in, counting_read, opening_read, IsTextFilter, IsCounter, IsUnread, unread_by};
 
 use env_directives::directive::ParseError;
@@ -17,9 +17,9 @@ pub fn read_texts(
     filter: &Text,
     counting: &Option<Text>,
 ) -> Result<(EnvFilter, Option<EnvFilter>), OpenError>
-    ensures gate { IfOk result (λ read. IsTextFilter filter.now (plain read.0)) }
-    ensures new { IfOk result (λ read. IsNewFilter (plain read.0)) }
-    ensures counter { IfOk result (λ read. IsCounter counting.now (option_map plain read.1)) }
+    ensures gate { IfOk result (λ read. IsTextFilter filter.now (plain_filter read.0)) }
+    ensures new { IfOk result (λ read. IsNewFilter (plain_filter read.0)) }
+    ensures counter { IfOk result (λ read. IsCounter counting.now (option_map plain_filter read.1)) }
     ensures read { OnOk result (opening_read filter.now counting.now ≡ Ok tt) }
     ensures refused { IfErr result (IsUnread (opening_read filter.now counting.now)) }
 {
@@ -30,8 +30,8 @@ pub fn read_texts(
 
 /// The filter of a text without patterns, which is one for counting or not: `Directive` for the first piece that is none.
 pub fn read_filter(alloc: Global, counting: bool, text: &str) -> Result<EnvFilter, OpenError>
-    ensures filter { IfOk result (λ f. IsTextFilter text.now (plain f)) }
-    ensures new { IfOk result (λ f. IsNewFilter (plain f)) }
+    ensures filter { IfOk result (λ f. IsTextFilter text.now (plain_filter f)) }
+    ensures new { IfOk result (λ f. IsNewFilter (plain_filter f)) }
     ensures refused { IfErr result (IsUnread (fault_in counting (text_read text.now))) }
 {
     let builder = Builder::default(alloc).with_regex(false);
@@ -43,7 +43,7 @@ pub fn read_filter(alloc: Global, counting: bool, text: &str) -> Result<EnvFilte
 
 // The filter by which events are counted, if there is a text for that.
 fn read_counting(alloc: Global, text: &Option<Text>) -> Result<Option<EnvFilter>, OpenError>
-    ensures filter { IfOk result (λ f. IsCounter text.now (option_map plain f)) }
+    ensures filter { IfOk result (λ f. IsCounter text.now (option_map plain_filter f)) }
     ensures refused { IfErr result (IsUnread (counting_read text.now)) }
 {
     match text {

@@ -1,8 +1,10 @@
 //! The guards of entries, with the number of open ones beside each handle.
-ghost use Rattle.std.specs.Prelude.{◌≡◌, ℕ, ◌<◌, ◌+◌, ◌-◌, ◌^◌, ◌++◌, ◌∷◌, [], Some, None, OnOk, option_map, length, count_by, slice_index_or, slice_set};
+ghost use Rattle.std.specs.Prelude.{◌≡◌, ℕ, ◌<◌, ◌+◌, ◌-◌, ◌^◌, ◌&&◌, nat_lt, ◌++◌, ◌∷◌, [], Some, None, OnOk, OnErr, length, count_by, slice_index_or, slice_set};
 ghost use Rattle.span_script.specs.Slots.{is_named, is_shared_by, names_handle};
+ghost use Rattle.trace_pipeline.specs.Spending.{spend_entry, spend_on, spent_by};
 
 use otel_base::memory::Memory;
+use span_script::reply::{Refusal, What};
 use span_script::slots::Guard;
 use sparse_slots::Slots;
 use std::alloc::Global;
@@ -51,25 +53,11 @@ impl Guards {
         self.slots.len()
     }
 
-    /// The guard of a number, if it is there and isn't spent.
-    pub fn at(&self, number: u64) -> Option<&Guard>
-        ensures { option_map (λ x. x.now) result ≡ slice_index_or self.now.items number None }
-    {
-        self.slots.get(number)
-    }
-
     /// Whether an open guard names the handle.
     pub fn is_borrowed(&self, handle: u64) -> bool
         ensures { result ≡ is_named self.now.items handle }
     {
         count_at(&self.counts, handle) > 0
-    }
-
-    /// Whether a guard owns its handle, which another open guard names too.
-    pub fn is_shared(&self, guard: &Guard) -> bool
-        ensures { result ≡ is_shared_by self.now.items guard.now }
-    {
-        guard.owns && count_at(&self.counts, guard.handle) > 1
     }
 
     /// Takes room for a number more.
@@ -117,16 +105,17 @@ impl Guards {
         self.slots.skip();
     }
 
-    /// Takes out the guard of a number, if it is there and isn't spent.
-    pub fn take(&mut self, number: u64) -> Option<Guard>
-        ensures value { result ≡ slice_index_or self.old.items number None }
-        ensures spent { self.new.items ≡ slice_set self.old.items number None }
+    /// Takes out an open guard on the lane at a place. `UnknownName` where it isn't there, `InUse` where it owns a handle
+    /// that another one names, and `WrongLane` where it is of another lane.
+    pub fn take_on(&mut self, number: u64, place: u64) -> Result<Guard, Refusal>
+        ensures value { result ≡ spent_by (λ guard. spend_entry (is_shared_by self.old.items guard) place guard)
+            (slice_index_or self.old.items number None) }
+        ensures spent { OnOk result (self.new.items ≡ slice_set self.old.items number None) }
+        ensures leaves { OnErr result (self.new.items ≡ self.old.items) }
     {
-        let taken = self.slots.take(number);
-        if let Some(guard) = &taken {
-            count_less(&mut self.counts, guard.handle);
-        }
-        taken
+        let guard = take_entry(&mut self.slots, &self.counts, number, place)?;
+        count_less(&mut self.counts, guard.handle);
+        Ok(guard)
     }
 }
 
@@ -136,6 +125,45 @@ impl Discard for Guards {
         let Guards { slots, counts: _ } = self;
         slots.discard();
     }
+}
+
+// Takes out the guard of a number, if it is there and the counts of the open ones let it be spent on the lane at a place.
+fn take_entry(
+    slots: &mut Slots<Guard>,
+    counts: &Vec<u32>,
+    number: u64,
+    place: u64,
+) -> Result<Guard, Refusal>
+    ensures value { result ≡ spent_by (λ guard. spend_entry (guard.owns && nat_lt 1 (slice_index_or counts.now.items guard.handle 0))
+        place guard) (slice_index_or slots.old.items number None) }
+    ensures spent { OnOk result (slots.new.items ≡ slice_set slots.old.items number None) }
+    ensures leaves { OnErr result (slots.new.items ≡ slots.old.items) }
+{
+    match slots.take_if(number, |guard| check_entry(counts, place, guard)) {
+        Some(taken) => taken,
+        None => Err(Refusal::UnknownName { what: What::Guard }),
+    }
+}
+
+// Whether a guard is spent on the lane at a place, by the counts of the open ones: else `InUse` or `WrongLane`.
+fn check_entry(counts: &Vec<u32>, place: u64, guard: &Guard) -> Result<(), Refusal>
+    ensures { result ≡ spend_entry (guard.now.owns && nat_lt 1 (slice_index_or counts.now.items guard.now.handle 0)) place
+        guard.now }
+{
+    if guard.owns && count_at(counts, guard.handle) > 1 {
+        return Err(Refusal::InUse);
+    }
+    check_lane(place, guard.place)
+}
+
+/// Whether a guard is spent on the lane at a place, which is its own: else `WrongLane`.
+pub fn check_lane(place: u64, own: u64) -> Result<(), Refusal>
+    ensures { result ≡ spend_on place own }
+{
+    if own != place {
+        return Err(Refusal::WrongLane { lane_place: own });
+    }
+    Ok(())
 }
 
 // A handle's count, 0 past the end.

@@ -20,5 +20,5 @@ pub use filters::read_texts;
 pub use opening::world_of;
 pub use pipeline::Pipeline;
 pub use span_script::{
-    Call, LAST_MOMENT, OpenError, Outcome, Place, Refusal, Reply, Request, Settings, What,
+    Call, LAST_MOMENT, OpenError, Outcome, Refusal, Reply, Request, RequestParent, Settings, What,
 };

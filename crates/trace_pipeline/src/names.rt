@@ -1,6 +1,5 @@
-//! Callsites, handles and contexts by their numbers, and how many of these there may be. What is generic in the subscriber is read at the stack once, for all
-//! that ask.
-ghost use Rattle.std.specs.Prelude.{◌≡◌, ◌<◌, ◌≤◌, length, None, Some, IfSome, OnOk, map, ◌++◌, ◌∷◌, [], slice_get, vec_len, vec_capacity};
+//! Callsites, parents and contexts by the numbers that requests give, and how many handles and guards there may be.
+ghost use Rattle.std.specs.Prelude.{◌≡◌, ◌<◌, length, IfSome, OnOk, map, option_map, slice_get};
 ghost use Rattle.span_script.specs.Fits.{held_by};
 ghost use Rattle.span_script.specs.Slots.{parent_for};
 ghost use Rattle.trace_pipeline.specs.declared.names.TheConstants.{MAX_NAMES};
@@ -9,7 +8,7 @@ use crate::guards::Guards;
 use otel_base::context::Context;
 use otel_base::memory::Memory;
 use span_handles::span::Span;
-use span_script::request::Place;
+use span_script::request::RequestParent;
 use span_stack::Stack;
 use sparse_slots::Slots;
 use trace_base::callsite::{Callsite, SiteId};
@@ -30,30 +29,23 @@ pub fn check_few_names(handles: &Slots<Span>, guards: &Guards) -> Result<(), Mem
     Ok(())
 }
 
-/// The callsite of a number, if there is one.
-pub fn site_at(world: &World<Stack>, site: u64) -> Option<SiteId>
-    ensures some { IfSome result (λ found. (found ≡ site) × (site < length world.now.sites)) }
-    ensures none { result ≡ None → length world.now.sites ≤ site }
+/// The callsite of a number, if there is one, and how the world names it.
+pub fn site_at(world: &World<Stack>, number: u64) -> Option<(SiteId, &Callsite)>
+    ensures callsite { option_map (λ found. found.1.now) result ≡ slice_get world.now.sites number }
+    ensures id { IfSome result (λ found. (found.0 ≡ number) × (number < length world.now.sites)) }
 {
-    world.site_at(site)
-}
-
-/// A callsite.
-pub fn callsite_at(world: &World<Stack>, site: SiteId) -> &Callsite
-    requires { site < length world.now.sites }
-    ensures { slice_get world.now.sites site ≡ Some result.now }
-{
-    world.site(site)
+    let site = world.site_at(number)?;
+    Some((site, world.site(site)))
 }
 
 /// Under what a new span or an event is put, if the handle that its place names is there.
-pub fn parent_for(handles: &Slots<Span>, parent: Place) -> Option<Parent>
+pub fn parent_for(handles: &Slots<Span>, parent: RequestParent) -> Option<Parent>
     ensures { result ≡ parent_for (map held_by handles.now.items) parent }
 {
     match parent {
-        Place::Contextual => Some(Parent::Current),
-        Place::Root => Some(Parent::Root),
-        Place::Under { handle } => Some(handles.get(handle)?.as_parent()),
+        RequestParent::Contextual => Some(Parent::Current),
+        RequestParent::Root => Some(Parent::Root),
+        RequestParent::Under { handle } => Some(handles.get(handle)?.as_parent()),
     }
 }
 
@@ -64,16 +56,5 @@ pub fn context_at(contexts: &Vec<Context>, number: u64) -> Option<Context>
     match contexts.get(number as usize) {
         Some(context) => Some(*context),
         None => None,
-    }
-}
-
-/// Puts a context more into its room.
-pub fn add(contexts: &mut Vec<Context>, context: Context)
-    requires { vec_len contexts.old < vec_capacity contexts.old }
-    ensures { contexts.new.items ≡ contexts.old.items ++ context ∷ [] }
-{
-    match contexts.push(context) {
-        Ok(()) => {}
-        Err(_) => unreachable!(),
     }
 }

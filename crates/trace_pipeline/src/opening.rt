@@ -17,16 +17,16 @@ use trace_base::world::World;
 /// Lanes without contexts, whose own subscriber this is.
 pub fn lanes(
     alloc: Global,
-    named: Items<(u64, Option<Text>)>,
+    ids_and_names: Items<(u64, Option<Text>)>,
     dispatch: Dispatch,
 ) -> Result<Vec<Lane>, Memory>
-    ensures ids { IfOk result (λ lanes. map (λ l. l.id) lanes.items ≡ map (λ n. n.0) named) }
-    ensures names { IfOk result (λ lanes. map (λ l. l.name) lanes.items ≡ map (λ n. n.1) named) }
+    ensures ids { IfOk result (λ lanes. map (λ l. l.id) lanes.items ≡ map (λ n. n.0) ids_and_names) }
+    ensures names { IfOk result (λ lanes. map (λ l. l.name) lanes.items ≡ map (λ n. n.1) ids_and_names) }
     ensures contexts { IfOk result (λ lanes. map (λ l. l.contexts.live) lanes.items ≡ map (λ l. []) lanes.items) }
     ensures served { IfOk result (λ lanes. map (λ l. l.default) lanes.items ≡ map (λ l. Some dispatch) lanes.items) }
 {
     let mut lanes = Vec::new(alloc);
-    for (id, name) in named.into_vec() {
+    for (id, name) in ids_and_names.into_vec() {
         lanes.push(Lane {
             id,
             name,

@@ -1,7 +1,7 @@
 //! A pipeline runs the requests of a script over a stack of a registry, the OpenTelemetry layer, the layer of metrics and a
 //! filter.
 ghost use Rattle.std.specs.Prelude.{◌≡◌, ◌<◌, [], true, map, option_map, length, IfOk, OnOk, IfErr, OnErr, Ok, Err};
-ghost use Rattle.env_filter.specs.Filtering.{plain, IsNewFilter};
+ghost use Rattle.env_filter.specs.Filtering.{plain_filter, IsNewFilter};
 ghost use Rattle.span_script.specs.Admission.{opening_read, IsUnread, IsTextFilter, IsCounter};
 ghost use Rattle.span_script.specs.Setups.{HasOwnIds, setup_by};
 ghost use Rattle.span_script.specs.Effects.{is_bad_moment};
@@ -117,9 +117,9 @@ impl Pipeline {
         counter: Option<EnvFilter>,
     ) -> Result<Pipeline, Memory>
         requires ids { HasOwnIds (map (λ l. l.0) settings.lanes) }
-        requires gate { IsTextFilter settings.filter (plain gate) }
-        requires new { IsNewFilter (plain gate) }
-        requires counter { IsCounter settings.counting (option_map plain counter) }
+        requires gate { IsTextFilter settings.filter (plain_filter gate) }
+        requires new { IsNewFilter (plain_filter gate) }
+        requires counter { IsCounter settings.counting (option_map plain_filter counter) }
 
         ensures setup { IfOk result (λ pipeline. pipeline.setup ≡ setup_by settings) }
         ensures stands { IfOk result (λ pipeline. StandsFor pipeline (tables (setup_by settings) [])) }
@@ -170,7 +170,7 @@ impl Pipeline {
     {
         let Request {
             at,
-            lane: place,
+            lane_place: place,
             call,
         } = request;
         if is_bad_moment(self.moment, at) {

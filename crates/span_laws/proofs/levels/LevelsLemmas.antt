@@ -1,6 +1,6 @@
 -- What was heard of spans since the filter in force was put there is in order, so the levels are those that it tells.
 use Rattle.std.proofs.Common.{◌≡◌, ℕ, ◌<◌, ◌≤◌, ◌==◌, ◌||◌, List, [], ◌∷◌, ◌++◌, length, append_assoc, flat_map, fold, map, Bool, true, false, Option, Some, None, Ok, Err, unwrap_or, refl, sym, ap, subst, ◌∙◌, arith, inl, inr, is_some}
-use Rattle.span_laws.proofs.Common.{cases_eq, or_right, length_push, map-append, fold_push, fold-append, Hook, is_in, Directive, FilterState, Each, fresh, span_level, after_hook, AreInOrder, NeverFalls, is_close_of, is_ended, level_by_calls, levels_by_calls, IsBefore, all_more, all_push, new_if, in_order, TextRead, filter_if, text_read, text_filter, hook_of, after_filter_hook, in_force, filter_at, is_open, Setup, Scope, MadeSpan, FilterHook, HookNew, HookRecord, HookEnter, HookExit, HookClose, Effect, History, Tables, with_item, no_tables, after_effect, tables, newer, hooks_since, IsHistory, none, more}
+use Rattle.span_laws.proofs.Common.{cases_eq, or_right, length_push, map-append, fold_push, fold-append, Hook, is_in, Directive, FilterState, Each, fresh_filter, span_level, after_hook, AreInOrder, NeverFalls, is_close_of, is_ended, level_by_calls, levels_by_calls, IsBefore, all_more, all_push, new_if, in_order, TextRead, filter_if, text_read, text_filter, hook_of, after_filter_hook, in_force, filter_at, is_open, Setup, Scope, MadeSpan, FilterHook, HookNew, HookRecord, HookEnter, HookExit, HookClose, Effect, History, Tables, with_item, no_tables, after_effect, tables, newer_text, hooks_since, IsHistory, none, more}
 use Rattle.std.proofs.lemmas.Bool.{ne_eqb, true≢false}
 use Rattle.std.proofs.lemmas.List.{append-nil}
 use Rattle.std.proofs.lemmas.List.Folds.{list_any-append}
@@ -90,18 +90,18 @@ ordered setup _ (more h request e before is) =
 
 -- ---- what is heard changes no table
 
-fresh_heard : (f : FilterState) (all : List FilterHook) → fresh (fold after_filter_hook f all) ≡ fresh f
+fresh_heard : (f : FilterState) (all : List FilterHook) → fresh_filter (fold after_filter_hook f all) ≡ fresh_filter f
 fresh_heard f [] = refl
 fresh_heard f (heard ∷ all) = fresh_heard (after_filter_hook f heard) all ∙ by_one heard
   where
-    by_one : (heard : FilterHook) → fresh (after_filter_hook f heard) ≡ fresh f
+    by_one : (heard : FilterHook) → fresh_filter (after_filter_hook f heard) ≡ fresh_filter f
     by_one (HookNew s callsite values) = refl
     by_one (HookRecord s callsite values) = refl
     by_one (HookEnter s lane) = refl
     by_one (HookExit s lane) = refl
     by_one (HookClose s) = refl
 
-fresh_text : (r : TextRead) → fresh (filter_if r) ≡ filter_if r
+fresh_text : (r : TextRead) → fresh_filter (filter_if r) ≡ filter_if r
 fresh_text (Ok ds) = refl
 fresh_text (Err piece) = refl
 
@@ -110,7 +110,7 @@ heard_by : (f : FilterState) (all : List FilterHook) → fold after_filter_hook 
 heard_by f [] = refl
 heard_by f (heard ∷ all) = heard_by (after_filter_hook f heard) all
 
-heard_fresh : (text : List ℕ) (all : List FilterHook) → fold after_filter_hook (text_filter text) all ≡ fold after_hook (fresh (fold after_filter_hook (text_filter text) all)) (map hook_of all)
+heard_fresh : (text : List ℕ) (all : List FilterHook) → fold after_filter_hook (text_filter text) all ≡ fold after_hook (fresh_filter (fold after_filter_hook (text_filter text) all)) (map hook_of all)
 heard_fresh text all = heard_by (text_filter text) all
     ∙ ap (λ (f : FilterState). fold after_hook f (map hook_of all)) (sym (fresh_text (text_read text)) ∙ sym (fresh_heard (text_filter text) all))
 
@@ -142,7 +142,7 @@ unchanged : (t : Tables) (later : History) → HasNoReload later → ((fold afte
 unchanged t [] kept = (refl, sym (append-nil t.hooks))
 unchanged t (e ∷ later) kept =
     let rest = unchanged (after_effect t e) later kept.1 in (
-      rest.0 ∙ ap (newer t.filter) kept.0,
+      rest.0 ∙ ap (newer_text t.filter) kept.0,
       rest.1 ∙ ap (λ (o : Option (List ℕ)). (hooks_since t.hooks o ++ e.hooks) ++ heard_in later) kept.0 ∙ append_assoc t.hooks e.hooks (heard_in later),
     )
 

@@ -1,6 +1,6 @@
 -- The layer of a stack keeps one state of each span that is live.
 use Rattle.std.proofs.Common.{◌≡◌, ◌≢◌, ℕ, ◌+◌, ◌<◌, List, [], ◌∷◌, ◌++◌, length, Bool, true, false, count_by, set, Option, Some, None, refl, sym, ap, subst, ◌∙◌, arith, inl, inr, ◌==◌, nat_lt, is_some, fold, IfSome, Result, Ok, Err}
-use Rattle.span_laws.proofs.Common.{list_any, cases_eq, cases_lt, cases_Bool, cond-true, cond-false, get_or_past, get_or_push, get_or_append_left, length_push, map-append, Context, SpanContext, Callsite, ValueSet, Lane, one_if, Span, Spans, no_span, span_at, entries_on, is_in, times_in, current_of, place_on, with_hold, less_hold, without_hold, held_by_child, next_of, count_cons, count_push, counted_if_any, any_if_counted, made_if_held, length_held, less_holds, holds_set, holds_other, LayerSettings, Op, event_of, span_update, SpanData, after_op, Recording, with_applied, started_under, with_start, with_starts, made_under, with_new_recorded, with_follow, with_event, source_of, with_entry, with_exit, without_closed, with_close, Enters, Exits, Stays, RecordsCall, RecordsChain, RecordsPart, IfKnown, parent_source, with_link, data_at, knows_span, waits, ids_at, is_id, FilterState, enables_in}
+use Rattle.span_laws.proofs.Common.{list_any, cases_eq, cases_lt, cases_Bool, cond-true, cond-false, get_or_past, get_or_push, get_or_append_left, length_push, map-append, Context, SpanContext, Callsite, ValueSet, Lane, one_if, Span, Spans, no_span, span_at, entries_on, is_in, times_in, current_of, parent_on, with_hold, less_hold, without_hold, with_hold_of_child, next_of, count_cons, count_push, counted_if_any, any_if_counted, made_if_held, length_held, less_holds, holds_set, holds_other, LayerSettings, Op, event_of, span_update, SpanData, after_op, Recording, with_applied, started_under, with_start, with_starts, made_under, with_new_recorded, with_follow, with_event, source_of, with_entry, with_exit, without_closed, with_close, Enters, Exits, Stays, RecordsCall, RecordsChain, RecordsPart, IfKnown, parent_source, with_link, data_at, knows_span, waiting_context, ids_at, is_id, FilterState, enables_in}
 use Rattle.std.specs.Map.{keys_of, remove_entry}
 use Rattle.std.proofs.lemmas.Bool.{eqb-true, eq-eqb, ne_eqb, lt-ltb, le-ltb, true≢false}
 use Rattle.std.proofs.lemmas.Map.Made.{is_some-lookup}
@@ -8,7 +8,7 @@ use Rattle.trace_base.specs.declared.span.Parent.{Parent}
 use Rattle.trace_base.specs.Calls.{SubscriberCall, NewSpan, Records, Follows, Event, Enter, Exit, CloneSpan, TryClose, spans_after_call, with_span_entry, with_span_exit}
 use Rattle.trace_base.specs.Conditions.{IsLive, MayExit, HasOwnHold, Allowed}
 use Rattle.trace_base.specs.Sound.{IsSound}
-use Rattle.trace_base.proofs.Sound.{place_live}
+use Rattle.trace_base.proofs.Sound.{parent_live}
 use Rattle.trace_base.specs.Gate.{Worlds}
 use Rattle.span_handles.specs.Worlds.{Replaced, member_of, ReleasesChain, all_released, releases, closed_in, no_spans}
 use Rattle.span_handles.proofs.ChangedSubscriberLemmas.{seen_before, seen_later}
@@ -19,7 +19,7 @@ use Rattle.otel_layer.specs.laws.HookLemmas.{update_keys}
 use Rattle.otel_layer.specs.Parts.{PartCall, Applies, Shows, AppliesTo, context_at}
 use Rattle.span_stack.specs.Counting.{with_counted, with_event_by, RecordsCallBy}
 use Rattle.span_stack.specs.Reading.{new_recording}
-use Rattle.span_laws.specs.Live.{is_live, states_of, KeepsLive, IsAnsweredLive}
+use Rattle.span_laws.specs.Live.{is_live, state_count, KeepsLive, IsAnsweredLive}
 
 -- ---- holds
 
@@ -48,7 +48,7 @@ alive_held made id live q = alive_set made id (record (span_at made id) { holds 
 alive_released : (made : List Span) (id : ℕ) → 1 < (span_at made id).holds → (q : ℕ) → alive (without_hold made id) q ≡ alive made q
 alive_released made id more q = (let l = less_holds (span_at made id) in alive_set made id (less_hold (span_at made id)) (omega (arith, more)) (omega (arith, l, more)) q)
 
-alive_child : (made : List Span) (o : Option ℕ) → IfSome o (λ p. IsLive made p) → (q : ℕ) → alive (held_by_child made o) q ≡ alive made q
+alive_child : (made : List Span) (o : Option ℕ) → IfSome o (λ p. IsLive made p) → (q : ℕ) → alive (with_hold_of_child made o) q ≡ alive made q
 alive_child made None live q = refl
 alive_child made (Some p) live q = alive_held made p live q
 
@@ -106,7 +106,7 @@ under_keys None id at r = refl
 under_keys (Some under) id at r = update_keys id _ r.spans
 
 start_keys : (id at : ℕ) (r : Recording) → keys (with_start id at r) ≡ keys r
-start_keys id at r = under_keys (waits (data_at id r.spans)) id at r
+start_keys id at r = under_keys (waiting_context (data_at id r.spans)) id at r
 
 starts_keys : (o : Option ℕ) (at : ℕ) (r : Recording) → keys (with_starts o at r) ≡ keys r
 starts_keys None at r = refl
@@ -174,14 +174,14 @@ told_live x r keeps id =
       | inr none ↦ (let z = once_none n (omega (arith, none)) in told_uncounted id r.spans (omega (arith, one, z)) ∙ sym (le-ltb 0 n none))
     ]
 
-closed_count : (o : Option SpanData) (id at q : ℕ) (r : Recording) → is_some o ≡ true → 0 < count_by (is_id id) (keys r) → states_of (without_closed o id at r) q + one_if (id == q) ≡ states_of r q
+closed_count : (o : Option SpanData) (id at q : ℕ) (r : Recording) → is_some o ≡ true → 0 < count_by (is_id id) (keys r) → state_count (without_closed o id at r) q + one_if (id == q) ≡ state_count r q
 closed_count None id at q r there some = absurd (true≢false (sym there))
 closed_count (Some told) id at q r there some = count_removed id q r.spans some
 
-close_count : (id at q : ℕ) (r : Recording) → 0 < count_by (is_id id) (keys r) → states_of (with_close id at r) q + one_if (id == q) ≡ states_of r q
+close_count : (id at q : ℕ) (r : Recording) → 0 < count_by (is_id id) (keys r) → state_count (with_close id at r) q + one_if (id == q) ≡ state_count r q
 close_count id at q r some =
     let s = with_start id at r in
-    let same : (k : ℕ) → states_of s k ≡ states_of r k = λ k. ap (λ (ks : List ℕ). count_by (is_id k) ks) (start_keys id at r) in
+    let same : (k : ℕ) → state_count s k ≡ state_count r k = λ k. ap (λ (ks : List ℕ). count_by (is_id k) ks) (start_keys id at r) in
     let own = same id in
     let there : 0 < count_by (is_id id) (keys s) = omega (arith, own, some) in
     closed_count (data_at id s.spans) id at q s (told_counted id s.spans there) there ∙ same q
@@ -199,11 +199,11 @@ if_known false A B r t h a b = b (h.isnt refl)
 new_kept : (x : Spans) (r : Recording) (lane : Lane) (at : ℕ) (parent : Parent) (site : ℕ) (callsite : Callsite) (values : ValueSet) → IsSound x → Allowed x (NewSpan lane at parent site callsite values) → KeepsLive x r
     → KeepsLive (spans_after_call x (NewSpan lane at parent site callsite values)) (with_new_recorded (length x.made) lane at parent (current_of (entries_on lane.id x.lanes)) callsite values r)
 new_kept x r lane at parent site callsite values sound allowed keeps q =
-    let o = place_on (entries_on lane.id x.lanes) parent in
+    let o = parent_on (entries_on lane.id x.lanes) parent in
     let new : Span = record { holds = 1; parent = o; site = site } in
     let id = length x.made in
-    let child = alive_child x.made o (place_live x lane.id parent sound allowed) q in
-    let push = alive_push (held_by_child x.made o) new refl q in
+    let child = alive_child x.made o (parent_live x lane.id parent sound allowed) q in
+    let push = alive_push (with_hold_of_child x.made o) new refl q in
     let long = ap (λ (n : ℕ). one_if (n == q)) (length_held x.made o) in
     let ids = ap (λ (ks : List ℕ). count_by (is_id q) ks) (made_keys id lane at parent (current_of (entries_on lane.id x.lanes)) callsite values r) in
     let more = count_push (is_id q) (keys r) id in
@@ -223,7 +223,7 @@ close_kept x r id at last keeps q =
           let l = less_holds (span_at x.made id) in
           let none = once_none (span_at (without_hold x.made id) q).holds (omega (arith, h, l, last)) in
           let on = cond-true {A = ℕ} (id == q) 1 0 (eq-eqb id q (sym here)) in
-          let same = ap (λ (k : ℕ). states_of r k) here in
+          let same = ap (λ (k : ℕ). state_count r k) here in
           omega (arith, less, own, one, none, on, same))
       | inr other ↦ (
           let h = ap (λ (n : ℕ). one_if (nat_lt 0 n)) (holds_other x.made id now q other) in
@@ -239,7 +239,7 @@ call_kept x r (NewSpan lane at parent site callsite values) t sound allowed h ke
     subst (λ (y : Recording). KeepsLive (spans_after_call x (NewSpan lane at parent site callsite values)) y) (sym h) (new_kept x r lane at parent site callsite values sound allowed keeps)
 call_kept x r (Records id at callsite values) t sound allowed h keeps = kept x x r t (λ q. refl) (ap keys h ∙ op_keys id at (ops.Update (span_update callsite values r.settings)) r) keeps
 call_kept x r (Follows id from at) t sound allowed h keeps = kept x x r t (λ q. refl) (ap keys h ∙ follow_keys id from at r) keeps
-call_kept x r (Event lane at parent site callsite values) t sound allowed h keeps = kept x x r t (λ q. refl) (ap keys h ∙ event_keys (place_on (entries_on lane.id x.lanes) parent) at callsite values r) keeps
+call_kept x r (Event lane at parent site callsite values) t sound allowed h keeps = kept x x r t (λ q. refl) (ap keys h ∙ event_keys (parent_on (entries_on lane.id x.lanes) parent) at callsite values r) keeps
 call_kept x r (Enter id at before later) t sound allowed h keeps =
     kept x (with_span_entry x id before.id) r t (alive_entered x id before.id allowed)
     (if_known (knows_span id r.spans) (Enters r id at before later t) (Stays r before later t) r t h (λ e. ap keys e.is ∙ entry_keys id before.id at e.attached r) (λ e. ap keys e.0)) keeps
@@ -314,7 +314,7 @@ event_by_keys (Some f) (Some id) lane at callsite values r = counted_keys (enabl
 
 pub call_kept_by : (counter : Option FilterState) (x : Spans) (r : Recording) (call : SubscriberCall) (t : Recording) → IsSound x → Allowed x call → RecordsCallBy counter x r call t → KeepsLive x r → KeepsLive (spans_after_call x call) t
 call_kept_by counter x r (Event lane at parent site callsite values) t sound allowed h keeps =
-    kept x x r t (λ q. refl) (ap keys h ∙ event_by_keys counter (place_on (entries_on lane.id x.lanes) parent) lane.id at callsite values r) keeps
+    kept x x r t (λ q. refl) (ap keys h ∙ event_by_keys counter (parent_on (entries_on lane.id x.lanes) parent) lane.id at callsite values r) keeps
 call_kept_by counter x r (NewSpan lane at parent site callsite values) t sound allowed h keeps = call_kept x r (NewSpan lane at parent site callsite values) t sound allowed h keeps
 call_kept_by counter x r (Records id at callsite values) t sound allowed h keeps = call_kept x r (Records id at callsite values) t sound allowed h keeps
 call_kept_by counter x r (Follows id from at) t sound allowed h keeps = call_kept x r (Follows id from at) t sound allowed h keeps

@@ -1,10 +1,10 @@
 -- What holds of each op of an event, which may be counted.
 use Rattle.std.proofs.Common.{◌≡◌, ℕ, List, [], ◌∷◌, Bool, true, false, Option, Some, None, refl}
-use Rattle.span_laws.proofs.Common.{AllByRecursion, Op, Callsite, text_filter, ops_on, counted_ops, if_enabled, Scope, SpanOp}
+use Rattle.span_laws.proofs.Common.{AllByRecursion, Op, Callsite, text_filter, ops_on, event_ops, if_enabled, Scope, SpanOp}
 use Rattle.env_directives.specs.orders.Choice.{admits}
 use Rattle.otel_state.specs.declared.op.Op.TheVariants as ops
 
-pub each_counted : (P : Op → Type 0) → P ops.Counted → (counting : Option (List ℕ)) (callsite : Callsite) (event : Op) → P event → AllByRecursion P (counted_ops counting callsite event)
+pub each_counted : (P : Op → Type 0) → P ops.Counted → (counting : Option (List ℕ)) (callsite : Callsite) (event : Op) → P event → AllByRecursion P (event_ops counting callsite event)
 each_counted P count None callsite event own = (own, tt)
 each_counted P count (Some text) callsite event own = (count, by_flag (admits (text_filter text).statics.directives callsite))
   where

@@ -1,6 +1,6 @@
 -- Each record is that of a span which a request of the history made, by what that says.
 use Rattle.std.proofs.Common.{◌≡◌, ℕ, ◌+◌, ◌<◌, ◌≤◌, List, [], ◌∷◌, ◌++◌, length, fold, Option, Some, None, Ok, refl, sym, ap, subst, ◌∙◌, arith, inl, inr}
-use Rattle.span_laws.proofs.Common.{get_or_push, length_push, cases_eq, nat_tests, Context, SpanContext, Record, ids_of, recorder_ids, Making, TimedOp, SpanData, data_at_making, after_op, after_stamped, Stands, MomentsRise, content_is, parent_is, Request, effect_of, Setup, Effect, History, MadeSpan, Tables, after_effect, made_of, no_made_span, no_tables, tables, with_item, IsHistory, none, more, occurrences, IsRecordOf, Began, EachRecord, IsRecord, all_ops, closed_at, records_of_history, place_in, starting_order}
+use Rattle.span_laws.proofs.Common.{get_or_push, length_push, cases_eq, nat_tests, Context, SpanContext, Record, ids_of, recorder_ids, Making, TimedOp, SpanData, data_at_making, after_op, after_stamped, Stands, MomentsRise, content_is, parent_is, Request, effect_of, Setup, Effect, History, MadeSpan, Tables, after_effect, made_of, no_made_span, no_tables, tables, with_item, IsHistory, none, more, occurrences, IsRecordOf, IsMadeWith, EachRecord, IsRecord, all_ops, closed_at, records_of_history, place_in, starting_order}
 use Rattle.std.proofs.lemmas.List.{append-nil}
 use Rattle.otel_state.specs.declared.op.Op.TheVariants as ops
 use Rattle.span_laws.proofs.records.HistoriesLemmas.{IsClosed, done_in, whole}
@@ -12,7 +12,7 @@ use Rattle.span_laws.proofs.records.StoriesLemmas.{IsEnding}
 
 -- ---- a record from one making is that from another which came to the same
 
-module _ (setup : Setup) (first : SpanData) (began_at : ℕ) (one other : Making) (a : Began setup first.made_at first one) (b : Began setup began_at first other) (done : SpanContext → List TimedOp) (place at : ℕ) (r : Record)
+module _ (setup : Setup) (first : SpanData) (began_at : ℕ) (one other : Making) (a : IsMadeWith setup first.made_at first one) (b : IsMadeWith setup began_at first other) (done : SpanContext → List TimedOp) (place at : ℕ) (r : Record)
     (ends : IsRecord one a.update done place at r) where
   abbrev own_ops : List TimedOp
   own_ops = done r.context

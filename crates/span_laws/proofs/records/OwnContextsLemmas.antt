@@ -1,10 +1,10 @@
 -- What a request sees of a span's own context is that of the span's record.
 use Rattle.std.proofs.Common.{◌≡◌, ℕ, ◌<◌, ◌&&◌, List, [], ◌∷◌, ◌++◌, Bool, true, false, fold, flat_map, filter, map, not, ◌==◌, Option, Some, None, Ok, refl, sym, ap, ap₂, subst, ◌∙◌, arith, append_assoc, if◌then◌else◌, is_some, filter_map, slice_get}
-use Rattle.span_laws.proofs.Common.{AllByRecursion, cons_option, fold-append, flat_map-append, Context, SpanContext, Record, ids_of, recorder_ids, TimedOp, deed, before_start, is_start, last_or, own_of, SpanData, own_is, parent_is, with_start, parent_source, own_or, data_at, current_of, is_in, Place, Request, here_at, effect_of, is_open, parent_at, Setup, Effect, History, MadeSpan, Scope, Tables, after_effect, made_of, no_tables, tables, is_drop, IsHistory, occurrences, HasContextOf, SeesOwn, context_of_lane, context_span, parent_context, EachRecord, all_ops, ops_from, ops_in, ops_of, records_of_history, start_in, place_in, starting_order, starts_of, with_started}
+use Rattle.span_laws.proofs.Common.{AllByRecursion, cons_option, fold-append, flat_map-append, Context, SpanContext, Record, ids_of, recorder_ids, TimedOp, deed, before_start, is_start, last_or, own_of, SpanData, own_is, parent_is, with_start, parent_source, own_or, data_at, current_of, is_in, RequestParent, Request, here_at, effect_of, is_open, parent_at, Setup, Effect, History, MadeSpan, Scope, Tables, after_effect, made_of, no_tables, tables, is_drop, IsHistory, occurrences, HasContextOf, SeesOwn, context_of_lane, context_span, parent_context, EachRecord, all_ops, ops_from, ops_in, ops_of, records_of_history, start_in, place_in, starting_order, starts_of, with_started}
 use Rattle.std.specs.Option.{option_to_list}
 use Rattle.otel_base.specs.Stack.{empty_context}
 use Rattle.otel_state.specs.declared.op.Op.TheVariants as ops
-use Rattle.span_script.specs.declared.request.Place.TheVariants as place
+use Rattle.span_script.specs.declared.request.RequestParent.TheVariants as request_parent
 use Rattle.span_laws.proofs.records.HistoriesLemmas.{IsClosed, begun, done_in, fits, open_made, ops_parts, whole}
 use Rattle.span_laws.proofs.records.MadeRecordsLemmas.{legal_step, made_stays}
 use Rattle.span_laws.proofs.spans.MakingsLemmas.{first_of}
@@ -202,23 +202,23 @@ sees_own setup h legal = each_map (IsClosed setup (tables setup h).spans h) (See
         let own = own_seen setup fore rest e step.2 step.0 step.3 p starts r (subst (λ (x : History). IsClosed setup (tables setup x).spans x p r) is c) in
         ap (own_or empty_context) own.1 ∙ ap with_ids own.2
 
-above_is : (activation : Bool) (under : Place) (up : Scope) (current : Option ℕ) → parent_source activation (parent_at under up) current ≡ context_span activation under up current
-above_is activation place.Root up current = refl
-above_is activation (place.Under handle) [] current = refl
-above_is activation (place.Under handle) (s ∷ up) current = refl
-above_is true place.Contextual up current = refl
-above_is false place.Contextual up current = refl
+above_is : (activation : Bool) (under : RequestParent) (up : Scope) (current : Option ℕ) → parent_source activation (parent_at under up) current ≡ context_span activation under up current
+above_is activation request_parent.Root up current = refl
+above_is activation (request_parent.Under handle) [] current = refl
+above_is activation (request_parent.Under handle) (s ∷ up) current = refl
+above_is true request_parent.Contextual up current = refl
+above_is false request_parent.Contextual up current = refl
 
 -- the context that a new span is put under, where it is the own one of a span
-context_is_own : (activation : Bool) (current : Option ℕ) (setup : Setup) (t : Tables) (at id : ℕ) (under : Place) (up : Scope) (p : ℕ) (told : SpanData) → setup.layer.activation ≡ activation → current_of (t.entries id) ≡ current
+context_is_own : (activation : Bool) (current : Option ℕ) (setup : Setup) (t : Tables) (at id : ℕ) (under : RequestParent) (up : Scope) (p : ℕ) (told : SpanData) → setup.layer.activation ≡ activation → current_of (t.entries id) ≡ current
     → context_span activation under up current ≡ Some p → data_at p (with_start p at t.recording).spans ≡ Some told → parent_context setup t at id under up ≡ with_ids told.own
-context_is_own activation current setup t at id place.Root up p told active now is seen = absurd (cc is)
-context_is_own activation current setup t at id (place.Under handle) [] p told active now is seen = absurd (cc is)
-context_is_own activation current setup t at id (place.Under handle) (s ∷ up) p told active now is seen =
+context_is_own activation current setup t at id request_parent.Root up p told active now is seen = absurd (cc is)
+context_is_own activation current setup t at id (request_parent.Under handle) [] p told active now is seen = absurd (cc is)
+context_is_own activation current setup t at id (request_parent.Under handle) (s ∷ up) p told active now is seen =
     let same : s ≡ p = cc is in
     ap (λ (q : ℕ). own_or empty_context (data_at q (with_start q at t.recording).spans)) same ∙ ap (own_or empty_context) seen
-context_is_own true current setup t at id place.Contextual up p told active now is seen = absurd (cc is)
-context_is_own false current setup t at id place.Contextual up p told active now is seen =
+context_is_own true current setup t at id request_parent.Contextual up p told active now is seen = absurd (cc is)
+context_is_own false current setup t at id request_parent.Contextual up p told active now is seen =
     ap (λ (b : Bool). context_of_lane t at id (if b then None else current_of (t.entries id))) active ∙ ap (context_of_lane t at id) (now ∙ is) ∙ ap (own_or _) seen
 
 pub is_under : (setup : Setup) (h : History) → IsHistory setup h → EachRecord (HasContextOf setup h) (tables setup h).closed (records_of_history setup h)
@@ -227,7 +227,7 @@ is_under setup h legal = each_map (IsClosed setup (tables setup h).spans h) (Has
     put : (p : ℕ) (r : Record) → 0 < occurrences p (tables setup h).closed → IsClosed setup (tables setup h).spans h p r → HasContextOf setup h p r
     put p r some c s fore request made is =
         let t = tables setup fore in
-        let id = (here_at setup t request.at request.lane).lane in
+        let id = (here_at setup t request.at request.lane_place).lane in
         let current = current_of (t.entries id) in
         let before = (legal_step setup h legal fore made.rest made.e made.is).2 in
         let fit = fits setup fore (whole setup fore before) in

@@ -1,25 +1,25 @@
 -- A span is made exactly by a request for one that is admitted, and as that says.
 use Rattle.std.proofs.Common.{◌≡◌, ℕ, [], ◌∷◌, length, Bool, true, false, cond, Option, Some, None, Ok, Err, refl, sym, ap, subst, ◌∙◌, is_some, slice_get, ◌==◌, if◌then◌else◌, not}
-use Rattle.span_laws.proofs.Common.{option_map_or, LayerSettings, first_attributes, span_update, Recording, with_starts, parent_source, context_from, Callsite, ValueSet, current_of, Call, Place, Request, TextRead, text_read, Resolved, refuse_if, Here, here_at, ◌>>=◌, need, effect_of, effect_of_call, is_bad_moment, attach_effect, detach_effect, enter_effect, exit_effect, is_full, is_shared, meets_full, entry_call, admits_at, reload_by, follow_effect, context_around, disabled_effect, drop_effect, exchange_effect, is_borrowed, lane_in, new_span_data_at, span_effect, parent_at, scope_at, scope_or_current, Fields, all_values, Setup, event_site, span_site, Effect, History, MadeSpan, Scope, Tables, slot_at, tables, IsHistory, IsMadeBy, asks_admitted, context_of_lane, is_making, parent_context}
+use Rattle.span_laws.proofs.Common.{option_map_or, LayerSettings, first_attributes, span_update, Recording, with_starts, parent_source, context_from, Callsite, ValueSet, current_of, Call, RequestParent, Request, TextRead, text_read, Resolved, refuse_if, Here, here_at, ◌>>=◌, need, effect_of, effect_of_call, is_bad_moment, attach_effect, detach_effect, enter_effect, exit_effect, is_full, is_shared, meets_full, entry_call, admits_at, reload_by, follow_effect, context_around, disabled_effect, drop_effect, exchange_effect, is_borrowed, lane_in, new_span_data_at, span_effect, parent_at, scope_at, scope_or_current, Fields, all_values, Setup, event_site, span_site, Effect, History, MadeSpan, Scope, Tables, slot_at, tables, IsHistory, IsMadeBy, asks_admitted, context_of_lane, is_making, parent_context}
 use Rattle.std.specs.Option.{option_to_list}
 use Rattle.span_script.specs.declared.request.Call.TheVariants as call
-use Rattle.span_script.specs.declared.request.Place.TheVariants as place
+use Rattle.span_script.specs.declared.request.RequestParent.TheVariants as request_parent
 use Rattle.span_script.specs.declared.reply.Refusal.TheVariants as refusal
 use Rattle.span_script.specs.declared.reply.What.TheVariants as what
 use Rattle.span_laws.proofs.records.HistoriesLemmas.{fits, whole}
 use Rattle.span_laws.proofs.steps.StepsLemmas.{IsFit, allowed, found, starts_keep, the_effect, unrefused}
 
 -- the context that a new span is put under
-context_is : (activation : Bool) (current : Option ℕ) (t : Tables) (at id : ℕ) (under : Place) (up : Scope) (setup : Setup) → setup.layer.activation ≡ activation → current_of (t.entries id) ≡ current
+context_is : (activation : Bool) (current : Option ℕ) (t : Tables) (at id : ℕ) (under : RequestParent) (up : Scope) (setup : Setup) → setup.layer.activation ≡ activation → current_of (t.entries id) ≡ current
     → context_from (with_starts (parent_source activation (parent_at under up) current) at t.recording).spans (context_around (t.contexts id) (parent_at under up)) (parent_source activation (parent_at under up) current)
     ≡ parent_context setup t at id under up
-context_is activation current t at id place.Root up setup active now = refl
-context_is activation current t at id (place.Under handle) [] setup active now = refl
-context_is activation current t at id (place.Under handle) (s ∷ up) setup active now = refl
-context_is true current t at id place.Contextual up setup active now = ap (λ (b : Bool). context_of_lane t at id (if b then None else current_of (t.entries id))) (sym active)
-context_is false None t at id place.Contextual up setup active now =
+context_is activation current t at id request_parent.Root up setup active now = refl
+context_is activation current t at id (request_parent.Under handle) [] setup active now = refl
+context_is activation current t at id (request_parent.Under handle) (s ∷ up) setup active now = refl
+context_is true current t at id request_parent.Contextual up setup active now = ap (λ (b : Bool). context_of_lane t at id (if b then None else current_of (t.entries id))) (sym active)
+context_is false None t at id request_parent.Contextual up setup active now =
     ap (context_of_lane t at id) (sym now) ∙ ap (λ (b : Bool). context_of_lane t at id (if b then None else current_of (t.entries id))) (sym active)
-context_is false (Some s) t at id place.Contextual up setup active now =
+context_is false (Some s) t at id request_parent.Contextual up setup active now =
     ap (context_of_lane t at id) (sym now) ∙ ap (λ (b : Bool). context_of_lane t at id (if b then None else current_of (t.entries id))) (sym active)
 
 module _ (setup : Setup) (t : Tables) (fit : IsFit setup t) where
@@ -31,7 +31,7 @@ module _ (setup : Setup) (t : Tables) (fit : IsFit setup t) where
   Makes at place what_for None = asks_admitted setup t (here at place).lane what_for ≡ false
   Makes at place what_for (Some m) = (asks_admitted setup t (here at place).lane what_for ≡ true) × IsMadeBy setup t at place what_for m
 
-  module _ (at place site : ℕ) (under : Place) (fields : Fields) (callsite : Callsite) (up : Scope) (values : ValueSet) (there : span_site setup.sites site ≡ Some callsite)
+  module _ (at place site : ℕ) (under : RequestParent) (fields : Fields) (callsite : Callsite) (up : Scope) (values : ValueSet) (there : span_site setup.sites site ≡ Some callsite)
       (placed : scope_at t (here at place).lane under ≡ Some up) (read : all_values callsite fields ≡ Some values) where
     abbrev id : ℕ
     id = (here at place).lane
@@ -168,44 +168,44 @@ module _ (setup : Setup) (t : Tables) (fit : IsFit setup t) where
       by_read (Err piece) read = absurd (cc read)
 
   -- the effect of a request is that of its call
-  call_of : (request : Request) (e : Effect) → effect_of setup t request ≡ Ok e → effect_of_call setup t request.at request.lane request.call ≡ Ok e
+  call_of : (request : Request) (e : Effect) → effect_of setup t request ≡ Ok e → effect_of_call setup t request.at request.lane_place request.call ≡ Ok e
   call_of request e is =
-      let by_name = (need what.Lane (slice_get setup.ids request.lane) >>= (λ id. effect_of_call setup t request.at request.lane request.call)) in
+      let by_name = (need what.Lane (slice_get setup.ids request.lane_place) >>= (λ id. effect_of_call setup t request.at request.lane_place request.call)) in
       let passed = unrefused setup t fit (is_bad_moment t.moment request.at) (refusal.BadMoment t.moment request.at) by_name e is in
-      let lane = found setup t fit what.Lane (slice_get setup.ids request.lane) (λ id. effect_of_call setup t request.at request.lane request.call) e passed.1 in
+      let lane = found setup t fit what.Lane (slice_get setup.ids request.lane_place) (λ id. effect_of_call setup t request.at request.lane_place request.call) e passed.1 in
       lane.2
 
-  by_request : (request : Request) (e : Effect) → effect_of setup t request ≡ Ok e → Makes request.at request.lane request.call e.new_span
-  by_request request e is = by_call request.at request.lane request.call e (call_of request e is)
+  by_request : (request : Request) (e : Effect) → effect_of setup t request ≡ Ok e → Makes request.at request.lane_place request.call e.new_span
+  by_request request e is = by_call request.at request.lane_place request.call e (call_of request e is)
 
   by_made : (at place : ℕ) (what_for : Call) (o : Option MadeSpan) → Makes at place what_for o → is_some o ≡ asks_admitted setup t (here at place).lane what_for
   by_made at place what_for None unasked = sym unasked
   by_made at place what_for (Some m) made = sym made.0
 
 -- what starts before a span is made
-pub starts_before : (setup : Setup) (t : Tables) (fit : IsFit setup t) (request : Request) (e : Effect) (m : MadeSpan) → effect_of setup t request ≡ Ok e → e.new_span ≡ Some m → (by : IsMadeBy setup t request.at request.lane request.call m)
-    → e.starts ≡ option_to_list (parent_source setup.layer.activation (parent_at by.under by.up) (current_of (t.entries (here_at setup t request.at request.lane).lane)))
+pub starts_before : (setup : Setup) (t : Tables) (fit : IsFit setup t) (request : Request) (e : Effect) (m : MadeSpan) → effect_of setup t request ≡ Ok e → e.new_span ≡ Some m → (by : IsMadeBy setup t request.at request.lane_place request.call m)
+    → e.starts ≡ option_to_list (parent_source setup.layer.activation (parent_at by.under by.up) (current_of (t.entries (here_at setup t request.at request.lane_place).lane)))
 starts_before setup t fit request e m is made by =
-    let named_call = ap (effect_of_call setup t request.at request.lane) (sym by.asked) ∙ call_of setup t fit request e is in
+    let named_call = ap (effect_of_call setup t request.at request.lane_place) (sym by.asked) ∙ call_of setup t fit request e is in
     let callsite = found setup t fit what.Site (span_site setup.sites m.site) _ e named_call in
-    let up = found setup t fit what.Handle (scope_at t (here_at setup t request.at request.lane).lane by.under) _ e callsite.2 in
+    let up = found setup t fit what.Handle (scope_at t (here_at setup t request.at request.lane_place).lane by.under) _ e callsite.2 in
     let values = found setup t fit what.Field (all_values callsite.0 by.fields) _ e up.2 in
     let same : up.0 ≡ by.up = cc (sym up.1 ∙ by.parent) in
-    by_gate callsite.0 up.0 values.0 (admits_at setup t (here_at setup t request.at request.lane).lane callsite.0) (the_effect setup t fit _ e values.2)
-    ∙ ap (λ (scope : Scope). option_to_list (parent_source setup.layer.activation (parent_at by.under scope) (current_of (t.entries (here_at setup t request.at request.lane).lane)))) same
+    by_gate callsite.0 up.0 values.0 (admits_at setup t (here_at setup t request.at request.lane_place).lane callsite.0) (the_effect setup t fit _ e values.2)
+    ∙ ap (λ (scope : Scope). option_to_list (parent_source setup.layer.activation (parent_at by.under scope) (current_of (t.entries (here_at setup t request.at request.lane_place).lane)))) same
   where
-    by_gate : (callsite : Callsite) (up : Scope) (values : ValueSet) (b : Bool) → cond b (span_effect (here_at setup t request.at request.lane) m.site callsite values by.under up) (disabled_effect (here_at setup t request.at request.lane)) ≡ e
-        → e.starts ≡ option_to_list (parent_source setup.layer.activation (parent_at by.under up) (current_of (t.entries (here_at setup t request.at request.lane).lane)))
+    by_gate : (callsite : Callsite) (up : Scope) (values : ValueSet) (b : Bool) → cond b (span_effect (here_at setup t request.at request.lane_place) m.site callsite values by.under up) (disabled_effect (here_at setup t request.at request.lane_place)) ≡ e
+        → e.starts ≡ option_to_list (parent_source setup.layer.activation (parent_at by.under up) (current_of (t.entries (here_at setup t request.at request.lane_place).lane)))
     by_gate callsite up values true is = ap (λ (x : Effect). x.starts) (sym is)
     by_gate callsite up values false is = (let none : ◌≡◌ {A = Option MadeSpan} None (Some m) = ap (λ (x : Effect). x.new_span) is ∙ made in absurd (cc none))
 
 pub if_admitted : (setup : Setup) (h : History) (request : Request) (e : Effect) → IsHistory setup h → effect_of setup (tables setup h) request ≡ Ok e → is_some e.new_span ≡ is_making setup (tables setup h) request
 if_admitted setup h request e legal is =
     let fit = fits setup h (whole setup h legal) in
-    by_made setup (tables setup h) fit request.at request.lane request.call e.new_span (by_request setup (tables setup h) fit request e is)
+    by_made setup (tables setup h) fit request.at request.lane_place request.call e.new_span (by_request setup (tables setup h) fit request e is)
 
 pub made_by : (setup : Setup) (h : History) (request : Request) (e : Effect) (m : MadeSpan) → IsHistory setup h → effect_of setup (tables setup h) request ≡ Ok e → e.new_span ≡ Some m
-    → IsMadeBy setup (tables setup h) request.at request.lane request.call m
+    → IsMadeBy setup (tables setup h) request.at request.lane_place request.call m
 made_by setup h request e m legal is made =
     let fit = fits setup h (whole setup h legal) in
-    (subst (Makes setup (tables setup h) fit request.at request.lane request.call) made (by_request setup (tables setup h) fit request e is)).1
+    (subst (Makes setup (tables setup h) fit request.at request.lane_place request.call) made (by_request setup (tables setup h) fit request e is)).1

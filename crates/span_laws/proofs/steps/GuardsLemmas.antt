@@ -2,12 +2,12 @@
 use Rattle.std.proofs.Common.{◌≡◌, ℕ, zero, suc, ◌<◌, ◌==◌, List, [], ◌∷◌, ◌++◌, Bool, true, false, cond, count_by, slice_set, Option, Some, None, option_map, refl, sym, ap, subst, ◌∙◌, arith, inl, inr, ◌&&◌, ◌||◌}
 use Rattle.span_laws.proofs.Common.{cases_eq, cond-true, cond-false, and_from, and_parts, sum_by-set, get_or-le-sum_by, times_in, without_last, count_push, times_without, id_at, Scope, ScopeGuard, with_item, either_after, slot_at, own_span, lanes_with_entry, lanes_with_exit, borrows, is_borrowed, pick, named_push, named_set, named_within, some_is}
 use Rattle.std.proofs.lemmas.Bool.{eq-eqb, eqb-true, ne_eqb, true≢false}
-use Rattle.span_script.specs.Balance.{guards, opened_by}
+use Rattle.span_script.specs.Balance.{guards_span, opened_by}
 use Rattle.span_laws.proofs.spans.OccurrencesLemmas.{slot_push, slot_kept}
 
 -- an open guard of a span on the lane of an id
 abbrev pub is_on : List ℕ → ℕ → ℕ → Option ScopeGuard → Bool
-is_on ids l s o = guards l s (opened_by ids o)
+is_on ids l s o = guards_span l s (opened_by ids o)
 
 pub record IsGuarded (ids : List ℕ) (hs : List (Option Scope)) (gs : List (Option ScopeGuard)) (es : ℕ → List ℕ) : Type 0 where
   pub still : (n : ℕ) (g : ScopeGuard) → slot_at gs n ≡ Some g → slot_at hs g.handle ≡ Some g.scope
@@ -23,8 +23,8 @@ pub data Enters (ids : List ℕ) (hs : List (Option Scope)) (gs : List (Option S
 
 module _ (ids : List ℕ) (hs : List (Option Scope)) (gs : List (Option ScopeGuard)) (es : ℕ → List ℕ) (now : IsGuarded ids hs gs es) where
   -- whether an open guard with that scope is one of a span on a lane
-  on_of : (l s : ℕ) (g : ScopeGuard) (scope : Scope) → g.scope ≡ scope → is_on ids l s (Some g) ≡ guards l s (opened_by ids (Some (record g { scope = scope })))
-  on_of l s g scope is = ap (λ (x : Scope). guards l s (opened_by ids (Some (record g { scope = x })))) is
+  on_of : (l s : ℕ) (g : ScopeGuard) (scope : Scope) → g.scope ≡ scope → is_on ids l s (Some g) ≡ guards_span l s (opened_by ids (Some (record g { scope = scope })))
+  on_of l s g scope is = ap (λ (x : Scope). guards_span l s (opened_by ids (Some (record g { scope = x })))) is
 
   entered_by : (g : ScopeGuard) (lane : ℕ) → slot_at hs g.handle ≡ Some g.scope → lane ≡ id_at ids g.place → (scope : Scope) → g.scope ≡ scope → (l s : ℕ) → times_in s (lanes_with_entry es lane (own_span scope) l) ≡ count_by (is_on ids l s) (gs ++ Some g ∷ [])
   entered_by g lane there at [] is l s =

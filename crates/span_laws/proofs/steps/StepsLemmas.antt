@@ -1,12 +1,12 @@
 -- What the effect of each request does to handles, guards, spans and entries, whatever its kind.
 use Rattle.std.proofs.Common.{◌≡◌, ℕ, ◌≤◌, ◌==◌, ◌||◌, List, [], ◌∷◌, ◌++◌, length, not, Bool, true, false, cond, Option, Some, None, option_map, slice_set, slice_get, Ok, Err, refl, sym, ap, subst, ◌∙◌, arith, is_some}
-use Rattle.span_laws.proofs.Common.{AllByRecursion, nat_tests, Context, ids_of, is_valid, Op, LayerSettings, GREATEST, Making, deed, event_of, first_attributes, span_update, Recording, started_under, with_starts, parent_source, new_span_data, data_at, waits, Callsite, ValueSet, Lane, is_in, current_of, Request, Place, Call, Setup, span_site, event_site, Here, here_at, Resolved, refuse_if, ◌>>=◌, need, op_on, ops_effect, is_bad_moment, effect_of, effect_of_call, context_effect, own_context, attach_effect, detach_effect, active, enter_effect, meets_full, entry_call, exit_effect, is_shared, is_full, callsite_of, update_ops, hooks_of_values, admits_at, reload_by, follow_effect, happens_at, is_open, holds, closed_of, is_borrowed, scope_at, parent_at, lane_in, new_span_data_at, span_effect, disabled_effect, clone_effect, drop_effect, current_scope, scope_or_current, exchange_effect, Scope, MadeSpan, SpanOp, ScopeGuard, FilterHook, Effect, Tables, with_item, either_after, slot_at, own_span, Fields, all_values, values_of, TextRead, text_read, is_drop, occurrences, Began, at_making, any_counted, slot_open}
+use Rattle.span_laws.proofs.Common.{AllByRecursion, nat_tests, Context, ids_of, is_valid, Op, LayerSettings, GREATEST, Making, deed, event_of, first_attributes, span_update, Recording, started_under, with_starts, parent_source, new_span_data, data_at, waiting_context, Callsite, ValueSet, Lane, is_in, current_of, Request, RequestParent, Call, Setup, span_site, event_site, Here, here_at, Resolved, refuse_if, ◌>>=◌, need, op_on, ops_effect, is_bad_moment, effect_of, effect_of_call, context_effect, own_context, attach_effect, detach_effect, activated_span, enter_effect, meets_full, entry_call, exit_effect, is_shared, is_full, callsite_of, update_ops, hooks_of_values, admits_at, reload_by, follow_effect, happens_at, is_open, holds, closed_of, is_borrowed, scope_at, parent_at, lane_in, new_span_data_at, span_effect, disabled_effect, clone_effect, drop_effect, current_scope, scope_or_current, exchange_effect, Scope, MadeSpan, SpanOp, ScopeGuard, FilterHook, Effect, Tables, with_item, either_after, slot_at, own_span, Fields, all_values, values_of, TextRead, text_read, is_drop, occurrences, IsMadeWith, at_making, any_counted, slot_open}
 use Rattle.std.specs.Option.{option_to_list}
 use Rattle.std.proofs.lemmas.Bool.{eq-eqb, eqb-true}
 use Rattle.otel_metrics.specs.declared.measure.Measure.{Measure}
 use Rattle.otel_state.specs.declared.op.Op.TheVariants as ops
 use Rattle.otel_layer.specs.Asking.{link_of, event_at}
-use Rattle.span_script.specs.declared.request.Place.TheVariants as place
+use Rattle.span_script.specs.declared.request.RequestParent.TheVariants as request_parent
 use Rattle.span_script.specs.declared.request.Call.TheVariants as call
 use Rattle.span_script.specs.declared.reply.Reply.{Reply}
 use Rattle.span_script.specs.declared.reply.Reply.TheVariants as reply
@@ -39,7 +39,7 @@ pub data Spends (slots : List (Option Scope)) (gs : List (Option ScopeGuard)) : 
 -- what a span is made with
 abbrev pub Begins : Setup → ℕ → Option MadeSpan → Type 0
 Begins setup at None = Unit {0}
-Begins setup at (Some m) = (making : Making) × Began setup at m.made_with making
+Begins setup at (Some m) = (making : Making) × IsMadeWith setup at m.made_with making
 
 -- an op of an open span that is no start
 pub record IsReached (hs : List (Option Scope)) (d : SpanOp) : Type 0 where
@@ -106,14 +106,14 @@ pub record IsFit (setup : Setup) (t : Tables) : Type 0 where
 -- settings stay with starts
 pub starts_keep : (o : Option ℕ) (at : ℕ) (r : Recording) → ((with_starts o at r).settings ≡ r.settings) × ((with_starts o at r).counting ≡ r.counting)
 starts_keep None at r = (refl, refl)
-starts_keep (Some id) at r = by_context (waits (data_at id r.spans))
+starts_keep (Some id) at r = by_context (waiting_context (data_at id r.spans))
   where
     by_context : (under : Option Context) → ((started_under under id at r).settings ≡ r.settings) × ((started_under under id at r).counting ≡ r.counting)
     by_context None = (refl, refl)
     by_context (Some context) = (refl, refl)
 
 told_begins : (setup : Setup) (given : LayerSettings) (callsite : Callsite) (lane : Lane) (values : ValueSet) (context : Context) (at : ℕ) (counting : Bool) → given ≡ setup.layer → counting ≡ is_some setup.counting
-    → (making : Making) × Began setup at (new_span_data callsite lane values context at given counting) making
+    → (making : Making) × IsMadeWith setup at (new_span_data callsite lane values context at given counting) making
 told_begins setup given callsite lane values context at counting same counting_is = (
   record { name = callsite.name; parent = context; made_at = at; first = first_attributes callsite lane given; counting = counting; inactivity = given.inactivity },
   record { update = span_update callsite values given; is = refl; made_at = refl; tracked = ap (λ (s : LayerSettings). s.inactivity) same; counting_is = counting_is },
@@ -135,18 +135,18 @@ module _ (setup : Setup) (t : Tables) (fit : IsFit setup t) where
   own_open _ (of_handle k scope there) s up is = slot_open t.handles k s scope there (ap (is_in s) is ∙ ap (λ b. b || is_in s up) (eq-eqb s s refl))
 
   -- what starts is open: the span that gives a new one its context, and the one that an entry activates
-  source_open : (activation : Bool) (under : Place) (up : Scope) (lane : ℕ) → IsKnown t.handles up → Open (option_to_list (parent_source activation (parent_at under up) (current_of (t.entries lane))))
-  source_open activation place.Root up lane known = tt
-  source_open true place.Contextual up lane known = tt
-  source_open false place.Contextual up lane known = by_current (current_of (t.entries lane)) refl
+  source_open : (activation : Bool) (under : RequestParent) (up : Scope) (lane : ℕ) → IsKnown t.handles up → Open (option_to_list (parent_source activation (parent_at under up) (current_of (t.entries lane))))
+  source_open activation request_parent.Root up lane known = tt
+  source_open true request_parent.Contextual up lane known = tt
+  source_open false request_parent.Contextual up lane known = by_current (current_of (t.entries lane)) refl
     where
       by_current : (o : Option ℕ) → current_of (t.entries lane) ≡ o → Open (option_to_list o)
       by_current None is = tt
       by_current (Some s) is = (fit.entered lane s is, tt)
-  source_open activation (place.Under handle) [] lane known = tt
-  source_open activation (place.Under handle) (s ∷ up) lane known = (own_open (s ∷ up) known s up refl, tt)
+  source_open activation (request_parent.Under handle) [] lane known = tt
+  source_open activation (request_parent.Under handle) (s ∷ up) lane known = (own_open (s ∷ up) known s up refl, tt)
 
-  active_open : (activation : Bool) (scope : Scope) → IsKnown t.handles scope → Open (option_to_list (active activation scope))
+  active_open : (activation : Bool) (scope : Scope) → IsKnown t.handles scope → Open (option_to_list (activated_span activation scope))
   active_open false scope known = tt
   active_open true [] known = tt
   active_open true (s ∷ up) known = (own_open (s ∷ up) known s up refl, tt)
@@ -170,7 +170,7 @@ module _ (setup : Setup) (t : Tables) (fit : IsFit setup t) where
   declined : (at place : ℕ) → Step at false (disabled_effect (here at place))
   declined at place = record { moment = refl; names = another [] no_scope; enters = no_entry; spends = no_spending; begins = tt; early = refl; starts = tt; reached = tt; turns = tt; closing = λ no. refl; heard = of_open None [] tt }
 
-  made_span : (at place site : ℕ) (callsite : Callsite) (values : ValueSet) (under : Place) (up : Scope) → IsKnown t.handles up → Step at false (span_effect (here at place) site callsite values under up)
+  made_span : (at place site : ℕ) (callsite : Callsite) (values : ValueSet) (under : RequestParent) (up : Scope) → IsKnown t.handles up → Step at false (span_effect (here at place) site callsite values under up)
   made_span at place site callsite values under up known =
       let source = parent_source setup.layer.activation (parent_at under up) (current_of (t.entries (here at place).lane)) in
       let keep = starts_keep source at t.recording in
@@ -340,16 +340,16 @@ module _ (setup : Setup) (t : Tables) (fit : IsFit setup t) where
   the_effect a e is = cc is
 
   -- where a span is put is known
-  known_place : (lane : ℕ) (under : Place) (up : Scope) → scope_at t lane under ≡ Some up → IsKnown t.handles up
-  known_place lane place.Root up is = subst (IsKnown t.handles) (the_scope [] up is) no_scope
+  known_place : (lane : ℕ) (under : RequestParent) (up : Scope) → scope_at t lane under ≡ Some up → IsKnown t.handles up
+  known_place lane request_parent.Root up is = subst (IsKnown t.handles) (the_scope [] up is) no_scope
     where
       the_scope : (a b : Scope) → ◌≡◌ {A = Option Scope} (Some a) (Some b) → a ≡ b
       the_scope a b e = cc e
-  known_place lane place.Contextual up is = subst (IsKnown t.handles) (the_scope (current_scope t lane) up is) (fit.currents lane)
+  known_place lane request_parent.Contextual up is = subst (IsKnown t.handles) (the_scope (current_scope t lane) up is) (fit.currents lane)
     where
       the_scope : (a b : Scope) → ◌≡◌ {A = Option Scope} (Some a) (Some b) → a ≡ b
       the_scope a b e = cc e
-  known_place lane (place.Under handle) up is = of_handle handle up is
+  known_place lane (request_parent.Under handle) up is = of_handle handle up is
 
   opened : (at place handle : ℕ) (owns : Bool) (e : Effect) → entry_call (here at place) handle owns ≡ Ok e → Step at false e
   opened at place handle owns e is =
@@ -457,10 +457,10 @@ module _ (setup : Setup) (t : Tables) (fit : IsFit setup t) where
 
   pub step_of : (request : Request) (e : Effect) → effect_of setup t request ≡ Ok e → IsTimed t.moment e.at × IsStep setup t request.at (is_drop request.call) e
   step_of request e is =
-      let by_name = (need what.Lane (slice_get setup.ids request.lane) >>= (λ id. effect_of_call setup t request.at request.lane request.call)) in
+      let by_name = (need what.Lane (slice_get setup.ids request.lane_place) >>= (λ id. effect_of_call setup t request.at request.lane_place request.call)) in
       let passed = unrefused (is_bad_moment t.moment request.at) (refusal.BadMoment t.moment request.at) by_name e is in
-      let lane = found what.Lane (slice_get setup.ids request.lane) (λ id. effect_of_call setup t request.at request.lane request.call) e passed.1 in
-      let step = by_call request.at request.lane request.call e lane.2 in
+      let lane = found what.Lane (slice_get setup.ids request.lane_place) (λ id. effect_of_call setup t request.at request.lane_place request.call) e passed.1 in
+      let step = by_call request.at request.lane_place request.call e lane.2 in
       (timed t.moment request.at e.at step.moment passed.0, step)
     where
       timed : (before at now : ℕ) → now ≡ at → is_bad_moment before at ≡ false → IsTimed before now

@@ -1,21 +1,21 @@
 -- What is kept fits after an entry and after an exit.
 use Rattle.std.proofs.Common.{◌≡◌, ℕ, ◌+◌, ◌<◌, List, [], ◌∷◌, ◌++◌, length, cond, count_by, set, Option, Some, None, refl, sym, ap, subst, ◌∙◌, arith, inl, inr, ◌==◌, ◌&&◌}
-use Rattle.span_script.proofs.Common.{cases_eq, cases_Bool, cases_lt, cond-true, cond-false, and_from, length_push, get_or_past, get_or_push, get_or_append_left, sum_by-set, get_or-le-sum_by, Span, Entries, Spans, span_at, entries_on, with_entries, is_in, times_in, open_children, without_last, with_hold, less_hold, without_hold, with_span_entry, with_span_exit, HasOwnHold, IsLive, MayExit, count_push, any_if_counted, made_if_held, with_same, with_other, keeps_children, less_more, less_holds, times_without, first_if_in, slot_at, lanes_with, OpenGuard, names_span, guards, Balanced}
+use Rattle.span_script.proofs.Common.{cases_eq, cases_Bool, cases_lt, cond-true, cond-false, and_from, length_push, get_or_past, get_or_push, get_or_append_left, sum_by-set, get_or-le-sum_by, Span, Entries, Spans, span_at, entries_on, with_entries, is_in, times_in, open_child_count, without_last, with_hold, less_hold, without_hold, with_span_entry, with_span_exit, HasOwnHold, IsLive, MayExit, count_push, any_if_counted, made_if_held, with_same, with_other, keeps_children, less_more, less_holds, times_without, first_if_in, slot_at, lanes_with, OpenGuard, names_span, guards_span, Balanced}
 use Rattle.std.proofs.lemmas.Bool.{eq-eqb, eqb-true, ne_eqb}
 use Rattle.std.proofs.lemmas.List.{get_or-set_same, get_or-set_other}
 use Rattle.trace_base.proofs.HoldMoveLemmas.{entry_moves, exit_moves}
 
 -- open children stay
-enter_children : (x : Spans) (id lane q : ℕ) → IsLive x.made id → open_children (with_span_entry x id lane).made q ≡ open_children x.made q
+enter_children : (x : Spans) (id lane q : ℕ) → IsLive x.made id → open_child_count (with_span_entry x id lane).made q ≡ open_child_count x.made q
 enter_children x id lane q live =
     let ids = entries_on lane x.lanes in
     elim (cases_Bool (is_in id ids)) [
-      | inl again ↦ ap (λ (xs : List Span). open_children xs q) (cond-true {A = List Span} (is_in id ids) x.made (with_hold x.made id) again)
-      | inr new ↦ ap (λ (xs : List Span). open_children xs q) (cond-false {A = List Span} (is_in id ids) x.made (with_hold x.made id) new)
+      | inl again ↦ ap (λ (xs : List Span). open_child_count xs q) (cond-true {A = List Span} (is_in id ids) x.made (with_hold x.made id) again)
+      | inr new ↦ ap (λ (xs : List Span). open_child_count xs q) (cond-false {A = List Span} (is_in id ids) x.made (with_hold x.made id) new)
           ∙ keeps_children x.made id (record (span_at x.made id) { holds = (span_at x.made id).holds + 1 }) (made_if_held x.made id live) refl live (omega arith) q
     ]
 
-exit_children : (x : Spans) (id lane q : ℕ) → IsLive x.made id → MayExit x id lane → open_children (with_span_exit x id lane).made q ≡ open_children x.made q
+exit_children : (x : Spans) (id lane q : ℕ) → IsLive x.made id → MayExit x id lane → open_child_count (with_span_exit x id lane).made q ≡ open_child_count x.made q
 exit_children x id lane q live may =
     let ids = entries_on lane x.lanes in
     let was = span_at x.made id in
@@ -23,9 +23,9 @@ exit_children x id lane q live may =
       | inl last ↦ (
           let more = may.1 (eqb-true (times_in id ids) 1 last) in
           let fewer = less_holds was in
-          ap (λ (xs : List Span). open_children xs q) (cond-true {A = List Span} (times_in id ids == 1) (without_hold x.made id) x.made last)
+          ap (λ (xs : List Span). open_child_count xs q) (cond-true {A = List Span} (times_in id ids == 1) (without_hold x.made id) x.made last)
           ∙ keeps_children x.made id (less_hold was) (made_if_held x.made id live) (ap (λ (s : Span). s.parent) (less_more was (λ e. omega (arith, e, more)))) live (omega (arith, fewer, more)) q)
-      | inr several ↦ ap (λ (xs : List Span). open_children xs q) (cond-false {A = List Span} (times_in id ids == 1) (without_hold x.made id) x.made several)
+      | inr several ↦ ap (λ (xs : List Span). open_child_count xs q) (cond-false {A = List Span} (times_in id ids == 1) (without_hold x.made id) x.made several)
     ]
 
 -- the entries of each lane after one lane's are written
@@ -62,7 +62,7 @@ fits_enter spans hs gs es fits handle s lane is =
       holds = λ q. (let m = entry_moves spans s lane q live in let c = enter_children spans s lane q live in let h = fits.holds q in omega (arith, m, c, h));
       entries = λ l. ap (λ (xs : List ℕ). entries_on l (with_entries lane (xs ++ s ∷ []) spans.lanes)) (fits.entries lane) ∙ entries_written spans.lanes lane (es lane ++ s ∷ []) es fits.entries l;
       guarded = λ l q. (
-          let push = count_push (guards l q) gs (Some guard) in
+          let push = count_push (guards_span l q) gs (Some guard) in
           let before = fits.guarded l q in
           elim (cases_eq lane l) [
             | inl here ↦ (
@@ -89,17 +89,17 @@ fits_enter spans hs gs es fits handle s lane is =
     }
 
 -- an open guard may exit
-guard_counts : (gs : List (Option OpenGuard)) (n : ℕ) (g : OpenGuard) → slot_at gs n ≡ Some g → (n < length gs) × (cond {A = ℕ} (guards g.lane g.span (slot_at gs n)) 1 0 ≡ 1)
+guard_counts : (gs : List (Option OpenGuard)) (n : ℕ) (g : OpenGuard) → slot_at gs n ≡ Some g → (n < length gs) × (cond {A = ℕ} (guards_span g.lane g.span (slot_at gs n)) 1 0 ≡ 1)
 guard_counts gs n g is =
     elim (cases_lt n (length gs)) [
-      | inl within ↦ (within, cond-true {A = ℕ} (guards g.lane g.span (slot_at gs n)) 1 0 (ap (guards g.lane g.span) is ∙ and_from (g.lane == g.lane) (g.span == g.span) (eq-eqb g.lane g.lane refl) (eq-eqb g.span g.span refl)))
+      | inl within ↦ (within, cond-true {A = ℕ} (guards_span g.lane g.span (slot_at gs n)) 1 0 (ap (guards_span g.lane g.span) is ∙ and_from (g.lane == g.lane) (g.span == g.span) (eq-eqb g.lane g.lane refl) (eq-eqb g.span g.span refl)))
       | inr past ↦ absurd (let no : None ≡ Some g = sym (get_or_past gs n None past) ∙ is in cc no)
     ]
 
 pub fits_may_exit : (spans : Spans) (hs : List (Option ℕ)) (gs : List (Option OpenGuard)) (es : ℕ → List ℕ) → Balanced spans hs gs es → (n : ℕ) (g : OpenGuard) → slot_at gs n ≡ Some g → MayExit spans g.span g.lane
 fits_may_exit spans hs gs es fits n g is =
     let at = guard_counts gs n g is in
-    let c = get_or-le-sum_by (λ (o : Option OpenGuard). cond {A = ℕ} (guards g.lane g.span o) 1 0) gs n None at.0 in
+    let c = get_or-le-sum_by (λ (o : Option OpenGuard). cond {A = ℕ} (guards_span g.lane g.span o) 1 0) gs n None at.0 in
     let t = fits.guarded g.lane g.span in
     let e = ap (λ (xs : List ℕ). times_in g.span xs) (fits.entries g.lane) in
     let some : 0 < times_in g.span (entries_on g.lane spans.lanes) = omega (arith, at.1, c, t, e) in (
@@ -123,8 +123,8 @@ fits_exit spans hs gs es fits n g is =
       holds = λ q. (let m = exit_moves spans g.span g.lane q live may in let c = exit_children spans g.span g.lane q live may in let h = fits.holds q in omega (arith, m, c, h));
       entries = λ l. ap (λ (xs : List ℕ). entries_on l (with_entries g.lane (without_last (λ x. x == g.span) xs) spans.lanes)) (fits.entries g.lane) ∙ entries_written spans.lanes g.lane (without_last (λ x. x == g.span) (es g.lane)) es fits.entries l;
       guarded = λ l q. (
-          let write = sum_by-set (λ (o : Option OpenGuard). cond {A = ℕ} (guards l q o) 1 0) gs n None None at.0 in
-          let slot = ap (λ (o : Option OpenGuard). cond {A = ℕ} (guards l q o) 1 0) is in
+          let write = sum_by-set (λ (o : Option OpenGuard). cond {A = ℕ} (guards_span l q o) 1 0) gs n None None at.0 in
+          let slot = ap (λ (o : Option OpenGuard). cond {A = ℕ} (guards_span l q o) 1 0) is in
           let before = fits.guarded l q in
           elim (cases_eq g.lane l) [
             | inl here ↦ (

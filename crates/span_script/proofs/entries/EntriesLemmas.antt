@@ -1,6 +1,6 @@
 -- Entries and exits, served.
 use Rattle.std.proofs.Common.{◌≡◌, ℕ, ◌+◌, ◌<◌, List, [], ◌∷◌, ◌++◌, length, Bool, true, false, fold, get_or, set, slice_set, Option, Some, None, option_map, map, refl, sym, ap, subst, ◌∙◌, arith, inl, inr, cond, Ok, Err, Result, IfOk, IfErr, ◌==◌, ◌≢◌, ◌&&◌, nat_lt, count_by, if◌then◌else◌, not}
-use Rattle.span_script.proofs.Common.{cases_eq, cases_Bool, cond-true, cond-false, length-map, length_push, map_push, Lane, Worlds, Span, Spans, span_at, with_hold, without_hold, without_last, is_in, times_in, entries_on, SubscriberCall, Enter, Exit, with_span_entry, with_span_exit, OneEach, count_cons, member_of, spans_in, Handle, Held, ReplacedOn, Guard, Attach, id_at, Token, empty_context, LayerSettings, SpanData, is_token, data_at, own_or, Recording, no_recording, with_start, with_starts, with_applied, source_of, RecordsCall, Enters, Exits, Scope, MadeSpan, ScopeGuard, FilterHook, HookEnter, HookExit, Effect, Tables, after_effect, recorded_by, slot_at, own_span, lanes_with_entry, lanes_with_exit, with_attached, with_detached, open_part, quiet_effect, EntryOf, Attached, here_at, Resolved, refuse_if, ◌>>=◌, need, effect_of_call, active, attached_by, meets_full, entry_call, enter_effect, is_shared, exit_effect, after_filter_hook, hooks_of_span, borrows, is_borrowed, names_handle, is_named, is_shared_by, Reply, Refusal, Balanced, named_by, opened_by, Views, IsScope, ContextSlots, State, state_of, LaneValue, lane_value, lane_at, StandsFor, RecordingFits, AllContextsFit, MadeFit, IsKept, Served, IsRefusal, held_of, guard_of, lane_of, held_by, Parts, ServesResolved, holds_other, FilterState, CallsLaw, aside_in}
+use Rattle.span_script.proofs.Common.{cases_eq, cases_Bool, cond-true, cond-false, length-map, length_push, map_push, Lane, Worlds, Span, Spans, span_at, with_hold, without_hold, without_last, is_in, times_in, entries_on, SubscriberCall, Enter, Exit, with_span_entry, with_span_exit, OneEach, count_cons, member_of, spans_in, Handle, Held, ReplacedOn, Guard, Attach, id_at, Token, empty_context, LayerSettings, SpanData, is_token, data_at, own_or, Recording, no_recording, with_start, with_starts, with_applied, source_of, RecordsCall, Enters, Exits, Scope, MadeSpan, ScopeGuard, FilterHook, HookEnter, HookExit, Effect, Tables, after_effect, recorded_by, slot_at, own_span, lanes_with_entry, lanes_with_exit, with_attached, with_detached, open_part, quiet_effect, EntryOf, Attached, here_at, Resolved, refuse_if, ◌>>=◌, need, effect_of_call, activated_span, attached_by, meets_full, entry_call, enter_effect, is_shared, exit_effect, after_filter_hook, hooks_of_span, borrows, is_borrowed, names_handle, is_named, is_shared_by, Reply, Refusal, Balanced, named_by, opened_by, Views, IsScope, ContextSlots, State, state_of, LaneValue, lane_value, lane_at, StandsFor, RecordingFits, AllContextsFit, MadeFit, IsKept, Served, IsRefusal, held_of, guard_of, lane_of, held_by, Parts, ServesResolved, holds_other, FilterState, CallsLaw, aside_in}
 use Rattle.std.proofs.lemmas.Bool.{eq-eqb, ne_eqb}
 use Rattle.std.proofs.lemmas.List.{length-set}
 use Rattle.trace_base.proofs.Sound.{one_with}
@@ -65,9 +65,6 @@ borrowed_count dispatch handle (o ∷ gs) =
 pub shared_is : (dispatch : ℕ) (gs : List (Option ScopeGuard)) (g : Guard) (x : ScopeGuard) → g ≡ guard_of dispatch x → is_shared_by (map (option_map (guard_of dispatch)) gs) g ≡ is_shared gs x
 shared_is dispatch gs g x is = ap (is_shared_by (map (option_map (guard_of dispatch)) gs)) is ∙ ap (λ (n : ℕ). x.owns && nat_lt 1 n) (borrowed_count dispatch x.handle gs)
 
-the_open : (a b : Guard) → ◌≡◌ {A = Option Guard} (Some a) (Some b) → a ≡ b
-the_open a b e = cc e
-
 -- an entry
 pub fits_entered : (k next : State) (t : Tables) (at place handle : ℕ) (owns : Bool) (line : Scope) → Fits k t → slot_at t.handles handle ≡ Some line → next.spans ≡ spans_entered k.spans line (id_at k.setup.ids place) → next.setup ≡ k.setup
     → next.dispatch ≡ k.dispatch → next.handles ≡ k.handles → next.handle_sites ≡ k.handle_sites → next.guards ≡ k.guards ++ Some (guard_of k.dispatch (record { handle = handle; place = place; owns = owns; scope = line })) ∷ [] → next.contexts.contexts ≡ k.contexts.contexts → next.contexts.attaches ≡ k.contexts.attaches ++ None ∷ [] → next.moment ≡ at
@@ -123,7 +120,7 @@ fits_exited k next t at guard g fits there step setup dispatch handles sites gua
       one = subst (λ (x : Spans). OneEach x.lanes) (sym step) (one_exited k.spans g.scope id fits.one_lane);
     })
 
-no_active : (activation : Bool) → active activation [] ≡ None
+no_active : (activation : Bool) → activated_span activation [] ≡ None
 no_active true = refl
 no_active false = refl
 
@@ -141,7 +138,7 @@ entered_live spans (s ∷ up) lane q live some = elim (cases_Bool (is_in s (entr
 
 -- what the effect attaches is what the layer attached
 attach_is : (b : Bool) (s at : ℕ) (up : Scope) (r x : Recording) → open_part r ≡ x
-    → (if b then Some (record { owner = EntryOf s; context = own_or empty_context (data_at s (with_starts (source_of b s) at r).spans) }) else None) ≡ attached_by x at (active b (s ∷ up))
+    → (if b then Some (record { owner = EntryOf s; context = own_or empty_context (data_at s (with_starts (source_of b s) at r).spans) }) else None) ≡ attached_by x at (activated_span b (s ∷ up))
 attach_is true s at up r x is = ap (λ (xs : List (ℕ × SpanData)). Some (record { owner = EntryOf s; context = own_or empty_context (data_at s xs) })) (start_open s at r x is)
 attach_is false s at up r x is = refl
 
@@ -240,7 +237,7 @@ module _ {S : Type 0} (spans : S → Spans) (views : Views S) (attaches : S → 
         → (toks : List Token) × (r' ≡ record (recorded_by (length t.spans) (enter_effect (here_at now.setup t at place) handle owns line) r) { tokens = toks }) × AllFit (then_with gs' cs') (after_effect t (enter_effect (here_at now.setup t at place) handle owns line)).contexts
     entered_record gs' cs' t handle owns [] fit live differ same none skip shown =
         let is = ap (λ (w : Worlds S). member_of views.recorded no_recording w parts.dispatch) shown in
-        let nothing : (b : Bool) → recorded_by (length t.spans) (record (quiet_effect at place_id (reply.Guard 0)) { starts = option_to_list (active b []) }) r ≡ r = λ b. ap (λ (o : Option ℕ). recorded_by (length t.spans) (record (quiet_effect at place_id (reply.Guard 0)) { starts = option_to_list o }) r) (no_active b) in (
+        let nothing : (b : Bool) → recorded_by (length t.spans) (record (quiet_effect at place_id (reply.Guard 0)) { starts = option_to_list (activated_span b []) }) r ≡ r = λ b. ap (λ (o : Option ℕ). recorded_by (length t.spans) (record (quiet_effect at place_id (reply.Guard 0)) { starts = option_to_list o }) r) (no_active b) in (
           r.tokens,
           is ∙ ap (λ (x : Recording). record x { tokens = r.tokens }) (sym (nothing r.settings.activation)),
           subst (λ (ks : List (Option Attach)). AllContextsFit r'.settings.activation ls' r'.tokens ks (after_effect t (enter_effect (here_at now.setup t at place) handle owns [])).contexts) (sym skip)
@@ -378,9 +375,6 @@ refuses_wrong_lane k guard g found alone at place other t stands =
     ∙ cond-false {A = Resolved} (is_shared t.guards x.at) _ _ (sym (ap (λ (xs : List (Option Guard)). is_shared_by xs g) fits.guard_slots ∙ shared_is k.dispatch t.guards g x.at x.is) ∙ alone)
     ∙ cond-true {A = Resolved} (not (x.at.place == place)) _ _ (ap not (ne_eqb x.at.place place (λ e. other (lane_is ∙ e))))
     ∙ ap wrong_lane (sym lane_is)
-
-pub alone_at : (gs : List (Option Guard)) (n : ℕ) (a b : Guard) → slot_at gs n ≡ Some a → slot_at gs n ≡ Some b → is_shared_by gs a ≡ false → is_shared_by gs b ≡ false
-alone_at gs n a b one other alone = subst (λ (g : Guard). is_shared_by gs g ≡ false) (the_open a b (sym one ∙ other)) alone
 
 -- what is said of the fields is said of the value that they make
 pub by_view_opens : (at place handle : ℕ) (owns : Bool) (next : State) (answer : Reply) (view k : State) → view ≡ k → ((t : Tables) → StandsFor view t → Served (entry_call (here_at view.setup t at place) handle owns) t view next answer)

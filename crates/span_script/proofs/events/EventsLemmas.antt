@@ -1,11 +1,12 @@
 -- Ops on spans that leave all else as it is, served; and events.
-use Rattle.span_script.proofs.Common.{length-map, Measure, Token, Recording, no_recording, with_start, with_applied, Lane, Callsite, Kind, ValueSet, Parent, Worlds, FilterState, IsNewFilter, enables_in, Spans, span_at, entries_on, place_on, SubscriberCall, OneEach, member_of, spans_in, kept_in, Has, Reply, Place, id_at, if_event, event_site, Scope, SpanOp, FilterHook, Effect, Tables, own_span, recorded_by, quiet_effect, Fields, all_values, text_filter, here_at, Resolved, ◌>>=◌, need, ops_on, effect_of_call, if_enabled, counted_ops, event_effect, after_filter_hook, scope_at, parent_for, TellsOnly, LetsThrough, Balanced, named_by, opened_by, Views, shown_of, State, state_of, lane_value, held_by, StandsFor, MadeFit, LanesFit, IsKept, Served, Parts, with_counted, with_event_by, AddsMeasures, CallsLaw, aside_in}
+use Rattle.span_script.proofs.Common.{length-map, Measure, Token, Recording, no_recording, with_start, with_applied, Lane, Callsite, Kind, ValueSet, Parent, Worlds, FilterState, IsNewFilter, enables_in, Spans, span_at, entries_on, parent_on, SubscriberCall, OneEach, member_of, spans_in, kept_in, Has, Reply, RequestParent, id_at, if_event, event_site, Scope, SpanOp, FilterHook, Effect, Tables, own_span, recorded_by, quiet_effect, Fields, all_values, text_filter, here_at, Resolved, ◌>>=◌, need, ops_on, effect_of_call, if_enabled, event_ops, event_effect, after_filter_hook, scope_at, parent_for, TellsOnly, LetsThrough, Balanced, named_by, opened_by, Views, shown_of, State, state_of, lane_value, held_by, StandsFor, MadeFit, LanesFit, IsKept, Served, Parts, with_counted, with_event_by, AddsMeasures, CallsLaw, aside_in}
 use Rattle.std.proofs.Common.{◌≡◌, ℕ, ◌<◌, List, [], ◌∷◌, length, Bool, true, false, fold, get_or, Option, Some, None, Ok, option_map, map, refl, sym, ap, subst, ◌∙◌, arith, slice_get, option_and_then, is_some, IfSome}
 use Rattle.otel_state.specs.fields.EventFields.{event_of}
 use Rattle.otel_state.specs.declared.op.Op.TheVariants as ops
 use Rattle.otel_metrics.specs.Measures.{measures}
 use Rattle.env_directives.specs.orders.Choice.{admits}
 use Rattle.trace_base.specs.declared.callsite.Kind.TheVariants as kinds
+use Rattle.trace_base.specs.Gate.{dispatch_on}
 use Rattle.span_script.specs.declared.reply.Reply.TheVariants as reply
 use Rattle.span_script.specs.declared.request.Call.TheVariants as call
 use Rattle.span_script.specs.declared.reply.What.TheVariants as what
@@ -17,7 +18,7 @@ use Rattle.span_script.proofs.steps.LanesLemmas.{id_seen}
 use Rattle.span_script.proofs.steps.RecordingLemmas.{recorded_settings, recorded_tokens}
 use Rattle.span_script.proofs.spans.MoreHandlesLemmas.{find_up}
 use Rattle.span_script.proofs.steps.ServesLemmas.{serve, known_still, all_same, kept_served}
-use Rattle.span_script.proofs.spans.SitesLemmas.{the_callsite, found_site_is}
+use Rattle.span_script.proofs.spans.SitesLemmas.{the_callsite}
 
 -- the callsite of an event at a place
 pub site_is : (sites : List Callsite) (site : ℕ) (callsite : Callsite) → event_site sites site ≡ Some callsite → slice_get sites site ≡ Some callsite
@@ -61,7 +62,7 @@ Decides = (f : FilterState) (lane : ℕ) (c : Callsite) → IsNewFilter f → c.
 -- an event is some ops of the own span of the scope that it reaches
 told_is : Decides → (ids : List ℕ) (counting : Option (List ℕ)) (counter : Option FilterState) → option_map (shown_of 0 ids) counter ≡ option_map (shown_of 0 ids) (option_map text_filter counting) → IfSome (option_map text_filter counting) IsNewFilter
     → (scope : Scope) (id place : ℕ) → id ≡ id_at ids place → place < length ids → (at : ℕ) (callsite : Callsite) → callsite.kind ≡ kinds.Event → (values : ValueSet) (r : Recording)
-    → with_event_by counter (own_span scope) id at callsite values r ≡ done_by at (ops_on scope (counted_ops counting callsite (event_of callsite values r.settings at))) r
+    → with_event_by counter (own_span scope) id at callsite values r ≡ done_by at (ops_on scope (event_ops counting callsite (event_of callsite values r.settings at))) r
 told_is decides ids counting counter shown new scope id place mine within at callsite event values r = by_counting counting counter shown new scope
   where
     by_flag : (b : Bool) (s : ℕ) → with_counted b s at callsite values r ≡ done_by at (ops_on (s ∷ []) (ops.Counted ∷ if_enabled b (event_of callsite values r.settings at ∷ []))) r
@@ -73,7 +74,7 @@ told_is decides ids counting counter shown new scope id place mine within at cal
         ap (λ (l : ℕ). enables_in f l callsite) mine ∙ enables_alike 0 ids f g place callsite (agree_by 0 ids f g (let e : shown_of 0 ids f ≡ shown_of 0 ids g = cc same in e)) within ∙ decides g (id_at ids place) callsite fresh event
 
     by_counting : (text : Option (List ℕ)) (o : Option FilterState) → option_map (shown_of 0 ids) o ≡ option_map (shown_of 0 ids) (option_map text_filter text) → IfSome (option_map text_filter text) IsNewFilter → (reached : Scope)
-        → with_event_by o (own_span reached) id at callsite values r ≡ done_by at (ops_on reached (counted_ops text callsite (event_of callsite values r.settings at))) r
+        → with_event_by o (own_span reached) id at callsite values r ≡ done_by at (ops_on reached (event_ops text callsite (event_of callsite values r.settings at))) r
     by_counting None None same fresh [] = refl
     by_counting None None same fresh (s ∷ up) = refl
     by_counting None (Some f) same fresh reached = absurd (cc same)
@@ -187,23 +188,20 @@ module _ {S : Type 0} (spans : S → Spans) (views : Views S) (attaches : S → 
 
   module _ (does : S → SubscriberCall → S → Type 0) (law : CallsLaw spans views attaches kept is_whole does)
       (at place : ℕ) where
-    module _ (under : Place) (p : Parent) (found : parent_for (map held_by parts.handles) under ≡ Some p) (found_site site : ℕ) (sited_is : found_site ≡ site) (evented : is_some (event_site parts.world.sites site) ≡ true)
-        (fields : Fields) (values : ValueSet) (given : Callsite) (given_is : slice_get parts.world.sites found_site ≡ Some given) (valued : all_values given fields ≡ Some values)
-        (before : Lane) (within : place < length parts.lanes) (here : before ≡ get_or parts.lanes place before) (enabled : Bool) (gate : LetsThrough (member_of views.filtered None parts.world parts.dispatch) parts.world.sites before.id found_site enabled) (did : TellsOnly does enabled parts.world new before at p found_site values parts.dispatch) (decides : Decides) where
-      its_site : (callsite : Callsite) × (event_site parts.world.sites site ≡ Some callsite)
-      its_site = found_site_is (event_site parts.world.sites site) evented
-
-      same_site : (c : Callsite) → slice_get parts.world.sites found_site ≡ Some c → c ≡ its_site.0
-      same_site c is = the_callsite c its_site.0 (sym is ∙ ap (λ (k : ℕ). slice_get parts.world.sites k) sited_is ∙ site_is parts.world.sites site its_site.0 its_site.1)
+    module _ (under : RequestParent) (p : Parent) (found : parent_for (map held_by parts.handles) under ≡ Some p) (found_site site : ℕ) (sited_is : found_site ≡ site) (given : Callsite) (evented : event_site parts.world.sites site ≡ Some given)
+        (fields : Fields) (values : ValueSet) (valued : all_values given fields ≡ Some values)
+        (before : Lane) (within : place < length parts.lanes) (here : before ≡ get_or parts.lanes place before) (enabled : Bool) (gate : LetsThrough (member_of views.filtered None parts.world parts.dispatch) parts.world.sites before.id found_site enabled) (own : before.default ≡ Some parts.dispatch) (did : TellsOnly does enabled parts.world new before at p found_site values (dispatch_on before.default parts.world.global)) (decides : Decides) where
+      same_site : (c : Callsite) → slice_get parts.world.sites found_site ≡ Some c → c ≡ given
+      same_site c is = the_callsite c given (sym is ∙ ap (λ (k : ℕ). slice_get parts.world.sites k) sited_is ∙ site_is parts.world.sites site given evented)
 
       -- the ops that it is, on the own span of the scope that it reaches, and its measures
       abbrev ops_of : Bool → Scope → List SpanOp
-      ops_of b reached = if_enabled b (ops_on reached (counted_ops parts.opening.counting its_site.0 (event_of its_site.0 values r.settings at)))
+      ops_of b reached = if_enabled b (ops_on reached (event_ops parts.opening.counting given (event_of given values r.settings at)))
 
       abbrev measures_of : Bool → List Measure
-      measures_of b = if_enabled b (measures its_site.0 values)
+      measures_of b = if_enabled b (measures given values)
 
-      does_told : (t : Tables) → StandsFor now t → (b : Bool) → TellsOnly does b parts.world new before at p found_site values parts.dispatch → (reached : Scope) → place_on (entries_on before.id (spans_in spans parts.world parts.dispatch).lanes) p ≡ own_span reached
+      does_told : (t : Tables) → StandsFor now t → (b : Bool) → TellsOnly does b parts.world new before at p found_site values (Some parts.dispatch) → (reached : Scope) → parent_on (entries_on before.id (spans_in spans parts.world parts.dispatch).lanes) p ≡ own_span reached
           → Starts at [] (ops_of b reached) [] (measures_of b)
       does_told t stands true told reached reaches =
           let rec = r in
@@ -216,7 +214,7 @@ module _ {S : Type 0} (spans : S → Spans) (views : Views S) (attaches : S → 
             sites_same = ap (λ (w : Worlds S). w.sites) told.told.others;
             recorded_is = recalled.0 ∙ ap (λ (o : Option ℕ). with_event_by counter o before.id at told.callsite values rec) reaches
                 ∙ ap (λ (c : Callsite). with_event_by counter (own_span reached) before.id at c values rec) (same_site told.callsite told.is)
-                ∙ told_is decides (map (λ (l : Lane). l.id) parts.lanes) parts.opening.counting counter stands.filtering.counter stands.filtering.new reached before.id place (id_seen parts.lanes place before within here) (let l = length-map parts.lanes (λ (x : Lane). x.id) in omega (arith, within, l)) at its_site.0 (event_kind parts.world.sites site its_site.0 its_site.1) values rec;
+                ∙ told_is decides (map (λ (l : Lane). l.id) parts.lanes) parts.opening.counting counter stands.filtering.counter stands.filtering.new reached before.id place (id_seen parts.lanes place before within here) (let l = length-map parts.lanes (λ (x : Lane). x.id) in omega (arith, within, l)) at given (event_kind parts.world.sites site given evented) values rec;
             filter_is = recalled.1;
             aside_is = subst (λ (c : Callsite). AddsMeasures (aside_in views parts.world parts.dispatch) (aside_in views new parts.dispatch) (measures c values)) (same_site told.callsite told.is) recalled.2;
             cached_same = ap (λ (w : Worlds S). w.cached) told.told.others;
@@ -235,17 +233,17 @@ module _ {S : Type 0} (spans : S → Spans) (views : Views S) (attaches : S → 
       told t stands =
           let k = now in
           let id = id_at k.setup.ids place in
-          let callsite = its_site.0 in
+          let callsite = given in
           let up = find_up k t stands.fits id under p found in
-          let reaches = ap (λ (l : ℕ). place_on (entries_on l (spans_in spans parts.world parts.dispatch).lanes) p) (id_seen parts.lanes place before within here) ∙ up.on in
+          let reaches = ap (λ (l : ℕ). parent_on (entries_on l (spans_in spans parts.world parts.dispatch).lanes) p) (id_seen parts.lanes place before within here) ∙ up.on in
           record {
             ops = ops_of enabled up.up;
             added = measures_of enabled;
-            done = does_told t stands enabled did up.up reaches;
-            is = ap (λ o. need what.Site o >>= (λ c. need what.Handle (scope_at t id under) >>= (λ reached. need what.Field (all_values c fields) >>= (λ v. Ok (event_effect (here_at k.setup t at place) c v reached))))) its_site.1
+            done = does_told t stands enabled (subst (λ (o : Option ℕ). TellsOnly does enabled parts.world new before at p found_site values (dispatch_on o parts.world.global)) own did) up.up reaches;
+            is = ap (λ o. need what.Site o >>= (λ c. need what.Handle (scope_at t id under) >>= (λ reached. need what.Field (all_values c fields) >>= (λ v. Ok (event_effect (here_at k.setup t at place) c v reached))))) evented
                 ∙ ap (λ o. need what.Handle o >>= (λ reached. need what.Field (all_values callsite fields) >>= (λ v. Ok (event_effect (here_at k.setup t at place) callsite v reached)))) up.is
-                ∙ ap (λ o. need what.Field o >>= (λ v. Ok (event_effect (here_at k.setup t at place) callsite v up.up))) (ap (λ (c : Callsite). all_values c fields) (sym (same_site given given_is)) ∙ valued)
-                ∙ ap (λ (b : Bool). Ok (measures_then at place [] (ops_of b up.up) [] (measures_of b) (reply.Enabled b))) (answered spans views parts place before within here found_site callsite (ap (λ (n : ℕ). slice_get parts.world.sites n) sited_is ∙ site_is parts.world.sites site callsite its_site.1) enabled gate t stands);
+                ∙ ap (λ o. need what.Field o >>= (λ v. Ok (event_effect (here_at k.setup t at place) callsite v up.up))) valued
+                ∙ ap (λ (b : Bool). Ok (measures_then at place [] (ops_of b up.up) [] (measures_of b) (reply.Enabled b))) (answered spans views parts place before within here found_site callsite (ap (λ (n : ℕ). slice_get parts.world.sites n) sited_is ∙ site_is parts.world.sites site callsite evented) enabled gate t stands);
           }
 
       pub serves_told : (t : Tables) → StandsFor now t → Served (effect_of_call now.setup t at place (call.Event site under fields)) t now (then at place) (reply.Enabled enabled)

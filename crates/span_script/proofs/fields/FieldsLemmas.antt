@@ -1,5 +1,5 @@
 -- Fields that are declared or not, recorded on spans, and asked for.
-use Rattle.span_script.proofs.Common.{list_all, cons_option, cond-true, cond-false, Recording, no_recording, Callsite, ValueSet, Parent, Worlds, Spans, SubscriberCall, member_of, Handle, Held, IsSite, RecordsAt, RecordsOn, callsite_in, field_at, field_in, place_under, Place, id_at, span_site, event_site, Scope, Tables, slot_at, site_of, Fields, declared_value, declares, declared_by, all_values, values_of, values_by, here_at, ◌>>=◌, need, ops_effect, effect_of_call, event_effect, scope_at, new_effect, parent_for, Views, State, state_of, StandsFor, IsScope, IsKept, Served, held_by, held_of, Parts, get_or-map, CallsLaw}
+use Rattle.span_script.proofs.Common.{list_all, cons_option, cond-true, cond-false, Recording, no_recording, Callsite, ValueSet, Parent, Worlds, Spans, SubscriberCall, member_of, Handle, Held, IsSite, RecordsAt, RecordsOn, callsite_in, field_at, field_in, place_under, RequestParent, id_at, span_site, event_site, Scope, Tables, slot_at, site_of, Fields, declared_value, declares, declared_by, all_values, values_of, values_by, here_at, ◌>>=◌, need, ops_effect, effect_of_call, event_effect, scope_at, new_effect, parent_for, Views, State, state_of, StandsFor, IsScope, IsKept, Served, held_by, held_of, Parts, get_or-map, CallsLaw}
 use Rattle.std.proofs.lemmas.Bool.{true≢false}
 use Rattle.std.proofs.Common.{◌≡◌, ℕ, suc, ◌<◌, ◌≤◌, List, [], ◌∷◌, length, Bool, true, false, Option, Some, None, Ok, Err, option_map, map, refl, sym, ap, subst, ◌∙◌, arith, ◌&&◌, is_some, slice_get, filter_map, option_and_then}
 use Rattle.trace_base.specs.declared.field.Field.{Field}
@@ -16,59 +16,55 @@ use Rattle.span_script.proofs.spans.SitesLemmas.{site_found, the_callsite}
 use Rattle.span_script.proofs.filter.FilterLemmas.{AreKnown}
 use Rattle.span_script.proofs.events.EventsLemmas.{Does, does_none, serves_ops, keeps_ops, site_is as event_is}
 use Rattle.span_script.proofs.spans.MakingsLemmas.{site_is}
-use Rattle.span_script.specs.declared.request.Place.TheVariants as place
+use Rattle.span_script.specs.declared.request.RequestParent.TheVariants as request_parent
 
 -- ---- places that aren't there
 
-no_scope : (k : State) (t : Tables) → Fits k t → (lane : ℕ) (under : Place) → parent_for k.handles under ≡ None → scope_at t lane under ≡ None
-no_scope k t fits lane place.Root is = absurd (cc is)
-no_scope k t fits lane place.Contextual is = absurd (cc is)
-no_scope k t fits lane (place.Under handle) is = by_slot (slot_at t.handles handle) (sym (ap (λ xs. option_map place_under (slot_at xs handle)) fits.handle_slots ∙ ap (option_map place_under) (get_or-map (option_map (held_of k.dispatch)) t.handles handle None)) ∙ is)
+no_scope : (k : State) (t : Tables) → Fits k t → (lane : ℕ) (under : RequestParent) → parent_for k.handles under ≡ None → scope_at t lane under ≡ None
+no_scope k t fits lane request_parent.Root is = absurd (cc is)
+no_scope k t fits lane request_parent.Contextual is = absurd (cc is)
+no_scope k t fits lane (request_parent.Under handle) is = by_slot (slot_at t.handles handle) (sym (ap (λ xs. option_map place_under (slot_at xs handle)) fits.handle_slots ∙ ap (option_map place_under) (get_or-map (option_map (held_of k.dispatch)) t.handles handle None)) ∙ is)
   where
     by_slot : (o : Option Scope) → option_map place_under (option_map (held_of k.dispatch) o) ≡ None → o ≡ None
     by_slot None e = refl
     by_slot (Some scope) e = absurd (cc e)
 
-pub refuses_place : (k : State) (t : Tables) → Fits k t → (at place site : ℕ) (under : Place) (fields : Fields) → is_some (span_site k.setup.sites site) ≡ true → parent_for k.handles under ≡ None
-    → effect_of_call k.setup t at place (call.New site under fields) ≡ Err (refusal.UnknownName what.Handle)
-refuses_place k t fits at place site under fields spanned gone = by_site (span_site k.setup.sites site) refl spanned
-  where
-    by_site : (o : Option Callsite) → span_site k.setup.sites site ≡ o → is_some o ≡ true → effect_of_call k.setup t at place (call.New site under fields) ≡ Err (refusal.UnknownName what.Handle)
-    by_site None is e = absurd (true≢false (sym e))
-    by_site (Some c) is e =
-        ap (λ o. need what.Site o >>= (λ c. need what.Handle (scope_at t (id_at k.setup.ids place) under) >>= (λ up. need what.Field (all_values c fields) >>= (λ v. Ok (new_effect (here_at k.setup t at place) site c v under up))))) is
-        ∙ ap (λ o. need what.Handle o >>= (λ up. need what.Field (all_values c fields) >>= (λ v. Ok (new_effect (here_at k.setup t at place) site c v under up)))) (no_scope k t fits (id_at k.setup.ids place) under gone)
+-- a callsite that isn't there, or of the other kind
+pub refuses_span_site : (k : State) (t : Tables) → Fits k t → (at place site : ℕ) (under : RequestParent) (fields : Fields) → span_site k.setup.sites site ≡ None → effect_of_call k.setup t at place (call.New site under fields) ≡ Err (refusal.UnknownName what.Site)
+refuses_span_site k t fits at place site under fields none = ap (λ o. need what.Site o >>= (λ c. need what.Handle (scope_at t (id_at k.setup.ids place) under) >>= (λ up. need what.Field (all_values c fields) >>= (λ v. Ok (new_effect (here_at k.setup t at place) site c v under up))))) none
 
--- ---- fields that aren't declared
+pub refuses_event_site : (k : State) (t : Tables) → Fits k t → (at place site : ℕ) (under : RequestParent) (fields : Fields) → event_site k.setup.sites site ≡ None → effect_of_call k.setup t at place (call.Event site under fields) ≡ Err (refusal.UnknownName what.Site)
+refuses_event_site k t fits at place site under fields none = ap (λ o. need what.Site o >>= (λ c. need what.Handle (scope_at t (id_at k.setup.ids place) under) >>= (λ reached. need what.Field (all_values c fields) >>= (λ v. Ok (event_effect (here_at k.setup t at place) c v reached))))) none
 
--- the callsite that the code found is the one that the request names
-module _ (k : State) (t : Tables) (fits : Fits k t) (at place site found_site : ℕ) (same : found_site ≡ site) (under : Place) (p : Parent) (found : parent_for k.handles under ≡ Some p) (fields : Fields)
-    (given : Callsite) (given_is : slice_get k.setup.sites found_site ≡ Some given) (none : all_values given fields ≡ None) where
-  pub refuses_new : is_some (span_site k.setup.sites site) ≡ true → effect_of_call k.setup t at place (call.New site under fields) ≡ Err (refusal.UnknownName what.Field)
-  refuses_new spanned = by_site (span_site k.setup.sites site) refl spanned
-    where
-      by_site : (o : Option Callsite) → span_site k.setup.sites site ≡ o → is_some o ≡ true → effect_of_call k.setup t at place (call.New site under fields) ≡ Err (refusal.UnknownName what.Field)
-      by_site None is e = absurd (true≢false (sym e))
-      by_site (Some c) is e =
-          let id = id_at k.setup.ids place in
-          let up = find_up k t fits id under p found in
-          let c_is = the_callsite given c (sym given_is ∙ ap (λ (n : ℕ). slice_get k.setup.sites n) same ∙ site_is k.setup.sites site c is) in
-          ap (λ o. need what.Site o >>= (λ c. need what.Handle (scope_at t id under) >>= (λ up. need what.Field (all_values c fields) >>= (λ v. Ok (new_effect (here_at k.setup t at place) site c v under up))))) is
-          ∙ ap (λ o. need what.Handle o >>= (λ up. need what.Field (all_values c fields) >>= (λ v. Ok (new_effect (here_at k.setup t at place) site c v under up)))) up.is
-          ∙ ap (λ o. need what.Field o >>= (λ v. Ok (new_effect (here_at k.setup t at place) site c v under up.up))) (ap (λ (x : Callsite). all_values x fields) (sym c_is) ∙ none)
+module _ (k : State) (t : Tables) (fits : Fits k t) (at place site : ℕ) (under : RequestParent) (fields : Fields) (c : Callsite) where
+  -- a place that isn't there
+  pub refuses_place : span_site k.setup.sites site ≡ Some c → parent_for k.handles under ≡ None → effect_of_call k.setup t at place (call.New site under fields) ≡ Err (refusal.UnknownName what.Handle)
+  refuses_place spanned gone =
+      ap (λ o. need what.Site o >>= (λ c. need what.Handle (scope_at t (id_at k.setup.ids place) under) >>= (λ up. need what.Field (all_values c fields) >>= (λ v. Ok (new_effect (here_at k.setup t at place) site c v under up))))) spanned
+      ∙ ap (λ o. need what.Handle o >>= (λ up. need what.Field (all_values c fields) >>= (λ v. Ok (new_effect (here_at k.setup t at place) site c v under up)))) (no_scope k t fits (id_at k.setup.ids place) under gone)
 
-  pub refuses_event : is_some (event_site k.setup.sites site) ≡ true → effect_of_call k.setup t at place (call.Event site under fields) ≡ Err (refusal.UnknownName what.Field)
-  refuses_event evented = by_site (event_site k.setup.sites site) refl evented
-    where
-      by_site : (o : Option Callsite) → event_site k.setup.sites site ≡ o → is_some o ≡ true → effect_of_call k.setup t at place (call.Event site under fields) ≡ Err (refusal.UnknownName what.Field)
-      by_site None is e = absurd (true≢false (sym e))
-      by_site (Some c) is e =
-          let id = id_at k.setup.ids place in
-          let up = find_up k t fits id under p found in
-          let c_is = the_callsite given c (sym given_is ∙ ap (λ (n : ℕ). slice_get k.setup.sites n) same ∙ event_is k.setup.sites site c is) in
-          ap (λ o. need what.Site o >>= (λ c. need what.Handle (scope_at t id under) >>= (λ reached. need what.Field (all_values c fields) >>= (λ v. Ok (event_effect (here_at k.setup t at place) c v reached))))) is
-          ∙ ap (λ o. need what.Handle o >>= (λ reached. need what.Field (all_values c fields) >>= (λ v. Ok (event_effect (here_at k.setup t at place) c v reached)))) up.is
-          ∙ ap (λ o. need what.Field o >>= (λ v. Ok (event_effect (here_at k.setup t at place) c v up.up))) (ap (λ (x : Callsite). all_values x fields) (sym c_is) ∙ none)
+  pub refuses_event_place : event_site k.setup.sites site ≡ Some c → parent_for k.handles under ≡ None → effect_of_call k.setup t at place (call.Event site under fields) ≡ Err (refusal.UnknownName what.Handle)
+  refuses_event_place evented gone =
+      ap (λ o. need what.Site o >>= (λ c. need what.Handle (scope_at t (id_at k.setup.ids place) under) >>= (λ reached. need what.Field (all_values c fields) >>= (λ v. Ok (event_effect (here_at k.setup t at place) c v reached))))) evented
+      ∙ ap (λ o. need what.Handle o >>= (λ reached. need what.Field (all_values c fields) >>= (λ v. Ok (event_effect (here_at k.setup t at place) c v reached)))) (no_scope k t fits (id_at k.setup.ids place) under gone)
+
+  -- fields that aren't declared
+  module _ (p : Parent) (found : parent_for k.handles under ≡ Some p) (none : all_values c fields ≡ None) where
+    pub refuses_new : span_site k.setup.sites site ≡ Some c → effect_of_call k.setup t at place (call.New site under fields) ≡ Err (refusal.UnknownName what.Field)
+    refuses_new spanned =
+        let id = id_at k.setup.ids place in
+        let up = find_up k t fits id under p found in
+        ap (λ o. need what.Site o >>= (λ c. need what.Handle (scope_at t id under) >>= (λ up. need what.Field (all_values c fields) >>= (λ v. Ok (new_effect (here_at k.setup t at place) site c v under up))))) spanned
+        ∙ ap (λ o. need what.Handle o >>= (λ up. need what.Field (all_values c fields) >>= (λ v. Ok (new_effect (here_at k.setup t at place) site c v under up)))) up.is
+        ∙ ap (λ o. need what.Field o >>= (λ v. Ok (new_effect (here_at k.setup t at place) site c v under up.up))) none
+
+    pub refuses_event : event_site k.setup.sites site ≡ Some c → effect_of_call k.setup t at place (call.Event site under fields) ≡ Err (refusal.UnknownName what.Field)
+    refuses_event evented =
+        let id = id_at k.setup.ids place in
+        let up = find_up k t fits id under p found in
+        ap (λ o. need what.Site o >>= (λ c. need what.Handle (scope_at t id under) >>= (λ reached. need what.Field (all_values c fields) >>= (λ v. Ok (event_effect (here_at k.setup t at place) c v reached))))) evented
+        ∙ ap (λ o. need what.Handle o >>= (λ reached. need what.Field (all_values c fields) >>= (λ v. Ok (event_effect (here_at k.setup t at place) c v reached)))) up.is
+        ∙ ap (λ o. need what.Field o >>= (λ v. Ok (event_effect (here_at k.setup t at place) c v up.up))) none
 
 -- values are fewer than the fields exactly where one of these isn't declared
 module _ (c : Callsite) where

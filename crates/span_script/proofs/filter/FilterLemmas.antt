@@ -1,6 +1,6 @@
 -- The filter in force, and the cache, after one effect more.
 use Rattle.std.proofs.Common.{◌≡◌, ℕ, zero, suc, ◌+◌, ◌<◌, List, [], ◌∷◌, ◌++◌, length, fold, Option, Some, None, option_map, map, slice_get, refl, sym, ap, subst, ◌∙◌, arith, inl, inr, is_some, nat_eq, IfSome}
-use Rattle.span_script.proofs.Common.{cases_eq, cond-true, cond-false, option_map_or, Callsite, Interest, Worlds, IsFresh, interests_of_sites, member_of, Stacks, in_place, stack_interest, layer_or, sometimes, Directive, FilterState, FilterWithRoom, IsNewFilter, plain, interest_in, is_admitted, enables_in, Setup, id_at, FilterHook, HookNew, HookRecord, HookEnter, HookExit, HookClose, Effect, Tables, after_effect, with_item, newer, hooks_since, after_filter_hook, in_force, filter_at, text_filter, Views, ShownFilter, first_of, shown_of, counter_by, State, FilteringFits}
+use Rattle.span_script.proofs.Common.{cases_eq, cond-true, cond-false, option_map_or, Callsite, Interest, Worlds, IsFresh, interests_of_sites, member_of, Stacks, filter_in_place, stack_interest, layer_or, sometimes, Directive, FilterState, FilterWithRoom, IsNewFilter, plain_filter, interest_in, is_admitted, enables_in, Setup, id_at, FilterHook, HookNew, HookRecord, HookEnter, HookExit, HookClose, Effect, Tables, after_effect, with_item, newer_text, hooks_since, after_filter_hook, in_force, filter_at, text_filter, Views, ShownFilter, first_of, shown_of, counter_by, State, FilteringFits}
 use Rattle.std.proofs.lemmas.Bool.{eq-eqb, ne_eqb}
 use Rattle.trace_base.specs.declared.subscriber.Interest.TheVariants as interests
 use Rattle.span_registry.specs.Both.{joint_interest}
@@ -174,7 +174,7 @@ pub record Hears (k : State) (t : Tables) (e : Effect) (next : State) : Type 0 w
 
 heard_at : (setup : Setup) (t : Tables) (e : Effect) → e.filter ≡ None → filter_at setup (after_effect t e) ≡ fold after_filter_hook (filter_at setup t) e.hooks
 heard_at setup t e quiet =
-    ap (λ (o : Option (List ℕ)). filter_at setup (record (after_effect t e) { filter = newer t.filter o; hooks = hooks_since t.hooks o ++ e.hooks })) quiet
+    ap (λ (o : Option (List ℕ)). filter_at setup (record (after_effect t e) { filter = newer_text t.filter o; hooks = hooks_since t.hooks o ++ e.hooks })) quiet
     ∙ heard_both (text_filter (in_force setup t)) t.hooks e.hooks
 
 -- what is seen of the filter in place is seen of the one in force
@@ -239,9 +239,9 @@ always_above interests.Never = refl
 always_above interests.Sometimes = refl
 always_above interests.Always = refl
 
-pub stack_shows : (s : Stacks) (f : FilterState) (c : Callsite) → in_place s ≡ Some f → stack_interest s c ≡ interest_in f c
+pub stack_shows : (s : Stacks) (f : FilterState) (c : Callsite) → filter_in_place s ≡ Some f → stack_interest s c ≡ interest_in f c
 stack_shows s f c is = by_layer s.layer.inner is
   where
-    by_layer : (o : Option FilterWithRoom) → option_map plain o ≡ Some f → joint_interest (layer_or sometimes (λ (g : FilterWithRoom). interest_in (plain g)) o c) interests.Always ≡ interest_in f c
+    by_layer : (o : Option FilterWithRoom) → option_map plain_filter o ≡ Some f → joint_interest (layer_or sometimes (λ (g : FilterWithRoom). interest_in (plain_filter g)) o c) interests.Always ≡ interest_in f c
     by_layer None e = absurd (cc e)
-    by_layer (Some g) e = always_above (interest_in (plain g) c) ∙ ap (λ (x : FilterState). interest_in x c) (let same : plain g ≡ f = cc e in same)
+    by_layer (Some g) e = always_above (interest_in (plain_filter g) c) ∙ ap (λ (x : FilterState). interest_in x c) (let same : plain_filter g ≡ f = cc e in same)

@@ -19,7 +19,7 @@ use Rattle.span_script.proofs.steps.StepLemmas.{fits_step}
 use Rattle.span_script.proofs.runs.TakeLemmas.{seen_there}
 
 -- a guard of an attach, as its table tells it
-attach_told : (k : State) (t : Tables) → Fits k t → (n : ℕ) → slot_at t.attaches n ≡ option_map lane_of (slot_at k.contexts.attaches n)
+pub attach_told : (k : State) (t : Tables) → Fits k t → (n : ℕ) → slot_at t.attaches n ≡ option_map lane_of (slot_at k.contexts.attaches n)
 attach_told k t fits n = ap (λ (xs : List (Option ℕ)). slot_at xs n) (sym fits.attach_slots) ∙ get_or-map (option_map lane_of) k.contexts.attaches n None
 
 abbrev detached : State → Tables → ℕ → ℕ → ℕ → Option ℕ → Resolved

@@ -1,6 +1,6 @@
 -- The contexts of all lanes after an entry, an exit, an attach or a detach on one.
 use Rattle.std.proofs.Common.{◌≡◌, ℕ, ◌<◌, List, [], ◌∷◌, ◌++◌, length, Bool, true, false, get_or, set, Option, Some, None, option_map, map, refl, sym, ap, subst, ◌∙◌, arith, inl, inr, ◌==◌, if◌then◌else◌, slice_set}
-use Rattle.span_script.proofs.Common.{cases_eq, cond-true, cond-false, length-map, map-set, Context, has_number, without_number, last_passing, Lane, without_last, Token, is_token, AttachesOwn, Detaches, Attach, Owner, EntryOf, GuardOf, Attached, is_owner, is_by, slot_at, with_attached, with_detached, LaneValue, lane_value, no_lane_value, lane_at, numbers_by, ContextsFit, AllContextsFit}
+use Rattle.span_script.proofs.Common.{cases_eq, cond-true, cond-false, length-map, map-set, Context, has_number, without_number, last_passing, Lane, without_last, Token, is_token, AttachesOwn, Detaches, Attach, Owner, EntryOf, GuardOf, Attached, is_owner, is_attached_by, slot_at, with_attached, with_detached, LaneValue, lane_value, no_lane_value, lane_at, numbers_by, ContextsFit, AllContextsFit}
 use Rattle.std.proofs.lemmas.Bool.{eq-eqb, ne_eqb}
 use Rattle.std.proofs.lemmas.List.{length-set, get_or-set_same, get_or-set_other}
 use Rattle.span_script.proofs.steps.LanesLemmas.{lane_seen}
@@ -66,7 +66,7 @@ module _ (activation : Bool) (lanes : List Lane) (place : ℕ) (before later : L
       → ((n other : ℕ) → (n ≡ place → ⊥) → (before.id ≡ other → ⊥) → (o : Owner) → numbers_by activation n other tokens' attaches' o ≡ numbers_by activation n other tokens attaches o)
       → AllContextsFit activation ls' tokens' attaches' (with_detached contexts before.id (Some owner))
   all_taken tokens' attaches' owner attached live own rest others =
-      let less = without_last (is_by owner) (contexts before.id) in
+      let less = without_last (is_attached_by owner) (contexts before.id) in
       all_after tokens' attaches' (with_detached contexts before.id (Some owner))
       (subst (λ (items : List Attached). ContextsFit (numbers_by activation place before.id tokens' attaches') later.contexts.live items) (sym (cond-true {A = List Attached} (before.id == before.id) less (contexts before.id) (eq-eqb before.id before.id refl)))
       (contexts_take owner before.contexts.live later.contexts.live (contexts before.id) attached _ _ own_fit own rest live))

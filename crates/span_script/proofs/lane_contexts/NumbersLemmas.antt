@@ -1,5 +1,5 @@
 -- The numbers that owners keep, after an entry, an exit, an attach and a detach.
-use Rattle.span_script.proofs.Common.{list_any, cases_Bool, cases_eq, cond-true, cond-false, or_parts, and_parts, Context, has_number, last_passing, without_last, count_cons, Token, is_token, is_number, keeps_as, kept_by, Attach, Owner, EntryOf, GuardOf, Attached, is_owner, is_by, slot_at, numbers_of, tokens_of, kept_on, numbers_by, HaveOwnNumbers, ContextsFit}
+use Rattle.span_script.proofs.Common.{list_any, cases_Bool, cases_eq, cond-true, cond-false, or_parts, and_parts, Context, has_number, last_passing, without_last, count_cons, Token, is_token, is_number, keeps_as, kept_by, Attach, Owner, EntryOf, GuardOf, Attached, is_owner, is_attached_by, slot_at, numbers_of, tokens_of, kept_on, numbers_by, HaveOwnNumbers, ContextsFit}
 use Rattle.std.proofs.Common.{◌≡◌, ℕ, zero, suc, List, [], ◌∷◌, ◌++◌, length, Bool, true, false, Option, Some, None, map, count_by, refl, sym, ap, ◌∙◌, arith, inl, inr, ◌==◌, ◌&&◌, ◌||◌, if◌then◌else◌, filter, slice_set}
 use Rattle.std.proofs.lemmas.Bool.{eq-eqb, eqb-true, ne_eqb, true≢false}
 use Rattle.std.proofs.lemmas.List.{append-nil, get_or-set_same, get_or-set_other}
@@ -153,7 +153,7 @@ none_has o [] items number none = refl
 none_has o (x ∷ live) [] number none = refl
 none_has o (x ∷ live) (a ∷ items) number none =
     let parts = or_parts (x.0 == number) (has_number number live) none in
-    elim (cases_Bool (is_by o a)) [
+    elim (cases_Bool (is_attached_by o a)) [
       | inl here ↦ rw (here, parts.0) (none_has o live items number parts.1)
       | inr apart ↦ rw apart (none_has o live items number parts.1)
     ]
@@ -164,20 +164,20 @@ once o r apart (x ∷ live) [] distinct number some = refl
 once o r apart (x ∷ live) (a ∷ items) distinct number some = elim (cases_Bool (x.0 == number)) [
   | inl this ↦ (
       let fresh : has_number number live ≡ false = ap (λ (n : ℕ). has_number n live) (sym (eqb-true x.0 number this)) ∙ distinct.0 in
-      elim (cases_Bool (is_by o a)) [
+      elim (cases_Bool (is_attached_by o a)) [
         | inl mine ↦ (
-            let other : is_by r a ≡ false = other_owner a.owner r (λ e. apart (sym (owner_is a.owner o mine) ∙ e)) in
+            let other : is_attached_by r a ≡ false = other_owner a.owner r (λ e. apart (sym (owner_is a.owner o mine) ∙ e)) in
             rw other (none_has r live items number fresh))
-        | inr fails ↦ absurd (let none : list_any (is_number number) (numbers_of o live items) ≡ true = (ap (λ (ns : List (Option ℕ)). list_any (is_number number) ns) (sym (cond-false {A = List (Option ℕ)} (is_by o a) (Some x.0 ∷ numbers_of o live items) (numbers_of o live items) fails)) ∙ some) in
+        | inr fails ↦ absurd (let none : list_any (is_number number) (numbers_of o live items) ≡ true = (ap (λ (ns : List (Option ℕ)). list_any (is_number number) ns) (sym (cond-false {A = List (Option ℕ)} (is_attached_by o a) (Some x.0 ∷ numbers_of o live items) (numbers_of o live items) fails)) ∙ some) in
             true≢false (sym none ∙ none_has o live items number fresh))
       ])
   | inr next ↦ (
-      let below : list_any (is_number number) (numbers_of o live items) ≡ true = elim (cases_Bool (is_by o a)) [
-        | inl mine ↦ ap (λ b. b || list_any (is_number number) (numbers_of o live items)) (sym next) ∙ ap (λ (ns : List (Option ℕ)). list_any (is_number number) ns) (sym (cond-true {A = List (Option ℕ)} (is_by o a) (Some x.0 ∷ numbers_of o live items) (numbers_of o live items) mine)) ∙ some
-        | inr fails ↦ ap (λ (ns : List (Option ℕ)). list_any (is_number number) ns) (sym (cond-false {A = List (Option ℕ)} (is_by o a) (Some x.0 ∷ numbers_of o live items) (numbers_of o live items) fails)) ∙ some
+      let below : list_any (is_number number) (numbers_of o live items) ≡ true = elim (cases_Bool (is_attached_by o a)) [
+        | inl mine ↦ ap (λ b. b || list_any (is_number number) (numbers_of o live items)) (sym next) ∙ ap (λ (ns : List (Option ℕ)). list_any (is_number number) ns) (sym (cond-true {A = List (Option ℕ)} (is_attached_by o a) (Some x.0 ∷ numbers_of o live items) (numbers_of o live items) mine)) ∙ some
+        | inr fails ↦ ap (λ (ns : List (Option ℕ)). list_any (is_number number) ns) (sym (cond-false {A = List (Option ℕ)} (is_attached_by o a) (Some x.0 ∷ numbers_of o live items) (numbers_of o live items) fails)) ∙ some
       ] in
       let rest = once o r apart live items distinct.1 number below in
-      elim (cases_Bool (is_by r a)) [
+      elim (cases_Bool (is_attached_by r a)) [
         | inl theirs ↦ rw (theirs, next) rest
         | inr fails ↦ rw fails rest
       ])

@@ -1,6 +1,6 @@
 -- What is asked of the span extension, served.
 use Rattle.std.proofs.Common.{◌≡◌, ℕ, List, [], ◌∷◌, Option, Some, None, Result, Ok, Err, map, refl, sym, ap, subst, ◌∙◌, IsTrue, ◌≢◌, Bool, true, false, is_some, slice_get, if◌then◌else◌}
-use Rattle.span_script.proofs.Common.{Context, SpanContext, KeyValue, is_valid, ids_of, Op, SpanData, reply_after, is_growing, Worlds, Spans, data_at, with_op, waits, waits_by, PartCall, Applies, AppliesTo, AppliesOn, AsksDone, AsksParent, link_of, event_at, done_answer, parent_reply, parent_answer, Recording, no_recording, Alike, member_of, Handle, Held, Scope, SpanOp, Tables, slot_at, own_span, here_at, Resolved, ◌>>=◌, need, op_on, ops_effect, effect_of_call, link_ops, happens_at, set_while, is_set, named_by, opened_by, Views, State, state_of, held_by, held_of, StandsFor, IsKept, Served, Parts, AddsMeasures, AsksLaw, aside_in}
+use Rattle.span_script.proofs.Common.{Context, SpanContext, KeyValue, is_valid, ids_of, Op, SpanData, reply_after, is_growing, Worlds, Spans, data_at, with_op, waiting_context, context_unless_started, PartCall, Applies, AppliesTo, AppliesOn, AsksDone, AsksParent, link_of, event_at, done_answer, parent_reply, parent_answer, Recording, no_recording, Alike, member_of, Handle, Held, Scope, SpanOp, Tables, slot_at, own_span, here_at, Resolved, ◌>>=◌, need, op_on, ops_effect, effect_of_call, link_ops, happens_at, set_result, set_parent_result, named_by, opened_by, Views, State, state_of, held_by, held_of, StandsFor, IsKept, Served, Parts, AddsMeasures, AsksLaw, aside_in}
 use Rattle.otel_base.specs.declared.memory.Memory.{Memory}
 use Rattle.otel_base.specs.declared.status.Status.{Status}
 use Rattle.otel_state.specs.declared.op.Op.TheVariants as ops
@@ -43,12 +43,12 @@ unwanted (Some told) spans now id at op (Some (Ok r)) still did = refl
 unwanted (Some told) spans now id at op (Some (Err m)) still did = absurd (let e : false ≡ true = subst (λ (b : Bool). IsTrue b) still did.0 in cc e)
 
 -- a parent is set exactly while the span waits to be started
-own_answer : (own : Option SpanContext) (context parent : Context) → parent_reply (reply_after own (ops.SetParent context)) ≡ set_while (is_some (waits_by own parent))
+own_answer : (own : Option SpanContext) (context parent : Context) → parent_reply (reply_after own (ops.SetParent context)) ≡ set_result (is_some (context_unless_started own parent))
 own_answer None context parent = refl
 own_answer (Some given) context parent = refl
 
 set_by : (o : Option SpanData) → o ≢ None → (held : ℕ × ℕ) (spans now : List (ℕ × SpanData)) (id at : ℕ) (context : Context) (answer : Option (Result OpReply Memory)) → AppliesTo o spans id at (ops.SetParent context) answer now
-    → parent_answer (Some held) answer ≡ set_while (is_some (waits o))
+    → parent_answer (Some held) answer ≡ set_result (is_some (waiting_context o))
 set_by None known held spans now id at context answer did = absurd (known refl)
 set_by (Some told) known held spans now id at context None did = absurd did
 set_by (Some told) known held spans now id at context (Some (Ok x)) did = ap parent_reply did.0 ∙ own_answer told.own context told.parent
@@ -109,7 +109,7 @@ module _ {S : Type 0} (spans : S → Spans) (views : Views S) (attaches : S → 
   still_done (s ∷ up) op answer still did = unwanted (data_at s r.spans) r.spans _ s at op answer still (law.recalled parts.world new parts.dispatch (Applies s at op answer) did).0.0
 
   -- whether a parent was set
-  was_set : (line : Scope) → Known line → (context : Context) (answer : Option (Result OpReply Memory)) → AppliesOn touches parts.world new at (ops.SetParent context) (held_of parts.dispatch line) answer → parent_answer (held_of parts.dispatch line) answer ≡ is_set r line
+  was_set : (line : Scope) → Known line → (context : Context) (answer : Option (Result OpReply Memory)) → AppliesOn touches parts.world new at (ops.SetParent context) (held_of parts.dispatch line) answer → parent_answer (held_of parts.dispatch line) answer ≡ set_parent_result r line
   was_set [] is_known context answer did = refl
   was_set (s ∷ up) is_known context answer did = set_by (data_at s r.spans) (is_known s up refl) (parts.dispatch, s) r.spans _ s at context answer (law.recalled parts.world new parts.dispatch (Applies s at (ops.SetParent context) answer) did).0.0
 
@@ -211,11 +211,11 @@ module _ {S : Type 0} (spans : S → Spans) (views : Views S) (attaches : S → 
         parent_did : (t : Tables) (fits : Fits now t) → AppliesOn touches parts.world new at (ops.SetParent given) (held_of parts.dispatch (its_scope t fits).at) did.answer
         parent_did t fits = subst (λ (held : Held). AppliesOn touches parts.world new at (ops.SetParent given) held did.answer) (its_scope t fits).is did.did
 
-        its_set : (t : Tables) (stands : StandsFor now t) → set ≡ is_set t.recording (its_scope t stands.fits).at
+        its_set : (t : Tables) (stands : StandsFor now t) → set ≡ set_parent_result t.recording (its_scope t stands.fits).at
         its_set t stands =
             let line = its_scope t stands.fits in
             did.is ∙ ap (λ (held : Held). parent_answer held did.answer) line.is ∙ was_set line.at (known t stands line.at line.there) given did.answer (parent_did t stands.fits)
-            ∙ ap (λ (x : Recording). is_set x line.at) stands.recording.recorded
+            ∙ ap (λ (x : Recording). set_parent_result x line.at) stands.recording.recorded
 
         its_parent : (t : Tables) (stands : StandsFor now t) → IsDone (op_on (its_scope t stands.fits).at (ops.SetParent given))
         its_parent t stands =
@@ -224,7 +224,7 @@ module _ {S : Type 0} (spans : S → Spans) (views : Views S) (attaches : S → 
 
         parent_effect : (t : Tables) (stands : StandsFor now t) → effect_of_call now.setup t at place (call.SetParent handle context) ≡ Ok (ops_effect (here_at now.setup t at place) (reply.Set set) (op_on (its_scope t stands.fits).at (ops.SetParent given)))
         parent_effect t stands =
-            its_context t stands.fits (λ scope given. Ok (ops_effect (here_at now.setup t at place) (reply.Set (is_set t.recording scope)) (op_on scope (ops.SetParent given))))
+            its_context t stands.fits (λ scope given. Ok (ops_effect (here_at now.setup t at place) (reply.Set (set_parent_result t.recording scope)) (op_on scope (ops.SetParent given))))
             ∙ ap (λ (x : Result (Unit {0}) SetParentError). Ok (ops_effect (here_at now.setup t at place) (reply.Set x) (op_on (its_scope t stands.fits).at (ops.SetParent given)))) (sym (its_set t stands))
 
         pub serves_parent : (t : Tables) → StandsFor now t → Served (effect_of_call now.setup t at place (call.SetParent handle context)) t now later (reply.Set set)

@@ -1,6 +1,6 @@
 -- A pipeline without requests.
 use Rattle.std.proofs.Common.{◌≡◌, ℕ, ◌<◌, List, [], ◌∷◌, ◌++◌, length, Bool, true, false, Option, Some, None, option_map, map, refl, sym, ap, subst, ◌∙◌, arith, zero, suc, slice_get, IfSome, is_some}
-use Rattle.span_script.proofs.Common.{length-map, Lane, Callsite, Worlds, AreSame, IsFresh, Interest, FilterState, FilterWithRoom, plain, IsNewFilter, interest_in, Measure, filter_if, text_filter, IsTextFilter, IsCounter, Spans, span_at, Has, Replaced, member_of, spans_in, kept_in, no_spans, new_recording, Handle, Guard, Setup, HasOwnIds, id_at, Recording, no_recording, Owner, EntryOf, GuardOf, no_tables, nothing_recorded, open_part, Context, Views, ShownFilter, shown_of, ContextSlots, State, state_of, StandsFor, RecordingFits, FilteringFits, numbers_by, ContextsFit, LaneValue, lane_value, lane_at, LanesFit, IsKept, Parts, AddsMeasures, SameLaw, aside_in}
+use Rattle.span_script.proofs.Common.{length-map, Lane, Callsite, Worlds, AreSame, IsFresh, Interest, FilterState, FilterWithRoom, plain_filter, IsNewFilter, interest_in, Measure, filter_if, text_filter, IsTextFilter, IsCounter, Spans, span_at, Has, Replaced, member_of, spans_in, kept_in, no_spans, new_recording, Handle, Guard, Setup, HasOwnIds, id_at, Recording, no_recording, Owner, EntryOf, GuardOf, no_tables, nothing_recorded, open_part, Context, Views, ShownFilter, shown_of, ContextSlots, State, state_of, StandsFor, RecordingFits, FilteringFits, numbers_by, ContextsFit, LaneValue, lane_value, lane_at, LanesFit, IsKept, Parts, AddsMeasures, SameLaw, aside_in}
 use Rattle.span_script.proofs.filter.CounterLemmas.{adds_nothing}
 use Rattle.span_script.proofs.filter.FilterLemmas.{cached_rows}
 use Rattle.span_script.specs.declared.settings.Texts.{Texts}
@@ -172,8 +172,8 @@ module _ {S : Type 0} (same : S → S → Type 0) (spans : S → Spans) (views :
   }
 
 -- a stack that was just made has recorded nothing, and counts where events are counted
-pub records_none : (r : Recording) (base : Setup) (counter : Option FilterWithRoom) → r ≡ new_recording base.layer (is_some counter) → IsCounter base.counting (option_map plain counter) → r ≡ nothing_recorded base
-records_none r base counter is counts = is ∙ ap (λ (b : Bool). new_recording base.layer b) (sym (some_mapped plain counter) ∙ ap is_some counts.is ∙ some_mapped text_filter base.counting)
+pub records_none : (r : Recording) (base : Setup) (counter : Option FilterWithRoom) → r ≡ new_recording base.layer (is_some counter) → IsCounter base.counting (option_map plain_filter counter) → r ≡ nothing_recorded base
+records_none r base counter is counts = is ∙ ap (λ (b : Bool). new_recording base.layer b) (sym (some_mapped plain_filter counter) ∙ ap is_some counts.is ∙ some_mapped text_filter base.counting)
   where
     some_mapped : {A B : Type 0} (f : A → B) (o : Option A) → is_some (option_map f o) ≡ is_some o
     some_mapped f None = refl

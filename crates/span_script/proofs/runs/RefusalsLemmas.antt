@@ -23,14 +23,14 @@ within_get (x ∷ xs) zero within = (x, refl)
 within_get (x ∷ xs) (suc n) within = within_get xs n (omega (arith, within))
 
 -- past the moment and the lane a request is its call
-pub effect_is : (view k : State) → view ≡ k → (lanes : List Lane) → view.setup.ids ≡ map (λ (l : Lane). l.id) lanes → (before : ℕ) → view.moment ≡ before → (t : Tables) → Fits k t → (request : Request) → is_bad_moment before request.at ≡ false → request.lane < length lanes
-    → effect_of k.setup t request ≡ effect_of_call k.setup t request.at request.lane request.call
+pub effect_is : (view k : State) → view ≡ k → (lanes : List Lane) → view.setup.ids ≡ map (λ (l : Lane). l.id) lanes → (before : ℕ) → view.moment ≡ before → (t : Tables) → Fits k t → (request : Request) → is_bad_moment before request.at ≡ false → request.lane_place < length lanes
+    → effect_of k.setup t request ≡ effect_of_call k.setup t request.at request.lane_place request.call
 effect_is view k is lanes ids before moment t fits request good within =
     let latest : before ≡ t.moment = sym moment ∙ ap (λ (x : State). x.moment) is ∙ fits.latest in
     let many : length k.setup.ids ≡ length lanes = ap (λ (x : State). length x.setup.ids) (sym is) ∙ ap length ids ∙ length-map lanes (λ (l : Lane). l.id) in
-    let at = within_get k.setup.ids request.lane (omega (arith, within, many)) in
+    let at = within_get k.setup.ids request.lane_place (omega (arith, within, many)) in
     cond-false {A = Resolved} (is_bad_moment t.moment request.at) _ _ (ap (λ (n : ℕ). is_bad_moment n request.at) (sym latest) ∙ good)
-    ∙ ap (λ o. need what.Lane o >>= (λ (id : ℕ). effect_of_call k.setup t request.at request.lane request.call)) at.1
+    ∙ ap (λ o. need what.Lane o >>= (λ (id : ℕ). effect_of_call k.setup t request.at request.lane_place request.call)) at.1
 
 pub steps_ok : (result : Result Reply Refusal) (whole call : Resolved) (h : History) (old new : State) → whole ≡ call → IfOk result (Served call (tables old.setup h) old new) → IfOk result (ServedByHistory whole h old new)
 steps_ok (Ok reply) whole call h old new same served = record {

@@ -1,6 +1,6 @@
 -- A handle is dropped, and a chain of spans closes.
 use Rattle.std.proofs.Common.{◌≡◌, ℕ, zero, suc, ◌+◌, ◌<◌, ◌≤◌, List, [], ◌∷◌, Bool, true, false, cond, count_by, slice_set, Option, Some, None, option_map, map, refl, sym, ap, subst, ◌∙◌, arith, inl, inr, ◌==◌, ◌||◌}
-use Rattle.span_script.proofs.Common.{cases_eq, cond-true, cond-false, or_parts, map-set, sum_by-set, get_or-map, Span, Spans, Entries, entries_on, span_at, less_hold, without_hold, next_of, first_entries, is_open_child, is_child_of, open_children, made_if_held, children_set, keeps_children, less_last, less_more, less_holds, holds_set, holds_other, OneEach, ReleasesChain, all_released, releases, id_at, Balanced, OpenGuard, names_span, named_by, opened_on, opened_by, Scope, MadeSpan, ScopeGuard, Tables, after_effect, slot_at, own_span, here_at, drop_effect, borrows, is_borrowed, is_named, ContextSlots, State, MadeFit, guard_of, lane_of}
+use Rattle.span_script.proofs.Common.{cases_eq, cond-true, cond-false, or_parts, map-set, sum_by-set, get_or-map, Span, Spans, Entries, entries_on, span_at, less_hold, without_hold, next_of, entered_lane_count, is_open_child, is_child_of, open_child_count, made_if_held, children_set, keeps_children, less_last, less_more, less_holds, holds_set, holds_other, OneEach, ReleasesChain, all_released, releases, id_at, Balanced, OpenGuard, names_span, named_by, opened_on, opened_by, Scope, MadeSpan, ScopeGuard, Tables, after_effect, slot_at, own_span, here_at, drop_effect, borrows, is_borrowed, is_named, ContextSlots, State, MadeFit, guard_of, lane_of}
 use Rattle.std.proofs.lemmas.Bool.{eq-eqb, ne_eqb}
 use Rattle.std.proofs.lemmas.List.{length-set, get_or-set_other}
 use Rattle.span_script.specs.Fits.{Fits}
@@ -11,7 +11,7 @@ use Rattle.span_script.proofs.spans.MadeSpansLemmas.{made_released}
 
 -- Within a chain: the holds are those of handles, entries and open children, and the one that is to be released next.
 abbrev pub Loose : Spans → List (Option ℕ) → Option ℕ → Type 0
-Loose spans hs next = (q : ℕ) → (span_at spans.made q).holds ≡ count_by (names_span q) hs + first_entries spans.lanes q + open_children spans.made q + cond (is_child_of q next) 1 0
+Loose spans hs next = (q : ℕ) → (span_at spans.made q).holds ≡ count_by (names_span q) hs + entered_lane_count spans.lanes q + open_child_count spans.made q + cond (is_child_of q next) 1 0
 
 -- a release moves the hold on to the parent, or ends it
 pub loose_released : (x : Spans) (hs : List (Option ℕ)) (id : ℕ) → Loose x hs (Some id) → Loose (record x { made = without_hold x.made id }) hs (next_of x.made id)
@@ -110,14 +110,14 @@ ReleasedOn x y [] = y ≡ x
 ReleasedOn x y (s ∷ up) = ReleasesChain (Some s) x y
 
 record DropEnds (x y : Spans) (hs : List (Option ℕ)) : Type 0 where
-  holds : (q : ℕ) → (span_at y.made q).holds ≡ count_by (names_span q) hs + first_entries y.lanes q + open_children y.made q
+  holds : (q : ℕ) → (span_at y.made q).holds ≡ count_by (names_span q) hs + entered_lane_count y.lanes q + open_child_count y.made q
   lanes : y.lanes ≡ x.lanes
   fewer : (q : ℕ) → (span_at y.made q).holds ≤ (span_at x.made q).holds
   made : (ms : List MadeSpan) → MadeFit x.made ms → MadeFit y.made ms
 
 drop_ends : (x y : Spans) (hs : List (Option ℕ)) (gs : List (Option OpenGuard)) (es : ℕ → List ℕ) → Balanced x hs gs es → (n : ℕ) (line : Scope) → slot_at hs n ≡ own_span line → ReleasedOn x y line → DropEnds x y (slice_set hs n None)
 drop_ends x y hs gs es fits n [] is same = subst (λ (z : Spans). DropEnds x z (slice_set hs n None)) (sym same) (record {
-  holds = λ q. fits.holds q ∙ ap (λ (xs : List (Option ℕ)). count_by (names_span q) xs + first_entries x.lanes q + open_children x.made q) (sym (set_none hs n is));
+  holds = λ q. fits.holds q ∙ ap (λ (xs : List (Option ℕ)). count_by (names_span q) xs + entered_lane_count x.lanes q + open_child_count x.made q) (sym (set_none hs n is));
   lanes = refl;
   fewer = λ q. omega arith;
   made = λ ms fit. fit;

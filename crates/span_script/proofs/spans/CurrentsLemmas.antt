@@ -7,7 +7,7 @@ use Rattle.span_script.specs.declared.reply.Reply.TheVariants as reply
 use Rattle.span_script.specs.declared.reply.Refusal.TheVariants as refusal
 use Rattle.span_script.specs.declared.reply.What.TheVariants as what
 use Rattle.span_script.specs.declared.request.Call.TheVariants as call
-use Rattle.span_script.specs.declared.request.Place.TheVariants as place
+use Rattle.span_script.specs.declared.request.RequestParent.TheVariants as request_parent
 use Rattle.span_script.specs.Fits.{Fits}
 use Rattle.span_script.proofs.filter.CounterLemmas.{adds_same}
 use Rattle.span_script.proofs.steps.SlotsLemmas.{Found, find, held_slot, named_within}
@@ -73,7 +73,7 @@ record IsOn (k : State) (t : Tables) (lane : ℕ) : Type 0 where
 
 is_on : (k : State) (t : Tables) → Fits k t → (lane : ℕ) → IsOn k t lane
 is_on k t fits lane =
-    let up = find_up k t fits lane place.Contextual parent.Current refl in
+    let up = find_up k t fits lane request_parent.Contextual parent.Current refl in
     let e : up.up ≡ current_scope t lane = the_scope up.up (current_scope t lane) (sym up.is) in
     record {
       scope = subst (IsScope t.spans) e up.scope;

@@ -1,6 +1,6 @@
 -- Makings, served.
 use Rattle.std.proofs.Common.{◌≡◌, ℕ, ◌+◌, ◌<◌, ◌≤◌, ◌^◌, List, [], ◌∷◌, ◌++◌, length, Bool, true, false, fold, get_or, Option, Some, None, Ok, option_map, map, refl, sym, ap, subst, ◌∙◌, arith, inl, inr, IfSome, slice_get, is_some, ◌≢◌, option_and_then}
-use Rattle.span_script.proofs.Common.{cases_eq, cases_lt, cond-true, cond-false, length-map, length_push, map_push, get_or_past, get_or_push, get_or_append_left, Lane, Parent, Callsite, ValueSet, Worlds, FilterState, Span, Spans, no_span, span_at, held_by_child, entries_on, place_on, current_of, SubscriberCall, NewSpan, with_new_span, IsLivePlace, HasFewHolds, AreFew, HasFewHoldsAbove, OneEach, Shown, Replaced, member_of, spans_in, kept_in, no_spans, Has, Handle, Makes, MayMake, no_handle, Place, Setup, id_at, name_at, if_span, span_site, Context, KeyValue, empty_context, LayerSettings, SpanData, data_at_making, after_op, Token, parent_source, around, context_from, new_span_data, data_at, with_span_data, Recording, source_of, no_recording, with_start, with_starts, Kind, length_held, holds_other, Scope, MadeSpan, Attached, no_made_span, HookNew, Effect, Tables, recorded_by, open_part, slot_at, own_span, made_of, here_at, ◌>>=◌, need, effect_of_call, after_filter_hook, admits_at, lane_in, new_span_data_at, context_around, parent_at, new_effect, span_effect, disabled_effect, scope_at, Fields, all_values, parent_for, MakesOnly, LetsThrough, Balanced, named_by, opened_by, Views, State, state_of, lane_value, StandsFor, MadeFit, LanesFit, IsKept, Served, IsScope, held_of, guard_of, held_by, site_by, Parts, parent_in, CallsLaw, SameLaw, aside_in}
+use Rattle.span_script.proofs.Common.{cases_eq, cases_lt, cond-true, cond-false, length-map, length_push, map_push, get_or_past, get_or_push, get_or_append_left, Lane, Parent, Callsite, ValueSet, Worlds, FilterState, Span, Spans, no_span, span_at, with_hold_of_child, entries_on, parent_on, current_of, SubscriberCall, NewSpan, with_new_span, IsLiveParent, HasFewHolds, AreFew, HasFewHoldsAbove, OneEach, Shown, Replaced, member_of, spans_in, kept_in, no_spans, Has, Handle, Makes, MayMake, no_handle, RequestParent, Setup, id_at, name_at, if_span, span_site, Context, KeyValue, empty_context, LayerSettings, SpanData, data_at_making, after_op, Token, parent_source, lane_context, context_from, new_span_data, data_at, with_span_data, Recording, source_of, no_recording, with_start, with_starts, Kind, length_held, holds_other, Scope, MadeSpan, Attached, no_made_span, HookNew, Effect, Tables, recorded_by, open_part, slot_at, own_span, made_of, here_at, ◌>>=◌, need, effect_of_call, after_filter_hook, admits_at, lane_in, new_span_data_at, context_around, parent_at, new_effect, span_effect, disabled_effect, scope_at, Fields, all_values, parent_for, MakesOnly, LetsThrough, Balanced, named_by, opened_by, Views, State, state_of, lane_value, StandsFor, MadeFit, LanesFit, IsKept, Served, IsScope, held_of, guard_of, held_by, site_by, Parts, parent_in, CallsLaw, SameLaw, aside_in}
 use Rattle.span_handles.proofs.ChangedSubscriberLemmas.{seen_before}
 use Rattle.span_script.specs.declared.reply.Reply.TheVariants as reply
 use Rattle.span_script.specs.declared.request.Call.TheVariants as call
@@ -18,7 +18,7 @@ use Rattle.span_script.proofs.lane_contexts.LaneContextsLemmas.{own_fit}
 use Rattle.span_script.proofs.steps.RecordingLemmas.{recorded_settings, recorded_tokens, starts_fold, starts_open, entry_settings, entry_counting}
 use Rattle.span_script.specs.Fits.{Fits}
 use Rattle.span_script.proofs.spans.ScopesLemmas.{new_line}
-use Rattle.span_script.proofs.spans.SitesLemmas.{got_within, the_callsite, found_site_is}
+use Rattle.span_script.proofs.spans.SitesLemmas.{got_within, the_callsite}
 use Rattle.span_script.proofs.steps.StepLemmas.{fits_step}
 use Rattle.span_script.proofs.steps.CallsLemmas.{has_by}
 use Rattle.span_script.proofs.steps.BalanceLemmas.{held_most}
@@ -55,17 +55,17 @@ made_pushed xs ms up site told fit =
     ] in
     record { count = (let a = length_push xs new in let b = length_push ms m in omega (arith, a, b, counts)); parent = λ q live. (all q live).0; site = λ q live. (all q live).1 }
 
-made_child : (xs : List Span) (ms : List MadeSpan) (o : Option ℕ) → MadeFit xs ms → IfSome o (λ p. 0 < (span_at xs p).holds) → MadeFit (held_by_child xs o) ms
+made_child : (xs : List Span) (ms : List MadeSpan) (o : Option ℕ) → MadeFit xs ms → IfSome o (λ p. 0 < (span_at xs p).holds) → MadeFit (with_hold_of_child xs o) ms
 made_child xs ms None fit live = fit
 made_child xs ms (Some p) fit live = made_held xs ms p fit live
 
-child_most : (xs : List Span) (o : Option ℕ) (q : ℕ) → (span_at (held_by_child xs o) q).holds ≤ (span_at xs q).holds + 1
+child_most : (xs : List Span) (o : Option ℕ) (q : ℕ) → (span_at (with_hold_of_child xs o) q).holds ≤ (span_at xs q).holds + 1
 child_most xs None q = omega arith
 child_most xs (Some p) q = held_most xs p q
 
-new_most : (xs : List Span) (o : Option ℕ) (site q n : ℕ) → (span_at xs q).holds ≤ n → (span_at (held_by_child xs o ++ record { holds = 1; parent = o; site = site } ∷ []) q).holds ≤ n + 1
+new_most : (xs : List Span) (o : Option ℕ) (site q n : ℕ) → (span_at xs q).holds ≤ n → (span_at (with_hold_of_child xs o ++ record { holds = 1; parent = o; site = site } ∷ []) q).holds ≤ n + 1
 new_most xs o site q n most =
-    let ys = held_by_child xs o in
+    let ys = with_hold_of_child xs o in
     let new : Span = record { holds = 1; parent = o; site = site } in
     let h = child_most xs o q in
     elim (cases_lt q (length ys)) [
@@ -77,16 +77,16 @@ new_most xs o site q n most =
     ]
 
 -- a span with holds, other than the new one, had some before
-new_live : (xs : List Span) (o : Option ℕ) (site q : ℕ) → IfSome o (λ p. 0 < (span_at xs p).holds) → (q ≡ length (held_by_child xs o) → ⊥) → 0 < (span_at (held_by_child xs o ++ record { holds = 1; parent = o; site = site } ∷ []) q).holds → 0 < (span_at xs q).holds
+new_live : (xs : List Span) (o : Option ℕ) (site q : ℕ) → IfSome o (λ p. 0 < (span_at xs p).holds) → (q ≡ length (with_hold_of_child xs o) → ⊥) → 0 < (span_at (with_hold_of_child xs o ++ record { holds = 1; parent = o; site = site } ∷ []) q).holds → 0 < (span_at xs q).holds
 new_live xs o site q live apart some =
-    let ys = held_by_child xs o in
+    let ys = with_hold_of_child xs o in
     let new : Span = record { holds = 1; parent = o; site = site } in
     elim (cases_lt q (length ys)) [
       | inl within ↦ child_live xs o q live (let e = ap (λ (s : Span). s.holds) (get_or_append_left ys (new ∷ []) no_span q within) in omega (arith, e, some))
       | inr past ↦ absurd (let e = ap (λ (s : Span). s.holds) (get_or_past (ys ++ new ∷ []) q no_span (let l = length_push ys new in let z : length ys ≡ q → ⊥ = λ e. apart (sym e) in omega (arith, l, past, z))) in omega (arith, e, some))
     ]
   where
-    child_live : (xs : List Span) (o : Option ℕ) (q : ℕ) → IfSome o (λ p. 0 < (span_at xs p).holds) → 0 < (span_at (held_by_child xs o) q).holds → 0 < (span_at xs q).holds
+    child_live : (xs : List Span) (o : Option ℕ) (q : ℕ) → IfSome o (λ p. 0 < (span_at xs p).holds) → 0 < (span_at (with_hold_of_child xs o) q).holds → 0 < (span_at xs q).holds
     child_live xs None q live some = some
     child_live xs (Some p) q live some = elim (cases_eq q p) [
       | inl here ↦ (let w = ap (λ (k : ℕ). (span_at xs k).holds) here in omega (arith, live, w))
@@ -96,7 +96,7 @@ new_live xs o site q live apart some =
 first_same : (c : Callsite) (a b : Lane) (settings : LayerSettings) → a.id ≡ b.id → a.name ≡ b.name → first_attributes c a settings ≡ first_attributes c b settings
 first_same c a b settings id name = rw (id, name) refl
 
-around_is : (p : Parent) (lane : Lane) (items : List Attached) → map (λ (x : ℕ × Context). x.1) lane.contexts.live ≡ map (λ (a : Attached). a.context) items → around lane p ≡ context_around items p
+around_is : (p : Parent) (lane : Lane) (items : List Attached) → map (λ (x : ℕ × Context). x.1) lane.contexts.live ≡ map (λ (a : Attached). a.context) items → lane_context lane p ≡ context_around items p
 around_is parent.Root lane items same = refl
 around_is (parent.Of s) lane items same = refl
 around_is parent.Current lane items same = last_is empty_context lane.contexts.live items same
@@ -131,15 +131,15 @@ made_record n told x = record x { spans = with_span_data n told x.spans }
 -- what was made is what the effect makes
 made_is : (setup : Setup) (t : Tables) (at place : ℕ) (callsite c : Callsite) (values : ValueSet) (p q : Parent) (before : Lane) (r : Recording) (current : Option ℕ) → open_part r ≡ t.recording → setup.layer ≡ r.settings → c ≡ callsite → p ≡ q
     → before.id ≡ (here_at setup t at place).lane → before.name ≡ name_at setup.names place → current ≡ current_of (t.entries (here_at setup t at place).lane) → map (λ (x : ℕ × Context). x.1) before.contexts.live ≡ map (λ (a : Attached). a.context) (t.contexts (here_at setup t at place).lane)
-    → new_span_data c before values (context_from (with_starts (parent_source r.settings.activation p current) at r).spans (around before p) (parent_source r.settings.activation p current)) at r.settings r.counting
+    → new_span_data c before values (context_from (with_starts (parent_source r.settings.activation p current) at r).spans (lane_context before p) (parent_source r.settings.activation p current)) at r.settings r.counting
     ≡ new_span_data callsite (lane_in (here_at setup t at place)) values
     (context_from (with_starts (parent_source r.settings.activation q (current_of (t.entries (here_at setup t at place).lane))) at t.recording).spans (context_around (t.contexts (here_at setup t at place).lane) q) (parent_source r.settings.activation q (current_of (t.entries (here_at setup t at place).lane)))) at r.settings r.counting
 made_is setup t at place callsite c values p q before r current recorded layer c_is p_is id name current_is contexts =
     let source = λ (x : Parent) (o : Option ℕ). parent_source r.settings.activation x o in
-    ap (λ (x : Callsite). new_span_data x before values (context_from (with_starts (source p current) at r).spans (around before p) (source p current)) at r.settings r.counting) c_is
-    ∙ ap (λ (x : Parent). new_span_data callsite before values (context_from (with_starts (source x current) at r).spans (around before x) (source x current)) at r.settings r.counting) p_is
-    ∙ ap (λ (o : Option ℕ). new_span_data callsite before values (context_from (with_starts (source q o) at r).spans (around before q) (source q o)) at r.settings r.counting) current_is
-    ∙ ap (λ (xs : List (ℕ × SpanData)). new_span_data callsite before values (context_from xs (around before q) (source q (current_of (t.entries (here_at setup t at place).lane)))) at r.settings r.counting) (starts_open (source q (current_of (t.entries (here_at setup t at place).lane))) at r t.recording recorded)
+    ap (λ (x : Callsite). new_span_data x before values (context_from (with_starts (source p current) at r).spans (lane_context before p) (source p current)) at r.settings r.counting) c_is
+    ∙ ap (λ (x : Parent). new_span_data callsite before values (context_from (with_starts (source x current) at r).spans (lane_context before x) (source x current)) at r.settings r.counting) p_is
+    ∙ ap (λ (o : Option ℕ). new_span_data callsite before values (context_from (with_starts (source q o) at r).spans (lane_context before q) (source q o)) at r.settings r.counting) current_is
+    ∙ ap (λ (xs : List (ℕ × SpanData)). new_span_data callsite before values (context_from xs (lane_context before q) (source q (current_of (t.entries (here_at setup t at place).lane)))) at r.settings r.counting) (starts_open (source q (current_of (t.entries (here_at setup t at place).lane))) at r t.recording recorded)
     ∙ ap (λ (x : Context). new_span_data callsite before values (context_from (with_starts (source q (current_of (t.entries (here_at setup t at place).lane))) at t.recording).spans x (source q (current_of (t.entries (here_at setup t at place).lane)))) at r.settings r.counting) (around_is q before (t.contexts (here_at setup t at place).lane) contexts)
     ∙ ap (λ (first : List KeyValue). after_op (data_at_making (record { name = callsite.name; parent = context_from (with_starts (source q (current_of (t.entries (here_at setup t at place).lane))) at t.recording).spans (context_around (t.contexts (here_at setup t at place).lane) q) (source q (current_of (t.entries (here_at setup t at place).lane))); made_at = at; first = first; counting = r.counting; inactivity = r.settings.inactivity })) at (ops.Update (span_update callsite values r.settings))) (first_same callsite before (lane_in (here_at setup t at place)) r.settings id name)
 
@@ -164,7 +164,7 @@ module _ {S : Type 0} (spans : S → Spans) (views : Views S) (attaches : S → 
     next_number : (t : Tables) → Fits now t → number ≡ length t.handles
     next_number t fits = many ∙ sym (length-map parts.handles held_by) ∙ ap length fits.handle_slots ∙ length-map t.handles (option_map (held_of parts.dispatch))
 
-    module _ (under : Place) (p : Parent) (site : ℕ) (callsite : Callsite) (sited : span_site parts.world.sites site ≡ Some callsite) (found : parent_for (map held_by parts.handles) under ≡ Some p) where
+    module _ (under : RequestParent) (p : Parent) (site : ℕ) (callsite : Callsite) (sited : span_site parts.world.sites site ≡ Some callsite) (found : parent_for (map held_by parts.handles) under ≡ Some p) where
       -- a span that is let through
       module _ (fields : Fields) (values : ValueSet) (valued : all_values callsite fields ≡ Some values) (made : Handle) (before : Lane) (within : place < length parts.lanes) (seen_is : before ≡ get_or parts.lanes place before) (through : (t : Tables) → StandsFor now t → admits_at now.setup t place_id callsite ≡ true) (one : hs' ≡ parts.handles ++ Some made ∷ [])
           (did : Makes spans does parts.world new before at p site values parts.dispatch made) where
@@ -184,7 +184,7 @@ module _ {S : Type 0} (spans : S → Spans) (views : Views S) (attaches : S → 
             let sp = spans_in spans parts.world parts.dispatch in
             let ids = now.setup.ids in
             let id_is' = id_seen parts.lanes place before within seen_is in
-            let step : spans_in spans new parts.dispatch ≡ with_new_span sp (own_span up.up) site = made_shown.spans_after ∙ ap (λ (l : ℕ). with_new_span sp (place_on (entries_on l sp.lanes) p) site) id_is' ∙ ap (λ (o : Option ℕ). with_new_span sp o site) up.on in
+            let step : spans_in spans new parts.dispatch ≡ with_new_span sp (own_span up.up) site = made_shown.spans_after ∙ ap (λ (l : ℕ). with_new_span sp (parent_on (entries_on l sp.lanes) p) site) id_is' ∙ ap (λ (o : Option ℕ). with_new_span sp o site) up.on in
             let line : Scope = length t.spans ∷ up.up in
             let mine : did.id ≡ length t.spans = id_is ∙ fits.made.count in
             let q = parent_at under up.up in
@@ -194,7 +194,7 @@ module _ {S : Type 0} (spans : S → Spans) (views : Views S) (attaches : S → 
             let contexts : map (λ (x : ℕ × Context). x.1) before.contexts.live ≡ map (λ (a : Attached). a.context) (t.contexts place_id) =
             (own_fit r.settings.activation parts.lanes place before before within seen_is refl inv.lanes.differ r.tokens parts.contexts.attaches t.contexts stands.recording.attached).contexts ∙ ap (λ (l : ℕ). map (λ (a : Attached). a.context) (t.contexts l)) id_is' in
             let told : SpanData = new_span_data_at (here_at now.setup t at place) callsite values q in
-            let raw : SpanData = new_span_data did.callsite before values (context_from (with_starts (parent_source r.settings.activation p current) at r).spans (around before p) (parent_source r.settings.activation p current)) at r.settings r.counting in
+            let raw : SpanData = new_span_data did.callsite before values (context_from (with_starts (parent_source r.settings.activation p current) at r).spans (lane_context before p) (parent_source r.settings.activation p current)) at r.settings r.counting in
             let told_is : raw ≡ told =
             made_is now.setup t at place callsite did.callsite values p q before r current stands.recording.recorded refl callsite_is up.parent_is id_is' (name_seen parts.lanes place before within seen_is) current_is contexts
             ∙ told_settings now.setup t at place callsite values q r stands.recording.recorded in
@@ -232,7 +232,7 @@ module _ {S : Type 0} (spans : S → Spans) (views : Views S) (attaches : S → 
               named_are = refl;
               moment_is = refl;
               balanced = subst (λ (x : Spans). Balanced x (map named_by (t.handles ++ Some line ∷ [])) (map (opened_by ids) t.guards) t.entries) (sym step) (balanced_new ids sp t.handles t.guards t.entries fits.balanced up.up site (length t.spans) up.live fits.made.count);
-              made_fit = subst (λ (x : Spans). MadeFit x.made (t.spans ++ new_made ∷ [])) (sym step) (made_pushed (held_by_child sp.made (own_span up.up)) t.spans up.up site told (made_child sp.made t.spans (own_span up.up) fits.made up.live));
+              made_fit = subst (λ (x : Spans). MadeFit x.made (t.spans ++ new_made ∷ [])) (sym step) (made_pushed (with_hold_of_child sp.made (own_span up.up)) t.spans up.up site told (made_child sp.made t.spans (own_span up.up) fits.made up.live));
               new_made = (up.up, refl, up.scope);
               new_site = got_within parts.world.sites site callsite (site_is parts.world.sites site callsite sited);
               new_scope = λ l e. subst (IsScope (t.spans ++ new_made ∷ [])) (the_scope line l e) (new_line t.spans new_made up.up refl up.scope);
@@ -307,28 +307,22 @@ module _ {S : Type 0} (spans : S → Spans) (views : Views S) (attaches : S → 
             (subst (λ (w : Worlds S). LanesFit parts.dispatch (kept_in kept w parts.dispatch) (map lane_value parts.lanes)) (sym same) inv.lanes)
 
     -- let through or not
-    module _ (under : Place) (p : Parent) (found_site site : ℕ) (sited_is : found_site ≡ site) (spanned : is_some (span_site parts.world.sites site) ≡ true) (found : parent_for (map held_by parts.handles) under ≡ Some p)
-        (fields : Fields) (values : ValueSet) (given : Callsite) (given_is : slice_get parts.world.sites found_site ≡ Some given) (valued : all_values given fields ≡ Some values)
+    module _ (under : RequestParent) (p : Parent) (found_site site : ℕ) (sited_is : found_site ≡ site) (given : Callsite) (spanned : span_site parts.world.sites site ≡ Some given) (found : parent_for (map held_by parts.handles) under ≡ Some p)
+        (fields : Fields) (values : ValueSet) (valued : all_values given fields ≡ Some values)
         (made : Handle) (before : Lane) (within : place < length parts.lanes) (seen_is : before ≡ get_or parts.lanes place before) (one : hs' ≡ parts.handles ++ Some made ∷ []) where
-      its_site : (callsite : Callsite) × (span_site parts.world.sites site ≡ Some callsite)
-      its_site = found_site_is (span_site parts.world.sites site) spanned
-
-      its_values : all_values its_site.0 fields ≡ Some values
-      its_values = ap (λ (c : Callsite). all_values c fields) (sym (the_callsite given its_site.0 (sym given_is ∙ ap (λ (k : ℕ). slice_get parts.world.sites k) sited_is ∙ site_is parts.world.sites site its_site.0 its_site.1))) ∙ valued
-
       -- the gate answered by the filter in force
-      its_answer : (enabled : Bool) → LetsThrough (member_of views.filtered None parts.world parts.dispatch) parts.world.sites before.id found_site enabled → (t : Tables) → StandsFor now t → admits_at now.setup t place_id its_site.0 ≡ enabled
+      its_answer : (enabled : Bool) → LetsThrough (member_of views.filtered None parts.world parts.dispatch) parts.world.sites before.id found_site enabled → (t : Tables) → StandsFor now t → admits_at now.setup t place_id given ≡ enabled
       its_answer enabled gate t stands =
-          answered spans views parts place before within seen_is found_site its_site.0 (ap (λ (k : ℕ). slice_get parts.world.sites k) sited_is ∙ site_is parts.world.sites site its_site.0 its_site.1) enabled gate t stands
+          answered spans views parts place before within seen_is found_site given (ap (λ (k : ℕ). slice_get parts.world.sites k) sited_is ∙ site_is parts.world.sites site given spanned) enabled gate t stands
 
       serves_let : (enabled : Bool) → LetsThrough (member_of views.filtered None parts.world parts.dispatch) parts.world.sites before.id found_site enabled → MakesOnly spans does enabled parts.world new before at p found_site values (Some parts.dispatch) made
           → (t : Tables) → StandsFor now t → Served (effect_of_call now.setup t at place (call.New site under fields)) t now then (reply.Made enabled number)
-      serves_let true gate did t stands = serves_made under p site its_site.0 its_site.1 found fields values its_values made before within seen_is (its_answer true gate) one (subst (λ (k : ℕ). Makes spans does parts.world new before at p k values parts.dispatch made) sited_is did) t stands
-      serves_let false gate did t stands = serves_declined under p site its_site.0 its_site.1 found fields values its_values (its_answer false gate) (one ∙ ap (λ (h : Handle). parts.handles ++ Some h ∷ []) did.0) did.1 t stands
+      serves_let true gate did t stands = serves_made under p site given spanned found fields values valued made before within seen_is (its_answer true gate) one (subst (λ (k : ℕ). Makes spans does parts.world new before at p k values parts.dispatch made) sited_is did) t stands
+      serves_let false gate did t stands = serves_declined under p site given spanned found fields values valued (its_answer false gate) (one ∙ ap (λ (h : Handle). parts.handles ++ Some h ∷ []) did.0) did.1 t stands
 
       keeps_let : (enabled : Bool) → LetsThrough (member_of views.filtered None parts.world parts.dispatch) parts.world.sites before.id found_site enabled → MakesOnly spans does enabled parts.world new before at p found_site values (Some parts.dispatch) made → IsKept spans views kept is_whole then_parts
-      keeps_let true gate did = keeps_made under p site its_site.0 its_site.1 found fields values its_values made before within seen_is (its_answer true gate) one (subst (λ (k : ℕ). Makes spans does parts.world new before at p k values parts.dispatch made) sited_is did)
-      keeps_let false gate did = keeps_declined under p site its_site.0 its_site.1 found fields values its_values (its_answer false gate) (one ∙ ap (λ (h : Handle). parts.handles ++ Some h ∷ []) did.0) did.1
+      keeps_let true gate did = keeps_made under p site given spanned found fields values valued made before within seen_is (its_answer true gate) one (subst (λ (k : ℕ). Makes spans does parts.world new before at p k values parts.dispatch made) sited_is did)
+      keeps_let false gate did = keeps_declined under p site given spanned found fields values valued (its_answer false gate) (one ∙ ap (λ (h : Handle). parts.handles ++ Some h ∷ []) did.0) did.1
 
       -- what is done by the lane's own subscriber is done by the pipeline's
       abbrev ByOwn : Bool → Option ℕ → Type 0
@@ -350,25 +344,25 @@ few_if None made few = tt
 few_if (Some s) made few = few s
 
 module _ {S : Type 0} (spans : S → Spans) (views : Views S) (kept : S → ℕ → ℕ → ℕ) (is_whole : S → Type 0) (parts : Parts S) (inv : IsKept spans views kept is_whole parts) where
-  pub make_may : (under : Place) (p : Parent) → parent_for (map held_by parts.handles) under ≡ Some p → (lane : ℕ) → length parts.handles < 2 ^ 62 → length parts.guards < 2 ^ 62 → MayMake spans is_whole parts.world lane p parts.dispatch
+  pub make_may : (under : RequestParent) (p : Parent) → parent_for (map held_by parts.handles) under ≡ Some p → (lane : ℕ) → length parts.handles < 2 ^ 62 → length parts.guards < 2 ^ 62 → MayMake spans is_whole parts.world lane p parts.dispatch
   make_may under p found lane few_handles few_guards =
       let a = sym (length-map parts.handles held_by) ∙ ap length inv.stands.fits.handle_slots ∙ length-map inv.tables.handles (option_map (held_of parts.dispatch)) in
       let b = ap length inv.stands.fits.guard_slots ∙ length-map inv.tables.guards (option_map (guard_of parts.dispatch)) in
       record {
         there = inv.there;
         whole = inv.whole;
-        live = has_by spans no_spans parts.world parts.dispatch (λ (x : Spans). IsLivePlace x.made p) (find_up (state_of spans views parts) inv.tables inv.stands.fits 0 under p found).live_place;
+        live = has_by spans no_spans parts.world parts.dispatch (λ (x : Spans). IsLiveParent x.made p) (find_up (state_of spans views parts) inv.tables inv.stands.fits 0 under p found).live_place;
         few = has_by spans no_spans parts.world parts.dispatch (λ (x : Spans). AreFew x) (let c = inv.stands.fits.made.count in let f = inv.stands.fits.few in omega (arith, a, c, f, few_handles));
         few_holds = has_by spans no_spans parts.world parts.dispatch (λ (x : Spans). HasFewHoldsAbove x lane p)
-            (few_if (place_on (entries_on lane (spans_in spans parts.world parts.dispatch).lanes) p) (spans_in spans parts.world parts.dispatch).made (λ s. let f = inv.stands.fits.few_holds s in omega (arith, f, a, b, few_handles, few_guards)));
+            (few_if (parent_on (entries_on lane (spans_in spans parts.world parts.dispatch).lanes) p) (spans_in spans parts.world parts.dispatch).made (λ s. let f = inv.stands.fits.few_holds s in omega (arith, f, a, b, few_handles, few_guards)));
       }
 
   -- the same by the own subscriber of a lane
-  pub make_may_own : (under : Place) (p : Parent) → parent_for (map held_by parts.handles) under ≡ Some p → (own : Option ℕ) → own ≡ Some parts.dispatch → (lane : ℕ) → length parts.handles < 2 ^ 62 → length parts.guards < 2 ^ 62 → MayMakeIf spans is_whole parts.world lane p (dispatch_on own parts.world.global)
+  pub make_may_own : (under : RequestParent) (p : Parent) → parent_for (map held_by parts.handles) under ≡ Some p → (own : Option ℕ) → own ≡ Some parts.dispatch → (lane : ℕ) → length parts.handles < 2 ^ 62 → length parts.guards < 2 ^ 62 → MayMakeIf spans is_whole parts.world lane p (dispatch_on own parts.world.global)
   make_may_own under p found own is lane few_handles few_guards = subst (λ (o : Option ℕ). MayMakeIf spans is_whole parts.world lane p (dispatch_on o parts.world.global)) (sym is) (make_may under p found lane few_handles few_guards)
 
-  pub tell_live : (under : Place) (p : Parent) → parent_for (map held_by parts.handles) under ≡ Some p → Has (λ s. IsLivePlace (spans s).made p) parts.world parts.dispatch
-  tell_live under p found = has_by spans no_spans parts.world parts.dispatch (λ (x : Spans). IsLivePlace x.made p) (find_up (state_of spans views parts) inv.tables inv.stands.fits 0 under p found).live_place
+  pub tell_live : (under : RequestParent) (p : Parent) → parent_for (map held_by parts.handles) under ≡ Some p → Has (λ s. IsLiveParent (spans s).made p) parts.world parts.dispatch
+  tell_live under p found = has_by spans no_spans parts.world parts.dispatch (λ (x : Spans). IsLiveParent x.made p) (find_up (state_of spans views parts) inv.tables inv.stands.fits 0 under p found).live_place
 
 -- after a refusal for want of memory
 pub made_alike : {S : Type 0} (spans : S → Spans) (views : Views S) (attaches : S → Bool) (kept : S → ℕ → ℕ → ℕ) (is_whole : S → Type 0) (same : S → S → Type 0) → SameLaw spans views attaches kept is_whole same

@@ -1,11 +1,11 @@
 -- A handle more, of a span that is there or of a new one.
 use Rattle.std.proofs.Common.{◌≡◌, ℕ, ◌+◌, ◌<◌, List, [], ◌∷◌, ◌++◌, length, cond, count_by, Option, Some, None, option_map, map, refl, sym, ap, subst, ◌∙◌, arith, inl, inr, ◌==◌, IfSome}
-use Rattle.span_script.proofs.Common.{cases_eq, cases_lt, cond-true, cond-false, length_push, map_push, get_or_past, get_or_push, get_or_append_left, get_or-map, Span, Spans, no_span, span_at, with_hold, first_entries, is_open_child, is_child_of, open_children, entries_on, current_of, place_on, with_new_span, IsLive, IsLivePlace, Parent, count_push, made_if_held, keeps_children, holds_set, holds_other, current_in, first_if_in, place_under, Balanced, OpenGuard, names_span, named_by, opened_by, Place, Scope, ScopeGuard, Tables, slot_at, own_span, scope_of, scope_at, parent_at, parent_for, State, IsScope, held_of}
+use Rattle.span_script.proofs.Common.{cases_eq, cases_lt, cond-true, cond-false, length_push, map_push, get_or_past, get_or_push, get_or_append_left, get_or-map, Span, Spans, no_span, span_at, with_hold, entered_lane_count, is_open_child, is_child_of, open_child_count, entries_on, current_of, parent_on, with_new_span, IsLive, IsLiveParent, Parent, count_push, made_if_held, keeps_children, holds_set, holds_other, current_in, first_if_in, place_under, Balanced, OpenGuard, names_span, named_by, opened_by, RequestParent, Scope, ScopeGuard, Tables, slot_at, own_span, scope_of, scope_at, parent_at, parent_for, State, IsScope, held_of}
 use Rattle.std.proofs.lemmas.Bool.{eq-eqb, ne_eqb}
 use Rattle.std.proofs.lemmas.List.{length-set}
 use Rattle.trace_base.specs.declared.span.Parent.TheVariants as parent
 use Rattle.span_script.proofs.entries.EntriesFitLemmas.{fits_live}
-use Rattle.span_script.specs.declared.request.Place.TheVariants as place
+use Rattle.span_script.specs.declared.request.RequestParent.TheVariants as request_parent
 use Rattle.span_script.specs.Fits.{Fits}
 use Rattle.span_script.proofs.steps.SlotsLemmas.{named_within}
 use Rattle.span_script.proofs.steps.BalanceLemmas.{named_slot}
@@ -62,8 +62,8 @@ pub balanced_decline : (ids : List ℕ) (spans : Spans) (hs : List (Option Scope
 balanced_decline ids spans hs gs es fits = subst (λ (xs : List (Option ℕ)). Balanced spans xs (map (opened_by ids) gs) es) (sym (map_push named_by hs (Some []))) (quiet_handle spans (map named_by hs) (map (opened_by ids) gs) es fits)
 
 -- a span made, under one that has room for its hold
-pushed : (x : Spans) (hs : List (Option ℕ)) (above : Option ℕ) (site : ℕ) → ((q : ℕ) → (span_at x.made q).holds ≡ count_by (names_span q) hs + first_entries x.lanes q + open_children x.made q + cond (is_child_of q above) 1 0)
-    → (n : ℕ) → n ≡ length x.made → (q : ℕ) → (span_at (x.made ++ record { holds = 1; parent = above; site = site } ∷ []) q).holds ≡ count_by (names_span q) (hs ++ Some n ∷ []) + first_entries x.lanes q + open_children (x.made ++ record { holds = 1; parent = above; site = site } ∷ []) q
+pushed : (x : Spans) (hs : List (Option ℕ)) (above : Option ℕ) (site : ℕ) → ((q : ℕ) → (span_at x.made q).holds ≡ count_by (names_span q) hs + entered_lane_count x.lanes q + open_child_count x.made q + cond (is_child_of q above) 1 0)
+    → (n : ℕ) → n ≡ length x.made → (q : ℕ) → (span_at (x.made ++ record { holds = 1; parent = above; site = site } ∷ []) q).holds ≡ count_by (names_span q) (hs ++ Some n ∷ []) + entered_lane_count x.lanes q + open_child_count (x.made ++ record { holds = 1; parent = above; site = site } ∷ []) q
 pushed x hs above site loose n is q =
     let new : Span = record { holds = 1; parent = above; site = site } in
     let before = loose q in
@@ -122,13 +122,13 @@ balanced_new ids spans hs gs es fits up site n live is =
     (balanced_new_own spans (map named_by hs) (map (opened_by ids) gs) es fits (own_span up) site live)
 
 -- the place that the code found is the line that the request names
-pub record FoundUp (k : State) (t : Tables) (lane : ℕ) (under : Place) (p : Parent) : Type 0 where
+pub record FoundUp (k : State) (t : Tables) (lane : ℕ) (under : RequestParent) (p : Parent) : Type 0 where
   pub up : Scope
   pub is : scope_at t lane under ≡ Some up
   pub parent_is : p ≡ parent_at under up
   pub scope : IsScope t.spans up
-  pub on : place_on (entries_on lane k.spans.lanes) p ≡ own_span up
-  pub live_place : IsLivePlace k.spans.made p
+  pub on : parent_on (entries_on lane k.spans.lanes) p ≡ own_span up
+  pub live_place : IsLiveParent k.spans.made p
   pub live : IfSome (own_span up) (λ p. IsLive k.spans.made p)
 
 own_lines : (k : State) (t : Tables) → Fits k t → (o : Option ℕ) → ((s : ℕ) → o ≡ Some s → IsLive k.spans.made s) → (o ≡ own_span (scope_of t.spans o)) × IsScope t.spans (scope_of t.spans o) × IfSome (own_span (scope_of t.spans o)) (λ p. IsLive k.spans.made p)
@@ -142,24 +142,24 @@ own_lines k t fits (Some s) live =
 the_place : (p q : Parent) → ◌≡◌ {A = Option Parent} (Some p) (Some q) → p ≡ q
 the_place p q e = cc e
 
-pub find_up : (k : State) (t : Tables) → Fits k t → (lane : ℕ) (under : Place) (p : Parent) → parent_for k.handles under ≡ Some p → FoundUp k t lane under p
-find_up k t fits lane place.Root p is = subst (FoundUp k t lane place.Root) (the_place parent.Root p is) (record { up = []; is = refl; parent_is = refl; scope = tt; on = refl; live_place = tt; live = tt })
-find_up k t fits lane place.Contextual p is =
+pub find_up : (k : State) (t : Tables) → Fits k t → (lane : ℕ) (under : RequestParent) (p : Parent) → parent_for k.handles under ≡ Some p → FoundUp k t lane under p
+find_up k t fits lane request_parent.Root p is = subst (FoundUp k t lane request_parent.Root) (the_place parent.Root p is) (record { up = []; is = refl; parent_is = refl; scope = tt; on = refl; live_place = tt; live = tt })
+find_up k t fits lane request_parent.Contextual p is =
     let same = ap current_of (fits.balanced.entries lane) in
     let o = current_of (t.entries lane) in
     let mine = own_lines k t fits o (λ s e. elim (current_in [] None (entries_on lane k.spans.lanes) s (same ∙ e)) [
       | inl none ↦ absurd (cc none)
       | inr there ↦ (let first = first_if_in k.spans.lanes lane s there in let h = fits.balanced.holds s in omega (arith, first, h))
     ]) in
-    subst (FoundUp k t lane place.Contextual) (the_place parent.Current p is) (record { up = scope_of t.spans o; is = refl; parent_is = refl; scope = mine.1; on = same ∙ mine.0; live_place = tt; live = mine.2 })
-find_up k t fits lane (place.Under handle) p is = by_slot (slot_at t.handles handle) refl (sym (ap (λ xs. option_map place_under (slot_at xs handle)) fits.handle_slots ∙ ap (option_map place_under) (get_or-map (option_map (held_of k.dispatch)) t.handles handle None)) ∙ is)
+    subst (FoundUp k t lane request_parent.Contextual) (the_place parent.Current p is) (record { up = scope_of t.spans o; is = refl; parent_is = refl; scope = mine.1; on = same ∙ mine.0; live_place = tt; live = mine.2 })
+find_up k t fits lane (request_parent.Under handle) p is = by_slot (slot_at t.handles handle) refl (sym (ap (λ xs. option_map place_under (slot_at xs handle)) fits.handle_slots ∙ ap (option_map place_under) (get_or-map (option_map (held_of k.dispatch)) t.handles handle None)) ∙ is)
   where
-    by_line : (line : Scope) → slot_at t.handles handle ≡ Some line → place_under (held_of k.dispatch line) ≡ p → FoundUp k t lane (place.Under handle) p
-    by_line [] there e = subst (FoundUp k t lane (place.Under handle)) e (record { up = []; is = there; parent_is = refl; scope = tt; on = refl; live_place = tt; live = tt })
+    by_line : (line : Scope) → slot_at t.handles handle ≡ Some line → place_under (held_of k.dispatch line) ≡ p → FoundUp k t lane (request_parent.Under handle) p
+    by_line [] there e = subst (FoundUp k t lane (request_parent.Under handle)) e (record { up = []; is = there; parent_is = refl; scope = tt; on = refl; live_place = tt; live = tt })
     by_line (s ∷ up) there e =
         let live = fits_live k.spans (map named_by t.handles) (map (opened_by k.setup.ids) t.guards) t.entries fits.balanced handle s (named_slot t.handles handle (s ∷ up) there) in
-        subst (FoundUp k t lane (place.Under handle)) e (record { up = s ∷ up; is = there; parent_is = refl; scope = fits.scopes handle (s ∷ up) there; on = refl; live_place = live; live = live })
+        subst (FoundUp k t lane (request_parent.Under handle)) e (record { up = s ∷ up; is = there; parent_is = refl; scope = fits.scopes handle (s ∷ up) there; on = refl; live_place = live; live = live })
 
-    by_slot : (o : Option Scope) → slot_at t.handles handle ≡ o → option_map place_under (option_map (held_of k.dispatch) o) ≡ Some p → FoundUp k t lane (place.Under handle) p
+    by_slot : (o : Option Scope) → slot_at t.handles handle ≡ o → option_map place_under (option_map (held_of k.dispatch) o) ≡ Some p → FoundUp k t lane (request_parent.Under handle) p
     by_slot None there e = absurd (cc e)
     by_slot (Some line) there e = by_line line there (the_place (place_under (held_of k.dispatch line)) p e)

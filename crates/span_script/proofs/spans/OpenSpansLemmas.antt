@@ -1,6 +1,6 @@
 -- A span has a hold exactly while some unspent handle names it or a descendant.
 use Rattle.std.proofs.Common.{◌≡◌, ℕ, zero, suc, ◌+◌, ◌<◌, ◌≤◌, List, [], ◌∷◌, length, Bool, true, false, cond, count_by, get_or, slice_set, Option, Some, None, map, refl, sym, ap, subst, ◌∙◌, arith, inl, inr, ◌⊎◌, ◌==◌, ◌||◌, ◌&&◌, not, nat_lt, filter}
-use Rattle.span_script.proofs.Common.{cases_eq, cases_lt, cases_Bool, cond-true, cond-false, or_cases, or_right, and_parts, get_or-le-sum_by, sum_by-cons, Span, no_span, span_at, entries_on, is_in, times_in, first_entries, is_child_of, is_open_child, Entries, has_entry, IsLive, count_cons, counted_if_any, made_if_held, has_lane, OneEach, OpenGuard, names_span, guards, named_by, opened_by, Scope, MadeSpan, Tables, after_effect, slot_at, own_span, made_of, Here, holds, is_open, closed_of, drop_effect, State, IsScope, parent_in, list_any}
+use Rattle.span_script.proofs.Common.{cases_eq, cases_lt, cases_Bool, cond-true, cond-false, or_cases, or_right, and_parts, get_or-le-sum_by, sum_by-cons, Span, no_span, span_at, entries_on, is_in, times_in, entered_lane_count, is_child_of, is_open_child, Entries, has_entry, IsLive, count_cons, counted_if_any, made_if_held, has_lane, OneEach, OpenGuard, names_span, guards_span, named_by, opened_by, Scope, MadeSpan, Tables, after_effect, slot_at, own_span, made_of, Here, holds, is_open, closed_of, drop_effect, State, IsScope, parent_in, list_any}
 use Rattle.std.proofs.lemmas.Bool.{eq-eqb, eqb-true, ne_eqb, lt-ltb, le-ltb, true≢false}
 use Rattle.span_script.proofs.entries.EntriesFitLemmas.{fits_live}
 use Rattle.span_script.proofs.steps.SlotsLemmas.{named_within}
@@ -12,7 +12,7 @@ or_left_true : (a b : Bool) → a ≡ true → (a || b) ≡ true
 or_left_true a b e = ap (λ x. x || b) e
 
 -- a first entry stands on some lane
-first_found : (es : List Entries) → OneEach es → (s : ℕ) → 0 < first_entries es s → (l : ℕ) × (has_lane l es ≡ true) × (is_in s (entries_on l es) ≡ true)
+first_found : (es : List Entries) → OneEach es → (s : ℕ) → 0 < entered_lane_count es s → (l : ℕ) × (has_lane l es ≡ true) × (is_in s (entries_on l es) ≡ true)
 first_found [] one s some = absurd (omega (arith, some))
 first_found (e ∷ es) one s some =
     elim (cases_Bool (is_in s e.ids)) [
@@ -111,16 +111,16 @@ module _ (k : State) (t : Tables) (fits : Fits k t) where
       get_or-map-named : (n : ℕ) (line : Scope) → slot_at t.handles n ≡ Some line → slot_at (map named_by t.handles) n ≡ own_span line
       get_or-map-named n line there = named_slot t.handles n line there
 
-  entered_open : (s : ℕ) → 0 < first_entries k.spans.lanes s → is_open t.handles s ≡ true
+  entered_open : (s : ℕ) → 0 < entered_lane_count k.spans.lanes s → is_open t.handles s ≡ true
   entered_open s some =
       let at = first_found k.spans.lanes fits.one_lane s some in
       let counted = counted_if_any (λ x. x == s) (entries_on at.0 k.spans.lanes) at.2 in
       let same = ap (λ (xs : List ℕ). times_in s xs) (fits.balanced.entries at.0) in
       let g = fits.balanced.guarded at.0 s in
-      let found = pick (guards at.0 s) (map (opened_by k.setup.ids) t.guards) None (omega (arith, counted, same, g)) in
+      let found = pick (guards_span at.0 s) (map (opened_by k.setup.ids) t.guards) None (omega (arith, counted, same, g)) in
       by_guard at.0 found.0 (slot_at (map (opened_by k.setup.ids) t.guards) found.0) refl found.2
     where
-      by_guard : (lane n : ℕ) (o : Option OpenGuard) → slot_at (map (opened_by k.setup.ids) t.guards) n ≡ o → guards lane s o ≡ true → is_open t.handles s ≡ true
+      by_guard : (lane n : ℕ) (o : Option OpenGuard) → slot_at (map (opened_by k.setup.ids) t.guards) n ≡ o → guards_span lane s o ≡ true → is_open t.handles s ≡ true
       by_guard lane n None there is = absurd (true≢false (sym is))
       by_guard lane n (Some g) there is =
           let here = eqb-true g.span s (and_parts (g.lane == lane) (g.span == s) is).1 in
@@ -135,7 +135,7 @@ module _ (k : State) (t : Tables) (fits : Fits k t) where
       let h = fits.balanced.holds s in
       elim (cases_lt 0 (count_by (names_span s) (map named_by t.handles))) [
         | inl named ↦ named_open t.handles s named
-        | inr none ↦ elim (cases_lt 0 (first_entries k.spans.lanes s)) [
+        | inr none ↦ elim (cases_lt 0 (entered_lane_count k.spans.lanes s)) [
           | inl entered ↦ entered_open s entered
           | inr out ↦ (
               let child = pick (is_open_child s) k.spans.made no_span (omega (arith, h, none, out, live)) in

@@ -30,8 +30,3 @@ got_within (y ∷ ys) (suc n) x there = (let within = got_within ys n x there in
 -- one callsite where two are given
 pub the_callsite : (a b : Callsite) → ◌≡◌ {A = Option Callsite} (Some a) (Some b) → a ≡ b
 the_callsite a b e = cc e
-
--- a callsite that is there
-pub found_site_is : (o : Option Callsite) → is_some o ≡ true → (callsite : Callsite) × (o ≡ Some callsite)
-found_site_is None is = absurd (true≢false (sym is))
-found_site_is (Some c) is = (c, refl)

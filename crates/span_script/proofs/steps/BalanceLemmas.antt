@@ -1,6 +1,6 @@
 -- Holds, entries and guards after what disabled handles do, and the numbers of holds.
 use Rattle.std.proofs.Common.{◌≡◌, ℕ, Bool, zero, suc, ◌+◌, ◌≤◌, List, [], ◌∷◌, ◌++◌, length, set, Option, Some, None, map, refl, sym, ap, subst, ◌∙◌, arith, inl, inr, ◌==◌, slice_set}
-use Rattle.span_script.proofs.Common.{cases_eq, cases_Bool, cases_lt, cond-true, cond-false, map_push, map-set, get_or_past, get_or-map, Span, Spans, no_span, span_at, is_in, times_in, entries_on, with_hold, less_hold, without_hold, with_span_entry, with_span_exit, count_push, less_holds, holds_set, holds_other, id_at, Balanced, OpenGuard, guards, named_by, opened_on, opened_by, Scope, ScopeGuard, slot_at, own_span, lanes_with, lanes_with_entry, lanes_with_exit}
+use Rattle.span_script.proofs.Common.{cases_eq, cases_Bool, cases_lt, cond-true, cond-false, map_push, map-set, get_or_past, get_or-map, Span, Spans, no_span, span_at, is_in, times_in, entries_on, with_hold, less_hold, without_hold, with_span_entry, with_span_exit, count_push, less_holds, holds_set, holds_other, id_at, Balanced, OpenGuard, guards_span, named_by, opened_on, opened_by, Scope, ScopeGuard, slot_at, own_span, lanes_with, lanes_with_entry, lanes_with_exit}
 use Rattle.std.proofs.lemmas.List.{length-set}
 use Rattle.span_script.proofs.entries.EntriesFitLemmas.{fits_enter, fits_exit}
 use Rattle.span_script.proofs.steps.SlotsLemmas.{named_push}
@@ -10,7 +10,7 @@ pub quiet_guard : (spans : Spans) (hs : List (Option ℕ)) (gs : List (Option Op
 quiet_guard spans hs gs es fits = record {
   holds = fits.holds;
   entries = fits.entries;
-  guarded = λ lane s. (let c = count_push (guards lane s) gs None in let b = fits.guarded lane s in omega (arith, c, b));
+  guarded = λ lane s. (let c = count_push (guards_span lane s) gs None in let b = fits.guarded lane s in omega (arith, c, b));
   borrowed = λ n g there. named_push (λ (x : OpenGuard). slot_at hs x.handle ≡ Some x.span) gs None fits.borrowed (λ x e. absurd (cc e)) n g there;
 }
 

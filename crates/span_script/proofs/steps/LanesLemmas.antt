@@ -2,7 +2,7 @@
 use Rattle.std.proofs.Common.{◌≡◌, ℕ, Bool, false, zero, suc, ◌<◌, ◌≤◌, List, [], ◌∷◌, length, count_by, get_or, set, Option, Some, None, map, refl, sym, ap, subst, ◌∙◌, arith, inl, inr, Result, Ok, Err, OnErr, ◌==◌}
 use Rattle.span_script.proofs.Common.{cases_eq, cond-true, cond-false, length-map, map-set, Lane, Worlds, Spans, attached_as, AreAttached, KeepsAttached, Has, Alike, member_of, spans_in, kept_in, Handle, Held, ReplacedOn, LeavesLane, Guard, Attach, no_recording, Scope, slot_at, id_at, name_at, Views, State, state_of, LaneValue, lane_value, no_lane_value, lane_at, held_by, LanesFit, IsKept, held_of, StandsFor, Parts, AddsMeasures, SameLaw, aside_in}
 use Rattle.std.proofs.lemmas.Bool.{eq-eqb, ne_eqb}
-use Rattle.trace_base.specs.Gate.{IsOwn, dispatch_on}
+use Rattle.trace_base.specs.Gate.{IsInWorld, dispatch_on}
 use Rattle.span_handles.specs.Handles.{HasIf}
 use Rattle.std.proofs.lemmas.List.{length-set, get_or-set_same, get_or-set_other}
 use Rattle.span_script.proofs.filter.CounterLemmas.{adds_nothing, adds_same}
@@ -106,12 +106,12 @@ lane_served dispatch kept lanes n before within is fits =
 pub has_own : {S : Type 0} (P : S → Type 0) (world : Worlds S) (dispatch : ℕ) (own : Option ℕ) → own ≡ Some dispatch → Has P world dispatch → HasIf P world (dispatch_on own world.global)
 has_own P world dispatch own is has = subst (λ (o : Option ℕ). HasIf P world (dispatch_on o world.global)) (sym is) has
 
--- and of each number that is its own one's
-pub own_has : {S : Type 0} (P : S → Type 0) (world : Worlds S) (dispatch : ℕ) (own : Option ℕ) → own ≡ Some dispatch → Has P world dispatch → (d : ℕ) → own ≡ Some d → Has P world d
-own_has P world dispatch own is has d same = subst (λ (n : ℕ). Has P world n) (let one : ◌≡◌ {A = Option ℕ} (Some dispatch) (Some d) = sym is ∙ same in cc one) has
+-- a lane's own subscriber serves it
+pub own_serves : (dispatch : ℕ) (own global : Option ℕ) → own ≡ Some dispatch → dispatch_on own global ≡ Some dispatch
+own_serves dispatch own global is = ap (λ (o : Option ℕ). dispatch_on o global) is
 
-pub own_there : {S : Type 0} (world : Worlds S) (dispatch : ℕ) (own : Option ℕ) → own ≡ Some dispatch → dispatch < length world.subscribers → IsOwn world own
-own_there world dispatch own is there = subst (λ (o : Option ℕ). IsOwn world o) (sym is) there
+pub own_there : {S : Type 0} (world : Worlds S) (dispatch : ℕ) (own : Option ℕ) → own ≡ Some dispatch → dispatch < length world.subscribers → IsInWorld world own
+own_there world dispatch own is there = subst (λ (o : Option ℕ). IsInWorld world o) (sym is) there
 
 -- where a call keeps what it attached
 pub lanes_step : (dispatch : ℕ) (kept now : ℕ → ℕ → ℕ) (lanes : List Lane) (n : ℕ) (before later : Lane) → n < length lanes → before ≡ get_or lanes n before → LanesFit dispatch kept (map lane_value lanes) → later.id ≡ before.id → later.default ≡ before.default → KeepsAttached kept before later now

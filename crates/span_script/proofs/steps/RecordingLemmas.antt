@@ -2,7 +2,7 @@
 use Rattle.std.specs.Option.{option_to_list}
 use Rattle.std.proofs.Common.{◌≡◌, ℕ, List, [], ◌∷◌, ◌++◌, length, fold, Option, Some, None, refl, sym, ap, ◌∙◌}
 use Rattle.std.proofs.lemmas.List.{append-nil, append_assoc}
-use Rattle.span_script.proofs.Common.{Context, Record, SpanData, Token, data_at, waits, Recording, started_under, with_start, with_starts, with_applied, with_close, without_closed, closed_started, MadeSpan, SpanOp, Effect, Tables, after_effect, with_span_made, recorded_by, open_part, records_of}
+use Rattle.span_script.proofs.Common.{Context, Record, SpanData, Token, data_at, waiting_context, Recording, started_under, with_start, with_starts, with_applied, with_close, without_closed, closed_started, MadeSpan, SpanOp, Effect, Tables, after_effect, with_span_made, recorded_by, open_part, records_of}
 
 -- a recording with other entries, and records before its own
 abbrev shifted : List Token → List Record → Recording → Recording
@@ -10,7 +10,7 @@ shifted ts fs r = record r { tokens = ts; finished = fs ++ r.finished }
 
 module _ (ts : List Token) (fs : List Record) where
   start_apart : (s at : ℕ) (r : Recording) → with_start s at (shifted ts fs r) ≡ shifted ts fs (with_start s at r)
-  start_apart s at r = by_context (waits (data_at s r.spans))
+  start_apart s at r = by_context (waiting_context (data_at s r.spans))
     where
       by_context : (o : Option Context) → started_under o s at (shifted ts fs r) ≡ shifted ts fs (started_under o s at r)
       by_context None = refl
@@ -81,7 +81,7 @@ starts_fold (Some s) at r = refl
 
 -- settings stay
 start_settings : (s at : ℕ) (r : Recording) → (with_start s at r).settings ≡ r.settings
-start_settings s at r = by_context (waits (data_at s r.spans))
+start_settings s at r = by_context (waiting_context (data_at s r.spans))
   where
     by_context : (o : Option Context) → (started_under o s at r).settings ≡ r.settings
     by_context None = refl
@@ -123,7 +123,7 @@ recorded_settings n e r =
 
 -- so do open entries
 start_tokens : (s at : ℕ) (r : Recording) → (with_start s at r).tokens ≡ r.tokens
-start_tokens s at r = by_context (waits (data_at s r.spans))
+start_tokens s at r = by_context (waiting_context (data_at s r.spans))
   where
     by_context : (o : Option Context) → (started_under o s at r).tokens ≡ r.tokens
     by_context None = refl
@@ -165,7 +165,7 @@ recorded_tokens n e r =
 
 -- a start of the open part
 pub start_open : (s at : ℕ) (r x : Recording) → open_part r ≡ x → (with_start s at r).spans ≡ (with_start s at x).spans
-start_open s at r x is = by_context (waits (data_at s r.spans)) ∙ ap (λ (y : Recording). (with_start s at y).spans) is
+start_open s at r x is = by_context (waiting_context (data_at s r.spans)) ∙ ap (λ (y : Recording). (with_start s at y).spans) is
   where
     by_context : (o : Option Context) → (started_under o s at r).spans ≡ (started_under o s at (open_part r)).spans
     by_context None = refl
@@ -186,7 +186,7 @@ entry_settings (Some s) at r = start_settings s at r
 
 pub entry_counting : (o : Option ℕ) (at : ℕ) (r : Recording) → (with_starts o at r).counting ≡ r.counting
 entry_counting None at r = refl
-entry_counting (Some s) at r = by_context (waits (data_at s r.spans))
+entry_counting (Some s) at r = by_context (waiting_context (data_at s r.spans))
   where
     by_context : (o : Option Context) → (started_under o s at r).counting ≡ r.counting
     by_context None = refl

@@ -15,8 +15,8 @@ use Rattle.span_script.specs.calls.Filter.{hooks_of_span}
 use Rattle.span_script.specs.calls.Spans.{borrows, is_borrowed}
 
 -- the span that an entry activates
-abbrev pub active : Bool → Scope → Option ℕ
-active activation scope = if activation then own_span scope else None
+abbrev pub activated_span : Bool → Scope → Option ℕ
+activated_span activation scope = if activation then own_span scope else None
 
 abbrev pub attached_by : Recording → ℕ → Option ℕ → Option Attached
 attached_by r at None = None
@@ -25,7 +25,7 @@ attached_by r at (Some s) = Some (record { owner = EntryOf s; context = own_or e
 -- an entry of a handle's span, by a guard that owns the handle or not
 abbrev pub enter_effect : Here → ℕ → Bool → Scope → Effect
 enter_effect here handle owns scope =
-    let starting = active here.setup.layer.activation scope in
+    let starting = activated_span here.setup.layer.activation scope in
     record (answer_effect here (reply.Guard (length here.script.guards))) {
       new_guard = Some (record { handle = handle; place = here.place; owns = owns; scope = scope });
       starts = option_to_list starting;
@@ -41,7 +41,7 @@ is_full items = length items == MAX_CONTEXTS
 
 -- an entry that attaches a context meets a full lane
 abbrev pub meets_full : Bool → Scope → List Attached → Bool
-meets_full activation scope items = is_some (active activation scope) && is_full items
+meets_full activation scope items = is_some (activated_span activation scope) && is_full items
 
 -- an entry by a handle, whoever owns that
 abbrev pub entry_call : Here → ℕ → Bool → Resolved
@@ -59,7 +59,7 @@ abbrev pub exit_effect : Here → ℕ → Scope → Effect
 exit_effect here guard scope = record (answer_effect here reply.Done) {
   spent_guard = Some guard;
   ops = op_on scope ops.Exit;
-  detach = option_map EntryOf (active here.setup.layer.activation scope);
+  detach = option_map EntryOf (activated_span here.setup.layer.activation scope);
   exit = own_span scope;
   hooks = hooks_of_span scope (λ s. HookExit s here.lane);
 }

@@ -9,7 +9,7 @@ use Rattle.otel_state.specs.declared.op.SetParentError.{SetParentError}
 use Rattle.otel_state.specs.declared.op.SetParentError.TheVariants as unset
 use Rattle.otel_layer.specs.Asking.{link_of}
 use Rattle.otel_layer.specs.Recording.{Recording}
-use Rattle.otel_layer.specs.Table.{data_at, waits}
+use Rattle.otel_layer.specs.Table.{data_at, waiting_context}
 use Rattle.span_script.specs.declared.reply.Reply.TheVariants as reply
 use Rattle.span_script.specs.declared.reply.What.TheVariants as what
 use Rattle.span_script.specs.calls.Here.{Here, Resolved, ◌>>=◌, need, answer_effect, ops_effect, op_on}
@@ -32,20 +32,20 @@ follows_call here handle from = do
   Ok (follow_effect here scope followed)
 
 -- what setting a parent is answered, by whether it can still be set
-abbrev pub set_while : Bool → Result (Unit {0}) SetParentError
-set_while true = Ok tt
-set_while false = Err unset.AlreadyStarted
+abbrev pub set_result : Bool → Result (Unit {0}) SetParentError
+set_result true = Ok tt
+set_result false = Err unset.AlreadyStarted
 
 -- it can be until the span starts
-abbrev pub is_set : Recording → Scope → Result (Unit {0}) SetParentError
-is_set r [] = Err unset.SpanDisabled
-is_set r (s ∷ up) = set_while (is_some (waits (data_at s r.spans)))
+abbrev pub set_parent_result : Recording → Scope → Result (Unit {0}) SetParentError
+set_parent_result r [] = Err unset.SpanDisabled
+set_parent_result r (s ∷ up) = set_result (is_some (waiting_context (data_at s r.spans)))
 
 abbrev pub set_parent_call : Here → ℕ → ℕ → Resolved
 set_parent_call here handle context = do
   scope ← need what.Handle (slot_at here.script.handles handle)
   given ← need what.Context (slice_get here.script.named_contexts context)
-  Ok (ops_effect here (reply.Set (is_set here.script.recording scope)) (op_on scope (ops.SetParent given)))
+  Ok (ops_effect here (reply.Set (set_parent_result here.script.recording scope)) (op_on scope (ops.SetParent given)))
 
 -- a link to what a context shows, none where that is invalid
 abbrev pub link_ops : Scope → SpanContext → List KeyValue → List SpanOp

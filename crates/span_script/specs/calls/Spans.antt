@@ -16,8 +16,8 @@ use Rattle.trace_base.specs.declared.span.Parent.TheVariants as parent
 use Rattle.span_script.specs.declared.reply.Reply.TheVariants as reply
 use Rattle.span_script.specs.declared.reply.Refusal.TheVariants as refusal
 use Rattle.span_script.specs.declared.reply.What.TheVariants as what
-use Rattle.span_script.specs.declared.request.Place.{Place}
-use Rattle.span_script.specs.declared.request.Place.TheVariants as place
+use Rattle.span_script.specs.declared.request.RequestParent.{RequestParent}
+use Rattle.span_script.specs.declared.request.RequestParent.TheVariants as request_parent
 use Rattle.span_script.specs.Fields.{Fields, all_values}
 use Rattle.span_script.specs.calls.Here.{Here, Resolved, ◌>>=◌, need, refuse_if, answer_effect}
 use Rattle.span_script.specs.Setups.{name_at, span_site}
@@ -55,21 +55,21 @@ is_borrowed slots handle = list_any (borrows handle) slots
 -- ---- makings
 
 -- the scope that a new span is put under: that of a handle, of the lane's current span, or none
-abbrev pub scope_at : Tables → ℕ → Place → Option Scope
-scope_at t lane place.Root = Some []
-scope_at t lane place.Contextual = Some (scope_of t.spans (current_of (t.entries lane)))
-scope_at t lane (place.Under handle) = slot_at t.handles handle
+abbrev pub scope_at : Tables → ℕ → RequestParent → Option Scope
+scope_at t lane request_parent.Root = Some []
+scope_at t lane request_parent.Contextual = Some (scope_of t.spans (current_of (t.entries lane)))
+scope_at t lane (request_parent.Under handle) = slot_at t.handles handle
 
 -- a disabled handle
 abbrev pub disabled_effect : Here → Effect
 disabled_effect here = record (answer_effect here (reply.Made false (length here.script.handles))) { new_handle = Some [] }
 
 -- the place of a new span, by what the request names
-abbrev pub parent_at : Place → Scope → Parent
-parent_at place.Root up = parent.Root
-parent_at place.Contextual up = parent.Current
-parent_at (place.Under handle) [] = parent.Root
-parent_at (place.Under handle) (s ∷ up) = parent.Of s
+abbrev pub parent_at : RequestParent → Scope → Parent
+parent_at request_parent.Root up = parent.Root
+parent_at request_parent.Contextual up = parent.Current
+parent_at (request_parent.Under handle) [] = parent.Root
+parent_at (request_parent.Under handle) (s ∷ up) = parent.Of s
 
 -- the context that was attached last, the empty one where none is
 abbrev pub last_attached : Context → List Attached → Context
@@ -99,7 +99,7 @@ new_span_data_at here callsite values p =
     (context_from r.spans (context_around (here.script.contexts here.lane) p) source) here.at r.settings r.counting
 
 -- a span of a callsite under a scope, which starts at once where spans start early
-abbrev pub span_effect : Here → ℕ → Callsite → ValueSet → Place → Scope → Effect
+abbrev pub span_effect : Here → ℕ → Callsite → ValueSet → RequestParent → Scope → Effect
 span_effect here site callsite values under up =
     let span = length here.script.spans in
     let scope : Scope = span ∷ up in
@@ -112,11 +112,11 @@ span_effect here site callsite values under up =
     }
 
 -- a callsite that is let through gives a span, any other a disabled handle
-abbrev pub new_effect : Here → ℕ → Callsite → ValueSet → Place → Scope → Effect
+abbrev pub new_effect : Here → ℕ → Callsite → ValueSet → RequestParent → Scope → Effect
 new_effect here site callsite values under up =
     if admits_at here.setup here.script here.lane callsite then span_effect here site callsite values under up else disabled_effect here
 
-abbrev pub new_call : Here → ℕ → Place → Fields → Resolved
+abbrev pub new_call : Here → ℕ → RequestParent → Fields → Resolved
 new_call here site under fields = do
   callsite ← need what.Site (span_site here.setup.sites site)
   up ← need what.Handle (scope_at here.script here.lane under)

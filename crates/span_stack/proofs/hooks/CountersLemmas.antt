@@ -1,7 +1,7 @@
 -- What the calls of a layer that may count events make of what it keeps.
 use Rattle.std.proofs.Common.{◌≡◌, ℕ, List, [], ◌∷◌, length, Bool, true, false, Option, Some, None, refl, sym, ap, ◌∙◌, inl, inr, ◌==◌}
 use Rattle.std.specs.Option.{option_map}
-use Rattle.span_stack.proofs.Common.{cases_Bool, cases_eq, cond-true, cond-false, RecorderValue, Callsite, Lane, Worlds, Hook, OnEvent, Spans, next_of, span_at, entries_on, place_on, SubscriberCall, NewSpan, Records, Follows, Event, Enter, Exit, CloneSpan, TryClose, spans_after_call, Allowed, Layered, DoesBoth, InStep, both_allowed, both_shows, Replaced, member_of, Chain, ended, closes, no_spans, Core, CoreWithRoom, seen_in, PartCall, Applies, Shows, Touches, data_at, update, Recording, recording_of, no_recording, RecordsCall, RecordsChain, RecordsPart, FilterState, FilterWithRoom, plain, enables_in, FilteredOpenTelemetryLayer, events_by, with_counted, with_event_by, RecordsCallBy}
+use Rattle.span_stack.proofs.Common.{cases_Bool, cases_eq, cond-true, cond-false, RecorderValue, Callsite, Lane, Worlds, Hook, OnEvent, Spans, next_of, span_at, entries_on, parent_on, SubscriberCall, NewSpan, Records, Follows, Event, Enter, Exit, CloneSpan, TryClose, spans_after_call, Allowed, Layered, DoesBoth, InStep, both_allowed, both_shows, Replaced, member_of, Chain, ended, closes, no_spans, Core, CoreWithRoom, seen_in, PartCall, Applies, Shows, Touches, data_at, update, Recording, recording_of, no_recording, RecordsCall, RecordsChain, RecordsPart, FilterState, FilterWithRoom, plain_filter, enables_in, FilteredOpenTelemetryLayer, events_by, with_counted, with_event_by, RecordsCallBy}
 use Rattle.otel_base.specs.Recorder.{Records as RecordsBy}
 use Rattle.trace_base.specs.declared.field.ValueSet.{ValueSet}
 use Rattle.span_registry.specs.Registering.{RegistryValue, DoesRegistry}
@@ -39,10 +39,10 @@ counts_one false id at callsite values r = refl
 
 -- the filter that counts, without its room
 abbrev pub plain_counter : Option FilterWithRoom → Option FilterState
-plain_counter o = option_map plain o
+plain_counter o = option_map plain_filter o
 
 abbrev enables : FilterWithRoom → ℕ → Callsite → Bool
-enables f = enables_in (plain f)
+enables f = enables_in (plain_filter f)
 
 event_step : (o : Option FilterWithRoom) (c : Core RecorderValue) (reached : Option ℕ) (lane : Lane) (at : ℕ) (callsite : Callsite) (values : ValueSet) (d : Core RecorderValue)
     → Step RecordsBy (events_by enables o) c (OnEvent reached lane at callsite values) d → recording_of d ≡ with_event_by (plain_counter o) reached lane.id at callsite values (recording_of c)
@@ -93,8 +93,8 @@ abbrev PlainDoes : RegistryValue → CoreWithRoom RecorderValue → SubscriberCa
 PlainDoes s l call t m = DoesBoth spans_of DoesRegistry plain_hooks plain_room plain_active s l call t m
 
 abbrev IsQuiet : SubscriberCall → Type 0
-IsQuiet (Event lane at place site callsite values) = ⊥
-IsQuiet (NewSpan lane at place site callsite values) = Unit {0}
+IsQuiet (Event lane at parent site callsite values) = ⊥
+IsQuiet (NewSpan lane at parent site callsite values) = Unit {0}
 IsQuiet (Records id at callsite values) = Unit {0}
 IsQuiet (Follows id from at) = Unit {0}
 IsQuiet (Enter id at before later) = Unit {0}
@@ -106,8 +106,8 @@ as_plain : (l : Layers) (hook : Hook) (m : Layers) → IsNoEvent hook → hooks_
 as_plain l hook m quiet h = hook_any RecordsBy (events_by enables l.filter) all_events l.inner.core hook m.inner.core quiet h.0
 
 does_plain : (s : RegistryValue) (l : Layers) (call : SubscriberCall) (t : RegistryValue) (m : Layers) → IsQuiet call → Does s l call t m → PlainDoes s l.inner call t m.inner
-does_plain s l (Event lane at place site callsite values) t m quiet d = absurd quiet
-does_plain s l (NewSpan lane at place site callsite values) t m quiet d = (d.0, as_plain l _ m tt d.1)
+does_plain s l (Event lane at parent site callsite values) t m quiet d = absurd quiet
+does_plain s l (NewSpan lane at parent site callsite values) t m quiet d = (d.0, as_plain l _ m tt d.1)
 does_plain s l (Records id at callsite values) t m quiet d = (d.0, as_plain l _ m tt d.1)
 does_plain s l (Follows id from at) t m quiet d = (d.0, as_plain l _ m tt d.1)
 does_plain s l (Enter id at before later) t m quiet d = record { prepared = d.prepared; between = d.between; room = d.room; first = d.first; second = as_plain l _ m tt d.second }
@@ -134,9 +134,9 @@ quiet_records : (s : Base) (call : SubscriberCall) (t : Base) → IsQuiet call �
 quiet_records s call t quiet d = layered_recording (as_layered s) call (as_layered t) (does_plain s.inner s.layer call t.inner t.layer quiet d)
 
 pub base_records : (s : Base) (call : SubscriberCall) (t : Base) → BaseDoes s call t → RecordsCallBy (base_counter s) (base_spans s) (base_recorded s) call (base_recorded t)
-base_records s (Event lane at place site callsite values) t d =
-    event_hook s.layer.filter s.layer.inner.core (place_on (entries_on lane.id s.inner.spans.lanes) place) lane at callsite values t.layer.inner.core d.1.0
-base_records s (NewSpan lane at place site callsite values) t d = quiet_records s (NewSpan lane at place site callsite values) t tt d
+base_records s (Event lane at parent site callsite values) t d =
+    event_hook s.layer.filter s.layer.inner.core (parent_on (entries_on lane.id s.inner.spans.lanes) parent) lane at callsite values t.layer.inner.core d.1.0
+base_records s (NewSpan lane at parent site callsite values) t d = quiet_records s (NewSpan lane at parent site callsite values) t tt d
 base_records s (Records id at callsite values) t d = quiet_records s (Records id at callsite values) t tt d
 base_records s (Follows id from at) t d = quiet_records s (Follows id from at) t tt d
 base_records s (Enter id at before later) t d = quiet_records s (Enter id at before later) t tt d
@@ -146,8 +146,8 @@ base_records s (TryClose id at) t d = quiet_records s (TryClose id at) t tt d
 
 -- the filter that counts stays
 pub base_counts : (s : Base) (call : SubscriberCall) (t : Base) → BaseDoes s call t → t.layer.filter ≡ s.layer.filter
-base_counts s (Event lane at place site callsite values) t d = d.1.1
-base_counts s (NewSpan lane at place site callsite values) t d = d.1.1
+base_counts s (Event lane at parent site callsite values) t d = d.1.1
+base_counts s (NewSpan lane at parent site callsite values) t d = d.1.1
 base_counts s (Records id at callsite values) t d = d.1.1
 base_counts s (Follows id from at) t d = d.1.1
 base_counts s (Enter id at before later) t d = d.second.1

@@ -1,6 +1,6 @@
 -- What a layer of metrics over a subscriber hears of calls.
 use Rattle.std.proofs.Common.{◌≡◌, ℕ, List, [], ◌++◌, Bool, false, Option, Some, refl, sym, ap, ◌∙◌, inl, inr}
-use Rattle.span_stack.proofs.Common.{cases_eq, Worlds, Spans, next_of, span_at, SubscriberCall, NewSpan, Records, Follows, Event, Enter, Exit, CloneSpan, TryClose, Lanes, Hook, LeavesLanes, Layered, DoesBoth, HearsCall, Replaced, Chain, ended, closes, member_of, seen_before, seen_later, Measure, Steps, over_hears, Measuring, waiting_measures, measured_by}
+use Rattle.span_stack.proofs.Common.{cases_eq, Worlds, Spans, next_of, span_at, SubscriberCall, NewSpan, Records, Follows, Event, Enter, Exit, CloneSpan, TryClose, CallLanes, Hook, LeavesLanes, Layered, DoesBoth, HearsCall, Replaced, Chain, ended, closes, member_of, seen_before, seen_later, Measure, Steps, over_hears, Measuring, waiting_measures, measured_by}
 use Rattle.std.proofs.lemmas.List.{append-nil}
 use Rattle.otel_metrics.specs.Waiting.{AddsMeasuresOf, measures_of_hook}
 use Rattle.span_stack.proofs.worlds.ViewsLemmas.{kept_place}
@@ -21,10 +21,10 @@ abbrev behind : List Measure → Hook → List Measure
 behind ms hook = ms ++ measures_of_hook hook
 
 from_heard : (spans : Spans) (call : SubscriberCall) (a b : List Measure) → HearsCall (Steps behind) spans a call b → b ≡ a ++ measured_by call
-from_heard spans (NewSpan lane at place site callsite values) a b h = h
+from_heard spans (NewSpan lane at parent site callsite values) a b h = h
 from_heard spans (Records id at callsite values) a b h = h
 from_heard spans (Follows id from at) a b h = h
-from_heard spans (Event lane at place site callsite values) a b h = h
+from_heard spans (Event lane at parent site callsite values) a b h = h
 from_heard spans (Enter id at before later) a b h = h.heard
 from_heard spans (Exit id at before later) a b h = h.heard
 from_heard spans (CloneSpan id) a b h = h ∙ sym (append-nil a)
@@ -36,7 +36,7 @@ Whole S = Layered Measuring S
 abbrev does_over : {S : Type 0} → (S → Spans) → (S → SubscriberCall → S → Type 0) → Whole S → SubscriberCall → Whole S → Type 0
 does_over spans inner = λ p call q. DoesBoth spans inner measures_at unchanged attaches_no p.inner p.layer call q.inner q.layer
 
-pub one_call : {S : Type 0} (spans : S → Spans) (inner : S → SubscriberCall → S → Type 0) (attaches : S → Bool) (held : S → ℕ → ℕ → ℕ) → ((s : S) (c : SubscriberCall) (t : S) → inner s c t → Lanes (attaches s) (held s) c (held t))
+pub one_call : {S : Type 0} (spans : S → Spans) (inner : S → SubscriberCall → S → Type 0) (attaches : S → Bool) (held : S → ℕ → ℕ → ℕ) → ((s : S) (c : SubscriberCall) (t : S) → inner s c t → CallLanes (attaches s) (held s) c (held t))
     → (old new : Worlds (Whole S)) (dispatch : ℕ) (call : SubscriberCall) → Replaced (λ p q. does_over spans inner p call q) old new dispatch → member_of waiting_measures [] new dispatch ≡ member_of waiting_measures [] old dispatch ++ measured_by call
 one_call {S} spans inner attaches held lanes old new dispatch call r =
     let R : Whole S → Whole S → Type 0 = λ p q. does_over spans inner p call q in

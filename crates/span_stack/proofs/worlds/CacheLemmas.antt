@@ -1,6 +1,6 @@
 -- The cached interests of a stack whose parts took room.
 use Rattle.std.proofs.Common.{◌≡◌, List, Option, None, refl, sym, ap, ◌∙◌}
-use Rattle.span_stack.proofs.Common.{Callsite, LevelFilter, Interest, AreSame, interests_of_sites, registered_same, joint_interest, FilterState, FilterWithRoom, plain, interest_in, sometimes, both_alike, Stacks, StackWorlds, stack_interest, HasCurrentInterests, Layered, Recording, Measuring, waiting_measures}
+use Rattle.span_stack.proofs.Common.{Callsite, LevelFilter, Interest, AreSame, interests_of_sites, registered_same, joint_interest, FilterState, FilterWithRoom, plain_filter, interest_in, sometimes, both_alike, Stacks, StackWorlds, stack_interest, HasCurrentInterests, Layered, Recording, Measuring, waiting_measures}
 use Rattle.trace_base.specs.declared.subscriber.Interest.TheVariants as interests
 use Rattle.span_stack.proofs.hooks.CountersLemmas.{Base, base_room, base_recorded, base_counter, base_same, counter_same}
 use Rattle.span_stack.proofs.hooks.GaugesLemmas.{unchanged}
@@ -31,7 +31,7 @@ middle_measures s t h = h.1
 interest_same : (s t : Stacks) → room_over middle_room s t → stack_interest t ≡ stack_interest s
 interest_same s t h =
     let pick : (Callsite → Interest) → Callsite → Interest = λ f c. joint_interest (f c) interests.Always in
-    ap pick (both_alike (λ (a b : FilterWithRoom). plain b ≡ plain a) (Unit {0}) sometimes (λ f. interest_in (plain f)) (λ l m e. ap interest_in e) s.layer.inner t.layer.inner h.1)
+    ap pick (both_alike (λ (a b : FilterWithRoom). plain_filter b ≡ plain_filter a) (Unit {0}) sometimes (λ f. interest_in (plain_filter f)) (λ l m e. ap interest_in e) s.layer.inner t.layer.inner h.1)
 
 pub current_left : (old new : StackWorlds) → AreSame (room_over middle_room) old.subscribers new.subscribers → new.cached ≡ old.cached → new.sites ≡ old.sites → HasCurrentInterests old → HasCurrentInterests new
 current_left old new all cached sites is =

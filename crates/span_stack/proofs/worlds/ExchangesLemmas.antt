@@ -1,7 +1,7 @@
 -- Another filter over the same subscriber, in a world whose other subscribers take room at most.
 use Rattle.std.proofs.Common.{◌≡◌, ℕ, zero, suc, ◌+◌, ◌<◌, List, [], ◌∷◌, length, Bool, true, false, Option, Some, None, refl, sym, ap, subst, ◌∙◌, inl, inr, arith, slice_get, slice_set, get_or, ◌||◌, if◌then◌else◌, is_some}
 use Rattle.std.specs.Option.{option_map}
-use Rattle.span_stack.proofs.Common.{cases_eq, slice_get_within, slice_get-get_or, Worlds, AreSame, Spans, entries_on, times_in, KnownSpans, no_known_spans, Layered, InStep, IsWholeBoth, KnowsNone, Replaced, Alike, member_of, no_spans, now_there, as_many, seen_before, StaysStack, Layer, FilterState, FilterWithRoom, plain, AreWhole, IsNewFilter, layer_or, HoldsIfThere, Both, both_refl, Swaps, none_kept, same_in_place, in_place}
+use Rattle.span_stack.proofs.Common.{cases_eq, slice_get_within, slice_get-get_or, Worlds, AreSame, Spans, entries_on, times_in, KnownSpans, no_known_spans, Layered, InStep, IsWholeBoth, KnowsNone, Replaced, Alike, member_of, no_spans, now_there, as_many, seen_before, StaysStack, Layer, FilterState, FilterWithRoom, plain_filter, AreWhole, IsNewFilter, layer_or, HoldsIfThere, Both, both_refl, Swaps, none_kept, same_in_place, filter_in_place}
 use Rattle.std.proofs.lemmas.Bool.{true≢false}
 use Rattle.env_filter.specs.Filtering.{seen_in}
 use Rattle.span_stack.proofs.worlds.ViewsLemmas.{the_one, see}
@@ -82,16 +82,16 @@ attaches_over attaches = λ p. layer_or false (λ _. false) p.layer.inner || att
 
 abbrev pub whole_over : {S : Type 0} → (S → Spans) → (S → Bool) → (S → Type 0) → Option FilterWithRoom → S → Type 0
 whole_over spans attaches is_whole o below =
-    IsWholeBoth (is_whole below) (HoldsIfThere (λ f. AreWhole (plain f)) o) (spans below) (layer_or no_known_spans (λ f. seen_in (plain f)) o) (attaches below) (layer_or false (λ _. false) o)
+    IsWholeBoth (is_whole below) (HoldsIfThere (λ f. AreWhole (plain_filter f)) o) (spans below) (layer_or no_known_spans (λ f. seen_in (plain_filter f)) o) (attaches below) (layer_or false (λ _. false) o)
 
 abbrev pub is_whole_over : {S : Type 0} → (S → Spans) → (S → Bool) → (S → Type 0) → Over S → Type 0
 is_whole_over spans attaches is_whole = λ p. whole_over spans attaches is_whole p.layer.inner p.inner
 
 module _ {S : Type 0} (spans : S → Spans) (kept : S → ℕ → ℕ → ℕ) (attaches : S → Bool) (is_whole : S → Type 0) where
-  anew : (o : Option FilterWithRoom) (below : S) (f : FilterWithRoom) → IsNewFilter (plain f) → whole_over spans attaches is_whole o below → whole_over spans attaches is_whole (Some f) below
-  anew o below f new w = record { inner = w.inner; outer = new.whole; in_step = step_anew (spans below) (layer_or no_known_spans (λ f. seen_in (plain f)) o) (seen_in (plain f)) new.none w.in_step; one_attaches = refl }
+  anew : (o : Option FilterWithRoom) (below : S) (f : FilterWithRoom) → IsNewFilter (plain_filter f) → whole_over spans attaches is_whole o below → whole_over spans attaches is_whole (Some f) below
+  anew o below f new w = record { inner = w.inner; outer = new.whole; in_step = step_anew (spans below) (layer_or no_known_spans (λ f. seen_in (plain_filter f)) o) (seen_in (plain_filter f)) new.none w.in_step; one_attaches = refl }
 
-  pub stays_under : (s t : Over S) (f : FilterWithRoom) → IsNewFilter (plain f) → t.inner ≡ s.inner → t.layer.inner ≡ Some f → StaysStack (spans_over spans) (kept_over kept) (attaches_over attaches) (is_whole_over spans attaches is_whole) s t
+  pub stays_under : (s t : Over S) (f : FilterWithRoom) → IsNewFilter (plain_filter f) → t.inner ≡ s.inner → t.layer.inner ≡ Some f → StaysStack (spans_over spans) (kept_over kept) (attaches_over attaches) (is_whole_over spans attaches is_whole) s t
   stays_under s t f new below is =
       let beside : (ℕ → ℕ → ℕ) → ℕ → ℕ → ℕ = λ k lane number. k lane number + kept t.inner lane number in
       let over_it : S → ℕ → ℕ → ℕ = λ b lane number. layer_or none_kept (λ _ lane number. 0) s.layer.inner lane number + kept b lane number in
@@ -104,18 +104,18 @@ module _ {S : Type 0} (spans : S → Spans) (kept : S → ℕ → ℕ → ℕ) (
 
 -- ---- a filter that is put in, and put back
 
-pub swapped_in : (o p : Option FilterWithRoom) (f out : FilterWithRoom) → is_some (option_map plain o) ≡ true → Swaps o f p out → p ≡ Some f
+pub swapped_in : (o p : Option FilterWithRoom) (f out : FilterWithRoom) → is_some (option_map plain_filter o) ≡ true → Swaps o f p out → p ≡ Some f
 swapped_in None p f out there h = absurd (true≢false (sym there))
 swapped_in (Some l) p f out there h = h.0
 
-swapped_back : (o p q u : Option FilterWithRoom) (f out last : FilterWithRoom) → Swaps o f p out → Both (λ (a b : FilterWithRoom). plain b ≡ plain a) (Unit {0}) p q → Swaps q out u last → u ≡ o
+swapped_back : (o p q u : Option FilterWithRoom) (f out last : FilterWithRoom) → Swaps o f p out → Both (λ (a b : FilterWithRoom). plain_filter b ≡ plain_filter a) (Unit {0}) p q → Swaps q out u last → u ≡ o
 swapped_back None p None u f out last h b k = k.0
-swapped_back None p (Some m) u f out last h b k = absurd (subst (λ (x : Option FilterWithRoom). Both (λ (a b : FilterWithRoom). plain b ≡ plain a) (Unit {0}) x (Some m)) h.0 b)
-swapped_back (Some l) p None u f out last h b k = absurd (subst (λ (x : Option FilterWithRoom). Both (λ (a b : FilterWithRoom). plain b ≡ plain a) (Unit {0}) x None) h.0 b)
+swapped_back None p (Some m) u f out last h b k = absurd (subst (λ (x : Option FilterWithRoom). Both (λ (a b : FilterWithRoom). plain_filter b ≡ plain_filter a) (Unit {0}) x (Some m)) h.0 b)
+swapped_back (Some l) p None u f out last h b k = absurd (subst (λ (x : Option FilterWithRoom). Both (λ (a b : FilterWithRoom). plain_filter b ≡ plain_filter a) (Unit {0}) x None) h.0 b)
 swapped_back (Some l) p (Some m) u f out last h b k = k.0 ∙ ap (λ (x : FilterWithRoom). Some x) h.1
 
 abbrev pub room_over : {S : Type 0} → (S → S → Type 0) → Over S → Over S → Type 0
-room_over same = λ p q. same p.inner q.inner × Both (λ (a b : FilterWithRoom). plain b ≡ plain a) (Unit {0}) p.layer.inner q.layer.inner
+room_over same = λ p q. same p.inner q.inner × Both (λ (a b : FilterWithRoom). plain_filter b ≡ plain_filter a) (Unit {0}) p.layer.inner q.layer.inner
 
 abbrev pub swap : {S : Type 0} → FilterWithRoom → FilterWithRoom → Over S → Over S → Type 0
 swap f out = λ p q. (q.inner ≡ p.inner) × Swaps p.layer.inner f q.layer.inner out
@@ -124,7 +124,7 @@ module _ {S : Type 0} (same : S → S → Type 0) where
   back : (s m t u : Over S) (f out last : FilterWithRoom) → swap f out s m → (room_over same) m t → swap out last t u → (room_over same) s u
   back s m t u f out last first room second = (
     subst (λ (x : S). same s.inner x) (sym second.0) (subst (λ (x : S). same x t.inner) first.0 room.0),
-    subst (λ (o : Option FilterWithRoom). Both (λ (a b : FilterWithRoom). plain b ≡ plain a) (Unit {0}) s.layer.inner o) (sym (swapped_back s.layer.inner m.layer.inner t.layer.inner u.layer.inner f out last first.1 room.1 second.1)) (both_refl (λ (a b : FilterWithRoom). plain b ≡ plain a) (λ l. refl) s.layer.inner),
+    subst (λ (o : Option FilterWithRoom). Both (λ (a b : FilterWithRoom). plain_filter b ≡ plain_filter a) (Unit {0}) s.layer.inner o) (sym (swapped_back s.layer.inner m.layer.inner t.layer.inner u.layer.inner f out last first.1 room.1 second.1)) (both_refl (λ (a b : FilterWithRoom). plain_filter b ≡ plain_filter a) (λ l. refl) s.layer.inner),
   )
 
   -- put in, room taken, and put back: nothing but room changed
@@ -148,13 +148,13 @@ module _ {S : Type 0} (same : S → S → Type 0) where
     now : SameThere (room_over same) first.later x.subscribers dispatch
     now = same_there (room_over same) v.subscribers x.subscribers dispatch first.later all (now_there (swap f out) w v dispatch first)
 
-    is_put : is_some (member_of in_place None w dispatch) ≡ true → first.later.layer.inner ≡ Some f
-    is_put there = swapped_in first.before.layer.inner first.later.layer.inner f out (subst (λ (o : Option FilterState). is_some o ≡ true) (seen_before (swap f out) w v dispatch first in_place None) there) first.did.1
+    is_put : is_some (member_of filter_in_place None w dispatch) ≡ true → first.later.layer.inner ≡ Some f
+    is_put there = swapped_in first.before.layer.inner first.later.layer.inner f out (subst (λ (o : Option FilterState). is_some o ≡ true) (seen_before (swap f out) w v dispatch first filter_in_place None) there) first.did.1
 
-    pub filter_put : is_some (member_of in_place None w dispatch) ≡ true → member_of in_place None x dispatch ≡ Some (plain f)
+    pub filter_put : is_some (member_of filter_in_place None w dispatch) ≡ true → member_of filter_in_place None x dispatch ≡ Some (plain_filter f)
     filter_put there =
-        see in_place None x dispatch now.now now.there ∙ same_in_place (Unit {0}) first.later.layer.inner now.now.layer.inner now.is_same.1
-        ∙ ap (λ (o : Option FilterWithRoom). option_map plain o) (is_put there)
+        see filter_in_place None x dispatch now.now now.there ∙ same_in_place (Unit {0}) first.later.layer.inner now.now.layer.inner now.is_same.1
+        ∙ ap (λ (o : Option FilterWithRoom). option_map plain_filter o) (is_put there)
 
     pub read_put : {A : Type 0} (read : S → A) (none : A) → ((s t : S) → same s t → read t ≡ read s) → member_of (λ (p : Over S). read p.inner) none x dispatch ≡ member_of (λ (p : Over S). read p.inner) none w dispatch
     read_put read none reads =
@@ -165,7 +165,7 @@ module _ {S : Type 0} (same : S → S → Type 0) where
     rest_put other s t apart before later = all.each other s t (other_there (swap f out) w v dispatch first other apart ∙ before) later
 
     module _ (spans : S → Spans) (kept : S → ℕ → ℕ → ℕ) (attaches : S → Bool) (is_whole : S → Type 0) where
-      pub alike_put : ((s t : Over S) → (room_over same) s t → StaysStack (spans_over spans) (kept_over kept) (attaches_over attaches) (is_whole_over spans attaches is_whole) s t) → IsNewFilter (plain f) → is_some (member_of in_place None w dispatch) ≡ true
+      pub alike_put : ((s t : Over S) → (room_over same) s t → StaysStack (spans_over spans) (kept_over kept) (attaches_over attaches) (is_whole_over spans attaches is_whole) s t) → IsNewFilter (plain_filter f) → is_some (member_of filter_in_place None w dispatch) ≡ true
           → Alike (spans_over spans) (attaches_over attaches) (kept_over kept) (is_whole_over spans attaches is_whole) w x dispatch
       alike_put room new there =
           let whole : Over S → Type 0 = is_whole_over spans attaches is_whole in

@@ -6,10 +6,10 @@ use Rattle.span_stack.proofs.Common.{Lane, Spans, next_of, SubscriberCall, NewSp
 pub both_below : {S L : Type 0} (spans : S → Spans) (inner : S → SubscriberCall → S → Type 0) (outer : L → Hook → L → Type 0) (same : L → L → Type 0) (attaches : L → Bool) (kept : L → ℕ → ℕ → ℕ)
     → ((l : L) (hook : Hook) (m : L) → outer l hook m → HookLanes (attaches l) (kept l) hook (kept m)) → ((l : L) → attaches l ≡ false)
     → (s : S) (l : L) (call : SubscriberCall) (t : S) (m : L) → DoesBoth spans inner outer same attaches s l call t m → inner s call t
-both_below spans inner outer same attaches kept lanes never s l (NewSpan lane at place site callsite values) t m d = d.0
+both_below spans inner outer same attaches kept lanes never s l (NewSpan lane at parent site callsite values) t m d = d.0
 both_below spans inner outer same attaches kept lanes never s l (Records id at callsite values) t m d = d.0
 both_below spans inner outer same attaches kept lanes never s l (Follows id from at) t m d = d.0
-both_below spans inner outer same attaches kept lanes never s l (Event lane at place site callsite values) t m d = d.0
+both_below spans inner outer same attaches kept lanes never s l (Event lane at parent site callsite values) t m d = d.0
 both_below spans inner outer same attaches kept lanes never s l (Enter id at before later) t m d =
     let earlier : d.prepared ≡ before = d.room.keeps.as_it_is (never l) in
     let after : later ≡ d.between = (lanes l (OnEnter id at d.between later) m d.second).0.as_it_is (never l) in

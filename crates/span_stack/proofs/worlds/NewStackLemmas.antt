@@ -1,7 +1,7 @@
 -- A stack that was just made keeps nothing attached.
 use Rattle.std.proofs.Common.{◌≡◌, ℕ, ◌+◌, List, [], Bool, true, false, Option, Some, None, refl, ap, ◌∙◌, arith}
 use Rattle.span_stack.proofs.Common.{RecorderValue, Core, kept_by, kept_in, FilterWithRoom, layer_or, none_kept}
-use Rattle.otel_layer.specs.declared.tokens.Token.{Token}
+use Rattle.otel_layer.specs.declared.layer.tokens.Token.{Token}
 
 no_tokens : (activation : Bool) (lane number : ℕ) → kept_by activation [] lane number ≡ 0
 no_tokens true lane number = refl

@@ -1,6 +1,6 @@
 -- What is read of worlds below the outer layers, and of subscribers at a place.
 use Rattle.std.proofs.Common.{◌≡◌, ℕ, zero, suc, Bool, List, [], ◌∷◌, map, Option, Some, None, refl, sym, ap, subst, ◌∙◌, slice_get, slice_set}
-use Rattle.span_stack.proofs.Common.{option_map_or, slice_get-map, Worlds, Spans, Layered, Has, Replaced, Alike, member_of, seen_before, seen_later, alike, inner_of, below}
+use Rattle.span_stack.proofs.Common.{option_map_or, slice_get-map, Worlds, Spans, Layered, Has, Replaced, Alike, member_of, seen_before, seen_later, alike, inner_of, inner_worlds}
 use Rattle.std.specs.Option.{option_map}
 
 -- a change at a place, seen through a function
@@ -10,20 +10,20 @@ map_set f (x ∷ xs) zero y = refl
 map_set {X} {Y} f (x ∷ xs) (suc n) y = ap (λ (ys : List Y). f x ∷ ys) (map_set f xs n y)
 
 pub replaced_below : {L S : Type 0} (R : Layered L S → Layered L S → Type 0) (Q : S → S → Type 0) → ((s t : Layered L S) → R s t → Q s.inner t.inner)
-    → (old new : Worlds (Layered L S)) (dispatch : ℕ) → Replaced R old new dispatch → Replaced Q (below old) (below new) dispatch
+    → (old new : Worlds (Layered L S)) (dispatch : ℕ) → Replaced R old new dispatch → Replaced Q (inner_worlds old) (inner_worlds new) dispatch
 replaced_below {L} {S} R Q step old new dispatch r = record {
   before = r.before.inner;
   later = r.later.inner;
   there = slice_get-map inner_of old.subscribers dispatch ∙ ap (λ (o : Option (Layered L S)). option_map inner_of o) r.there;
   did = step r.before r.later r.did;
-  others = ap (λ (w : Worlds (Layered L S)). below w) r.others ∙ ap (λ (xs : List S). record (below old) { subscribers = xs }) (map_set inner_of old.subscribers dispatch r.later);
+  others = ap (λ (w : Worlds (Layered L S)). inner_worlds w) r.others ∙ ap (λ (xs : List S). record (inner_worlds old) { subscribers = xs }) (map_set inner_of old.subscribers dispatch r.later);
 }
 
 read_inner : {L S A : Type 0} (read : S → A) (none : A) (o : Option (Layered L S)) → option_map_or read (option_map inner_of o) none ≡ option_map_or (λ (s : Layered L S). read s.inner) o none
 read_inner read none None = refl
 read_inner read none (Some s) = refl
 
-pub seen_below : {L S A : Type 0} (read : S → A) (none : A) (world : Worlds (Layered L S)) (dispatch : ℕ) → member_of read none (below world) dispatch ≡ member_of (λ (s : Layered L S). read s.inner) none world dispatch
+pub seen_below : {L S A : Type 0} (read : S → A) (none : A) (world : Worlds (Layered L S)) (dispatch : ℕ) → member_of read none (inner_worlds world) dispatch ≡ member_of (λ (s : Layered L S). read s.inner) none world dispatch
 seen_below {L} {S} {A} read none world dispatch = ap (λ (o : Option S). option_map_or read o none) (slice_get-map inner_of world.subscribers dispatch) ∙ read_inner read none (slice_get world.subscribers dispatch)
 
 pub the_one : {X : Type 0} (x y : X) → ◌≡◌ {A = Option X} (Some x) (Some y) → x ≡ y
@@ -33,7 +33,7 @@ inner_there : {L S : Type 0} (P : S → Type 0) (o : Option (Layered L S)) (x : 
 inner_there P None x e all = absurd (cc e)
 inner_there P (Some s) x e all = subst P (the_one s.inner x e) (all s refl)
 
-pub has_below : {L S : Type 0} (Q : Layered L S → Type 0) (P : S → Type 0) → ((s : Layered L S) → Q s → P s.inner) → (world : Worlds (Layered L S)) (dispatch : ℕ) → Has Q world dispatch → Has P (below world) dispatch
+pub has_below : {L S : Type 0} (Q : Layered L S → Type 0) (P : S → Type 0) → ((s : Layered L S) → Q s → P s.inner) → (world : Worlds (Layered L S)) (dispatch : ℕ) → Has Q world dispatch → Has P (inner_worlds world) dispatch
 has_below P' P step world dispatch has x there = inner_there P (slice_get world.subscribers dispatch) x (sym (slice_get-map inner_of world.subscribers dispatch) ∙ there) (λ s at. step s (has s at))
 
 pub see : {S A : Type 0} (read : S → A) (none : A) (world : Worlds S) (dispatch : ℕ) (s : S) → slice_get world.subscribers dispatch ≡ Some s → member_of read none world dispatch ≡ read s
@@ -76,5 +76,5 @@ read_two {S} {C} {R} P k no_k step old new dispatch r =
     along_two P (sym (seen_before R old new dispatch r k no_k)) (sym (seen_later R old new dispatch r k no_k)) (step r.before r.later r.did)
 
 -- the same below two layers
-pub seen_two : {K L S A : Type 0} (read : S → A) (none : A) (world : Worlds (Layered K (Layered L S))) (dispatch : ℕ) → member_of read none (below (below world)) dispatch ≡ member_of (λ (s : Layered K (Layered L S)). read s.inner.inner) none world dispatch
-seen_two {K} {L} {S} read none world dispatch = seen_below read none (below world) dispatch ∙ seen_below (λ (s : Layered L S). read s.inner) none world dispatch
+pub seen_two : {K L S A : Type 0} (read : S → A) (none : A) (world : Worlds (Layered K (Layered L S))) (dispatch : ℕ) → member_of read none (inner_worlds (inner_worlds world)) dispatch ≡ member_of (λ (s : Layered K (Layered L S)). read s.inner.inner) none world dispatch
+seen_two {K} {L} {S} read none world dispatch = seen_below read none (inner_worlds world) dispatch ∙ seen_below (λ (s : Layered L S). read s.inner) none world dispatch

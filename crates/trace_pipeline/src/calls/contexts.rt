@@ -9,7 +9,7 @@ ghost use Rattle.otel_layer.specs.Asking.{AsksContext};
 ghost use Rattle.span_script.specs.declared.request.Call.{Call};
 
 use crate::laws;
-use crate::names::{add, check_few_names, context_at};
+use crate::names::{check_few_names, context_at};
 use crate::pipeline::Pipeline;
 use otel_base::context::{Context, SpanContext};
 use otel_base::enter_error::EnterError;
@@ -78,8 +78,8 @@ impl Pipeline {
     ) -> Result<Reply, Refusal>
         ensures { Serves self.old at place (Call.Remote ids) result self.new }
     {
-        let context = self.contexts.made.len() as u64;
-        self.contexts.made.push(Context { span: Some(ids) })?;
+        let context = self.contexts.contexts.len() as u64;
+        self.contexts.contexts.push(Context { span: Some(ids) })?;
         self.moment = at;
         Ok(Reply::Context { context, ids })
     }
@@ -91,10 +91,10 @@ impl Pipeline {
         let Some(span) = self.handles.get(handle) else {
             return Err(Refusal::UnknownName { what: What::Handle });
         };
-        let number = self.contexts.made.len() as u64;
-        self.contexts.made.reserve(1)?;
+        let number = self.contexts.contexts.len() as u64;
+        self.contexts.contexts.reserve(1)?;
         let context = context_of(span, &mut self.world, at);
-        add(&mut self.contexts.made, context);
+        self.contexts.contexts.push_reserved(context);
         self.moment = at;
         Ok(Reply::Context {
             context: number,
@@ -108,7 +108,7 @@ impl Pipeline {
     {
         check_few_names(&self.handles, &self.guards)?;
         let guard = self.guards.len() as u64;
-        let Some(given) = context_at(&self.contexts.made, context) else {
+        let Some(given) = context_at(&self.contexts.contexts, context) else {
             return Err(Refusal::UnknownName {
                 what: What::Context,
             });
@@ -129,15 +129,7 @@ impl Pipeline {
         requires { place < length self.old.lanes }
         ensures { Serves self.old at place (Call.Detach guard) result self.new }
     {
-        let Some(named) = self.contexts.attaches.get(guard) else {
-            return Err(Refusal::UnknownName { what: What::Guard });
-        };
-        if named.place != place {
-            return Err(Refusal::WrongLane { lane: named.place });
-        }
-        let Some(open) = self.contexts.attaches.take(guard) else {
-            unreachable!()
-        };
+        let open = self.contexts.take_on(guard, place)?;
         let Attach { place: _, attached } = open;
         detach_from(&mut self.lanes[place as usize], attached);
         self.moment = at;

@@ -64,27 +64,14 @@ impl Pipeline {
         ensures { Serves self.old at place (Call.Exit guard) result self.new }
     {
         laws::calls();
-        let Some(named) = self.guards.at(guard) else {
-            return Err(Refusal::UnknownName { what: What::Guard });
-        };
-        if self.guards.is_shared(named) {
-            return Err(Refusal::InUse);
-        }
-        if named.place != place {
-            return Err(Refusal::WrongLane { lane: named.place });
-        }
-        let Some(open) = self.guards.take(guard) else {
-            unreachable!()
-        };
+        let open = self.guards.take_on(guard, place)?;
         let Guard {
             handle,
             place: _,
             owns: _,
             entry,
         } = open;
-        let Some(span) = self.handles.get(handle) else {
-            unreachable!()
-        };
+        let span = self.handles.at(handle);
         span.close_entry(entry, &mut self.world, &mut self.lanes[place as usize], at);
         self.moment = at;
         Ok(Reply::Done)

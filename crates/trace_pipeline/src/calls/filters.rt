@@ -21,7 +21,7 @@ impl Pipeline {
         let Some(found) = site_at(&self.world, site) else {
             return Err(Refusal::UnknownName { what: What::Site });
         };
-        let enabled = admits(&self.world, &self.lanes[place as usize], found);
+        let enabled = admits(&self.world, &self.lanes[place as usize], found.0);
         self.moment = at;
         Ok(Reply::Enabled { enabled })
     }

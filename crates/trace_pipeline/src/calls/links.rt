@@ -49,7 +49,7 @@ impl Pipeline {
         let Some(span) = self.handles.get(handle) else {
             return Err(Refusal::UnknownName { what: What::Handle });
         };
-        let Some(given) = context_at(&self.contexts.made, context) else {
+        let Some(given) = context_at(&self.contexts.contexts, context) else {
             return Err(Refusal::UnknownName {
                 what: What::Context,
             });

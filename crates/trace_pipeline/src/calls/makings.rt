@@ -1,6 +1,6 @@
 //! Making spans.
-ghost use Rattle.std.specs.Prelude.{◌≡◌, ◌<◌, length, true, is_some, None, IfSome, IfOk, OnErr};
-ghost use Rattle.trace_base.specs.Gate.{IsOwn, dispatch_on};
+ghost use Rattle.std.specs.Prelude.{◌≡◌, ◌<◌, length, option_map, IfSome, IfOk, OnErr};
+ghost use Rattle.trace_base.specs.Gate.{IsInWorld, dispatch_on};
 ghost use Rattle.span_handles.specs.Handles.{MayMakeIf, ReplacedIf};
 ghost use Rattle.span_script.specs.declared.request.Call.{Call};
 ghost use Rattle.span_script.specs.Setups.{span_site};
@@ -8,7 +8,7 @@ ghost use Rattle.span_script.specs.Slots.{MakesOnly};
 
 use crate::fields::all_values;
 use crate::laws;
-use crate::names::{callsite_at, check_few_names, parent_for, site_at};
+use crate::names::{check_few_names, parent_for, site_at};
 use crate::pipeline::Pipeline;
 use otel_base::list::Items;
 use otel_base::memory::Memory;
@@ -16,9 +16,9 @@ use otel_base::record::Moment;
 use otel_base::text::Text;
 use span_handles::span::Span;
 use span_script::reply::{Refusal, Reply, What};
-use span_script::request::Place;
+use span_script::request::RequestParent;
 use span_stack::{Stack, admits};
-use trace_base::callsite::{Kind, SiteId};
+use trace_base::callsite::{Callsite, Kind, SiteId};
 use trace_base::field::{Value, ValueSet};
 use trace_base::lane::Lane;
 use trace_base::span::Parent;
@@ -26,14 +26,15 @@ use trace_base::subscriber::Subscriber;
 use trace_base::world::World;
 
 // The callsite of a number, if it makes spans.
-fn span_site(world: &World<Stack>, site: u64) -> Option<SiteId>
-    ensures none { result ≡ None → span_site world.now.sites site ≡ None }
-    ensures some { IfSome result (λ found. (found ≡ site) × (site < length world.now.sites)
-        × (is_some (span_site world.now.sites site) ≡ true)) }
+fn span_site(world: &World<Stack>, number: u64) -> Option<(SiteId, &Callsite)>
+    ensures callsite { option_map (λ found. found.1.now) result ≡ span_site world.now.sites number }
+    ensures id { IfSome result (λ found. (found.0 ≡ number) × (number < length world.now.sites)) }
 {
-    let found = site_at(world, site)?;
-    match callsite_at(world, found).kind {
-        Kind::Span => Some(found),
+    let Some((site, callsite)) = site_at(world, number) else {
+        return None;
+    };
+    match callsite.kind {
+        Kind::Span => Some((site, callsite)),
         Kind::Event => None,
     }
 }
@@ -48,7 +49,7 @@ fn make_if<S: Subscriber>(
     site: SiteId,
     values: &ValueSet,
 ) -> Result<Span, Memory>
-    requires own { IsOwn world.old lane.now.default }
+    requires own { IsInWorld world.old lane.now.default }
     requires site { site < length world.old.sites }
     requires may { MayMakeIf S.spans S.is_whole world.old lane.now.id parent
         (dispatch_on lane.now.default world.old.global) }
@@ -72,7 +73,7 @@ impl Pipeline {
         at: Moment,
         place: u64,
         site: u64,
-        parent: Place,
+        parent: RequestParent,
         fields: Items<(Text, Value)>,
     ) -> Result<Reply, Refusal>
         requires { place < length self.old.lanes }
@@ -85,17 +86,17 @@ impl Pipeline {
         let Some(found) = span_site(&self.world, site) else {
             return Err(Refusal::UnknownName { what: What::Site });
         };
+        let (id, callsite) = found;
         self.handles.reserve()?;
         let Some(parent) = parent_for(&self.handles, parent) else {
             return Err(Refusal::UnknownName { what: What::Handle });
         };
-        let callsite = callsite_at(&self.world, found);
         let Some(values) = all_values(*self.lanes.allocator(), callsite, fields)? else {
             return Err(Refusal::UnknownName { what: What::Field });
         };
         let on = &self.lanes[place as usize];
-        let enabled = admits(&self.world, on, found);
-        let span = make_if(enabled, &mut self.world, on, at, parent, found, &values)?;
+        let enabled = admits(&self.world, on, id);
+        let span = make_if(enabled, &mut self.world, on, at, parent, id, &values)?;
         self.handles.keep(span);
         self.moment = at;
         Ok(Reply::Made {

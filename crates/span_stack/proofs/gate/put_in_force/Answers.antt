@@ -1,6 +1,6 @@
 -- The filter is put in, and put back where the interests find no memory.
 use Rattle.std.proofs.Common.{rules, None, []}
-use Rattle.span_stack.proofs.Common.{AreSame, no_recording, same_in_place, waiting_measures, stack_recording, counts_by, stack_measures, in_place}
+use Rattle.span_stack.proofs.Common.{AreSame, no_recording, same_in_place, waiting_measures, stack_recording, counting_filter, stack_measures, filter_in_place}
 use Rattle.span_stack.proofs.worlds.ExchangesLemmas.{room_over, put_back, filter_put, read_put, rest_put, alike_put, read_left, alike_left}
 use Rattle.span_stack.proofs.worlds.CacheLemmas.{middle_room, middle_recorded, middle_counter, middle_same, middle_counts, middle_measures, current_left}
 use Rattle.span_stack.proofs.gate.put_in_force.Goals as goal
@@ -31,7 +31,7 @@ pub returns-clause-recording : goal.returns-clause-recording
 returns-clause-recording c = read_left (room_over middle_room) c.args.world.now c.exchange-in-Err.new.world c.args.dispatch c.exchange.ensures.before c.exchange.ensures.there (all_left c) stack_recording no_recording (λ s t h. middle_same s.inner t.inner h.0)
 
 pub returns-clause-counter : goal.returns-clause-counter
-returns-clause-counter c = read_left (room_over middle_room) c.args.world.now c.exchange-in-Err.new.world c.args.dispatch c.exchange.ensures.before c.exchange.ensures.there (all_left c) counts_by None (λ s t h. middle_counts s.inner t.inner h.0)
+returns-clause-counter c = read_left (room_over middle_room) c.args.world.now c.exchange-in-Err.new.world c.args.dispatch c.exchange.ensures.before c.exchange.ensures.there (all_left c) counting_filter None (λ s t h. middle_counts s.inner t.inner h.0)
 
 pub returns-clause-measures : goal.returns-clause-measures
 returns-clause-measures c = read_left (room_over middle_room) c.args.world.now c.exchange-in-Err.new.world c.args.dispatch c.exchange.ensures.before c.exchange.ensures.there (all_left c) stack_measures [] (λ s t h. middle_measures s.inner t.inner h.0)
@@ -43,7 +43,7 @@ pub returns-clause-memory_same : goal.returns-clause-memory_same
 returns-clause-memory_same c = all_left c
 
 pub returns-clause-memory_leaves : goal.returns-clause-memory_leaves
-returns-clause-memory_leaves c = read_left (room_over middle_room) c.args.world.now c.exchange-in-Err.new.world c.args.dispatch c.exchange.ensures.before c.exchange.ensures.there (all_left c) in_place None (λ s t h. same_in_place (Unit {0}) s.layer.inner t.layer.inner h.1)
+returns-clause-memory_leaves c = read_left (room_over middle_room) c.args.world.now c.exchange-in-Err.new.world c.args.dispatch c.exchange.ensures.before c.exchange.ensures.there (all_left c) filter_in_place None (λ s t h. same_in_place (Unit {0}) s.layer.inner t.layer.inner h.1)
 
 pub returns-clause-memory_current : goal.returns-clause-memory_current
 returns-clause-memory_current c = current_left c.args.world.now c.exchange-in-Err.new.world (all_left c) (search rules) (search rules)

@@ -17,7 +17,7 @@ returns-in-Err c = record {
 }
 
 pub invariant_of-self-2 : goal.invariant_of-self-2
-invariant_of-self-2 c = keeps_attached _ _ _ _ (parts_of c.self.inside) c.args.at c.args.place c.index_mut.result.now (within_view _ _ c.self.inside.lanes.items c.args.place c.self.view_is refl c.requires) c.index_mut.ensures.value c.self.invariant c.args.context c.in-Some.given (search rules) c.attach_to.new.lane c.in-Ok.ensures.id c.in-Ok.ensures.name c.in-Ok.ensures.own c.in-Ok.attached c.len-guard.result (search rules) c.in-Ok.ensures.number c.in-Ok.ensures.live (not_full c.in-Ok.attached _ c.in-Ok.ensures.full.1) c.skip.new.self.items (search rules) (record { contexts = c.self.inside.contexts.made.items; attaches = c.keep.new.self.items }) refl (search rules)
+invariant_of-self-2 c = keeps_attached _ _ _ _ (parts_of c.self.inside) c.args.at c.args.place c.index_mut.result.now (within_view _ _ c.self.inside.lanes.items c.args.place c.self.view_is refl c.requires) c.index_mut.ensures.value c.self.invariant c.args.context c.in-Some.given (search rules) c.attach_to.new.lane c.in-Ok.ensures.id c.in-Ok.ensures.name c.in-Ok.ensures.own c.in-Ok.attached c.len-guard.result (search rules) c.in-Ok.ensures.number c.in-Ok.ensures.live (not_full c.in-Ok.attached _ c.in-Ok.ensures.full.1) c.skip.new.self.items (search rules) (record { contexts = c.self.inside.contexts.contexts.items; attaches = c.keep.new.self.items }) refl (search rules)
 
 pub returns : goal.returns
-returns c = by_view c.args.at c.args.place (call.Attach c.args.context) _ _ _ _ c.self.view_is (λ t stands. serves_attached _ _ _ _ (parts_of c.self.inside) c.args.at c.args.place c.index_mut.result.now (within_view _ _ c.self.inside.lanes.items c.args.place c.self.view_is refl c.requires) c.index_mut.ensures.value c.self.invariant c.args.context c.in-Some.given (search rules) c.attach_to.new.lane c.in-Ok.ensures.id c.in-Ok.ensures.name c.in-Ok.ensures.own c.in-Ok.attached c.len-guard.result (search rules) c.in-Ok.ensures.number c.in-Ok.ensures.live (not_full c.in-Ok.attached _ c.in-Ok.ensures.full.1) c.skip.new.self.items (search rules) (record { contexts = c.self.inside.contexts.made.items; attaches = c.keep.new.self.items }) refl (search rules) t stands)
+returns c = by_view c.args.at c.args.place (call.Attach c.args.context) _ _ _ _ c.self.view_is (λ t stands. serves_attached _ _ _ _ (parts_of c.self.inside) c.args.at c.args.place c.index_mut.result.now (within_view _ _ c.self.inside.lanes.items c.args.place c.self.view_is refl c.requires) c.index_mut.ensures.value c.self.invariant c.args.context c.in-Some.given (search rules) c.attach_to.new.lane c.in-Ok.ensures.id c.in-Ok.ensures.name c.in-Ok.ensures.own c.in-Ok.attached c.len-guard.result (search rules) c.in-Ok.ensures.number c.in-Ok.ensures.live (not_full c.in-Ok.attached _ c.in-Ok.ensures.full.1) c.skip.new.self.items (search rules) (record { contexts = c.self.inside.contexts.contexts.items; attaches = c.keep.new.self.items }) refl (search rules) t stands)

@@ -14,7 +14,7 @@ pub context_of-context-requires-clause-whole : goal.context_of-context-requires-
 context_of-context-requires-clause-whole c = needs_whole _ _ _ _ (parts_of c.self.inside) c.self.invariant c.args.handle c.in-Some.span.now (search rules)
 
 pub invariant_of-self-2 : goal.invariant_of-self-2
-invariant_of-self-2 c = keeps_context _ _ _ _ _ (parts_of c.self.inside) c.context_of-context.new.world c.args.at c.args.place c.len-number.result (search rules) c.self.invariant _ c.asks.ensures c.args.handle c.in-Some.span.now (search rules) c.context_of-context.result c.context_of-context.ensures (record { contexts = c.add.new.contexts.items; attaches = c.self.inside.contexts.attaches.items }) (search rules) refl
+invariant_of-self-2 c = keeps_context _ _ _ _ _ (parts_of c.self.inside) c.context_of-context.new.world c.args.at c.args.place c.len-number.result (search rules) c.self.invariant _ c.asks.ensures c.args.handle c.in-Some.span.now (search rules) c.context_of-context.result c.context_of-context.ensures (record { contexts = c.push_reserved.new.self.items; attaches = c.self.inside.contexts.attaches.items }) (search rules) refl
 
 pub returns : goal.returns
-returns c = by_view c.args.at c.args.place (call.Context c.args.handle) _ _ _ _ c.self.view_is (λ t stands. serves_context _ _ _ _ _ (parts_of c.self.inside) c.context_of-context.new.world c.args.at c.args.place c.len-number.result (search rules) c.self.invariant _ c.asks.ensures c.args.handle c.in-Some.span.now (search rules) c.context_of-context.result c.context_of-context.ensures (record { contexts = c.add.new.contexts.items; attaches = c.self.inside.contexts.attaches.items }) (search rules) refl c.span_context.result c.span_context.ensures t stands)
+returns c = by_view c.args.at c.args.place (call.Context c.args.handle) _ _ _ _ c.self.view_is (λ t stands. serves_context _ _ _ _ _ (parts_of c.self.inside) c.context_of-context.new.world c.args.at c.args.place c.len-number.result (search rules) c.self.invariant _ c.asks.ensures c.args.handle c.in-Some.span.now (search rules) c.context_of-context.result c.context_of-context.ensures (record { contexts = c.push_reserved.new.self.items; attaches = c.self.inside.contexts.attaches.items }) (search rules) refl c.span_context.result c.span_context.ensures t stands)

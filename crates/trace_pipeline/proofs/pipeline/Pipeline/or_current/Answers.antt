@@ -1,7 +1,7 @@
 -- A handle that is exchanged.
 use Rattle.std.proofs.Common.{rules, ◌≡◌, refl, ◌∙◌}
 use Rattle.trace_base.specs.declared.span.Parent.TheVariants as parent
-use Rattle.span_script.specs.declared.request.Place.TheVariants as place
+use Rattle.span_script.specs.declared.request.RequestParent.TheVariants as request_parent
 use Rattle.span_script.specs.declared.request.Call.TheVariants as call
 use Rattle.trace_pipeline.proofs.Common.{within_view, has_own, own_lane, own_there, make_may, refuses_unknown, by_view, by_view_refused, serves_refusal, refuses_in_use, serves_exchanged, keeps_exchanged, set_none, parts_of}
 use Rattle.trace_pipeline.proofs.NamedHandlesLemmas.{named_there}
@@ -37,4 +37,4 @@ pub or_current-span-requires-clause-whole : goal.or_current-span-requires-clause
 or_current-span-requires-clause-whole c = has_own _ c.self.inside.world _ _ (own_lane _ _ _ _ (parts_of c.self.inside) c.self.invariant c.args.place c.index-on.result.now (within_view _ _ c.self.inside.lanes.items c.args.place c.self.view_is refl c.requires) (search rules)) c.self.invariant.whole
 
 pub or_current-span-requires-clause-few_holds : goal.or_current-span-requires-clause-few_holds
-or_current-span-requires-clause-few_holds c = has_own _ c.self.inside.world _ _ (own_lane _ _ _ _ (parts_of c.self.inside) c.self.invariant c.args.place c.index-on.result.now (within_view _ _ c.self.inside.lanes.items c.args.place c.self.view_is refl c.requires) (search rules)) (make_may _ _ _ _ (parts_of c.self.inside) c.self.invariant place.Contextual parent.Current refl c.index-on.result.now.id (search rules) (search rules)).few_holds
+or_current-span-requires-clause-few_holds c = has_own _ c.self.inside.world _ _ (own_lane _ _ _ _ (parts_of c.self.inside) c.self.invariant c.args.place c.index-on.result.now (within_view _ _ c.self.inside.lanes.items c.args.place c.self.view_is refl c.requires) (search rules)) (make_may _ _ _ _ (parts_of c.self.inside) c.self.invariant request_parent.Contextual parent.Current refl c.index-on.result.now.id (search rules) (search rules)).few_holds
