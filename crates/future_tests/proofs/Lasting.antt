@@ -15,7 +15,7 @@ pub goes_on : {S : Type 0} (spans : S → Spans) (kept : S → ℕ → ℕ → �
 goes_on spans kept is_whole old new before later lent ready = record {
   whole = lent.whole ready.whole;
   still = lent.attached ready.still;
-  own = lent.default ready.own;
+  in_world = lent.default ready.in_world;
 }
 
 pub nothing_lent : {S : Type 0} (spans : S → Spans) (kept : S → ℕ → ℕ → ℕ) (is_whole : S → Type 0) (world later : Worlds S) (lane left : Lane) → later ≡ world → left ≡ lane → KeepsLent spans kept is_whole world later lane left

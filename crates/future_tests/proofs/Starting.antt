@@ -5,9 +5,9 @@ use Rattle.std.proofs.lemmas.Option.{slice_get_within, slice_get_cases}
 use Rattle.trace_base.specs.declared.lane.Lane.{Lane}
 use Rattle.trace_base.specs.declared.span.Parent.{Parent}
 use Rattle.trace_base.specs.declared.span.Parent.TheVariants as parent
-use Rattle.trace_base.specs.Gate.{Worlds, AreSame, IsOwn, dispatch_on}
+use Rattle.trace_base.specs.Gate.{Worlds, AreSame, IsInWorld, dispatch_on}
 use Rattle.trace_base.specs.Spans.{Spans}
-use Rattle.trace_base.specs.Conditions.{AreFew, HasFewHoldsAbove, IsLivePlace}
+use Rattle.trace_base.specs.Conditions.{AreFew, HasFewHoldsAbove, IsLiveParent}
 use Rattle.span_registry.specs.Registering.{no_spans}
 use Rattle.span_handles.specs.Handles.{MayMake, MayMakeIf}
 use Rattle.span_futures.specs.Lent.{HasAll, AreAllAttached}
@@ -57,22 +57,22 @@ module _ {S : Type 0} (spans : S → Spans) (kept : S → ℕ → ℕ → ℕ) (
       omega (arith, e)
 
   -- a lane whose default is of the world
-  pub starts : (world : Worlds S) (lane : Lane) → HasAll (IsUnused spans kept is_whole) world → IsOwn world lane.default → IsReady kept is_whole world lane
+  pub starts : (world : Worlds S) (lane : Lane) → HasAll (IsUnused spans kept is_whole) world → IsInWorld world lane.default → IsReady kept is_whole world lane
   starts world lane all own = record {
     whole = λ d s there. (all d s there).whole;
     still = none_kept world lane all;
-    own = own;
+    in_world = own;
   }
 
   -- a span may be made there
-  pub may_make : (world : Worlds S) (lane : ℕ) (place : Parent) (d : ℕ) → HasAll (IsUnused spans kept is_whole) world → d < length world.subscribers → IsLivePlace [] place → HasFewHoldsAbove no_spans lane place
-      → MayMake spans is_whole world lane place d
-  may_make world lane place d all there live few = record {
+  pub may_make : (world : Worlds S) (lane : ℕ) (parent : Parent) (d : ℕ) → HasAll (IsUnused spans kept is_whole) world → d < length world.subscribers → IsLiveParent [] parent → HasFewHoldsAbove no_spans lane parent
+      → MayMake spans is_whole world lane parent d
+  may_make world lane parent d all there live few = record {
     there = there;
     whole = λ s is. (all d s is).whole;
-    live = λ s is. subst (λ (x : Spans). IsLivePlace x.made place) (sym (all d s is).none) live;
+    live = λ s is. subst (λ (x : Spans). IsLiveParent x.made parent) (sym (all d s is).none) live;
     few = λ s is. subst (λ (x : Spans). AreFew x) (sym (all d s is).none) (omega arith);
-    few_holds = λ s is. subst (λ (x : Spans). HasFewHoldsAbove x lane place) (sym (all d s is).none) few;
+    few_holds = λ s is. subst (λ (x : Spans). HasFewHoldsAbove x lane parent) (sym (all d s is).none) few;
   }
 
   -- the same in a poll under one of them

@@ -1,7 +1,7 @@
 -- What calls need of a world and a lane.
 use Rattle.std.specs.Prelude.{◌≡◌, ℕ}
 use Rattle.trace_base.specs.declared.lane.Lane.{Lane}
-use Rattle.trace_base.specs.Gate.{Worlds, IsOwn}
+use Rattle.trace_base.specs.Gate.{Worlds, IsInWorld}
 use Rattle.trace_base.specs.Spans.{Spans}
 use Rattle.span_registry.specs.Registering.{no_spans}
 use Rattle.span_futures.specs.Lent.{HasAll, AreAllAttached}
@@ -16,4 +16,4 @@ pub record IsUnused {S : Type 0} (spans : S → Spans) (kept : S → ℕ → ℕ
 pub record IsReady {S : Type 0} (kept : S → ℕ → ℕ → ℕ) (is_whole : S → Type 0) (world : Worlds S) (lane : Lane) : Type 0 where
   pub whole : HasAll is_whole world
   pub still : AreAllAttached kept world lane
-  pub own : IsOwn world lane.default
+  pub in_world : IsInWorld world lane.default

@@ -2,7 +2,7 @@
 ghost use Rattle.std.specs.Prelude.{◌≡◌, ◌<◌, length, IfOk, IsTrue};
 ghost use Rattle.trace_base.specs.declared.span.Parent.TheVariants as parent;
 ghost use Rattle.trace_base.specs.Conditions.{HasFewHolds};
-ghost use Rattle.trace_base.specs.Gate.{IsOwn, dispatch_on};
+ghost use Rattle.trace_base.specs.Gate.{IsInWorld, dispatch_on};
 ghost use Rattle.span_handles.specs.Handles.{IsKnown, HasOn, MayMakeIf};
 ghost use Rattle.span_futures.specs.Calling.{CallsBy};
 ghost use Rattle.span_futures.specs.Lent.{HasAll, KeepsLent, more_parts};
@@ -145,7 +145,7 @@ fn make_here<S: Stack>(
     site: SiteId,
     values: &ValueSet,
 ) -> Result<Span, Memory>
-    requires own { IsOwn world.old lane.now.default }
+    requires own { IsInWorld world.old lane.now.default }
     requires site { site < length world.old.sites }
     requires may { MayMakeIf S.spans S.is_whole world.old lane.now.id parent.Current
         (dispatch_on lane.now.default world.old.global) }

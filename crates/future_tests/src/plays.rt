@@ -9,7 +9,7 @@ use crate::stack::lane;
 use futures::task::Context;
 use futures::test::MockTask;
 use otel_base::memory::Memory;
-use otel_layer::recording::RecordedStack;
+use otel_layer::recording::PlainRecordedStack;
 use std::alloc::{AllocGlobal, Global};
 use std::random::RandomSource;
 use std::test::Fail;
@@ -49,7 +49,7 @@ pub fn play_in_new_world<R: RandomSource + AllocGlobal>(
 
 fn play_text(
     alloc: Global,
-    world: &mut World<RecordedStack>,
+    world: &mut World<PlainRecordedStack>,
     lane: &mut Lane,
     play: Play,
     cx: &mut Context<'_>,

@@ -28,7 +28,7 @@ use trace_base::world::World;
 /// A stack over a registry that keeps records.
 pub trait Stack: Subscriber + Discard {
     /// One that was just made.
-    fn unused(alloc: Global) -> Self
+    fn new_unused(alloc: Global) -> Self
         ensures { IsUnused Self.Subscriber.spans Self.Subscriber.kept Self.Subscriber.is_whole result };
 
     /// The registry at its bottom.
@@ -42,7 +42,7 @@ pub trait Stack: Subscriber + Discard {
 /// A tracer that keeps records until they are taken.
 pub trait Keeper: Tracer {
     /// One that has started nothing.
-    fn unstarted(alloc: Global) -> Self
+    fn new_unstarted(alloc: Global) -> Self
         ensures { Self.Tracer.started result ≡ 0 };
 
     /// Takes out the oldest record that it still has.
@@ -50,7 +50,7 @@ pub trait Keeper: Tracer {
 }
 
 impl Keeper for Recorder {
-    fn unstarted(alloc: Global) -> Recorder {
+    fn new_unstarted(alloc: Global) -> Recorder {
         Recorder::new(alloc)
     }
 
@@ -60,8 +60,8 @@ impl Keeper for Recorder {
 }
 
 impl<T: Keeper + Drop> Stack for Layered<OpenTelemetryLayer<T>, Registry> {
-    fn unused(alloc: Global) -> Layered<OpenTelemetryLayer<T>, Registry> {
-        Registry::new(alloc).with(OpenTelemetryLayer::new(alloc, T::unstarted(alloc)))
+    fn new_unused(alloc: Global) -> Layered<OpenTelemetryLayer<T>, Registry> {
+        Registry::new(alloc).with(OpenTelemetryLayer::new(alloc, T::new_unstarted(alloc)))
     }
 
     fn registry(&self) -> &Registry {
@@ -93,7 +93,7 @@ pub fn add_stack<S: Stack>(alloc: Global, world: &mut World<S>) -> Result<Dispat
     ensures unused { OnOk result (HasAll (IsUnused S.spans S.kept S.is_whole) world.new) }
     ensures sites { world.new.sites ≡ world.old.sites }
 {
-    match world.add(S::unused(alloc)) {
+    match world.add(S::new_unused(alloc)) {
         Ok(dispatch) => Ok(dispatch),
         Err((stack, memory)) => {
             stack.discard();

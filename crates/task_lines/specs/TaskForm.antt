@@ -1,5 +1,5 @@
 -- The form of a task line, and of a step, with a row for each word of `do`.
-use Rattle.std.specs.Prelude.{ℕ, List, Option, Some, None, Result, ok_or, if◌then◌else◌, codes, bytes_eq}
+use Rattle.std.specs.Prelude.{ℕ, List, Option, None, Result, ok_or, if◌then◌else◌, codes, bytes_eq}
 use Rattle.serde_json.specs.Data.{Data}
 use Rattle.trace_lines.specs.declared.told.Told.{Told}
 use Rattle.trace_lines.specs.declared.told.Told.TheVariants.{BadLine}
@@ -11,21 +11,6 @@ use Rattle.trace_lines.specs.reading.Spelled.{value_on_line}
 use Rattle.trace_tasks.specs.declared.script.Step.{Step}
 use Rattle.trace_tasks.specs.declared.script.Step.TheVariants as step
 use Rattle.trace_tasks.specs.declared.script.Task.{Task}
-use Rattle.task_lines.specs.declared.read.StepWord.{StepWord}
-use Rattle.task_lines.specs.declared.read.StepWord.TheVariants as word
-
--- the words of `do`
-abbrev pub step_word : List ℕ → Option StepWord
-step_word w =
-    if bytes_eq w (codes "event") then Some word.Event else
-    (if bytes_eq w (codes "record") then Some word.Record else
-    (if bytes_eq w (codes "set_attribute") then Some word.SetAttribute else
-    (if bytes_eq w (codes "yield") then Some word.Yield else None)))
-
-abbrev pub word_form : Form StepWord
-word_form = do
-  w ← text (codes "do")
-  when (step_word w)
 
 -- `event` tells an event of a callsite, with the values of some fields
 unfoldable pub event_form : Form Step
@@ -49,17 +34,18 @@ set_attribute_form = do
   value ← when (otel_value_of there)
   give (step.SetAttribute key value)
 
--- what a word goes on with; `yield` goes on with nothing
-abbrev pub step_form_of : StepWord → Form Step
-step_form_of word.Event = event_form
-step_form_of word.Record = record_form
-step_form_of word.SetAttribute = set_attribute_form
-step_form_of word.Yield = give step.Yield
+-- what a word of `do` goes on with, `yield` with nothing; there is no other word
+abbrev pub step_by : List ℕ → Form Step
+step_by word =
+    if bytes_eq word (codes "event") then event_form else
+    (if bytes_eq word (codes "record") then record_form else
+    (if bytes_eq word (codes "set_attribute") then set_attribute_form else
+    (if bytes_eq word (codes "yield") then give step.Yield else when None)))
 
 unfoldable pub step_form : Form Step
 step_form = do
-  w ← word_form
-  step_form_of w
+  word ← text (codes "do")
+  step_by word
 
 abbrev pub step_of : Data → Option Step
 step_of d = object_of step_form d

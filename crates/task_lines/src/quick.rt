@@ -34,13 +34,13 @@ fn closing_site<'a>(bytes: &'a [u8], front: &[u8]) -> Option<(u64, &'a [u8])>
 }
 
 // The items of a list, in room for no more, since tasks are kept until all are read.
-fn fitted<T: Drop>(alloc: Global, items: Vec<T>) -> Option<Items<T>>
-    ensures { IfSome result (λ fitted. fitted ≡ items.items) }
+fn without_spare_room<T: Drop>(alloc: Global, items: Vec<T>) -> Option<Items<T>>
+    ensures { IfSome result (λ list. list ≡ items.items) }
 {
     let mut items = items;
-    let mut fitted = Vec::with_capacity(alloc, items.len()).ok()?;
-    fitted.append(&mut items).ok()?;
-    Some(Items::from(fitted))
+    let mut list = Vec::with_capacity(alloc, items.len()).ok()?;
+    list.append(&mut items).ok()?;
+    Some(Items::from(list))
 }
 
 // The fields that an array in front of a text spells, and what stands behind it.
@@ -49,7 +49,7 @@ fn fields_in_front(alloc: Global, bytes: &[u8]) -> Option<(Items<(Text, FieldVal
         (d : Data) × BeginsWithValue (DEEPEST + 2) bytes.now d r.1.now × (fields_of d ≡ Some r.0)) }
 {
     let (listed, tail) = leading_fields(alloc, bytes)?;
-    let fields = fitted(alloc, listed.into_vec())?;
+    let fields = without_spare_room(alloc, listed.into_vec())?;
     Some((fields, tail))
 }
 
@@ -79,20 +79,20 @@ fn record(alloc: Global, bytes: &[u8]) -> Option<(Step, &[u8])>
     Some((Step::Record { fields }, rest))
 }
 
-// A text, to be kept.
-fn kept(alloc: Global, words: &[u8]) -> Option<Text>
+// A text of one's own.
+fn owned_text(alloc: Global, words: &[u8]) -> Option<Text>
     ensures { IfSome result (λ text. text ≡ words.now) }
 {
     let words = str::from_utf8(words).ok()?;
     Some(Text::from(String::from_str(alloc, words).ok()?))
 }
 
-// The value of an attribute, to be kept.
+// The value of an attribute.
 fn attribute_value(alloc: Global, value: Value<'_>) -> Option<OtelValue>
-    ensures { IfSome result (λ kept. otel_value_of (value_data value.entry) ≡ Some kept) }
+    ensures { IfSome result (λ spelled. otel_value_of (value_data value.entry) ≡ Some spelled) }
 {
-    let kept = otel_value_of(alloc, value).ok()?;
-    Some(kept)
+    let spelled = otel_value_of(alloc, value).ok()?;
+    Some(spelled)
 }
 
 fn set_attribute(alloc: Global, bytes: &[u8]) -> Option<(Step, &[u8])>
@@ -103,7 +103,7 @@ fn set_attribute(alloc: Global, bytes: &[u8]) -> Option<(Step, &[u8])>
     let inner = word(tail, b",\"value\":")?;
     let (plain, end) = value(inner)?;
     let rest = word(end, b"}")?;
-    let key = kept(alloc, words)?;
+    let key = owned_text(alloc, words)?;
     let value = attribute_value(alloc, Value::Plain(plain))?;
     Some((Step::SetAttribute { key, value }, rest))
 }
@@ -157,7 +157,7 @@ fn leading_steps(alloc: Global, bytes: &[u8]) -> Option<(Items<Step>, &[u8])>
             Some(more) => rest = more,
             None => {
                 let end = word(after, b"]")?;
-                let listed = fitted(alloc, steps)?;
+                let listed = without_spare_room(alloc, steps)?;
                 return Some((listed, end));
             }
         }

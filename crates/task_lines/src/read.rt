@@ -6,42 +6,13 @@ ghost use Rattle.trace_lines.specs.reading.Left.{value_data, members_left};
 ghost use Rattle.trace_lines.specs.reading.Object.{items};
 ghost use Rattle.trace_lines.specs.reading.Spelled.{value_on_line};
 ghost use Rattle.trace_lines.specs.declared.told.Told.TheVariants as told;
-ghost use Rattle.task_lines.specs.TaskForm.{step_word, word_form, event_form, record_form, set_attribute_form, step_form_of, step_form, step_of, task_form, task_spelled};
+ghost use Rattle.task_lines.specs.TaskForm.{event_form, record_form, set_attribute_form, step_by, step_form, step_of, task_form, task_spelled};
 
 use crate::quick::quick_task;
 use otel_base::list::Items;
 use std::alloc::Global;
 use trace_lines::{LineError, Object, Value, fields_of, given_fields, otel_value_of};
 use trace_tasks::script::{Step, Task};
-
-/// The words of `do` that steps have.
-#[derive(Clone, Copy)]
-pub(crate) enum StepWord {
-    Event,
-    Record,
-    SetAttribute,
-    Yield,
-}
-
-fn step_word(word: &str) -> Option<StepWord>
-    ensures { result ≡ step_word word.now }
-{
-    match word {
-        "event" => Some(StepWord::Event),
-        "record" => Some(StepWord::Record),
-        "set_attribute" => Some(StepWord::SetAttribute),
-        "yield" => Some(StepWord::Yield),
-        _ => None,
-    }
-}
-
-// Takes what is to be done.
-fn taken_word(object: &mut Object) -> Result<StepWord, LineError>
-    ensures { Gives (λ w. (w, members_left object.new)) result (word_form (members_left object.old)) }
-{
-    let word = object.member("do")?;
-    step_word(word.word()?).ok_or(LineError::BadLine)
-}
 
 #[tactic(auto, unfolding(crate::specs::TaskForm::event_form))]
 fn event_step(alloc: Global, object: &mut Object) -> Result<Step, LineError>
@@ -69,14 +40,16 @@ fn set_attribute_step(alloc: Global, object: &mut Object) -> Result<Step, LineEr
     Ok(Step::SetAttribute { key, value })
 }
 
-fn step_by(alloc: Global, word: StepWord, object: &mut Object) -> Result<Step, LineError>
-    ensures { Gives (λ s. (s, members_left object.new)) result (step_form_of word (members_left object.old)) }
+// Takes what a word of `do` goes on with.
+fn step_by(alloc: Global, word: &str, object: &mut Object) -> Result<Step, LineError>
+    ensures { Gives (λ s. (s, members_left object.new)) result (step_by word.now (members_left object.old)) }
 {
     match word {
-        StepWord::Event => event_step(alloc, object),
-        StepWord::Record => record_step(alloc, object),
-        StepWord::SetAttribute => set_attribute_step(alloc, object),
-        StepWord::Yield => Ok(Step::Yield),
+        "event" => event_step(alloc, object),
+        "record" => record_step(alloc, object),
+        "set_attribute" => set_attribute_step(alloc, object),
+        "yield" => Ok(Step::Yield),
+        _ => Err(LineError::BadLine),
     }
 }
 
@@ -85,8 +58,8 @@ fn step_by(alloc: Global, word: StepWord, object: &mut Object) -> Result<Step, L
 fn step_members(alloc: Global, object: &mut Object) -> Result<Step, LineError>
     ensures { Gives (λ s. (s, members_left object.new)) result (step_form (members_left object.old)) }
 {
-    let word = taken_word(object)?;
-    step_by(alloc, word, object)
+    let word = object.member("do")?;
+    step_by(alloc, word.word()?, object)
 }
 
 // The step that a value spells.

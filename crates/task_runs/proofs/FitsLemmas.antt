@@ -16,7 +16,7 @@ use Rattle.trace_tasks.specs.declared.script.Task.{Task}
 use Rattle.trace_tasks.specs.declared.script.TaskScript.{TaskScript}
 use Rattle.trace_tasks.specs.Begun.{AllSited}
 use Rattle.trace_tasks.specs.FieldNames.{declares_all, declares_by}
-use Rattle.trace_tasks.specs.Flat.{all_polls, tasks_at_first, yields}
+use Rattle.trace_tasks.specs.Flat.{all_polls, tasks_at_first, yield_count}
 use Rattle.trace_tasks.specs.Spelled.{IsDeclared, IsTested, AreTested}
 use Rattle.trace_tasks.proofs.queues.BegunTasksLemmas.{answer_is}
 use Rattle.task_lines.specs.Fit.{has_lane, has_sites, has_fields, tells_fields, missing_name}
@@ -71,7 +71,7 @@ are_tested settings (t ∷ tasks) all =
     let one = one_fits settings t (all 0 t (omega arith)) in
     (one.1, one.2, are_tested settings tasks (λ k d less. all (suc k) d (omega (arith, less))))
 
-pub can_spell : (script : TaskScript) (polls : ℕ) → IsFit script → polls ≡ sum_by (λ t. yields t.steps) script.tasks + length script.tasks → polls < 2 ^ 60 → CanSpell script.settings.callsites script.tasks
+pub can_spell : (script : TaskScript) (polls : ℕ) → IsFit script → polls ≡ sum_by (λ t. yield_count t.steps) script.tasks + length script.tasks → polls < 2 ^ 60 → CanSpell script.settings.callsites script.tasks
 can_spell script polls fit is few = record {
   sited = all_sited script.settings script.tasks fit.tasks;
   tested = are_tested script.settings script.tasks fit.tasks;

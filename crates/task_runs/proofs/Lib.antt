@@ -2,5 +2,4 @@ pub mod FitsLemmas
 pub mod InputLemmas
 pub mod OneLineLemmas
 pub mod ReadingLemmas
-pub mod TapesLemmas
 pub mod WritingLemmas

@@ -13,8 +13,8 @@ use Rattle.script_lines.specs.Refusals.{IsTold, are_blank}
 use Rattle.script_lines.proofs.BlankLemmas.{some_before, all_blank, one_not_blank}
 use Rattle.trace_tasks.specs.declared.script.Task.{Task}
 use Rattle.trace_tasks.specs.declared.script.TaskScript.{TaskScript}
-use Rattle.task_runs.specs.declared.script.Stage.{Stage}
-use Rattle.task_runs.specs.declared.script.Stage.TheVariants as stage
+use Rattle.task_runs.specs.declared.script.ReadStage.{ReadStage}
+use Rattle.task_runs.specs.declared.script.ReadStage.TheVariants as stage
 use Rattle.task_lines.specs.Fit.{missing_name}
 use Rattle.task_runs.specs.Scripts.{Lines, settings_on, task_on, tasks_on, tasks_from, tasks_of}
 use Rattle.task_runs.specs.Reading.{CanOpen, IsFit, IsOpening, IsReading, IsStopped, StandsAt, IsRefusedBy, EndsAs}
@@ -32,7 +32,7 @@ stays_stopped lines more refused s = record {
 }
 
 -- a blank line
-pub blank_on : (at : Stage) (lines : List (List ℕ)) (count next : ℕ) (line : List ℕ) → StandsAt at lines count → next ≡ count + 1 → is_blank line ≡ true → StandsAt at (lines ++ line ∷ []) next
+pub blank_on : (at : ReadStage) (lines : List (List ℕ)) (count next : ℕ) (line : List ℕ) → StandsAt at lines count → next ≡ count + 1 → is_blank line ≡ true → StandsAt at (lines ++ line ∷ []) next
 blank_on stage.Opening lines count next line a counted is = record {
   blank = all_blank lines line a.blank is;
   lines_are = λ more. on_line lines more line _ (a.lines_are (line ∷ more) ∙ rw (is, counted) refl);

@@ -9,8 +9,8 @@ use Rattle.script_lines.specs.declared.refused_line.RefusedLine.{RefusedLine}
 use Rattle.script_lines.specs.Refusals.{IsTold, are_blank}
 use Rattle.trace_tasks.specs.declared.script.Task.{Task}
 use Rattle.trace_tasks.specs.declared.script.TaskScript.{TaskScript}
-use Rattle.task_runs.specs.declared.script.Stage.{Stage}
-use Rattle.task_runs.specs.declared.script.Stage.TheVariants as stage
+use Rattle.task_runs.specs.declared.script.ReadStage.{ReadStage}
+use Rattle.task_runs.specs.declared.script.ReadStage.TheVariants as stage
 use Rattle.task_runs.specs.declared.script.TaskReader.{TaskReader}
 use Rattle.task_lines.specs.Fit.{missing_name}
 use Rattle.task_runs.specs.Scripts.{Lines, settings_on, task_on, tasks_on, tasks_from, tasks_of}
@@ -42,7 +42,7 @@ pub record IsStopped (lines : List (List ℕ)) (refused : RefusedLine) : Type 0 
   pub is_told : IsTold refused.told
   pub lines_are : (more : List (List ℕ)) → tasks_of (lines ++ more) ≡ Err refused
 
-abbrev pub StandsAt : Stage → List (List ℕ) → ℕ → Type 0
+abbrev pub StandsAt : ReadStage → List (List ℕ) → ℕ → Type 0
 StandsAt stage.Opening lines count = IsOpening lines count
 StandsAt (stage.Reading script) lines count = IsReading lines count script
 StandsAt (stage.Refused refused) lines count = IsStopped lines refused

@@ -7,7 +7,7 @@ use Rattle.task_runs.specs.Scripts.{Lines, tasks_of}
 use Rattle.trace_lines.specs.Report.{record_lines}
 use Rattle.trace_lines.specs.text.Texts.{refusal_text, end_text}
 use Rattle.trace_tasks.specs.declared.script.TaskScript.{TaskScript}
-use Rattle.trace_tasks.specs.Flat.{flat}
+use Rattle.trace_tasks.specs.Flat.{flat_list}
 
 -- the lines of an outcome's records, and the end line
 abbrev pub outcome_text : Outcome → List ℕ
@@ -15,7 +15,7 @@ outcome_text outcome = record_lines 1 outcome.records ++ end_text outcome.left_o
 
 -- what tasks give that are polled in turn: the outcome of the flat list of their requests
 abbrev pub tasks_outcome : TaskScript → Outcome
-tasks_outcome script = outcome_of (setup_by script.settings) (flat script.settings.callsites script.tasks)
+tasks_outcome script = outcome_of (setup_by script.settings) (flat_list script.settings.callsites script.tasks)
 
 -- no request is refused, and the text is that of the outcome
 abbrev pub TellsOutcome : Outcome → List ℕ → Type 0

@@ -2,7 +2,7 @@
 ghost use Rattle.std.specs.Prelude.{◌≡◌, ◌<◌, ◌^◌, ◌+◌, length, sum_by, IfOk, IfSome};
 ghost use Rattle.task_runs.specs.Reading.{IsFit};
 ghost use Rattle.task_runs.specs.Texts.{tasks_outcome, TellsOutcome};
-ghost use Rattle.trace_tasks.specs.Flat.{yields};
+ghost use Rattle.trace_tasks.specs.Flat.{yield_count};
 
 use crate::script_run::run_in_poll;
 use otel_base::memory::Memory;
@@ -15,7 +15,7 @@ const MOST_POLLS: u64 = 1_000_000_000_000_000_000;
 
 // How many yields some steps have.
 fn yields(steps: &[Step]) -> u64
-    ensures { result ≡ yields steps.now }
+    ensures { result ≡ yield_count steps.now }
 {
     let mut count = 0;
     for step in steps {
@@ -28,7 +28,7 @@ fn yields(steps: &[Step]) -> u64
 
 // How many polls some tasks take, if they aren't too many.
 fn polls_of(tasks: &[Task]) -> Option<u64>
-    ensures { IfSome result (λ polls. (polls ≡ sum_by (λ t. yields t.steps) tasks.now + length tasks.now)
+    ensures { IfSome result (λ polls. (polls ≡ sum_by (λ t. yield_count t.steps) tasks.now + length tasks.now)
         × (polls < 2 ^ 60)) }
 {
     let mut polls = 0u64;

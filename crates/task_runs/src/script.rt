@@ -16,7 +16,7 @@ use trace_tasks::script::{Task, TaskScript};
 
 /// Where a reader stands between two lines.
 #[derive(Drop)]
-pub enum Stage {
+pub enum ReadStage {
     /// No settings line came: each line so far is blank.
     Opening,
     /// The settings line came, and each line behind it is a task's.
@@ -31,7 +31,7 @@ pub struct TaskReader {
     /// How many lines came, blank ones included.
     pub lines: u64,
     /// Where it stands.
-    pub stage: Stage,
+    pub stage: ReadStage,
 }
 
 impl TaskReader {
@@ -41,7 +41,7 @@ impl TaskReader {
     {
         TaskReader {
             lines: 0,
-            stage: Stage::Opening,
+            stage: ReadStage::Opening,
         }
     }
 
@@ -57,11 +57,11 @@ impl TaskReader {
             return Ok(());
         }
         match &mut self.stage {
-            Stage::Opening => match settings_on(alloc, line)? {
+            ReadStage::Opening => match settings_on(alloc, line)? {
                 Ok(settings) => {
                     let tasks = Items::new(alloc);
                     let script = TaskScript { settings, tasks };
-                    self.stage = Stage::Reading { script };
+                    self.stage = ReadStage::Reading { script };
                     Ok(())
                 }
                 Err(told) => {
@@ -69,24 +69,24 @@ impl TaskReader {
                     Ok(())
                 }
             },
-            Stage::Reading { script } => match task_on(alloc, &script.settings, line)? {
+            ReadStage::Reading { script } => match task_on(alloc, &script.settings, line)? {
                 Ok(task) => script.tasks.push(task),
                 Err(told) => {
                     self.refuse(number, told);
                     Ok(())
                 }
             },
-            Stage::Refused { .. } => Ok(()),
+            ReadStage::Refused { .. } => Ok(()),
         }
     }
 
     // Stops at a line that is refused.
     fn refuse(&mut self, line: u64, told: Told)
-        ensures stage { self.new.stage ≡ Stage.Refused (record { line = line; told = told }) }
+        ensures stage { self.new.stage ≡ ReadStage.Refused (record { line = line; told = told }) }
         ensures lines { self.new.lines ≡ self.old.lines }
     {
         let refused = RefusedLine { line, told };
-        self.stage = Stage::Refused { refused };
+        self.stage = ReadStage::Refused { refused };
     }
 
     /// The line that is refused whatever lines follow, if one is.
@@ -94,9 +94,9 @@ impl TaskReader {
         ensures { (lines : List (List ℕ)) → HasReadLines lines self.now → IsRefusedBy lines result }
     {
         match &self.stage {
-            Stage::Opening => None,
-            Stage::Reading { .. } => None,
-            Stage::Refused { refused } => {
+            ReadStage::Opening => None,
+            ReadStage::Reading { .. } => None,
+            ReadStage::Refused { refused } => {
                 let RefusedLine { line, told } = *refused;
                 Some(RefusedLine { line, told })
             }
@@ -110,14 +110,14 @@ impl TaskReader {
     {
         let TaskReader { lines, stage } = self;
         match stage {
-            Stage::Opening => {
+            ReadStage::Opening => {
                 // No input has so many lines that the sum wraps.
                 let line = lines.checked_add(1).ok_or(Memory)?;
                 let told = Told::BadLine;
                 Ok(Err(RefusedLine { line, told }))
             }
-            Stage::Reading { script } => Ok(Ok(script)),
-            Stage::Refused { refused } => Ok(Err(refused)),
+            ReadStage::Reading { script } => Ok(Ok(script)),
+            ReadStage::Refused { refused } => Ok(Err(refused)),
         }
     }
 }

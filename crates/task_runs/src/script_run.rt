@@ -1,7 +1,7 @@
 //! A script of tasks that is run in one poll: the tasks are polled in turn over a tape, whose requests a runner takes.
 ghost use Rattle.std.specs.Prelude.{◌≡◌, Some, IfOk, OnOk};
 ghost use Rattle.futures.specs.Task.{Keeps};
-ghost use Rattle.trace_tasks.specs.Flat.{flat};
+ghost use Rattle.trace_tasks.specs.Flat.{flat_list};
 ghost use Rattle.trace_tasks.specs.TapeTurns.{TakesAll};
 ghost use Rattle.task_runs.specs.Reading.{IsFit};
 ghost use Rattle.task_runs.specs.Runs.{CanSpell, CanRun};
@@ -34,7 +34,7 @@ fn run_polls(
     cx: &mut Context<'_>,
 ) -> Result<(), Memory>
     requires { CanSpell callsites.items tasks }
-    ensures ran { OnOk result (TakesAll RunsRequest (flat callsites.items tasks) runner.old runner.new) }
+    ensures ran { OnOk result (TakesAll RunsRequest (flat_list callsites.items tasks) runner.old runner.new) }
     ensures context { Keeps cx.old cx.new }
 {
     let (mut world, dispatch) = world_of(alloc, callsites, Tape::new(alloc))?;

@@ -6,13 +6,13 @@ ghost use Rattle.trace_records.specs.Following.{without_taken};
 
 use otel_base::memory::Memory;
 use std::alloc::Global;
-use trace_lines::{add_end_line, add_record_line};
+use trace_lines::{TextBuffer, add_end_line, add_record_line};
 use trace_pipeline::pipeline::Pipeline;
 
 /// The lines of the records so far, which are numbered from 1.
 #[derive(Drop)]
 pub(crate) struct RecordLines {
-    pub(crate) text: Vec<u8>,
+    pub(crate) text: TextBuffer,
     pub(crate) count: u64,
 }
 
@@ -23,7 +23,7 @@ impl RecordLines {
         ensures count { result.count ≡ 0 }
     {
         RecordLines {
-            text: Vec::new(alloc),
+            text: TextBuffer::new(alloc),
             count: 0,
         }
     }
@@ -51,6 +51,6 @@ impl RecordLines {
     {
         let RecordLines { mut text, count } = self;
         add_end_line(&mut text, left_open, count)?;
-        Ok(text)
+        Ok(text.into_vec())
     }
 }

@@ -12,8 +12,8 @@ use Rattle.span_registry.specs.Registering.{RegistryValue, DoesRegistry}
 use Rattle.trace_tape.specs.declared.opened.Opened.{Opened}
 use Rattle.span_script.specs.declared.request.Call.{Call}
 use Rattle.span_script.specs.declared.request.Call.TheVariants as call
-use Rattle.span_script.specs.declared.request.Place.{Place}
-use Rattle.span_script.specs.declared.request.Place.TheVariants as place
+use Rattle.span_script.specs.declared.request.RequestParent.{RequestParent}
+use Rattle.span_script.specs.declared.request.RequestParent.TheVariants as request_parent
 use Rattle.span_script.specs.declared.request.Request.{Request}
 
 -- requests, and for how many more there is room
@@ -35,20 +35,20 @@ pub record TapeValue : Type 0 where
 
 -- a request on lane 0
 abbrev pub on_first_lane : ℕ → Call → Request
-on_first_lane at call = record { at = at; lane = 0; call = call }
+on_first_lane at call = record { at = at; lane_place = 0; call = call }
 
 -- where a span or an event is put
-abbrev pub spelled_place : Parent → Place
-spelled_place parent.Root = place.Root
-spelled_place parent.Current = place.Contextual
-spelled_place (parent.Of id) = place.Under id
+abbrev pub spelled_parent : Parent → RequestParent
+spelled_parent parent.Root = request_parent.Root
+spelled_parent parent.Current = request_parent.Contextual
+spelled_parent (parent.Of id) = request_parent.Under id
 
 -- the name of a callsite's field, and values by the names of their fields
-abbrev pub name_at : Callsite → ℕ → List ℕ
-name_at callsite place = slice_index_or callsite.fields place []
+abbrev pub field_name_at : Callsite → ℕ → List ℕ
+field_name_at callsite place = slice_index_or callsite.fields place []
 
 abbrev pub named_values : Callsite → ValueSet → List (List ℕ × Value)
-named_values callsite values = map (λ pair. (name_at callsite pair.0, pair.1)) values.pairs
+named_values callsite values = map (λ pair. (field_name_at callsite pair.0, pair.1)) values.pairs
 
 -- a count that stands still at the end of its type
 abbrev pub one_more : ℕ → ℕ
@@ -94,12 +94,12 @@ release s id at = if is_due s.due id then s else let_go s id at
 abbrev pub taped_after : TapeValue → SubscriberCall → TapeValue
 taped_after s (NewSpan lane at parent site callsite values) = record s {
   handles = s.handles ++ 1 ∷ [];
-  requests = s.requests ++ on_first_lane at (call.New site (spelled_place parent) (named_values callsite values)) ∷ [];
+  requests = s.requests ++ on_first_lane at (call.New site (spelled_parent parent) (named_values callsite values)) ∷ [];
 }
 taped_after s (Records id at callsite values) = record s { requests = s.requests ++ on_first_lane at (call.Record id (named_values callsite values)) ∷ [] }
 taped_after s (Follows id from at) = record s { requests = s.requests ++ on_first_lane at (call.Follows id from) ∷ [] }
 taped_after s (Event lane at parent site callsite values) = record s {
-  requests = s.requests ++ on_first_lane at (call.Event site (spelled_place parent) (named_values callsite values)) ∷ [];
+  requests = s.requests ++ on_first_lane at (call.Event site (spelled_parent parent) (named_values callsite values)) ∷ [];
 }
 taped_after s (Enter id at before later) = record s {
   entries = s.entries ++ record { lane = before.id; id = id; guard = s.guards } ∷ [];
@@ -128,5 +128,5 @@ abbrev pub requests_owed : List ℕ → List Opened → ℕ
 requests_owed handles entries = length entries + count_by is_held handles
 
 -- no span was made and nothing spelled
-abbrev pub blank : RegistryValue → TapeValue
-blank below = record { below = below; handles = []; due = None; entries = []; guards = 0; requests = [] }
+abbrev pub blank_tape : RegistryValue → TapeValue
+blank_tape below = record { below = below; handles = []; due = None; entries = []; guards = 0; requests = [] }

@@ -1,6 +1,6 @@
 //! Values by the names of their fields.
 ghost use Rattle.std.specs.Prelude.{◌≡◌, ℕ, List, IfOk};
-ghost use Rattle.trace_tape.specs.Taping.{name_at, named_values};
+ghost use Rattle.trace_tape.specs.Taping.{field_name_at, named_values};
 
 use crate::copies::copied_value;
 use otel_base::list::Items;
@@ -11,8 +11,8 @@ use trace_base::callsite::Callsite;
 use trace_base::field::{Value, ValueSet};
 
 // The name of the field at a place, and the empty one where there is none.
-fn name_at(alloc: Global, callsite: &Callsite, place: usize) -> Result<Text, Memory>
-    ensures { IfOk result (λ name. name ≡ name_at callsite.now place) }
+fn field_name_at(alloc: Global, callsite: &Callsite, place: usize) -> Result<Text, Memory>
+    ensures { IfOk result (λ name. name ≡ field_name_at callsite.now place) }
 {
     let names = callsite.fields.as_slice();
     if place < names.len() {
@@ -34,7 +34,7 @@ pub(crate) fn named_values(
     let mut fields = Vec::with_capacity(alloc, pairs.len())?;
     for (place, value) in pairs {
         fields.push((
-            name_at(alloc, callsite, *place)?,
+            field_name_at(alloc, callsite, *place)?,
             copied_value(alloc, value)?,
         ))?;
     }

@@ -21,7 +21,7 @@ use trace_base::span::Id;
 impl OtelPart for Tape {
     ghost has = { λ s. true };
 
-    ghost told = { λ s. None };
+    ghost span_data = { λ s. None };
 
     ghost touches = { TouchesTape };
 

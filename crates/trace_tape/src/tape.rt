@@ -3,7 +3,7 @@ ghost use Rattle.std.specs.Prelude.{◌≡◌, ◌≤◌, ◌+◌, ◌-◌, [], 
 ghost use Rattle.std.proofs.Common.{refl, ◌∙◌, ap};
 ghost use Rattle.trace_base.specs.declared.lane.Lane.{Lane};
 ghost use Rattle.trace_base.specs.declared.subscriber.Interest.TheVariants as interests;
-ghost use Rattle.trace_tape.specs.Taping.{TapeValue, DoesTape, blank, one_more, held_more, handles_of, drop_requests, is_held, spelled_place};
+ghost use Rattle.trace_tape.specs.Taping.{TapeValue, DoesTape, blank_tape, one_more, held_more, handles_of, drop_requests, is_held, spelled_parent};
 ghost use Rattle.trace_tape.specs.Taped.{tape_same, tape_lanes};
 ghost use Rattle.span_registry.specs.Registering.{no_spans};
 
@@ -13,7 +13,7 @@ use crate::roll::Roll;
 use otel_base::enter_error::EnterError;
 use otel_base::memory::Memory;
 use span_registry::registry::Registry;
-use span_script::request::{Call, Place, Request};
+use span_script::request::{Call, Request, RequestParent};
 use std::alloc::Global;
 use std::marker::Model;
 use trace_base::callsite::{Callsite, SiteId};
@@ -50,7 +50,7 @@ impl Model for Tape {
 impl Tape {
     /// A tape on which nothing is spelled, which takes no memory yet.
     pub fn new(alloc: Global) -> Tape
-        ensures { result ≡ blank (record { spans = no_spans; slots = 0 }) }
+        ensures { result ≡ blank_tape (record { spans = no_spans; slots = 0 }) }
     {
         Tape {
             alloc,
@@ -129,6 +129,8 @@ impl Subscriber for Tape {
 
     ghost lanes = { tape_lanes };
 
+    ghost kept_by_entries = { λ s lane number w none. refl };
+
     ghost passive = { λ s id at before later t d neither. ap (λ (l : Lane). l.contexts.live) d.below.lane };
 
     ghost keeps_attaches = { λ s call t d. refl };
@@ -154,6 +156,7 @@ impl Subscriber for Tape {
         lane: &Lane,
         at: u64,
         parent: Parent,
+        current: Option<Id>,
         site: SiteId,
         callsite: &Callsite,
         values: &ValueSet,
@@ -163,10 +166,10 @@ impl Subscriber for Tape {
         self.roll.reserve()?;
         let fields = named_values(self.alloc, callsite, values)?;
         let number = number_of(site);
-        let place = spelled_place(&parent);
+        let place = spelled_parent(&parent);
         match self
             .registry
-            .new_span(lane, at, parent, site, callsite, values)
+            .new_span(lane, at, parent, current, site, callsite, values)
         {
             Ok(id) => {
                 self.handles.push_reserved(1);
@@ -225,6 +228,7 @@ impl Subscriber for Tape {
         lane: &Lane,
         at: u64,
         parent: Parent,
+        current: Option<Id>,
         site: SiteId,
         callsite: &Callsite,
         values: &ValueSet,
@@ -232,9 +236,9 @@ impl Subscriber for Tape {
         self.roll.reserve()?;
         let fields = named_values(self.alloc, callsite, values)?;
         let number = number_of(site);
-        let place = spelled_place(&parent);
+        let place = spelled_parent(&parent);
         self.registry
-            .event(lane, at, parent, site, callsite, values)?;
+            .event(lane, at, parent, current, site, callsite, values)?;
         self.roll.tell(request(
             at,
             Call::Event {
@@ -297,6 +301,10 @@ impl Subscriber for Tape {
         closing
     }
 
+    fn current_id(&self, lane: u64) -> Option<Id> {
+        self.registry.current_id(lane)
+    }
+
     fn current_span(&self, lane: u64) -> Option<(Id, SiteId)> {
         self.registry.current_span(lane)
     }
@@ -308,9 +316,13 @@ impl Discard for Tape {
 
 // A request on lane 0.
 pub(crate) fn request(at: u64, call: Call) -> Request
-    ensures { result ≡ record { at = at; lane = 0; call = call } }
+    ensures { result ≡ record { at = at; lane_place = 0; call = call } }
 {
-    Request { at, lane: 0, call }
+    Request {
+        at,
+        lane_place: 0,
+        call,
+    }
 }
 
 // The place of a callsite in its world.
@@ -321,13 +333,13 @@ fn number_of(site: SiteId) -> u64
 }
 
 // Where a span or an event is put.
-fn spelled_place(parent: &Parent) -> Place
-    ensures { result ≡ spelled_place parent.now }
+fn spelled_parent(parent: &Parent) -> RequestParent
+    ensures { result ≡ spelled_parent parent.now }
 {
     match parent {
-        Parent::Root => Place::Root,
-        Parent::Current => Place::Contextual,
-        Parent::Of(id) => Place::Under { handle: id.place() },
+        Parent::Root => RequestParent::Root,
+        Parent::Current => RequestParent::Contextual,
+        Parent::Of(id) => RequestParent::Under { handle: id.place() },
     }
 }
 

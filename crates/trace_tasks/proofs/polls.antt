@@ -1,4 +1,6 @@
 -- What a poll does.
+pub mod AttachedLemmas
+pub mod CarriesLemmas
 pub mod EntryLemmas
 pub mod StepsSoFarLemmas
 pub mod StepLemmas

@@ -23,20 +23,20 @@ use Rattle.span_script.specs.Fields.{Fields, values_of}
 -- ---- polls of a list of steps
 
 -- the steps up to a yield or the end
-abbrev pub now_of : List Step → List Step
-now_of [] = []
-now_of (step.Yield ∷ steps) = []
-now_of (step.Event site fields ∷ steps) = step.Event site fields ∷ now_of steps
-now_of (step.Record fields ∷ steps) = step.Record fields ∷ now_of steps
-now_of (step.SetAttribute key value ∷ steps) = step.SetAttribute key value ∷ now_of steps
+abbrev pub steps_now : List Step → List Step
+steps_now [] = []
+steps_now (step.Yield ∷ steps) = []
+steps_now (step.Event site fields ∷ steps) = step.Event site fields ∷ steps_now steps
+steps_now (step.Record fields ∷ steps) = step.Record fields ∷ steps_now steps
+steps_now (step.SetAttribute key value ∷ steps) = step.SetAttribute key value ∷ steps_now steps
 
 -- the steps after the first yield, none where there is no yield
-abbrev pub left_of : List Step → Option (List Step)
-left_of [] = None
-left_of (step.Yield ∷ steps) = Some steps
-left_of (step.Event site fields ∷ steps) = left_of steps
-left_of (step.Record fields ∷ steps) = left_of steps
-left_of (step.SetAttribute key value ∷ steps) = left_of steps
+abbrev pub steps_left : List Step → Option (List Step)
+steps_left [] = None
+steps_left (step.Yield ∷ steps) = Some steps
+steps_left (step.Event site fields ∷ steps) = steps_left steps
+steps_left (step.Record fields ∷ steps) = steps_left steps
+steps_left (step.SetAttribute key value ∷ steps) = steps_left steps
 
 -- an answer that is none or isn't want of memory
 abbrev pub IsGranted : {A E : Type 0} → Option (Result A E) → Type 0
@@ -108,9 +108,9 @@ module _ {S : Type 0} (spans : S → Spans) (hint : S → Option LevelFilter) (e
 
   -- a poll of some steps: those up to a yield or the end, and what is left
   abbrev pub PollsSteps : (S → S → Type 0) → List Step → Worlds S → Lane → ℕ → Polled (Unit {0}) → List Step → Worlds S → Lane → Type 0
-  PollsSteps same steps old before at (Ok (Ready x)) left new later = (later ≡ before) × (left_of steps ≡ None) × StepsOn before at (now_of steps) old new
-  PollsSteps same steps old before at (Ok Pending) left new later = (later ≡ before) × (left_of steps ≡ Some left) × StepsOn before at (now_of steps) old new
-  PollsSteps same steps old before at (Err e) left new later = (later ≡ before) × (e ≡ Memory) × StopsIn same before at (now_of steps) old new
+  PollsSteps same steps old before at (Ok (Ready x)) left new later = (later ≡ before) × (steps_left steps ≡ None) × StepsOn before at (steps_now steps) old new
+  PollsSteps same steps old before at (Ok Pending) left new later = (later ≡ before) × (steps_left steps ≡ Some left) × StepsOn before at (steps_now steps) old new
+  PollsSteps same steps old before at (Err e) left new later = (later ≡ before) × (e ≡ Memory) × StopsIn same before at (steps_now steps) old new
 
   -- ---- what a step may change
 
@@ -118,7 +118,7 @@ module _ {S : Type 0} (spans : S → Spans) (hint : S → Option LevelFilter) (e
   pub data Changes (same : S → S → Type 0) (at : ℕ) (old new : Worlds S) : Type 0 where
     nothing : new ≡ old → Changes same at old new
     room : (d : ℕ) → Replaced same old new d → Changes same at old new
-    told : (d : ℕ) (lane : Lane) (place : _) (site : ℕ) (callsite : Callsite) (values : _) → Replaced (λ s t. does s (Event lane at place site callsite values) t) old new d → Changes same at old new
+    told : (d : ℕ) (lane : Lane) (parent : _) (site : ℕ) (callsite : Callsite) (values : _) → Replaced (λ s t. does s (Event lane at parent site callsite values) t) old new d → Changes same at old new
     recorded : (d id : ℕ) (callsite : Callsite) (values : _) → Replaced (λ s t. does s (Records id at callsite values) t) old new d → Changes same at old new
     asked : (d id : ℕ) (op : Op) (answer : _) → Replaced (λ s t. touches s (Applies id at op answer) t) old new d → Changes same at old new
 

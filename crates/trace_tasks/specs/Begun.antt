@@ -14,7 +14,7 @@ use Rattle.trace_tasks.specs.declared.running.Running.{Running}
 use Rattle.trace_tasks.specs.declared.script.Task.{Task}
 use Rattle.trace_tasks.specs.Carrying.{MakesGated, Made, Carries}
 use Rattle.span_script.specs.Fields.{Fields}
-use Rattle.trace_tasks.specs.Flat.{tasks_at_first, makings, all_polls, flat}
+use Rattle.trace_tasks.specs.Flat.{tasks_at_first, makings, all_polls, flat_list}
 use Rattle.trace_tasks.specs.Turning.{IsAlone, Ready, dispatch_serving}
 use Rattle.trace_tasks.specs.Waiting.{AllWait, AllStand}
 
@@ -65,4 +65,4 @@ pub record Ran {S : Type 0} (spans : S → Spans) (hint : S → Option LevelFilt
   pub answer : polls ≡ all_polls (tasks_at_first 0 tasks)
   pub handles : List Handle
   pub guards : List Held
-  pub carried : Carries spans hint enables does touches (dispatch_serving before) (flat sites tasks) (record { world = old; lane = before; handles = []; guards = [] }) (record { world = new; lane = later; handles = handles; guards = guards })
+  pub carried : Carries spans hint enables does touches (dispatch_serving before) (flat_list sites tasks) (record { world = old; lane = before; handles = []; guards = [] }) (record { world = new; lane = later; handles = handles; guards = guards })

@@ -15,13 +15,13 @@ use Rattle.otel_layer.specs.Parts.{PartCall}
 use Rattle.otel_layer.specs.Asking.{AppliesOn}
 use Rattle.span_script.specs.declared.request.Call.{Call}
 use Rattle.span_script.specs.declared.request.Call.TheVariants as call
-use Rattle.span_script.specs.declared.request.Place.TheVariants as place
+use Rattle.span_script.specs.declared.request.RequestParent.TheVariants as request_parent
 use Rattle.span_script.specs.declared.request.Request.{Request}
 use Rattle.trace_tasks.specs.Acts.{TellsAt, IsGranted}
 use Rattle.span_script.specs.Fields.{Fields, values_of, values_by}
 
 -- a world, the lane, and the handles and guards that were made, by their numbers; a guard is of a handle
-pub record Stage (S : Type 0) : Type 0 where
+pub record TaskScene (S : Type 0) : Type 0 where
   pub world : Worlds S
   pub lane : Lane
   pub handles : List Handle
@@ -33,7 +33,7 @@ module _ {S : Type 0} (spans : S → Spans) (hint : S → Option LevelFilter) (e
   MakesGated true old new lane at site callsite fields handle = Makes spans does old new lane at parent.Current site (values_of callsite fields) d handle
   MakesGated false old new lane at site callsite fields handle = (handle ≡ record { held = None; site = Some site }) × (new ≡ old)
 
-  pub record Made (at site : ℕ) (fields : Fields) (s t : Stage S) : Type 0 where
+  pub record Made (at site : ℕ) (fields : Fields) (s t : TaskScene S) : Type 0 where
     pub callsite : Callsite
     pub is : slice_get s.world.sites site ≡ Some callsite
     pub admitted : Bool
@@ -53,21 +53,21 @@ module _ {S : Type 0} (spans : S → Spans) (hint : S → Option LevelFilter) (e
   OnHandle at _ handle old before new later = ⊥
 
   -- of the handle of a number
-  pub record Handled (at number : ℕ) (call : Call) (s t : Stage S) : Type 0 where
+  pub record Handled (at number : ℕ) (call : Call) (s t : TaskScene S) : Type 0 where
     pub handle : Handle
     pub is : slice_get s.handles number ≡ Some handle
     pub did : OnHandle at call handle s.world s.lane t.world t.lane
     pub handles : t.handles ≡ s.handles
     pub guards : t.guards ≡ s.guards
 
-  pub record Entered (at number : ℕ) (s t : Stage S) : Type 0 where
+  pub record Entered (at number : ℕ) (s t : TaskScene S) : Type 0 where
     pub handle : Handle
     pub is : slice_get s.handles number ≡ Some handle
     pub begins : BeginsInside does at handle.held s.world s.lane t.world t.lane
     pub handles : t.handles ≡ s.handles
     pub guards : t.guards ≡ s.guards ++ handle.held ∷ []
 
-  pub record Exited (at number : ℕ) (s t : Stage S) : Type 0 where
+  pub record Exited (at number : ℕ) (s t : TaskScene S) : Type 0 where
     pub held : Held
     pub is : slice_get s.guards number ≡ Some held
     pub exited : ReplacedOn (λ id a b. does a (Exit id at s.lane t.lane) b) s.world t.world held
@@ -75,24 +75,24 @@ module _ {S : Type 0} (spans : S → Spans) (hint : S → Option LevelFilter) (e
     pub handles : t.handles ≡ s.handles
     pub guards : t.guards ≡ s.guards
 
-  pub record Told (at site : ℕ) (fields : Fields) (s t : Stage S) : Type 0 where
+  pub record EventTold (at site : ℕ) (fields : Fields) (s t : TaskScene S) : Type 0 where
     pub told : TellsAt spans hint enables does touches s.lane at d site fields (slice_get s.world.sites site) s.world t.world
     pub lane : t.lane ≡ s.lane
     pub handles : t.handles ≡ s.handles
     pub guards : t.guards ≡ s.guards
 
   -- a request carried out, of those that tasks make
-  abbrev pub CarriesCall : ℕ → Call → Stage S → Stage S → Type 0
-  CarriesCall at (call.New site place.Contextual fields) s t = Made at site fields s t
+  abbrev pub CarriesCall : ℕ → Call → TaskScene S → TaskScene S → Type 0
+  CarriesCall at (call.New site request_parent.Contextual fields) s t = Made at site fields s t
   CarriesCall at (call.Enter n) s t = Entered at n s t
   CarriesCall at (call.Exit n) s t = Exited at n s t
-  CarriesCall at (call.Event site place.Contextual fields) s t = Told at site fields s t
+  CarriesCall at (call.Event site request_parent.Contextual fields) s t = EventTold at site fields s t
   CarriesCall at (call.Record n fields) s t = Handled at n (call.Record n fields) s t
   CarriesCall at (call.SetAttribute n key value) s t = Handled at n (call.SetAttribute n key value) s t
   CarriesCall at (call.Drop n) s t = Handled at n (call.Drop n) s t
   CarriesCall at _ s t = ⊥
 
   -- requests carried out, one after another, and nothing else
-  abbrev pub Carries : List Request → Stage S → Stage S → Type 0
+  abbrev pub Carries : List Request → TaskScene S → TaskScene S → Type 0
   Carries [] s t = t ≡ s
-  Carries (r ∷ rs) s t = (m : Stage S) × CarriesCall r.at r.call s m × Carries rs m t
+  Carries (r ∷ rs) s t = (m : TaskScene S) × CarriesCall r.at r.call s m × Carries rs m t

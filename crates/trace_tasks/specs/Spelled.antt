@@ -11,14 +11,14 @@ use Rattle.trace_tape.specs.Touching.{TouchesTape}
 use Rattle.trace_tasks.specs.declared.script.Step.{Step}
 use Rattle.trace_tasks.specs.declared.script.Step.TheVariants as step
 use Rattle.trace_tasks.specs.declared.script.Task.{Task}
-use Rattle.trace_tasks.specs.Carrying.{Stage, Carries}
+use Rattle.trace_tasks.specs.Carrying.{TaskScene, Carries}
 use Rattle.span_script.specs.Fields.{Fields, declares}
 
 abbrev pub tape_spans : TapeValue → Spans
 tape_spans s = s.below.spans
 
 -- requests carried out over a tape
-abbrev pub CarriesTape : ℕ → List Request → Stage TapeValue → Stage TapeValue → Type 0
+abbrev pub CarriesTape : ℕ → List Request → TaskScene TapeValue → TaskScene TapeValue → Type 0
 CarriesTape d rs s t = Carries tape_spans (λ s. None) (λ s lane c. true) DoesTape TouchesTape d rs s t
 
 -- a callsite declares all of some fields

@@ -21,12 +21,13 @@ use Rattle.trace_tasks.specs.declared.running.Running.{Running}
 use Rattle.trace_tasks.specs.declared.script.Task.{Task}
 use Rattle.trace_tasks.specs.Acts.{Wants}
 use Rattle.trace_tasks.specs.Begun.{AreBegun}
-use Rattle.trace_tasks.specs.Carrying.{Stage, Carries}
-use Rattle.trace_tasks.specs.Flat.{Left, all_polls, tasks_at_first, makings, flat, moment_of, poll, requeue, after_poll, turns}
+use Rattle.trace_tasks.specs.Carrying.{TaskScene, Carries}
+use Rattle.trace_tasks.specs.Flat.{UnfinishedTask, all_polls, tasks_at_first, makings, flat_list, moment_of, poll_requests, requeue, after_poll, turns_requests}
 use Rattle.trace_tasks.specs.Turning.{dispatch_serving, left_as}
+use Rattle.trace_tasks.specs.Waiting.{AllStand}
 
 -- the tasks that are left after so many polls, the next one first
-abbrev pub left_after : ℕ → List Left → List Left
+abbrev pub left_after : ℕ → List UnfinishedTask → List UnfinishedTask
 left_after zero ts = ts
 left_after (suc n) [] = []
 left_after (suc n) (t ∷ ts) = left_after n (requeue ts (after_poll t))
@@ -36,27 +37,37 @@ abbrev pub exit_if : ℕ → ℕ → List Request → List Request
 exit_if at k [] = []
 exit_if at k (r ∷ part) = on_first_lane at (call.Exit k) ∷ []
 
-abbrev pub drops_of_tasks : ℕ → List Left → List Request
+abbrev pub drops_of_tasks : ℕ → List UnfinishedTask → List Request
 drops_of_tasks at left = map (λ t. on_first_lane at (call.Drop t.number)) left
 
-abbrev pub leavings : ℕ → ℕ → List Request → List Left → List Request
-leavings at k part left = exit_if at k part ++ drops_of_tasks at left
+abbrev pub leaving_requests : ℕ → ℕ → List Request → List UnfinishedTask → List Request
+leaving_requests at k part left = exit_if at k part ++ drops_of_tasks at left
 
 -- where a run stops: in the poll after so many polls, at whose moment it does, with all tasks begun; or at 0, as spans are made,
 -- where memory is wanted
 abbrev pub StopsAt : (tasks first : List Task) (polls : ℕ) (part : List Request) → EnterError → ℕ → Type 0
 StopsAt tasks first polls part e at = ((at ≡ moment_of polls) × (first ≡ tasks)) ⊎ ((at ≡ 0) × (polls ≡ 0) × (part ≡ []) × (e ≡ Memory))
 
+module _ {S : Type 0} (spans : S → Spans) (hint : S → Option LevelFilter) (enables : S → ℕ → Callsite → Bool) (does : S → SubscriberCall → S → Type 0) (touches : S → PartCall → S → Type 0) (at : ℕ) where
+  -- the handles of some tasks were dropped, one after another, and nothing else happened
+  abbrev pub Drops : List UnfinishedTask → List Handle → Worlds S → Worlds S → Type 0
+  Drops ts handles old new = (d : ℕ) (lane : Lane) (guards : List Held)
+      → Carries spans hint enables does touches d (drops_of_tasks at ts) (record { world = old; lane = lane; handles = handles; guards = guards }) (record { world = new; lane = lane; handles = handles; guards = guards })
+
+  -- those of all tasks of a queue
+  abbrev pub DropsAll : List (Instrumented Running) → Worlds S → Worlds S → Type 0
+  DropsAll fs old new = (handles : List Handle) (ts : List UnfinishedTask) → AllStand handles ts fs → Drops ts handles old new
+
 module _ {S : Type 0} (spans : S → Spans) (hint : S → Option LevelFilter) (enables : S → ℕ → Callsite → Bool) (activates : S → ℕ → Bool) (does : S → SubscriberCall → S → Type 0) (touches : S → PartCall → S → Type 0) (same : S → S → Type 0) (d : ℕ) where
   -- memory was wanted, or a full lane was met: nothing more than room and a denied op tells the stages apart
-  pub record Fails (at : ℕ) (s t : Stage S) : Type 0 where
+  pub record Fails (at : ℕ) (s t : TaskScene S) : Type 0 where
     pub world : Wants spans hint enables does touches same at s.world t.world
     pub lane : LeavesLane s.lane t.lane
     pub handles : t.handles ≡ s.handles
     pub guards : t.guards ≡ s.guards
 
   -- an entry that attaches a context meets a lane that has as many as may be
-  pub record MeetsFull (s : Stage S) : Type 0 where
+  pub record MeetsFull (s : TaskScene S) : Type 0 where
     pub subscriber : S
     pub there : slice_get s.world.subscribers d ≡ Some subscriber
     pub id : ℕ
@@ -65,48 +76,51 @@ module _ {S : Type 0} (spans : S → Spans) (hint : S → Option LevelFilter) (e
 
   -- A front of some requests was carried out, then it failed, and what was left was let go. Full comes only where an entry met a
   -- full lane.
-  pub record Stopped (front leaving : List Request) (at : ℕ) (e : EnterError) (s : Stage S) (new : Worlds S) (later : Lane) : Type 0 where
-    pub here : Stage S
+  pub record Stopped (front leaving : List Request) (at : ℕ) (e : EnterError) (s : TaskScene S) (new : Worlds S) (later : Lane) : Type 0 where
+    pub here : TaskScene S
     pub carried : Carries spans hint enables does touches d front s here
-    pub failed : Stage S
+    pub failed : TaskScene S
     pub fails : Fails at here failed
     pub guards : List Held
     pub closed : Carries spans hint enables does touches d leaving failed (record { world = new; lane = later; handles = failed.handles; guards = guards })
     pub full : e ≡ Full → MeetsFull here
 
   -- the same in a poll, after so many polls, of a task
-  pub record StopsPoll (sites : List Callsite) (at k : ℕ) (t : Left) (e : EnterError) (s : Stage S) (new : Worlds S) (later : Lane) : Type 0 where
+  pub record StopsPoll (sites : List Callsite) (at k : ℕ) (t : UnfinishedTask) (e : EnterError) (s : TaskScene S) (new : Worlds S) (later : Lane) : Type 0 where
     pub part : List Request
     pub others : List Request
-    pub within : part ++ others ≡ poll sites k t
+    pub within : part ++ others ≡ poll_requests sites k t
     pub not_entered : e ≡ Full → part ≡ []
-    pub stopped : Stopped part (leavings at k part (t ∷ [])) at e s new later
+    pub stopped : Stopped part (leaving_requests at k part (t ∷ [])) at e s new later
     pub handles : stopped.failed.handles ≡ s.handles
 
-  -- the same in the turns of some tasks: in the poll after so many polls
-  pub record StopsTurns (sites : List Callsite) (ts : List Left) (e : EnterError) (s : Stage S) (new : Worlds S) (later : Lane) : Type 0 where
+  -- the same in the turns of some tasks: in the poll after so many polls; the lane was as full when the first one began
+  pub record StopsTurns (sites : List Callsite) (ts : List UnfinishedTask) (e : EnterError) (s : TaskScene S) (new : Worlds S) (later : Lane) : Type 0 where
     pub polls : ℕ
-    pub t : Left
-    pub waiting : List Left
+    pub t : UnfinishedTask
+    pub waiting : List UnfinishedTask
     pub next : left_after polls ts ≡ t ∷ waiting
     pub part : List Request
     pub others : List Request
-    pub within : turns sites polls 0 ts ++ part ++ others ≡ turns sites (all_polls ts) 0 ts
+    pub within : turns_requests sites polls 0 ts ++ part ++ others ≡ turns_requests sites (all_polls ts) 0 ts
     pub not_entered : e ≡ Full → part ≡ []
-    pub stopped : Stopped (turns sites polls 0 ts ++ part) (leavings (moment_of polls) polls part (t ∷ waiting)) (moment_of polls) e s new later
+    pub full_at_first : e ≡ Full → IsFull s.lane
+    pub stopped : Stopped (turns_requests sites polls 0 ts ++ part) (leaving_requests (moment_of polls) polls part (t ∷ waiting)) (moment_of polls) e s new later
 
   -- A run that was refused, as it made spans or in a poll: a front of the flat list was carried out, and then the handles of
-  -- all tasks that were begun and not finished were dropped, at once. With Full nothing of the poll was carried out.
-  pub record GaveUp (sites : List Callsite) (tasks : List Task) (e : EnterError) (s : Stage S) (new : Worlds S) (later : Lane) : Type 0 where
+  -- all tasks that were begun and not finished were dropped, at once. With Full nothing of the poll was carried out, and the
+  -- lane was full before the run.
+  pub record GaveUp (sites : List Callsite) (tasks : List Task) (e : EnterError) (s : TaskScene S) (new : Worlds S) (later : Lane) : Type 0 where
     pub first : List Task
     pub polls : ℕ
     pub part : List Request
     pub others : List Request
-    pub within : makings first ++ turns sites polls 0 (tasks_at_first 0 first) ++ part ++ others ≡ flat sites tasks
+    pub within : makings first ++ turns_requests sites polls 0 (tasks_at_first 0 first) ++ part ++ others ≡ flat_list sites tasks
     pub at : ℕ
     pub moment : StopsAt tasks first polls part e at
     pub not_entered : e ≡ Full → part ≡ []
-    pub stopped : Stopped (makings first ++ turns sites polls 0 (tasks_at_first 0 first) ++ part) (leavings at polls part (left_after polls (tasks_at_first 0 first))) at e s new later
+    pub full_at_call : e ≡ Full → IsFull s.lane
+    pub stopped : Stopped (makings first ++ turns_requests sites polls 0 (tasks_at_first 0 first) ++ part) (leaving_requests at polls part (left_after polls (tasks_at_first 0 first))) at e s new later
 
 -- the first of some tasks were begun, and the next one wanted memory
 pub record StopsBeginning {S : Type 0} (spans : S → Spans) (hint : S → Option LevelFilter) (enables : S → ℕ → Callsite → Bool) (kept : S → ℕ → ℕ → ℕ) (is_whole : S → Type 0) (does : S → SubscriberCall → S → Type 0) (touches : S → PartCall → S → Type 0) (same : S → S → Type 0)
@@ -123,3 +137,13 @@ pub record TurnStops {S : Type 0} (spans : S → Spans) (hint : S → Option Lev
     (at : ℕ) (f : Instrumented Running) (old : Worlds S) (before : Lane) (e : EnterError) (new : Worlds S) (later : Lane) : Type 0 where
   pub stops : (number site k : ℕ) (handles : List Handle) (guards : List Held) → at ≡ moment_of k → slice_get handles number ≡ Some f.span → length guards ≡ k → f.span.site ≡ Some site
       → StopsPoll spans hint enables activates does touches same (dispatch_serving before) old.sites at k (left_as number site f.inner) e (record { world = old; lane = before; handles = handles; guards = guards }) new later
+
+-- the poll of the first task of a queue was refused, and the handles of all tasks were closed
+pub record StopsInTurn {S : Type 0} (spans : S → Spans) (hint : S → Option LevelFilter) (enables : S → ℕ → Callsite → Bool) (activates : S → ℕ → Bool) (does : S → SubscriberCall → S → Type 0) (touches : S → PartCall → S → Type 0) (same : S → S → Type 0)
+    (at : ℕ) (first : List (Instrumented Running)) (old : Worlds S) (before : Lane) (e : EnterError) (new : Worlds S) (later : Lane) : Type 0 where
+  pub f : Instrumented Running
+  pub others : List (Instrumented Running)
+  pub is : first ≡ f ∷ others
+  pub world : Worlds S
+  pub stops : TurnStops spans hint enables activates does touches same at f old before e world later
+  pub dropped : DropsAll spans hint enables does touches at others world new

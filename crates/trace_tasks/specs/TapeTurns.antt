@@ -11,14 +11,14 @@ use Rattle.span_futures.specs.declared.instrument.Instrumented.{Instrumented}
 use Rattle.span_script.specs.declared.request.Request.{Request}
 use Rattle.trace_tape.specs.Taping.{TapeValue, handles_of}
 use Rattle.trace_tasks.specs.declared.running.Running.{Running}
-use Rattle.trace_tasks.specs.Carrying.{Stage}
-use Rattle.trace_tasks.specs.Flat.{Left, all_polls, turns}
+use Rattle.trace_tasks.specs.Carrying.{TaskScene}
+use Rattle.trace_tasks.specs.Flat.{UnfinishedTask, all_polls, turns_requests}
 use Rattle.trace_tasks.specs.Spelled.{IsTested}
 use Rattle.trace_tasks.specs.Turning.{root_of_one_handle}
 use Rattle.trace_tasks.specs.Waiting.{AllStand}
 
 -- a tape between polls, after k of them
-pub record Calm (d : ℕ) (sites : List Callsite) (k : ℕ) (s : Stage TapeValue) (tape : TapeValue) : Type 0 where
+pub record BetweenPolls (d : ℕ) (sites : List Callsite) (k : ℕ) (s : TaskScene TapeValue) (tape : TapeValue) : Type 0 where
   pub there : slice_get s.world.subscribers d ≡ Some tape
   pub sites_are : s.world.sites ≡ sites
   pub cached : (n : ℕ) → n < length sites → cached_at s.world.cached d n ≡ interests.Always
@@ -29,34 +29,34 @@ pub record Calm (d : ℕ) (sites : List Callsite) (k : ℕ) (s : Stage TapeValue
   pub none_open : entries_on s.lane.id tape.below.spans.lanes ≡ []
 
 -- a task that waits, on a tape
-pub record HeldOnce (d : ℕ) (s : Stage TapeValue) (tape : TapeValue) (t : Left) : Type 0 where
+pub record HeldOnce (d : ℕ) (s : TaskScene TapeValue) (tape : TapeValue) (t : UnfinishedTask) : Type 0 where
   pub handle : slice_get s.handles t.number ≡ Some (handle_of d t.number t.site)
   pub lone : span_at tape.below.spans.made t.number ≡ root_of_one_handle t.site
   pub once : handles_of tape.handles t.number ≡ 1
 
 -- a task that waits on a tape, with steps that were tested
-pub record Fit (d : ℕ) (sites : List Callsite) (s : Stage TapeValue) (tape : TapeValue) (t : Left) : Type 0 where
+pub record CanBePolled (d : ℕ) (sites : List Callsite) (s : TaskScene TapeValue) (tape : TapeValue) (t : UnfinishedTask) : Type 0 where
   pub waits : HeldOnce d s tape t
   pub callsite : Callsite
   pub is : slice_get sites t.site ≡ Some callsite
   pub tested : IsTested sites t.steps
 
-abbrev pub Differs : Left → List Left → Type 0
-Differs t [] = Unit {0}
-Differs t (u ∷ us) = (u.number ≡ t.number → ⊥) × Differs t us
+abbrev pub HasOwnNumber : UnfinishedTask → List UnfinishedTask → Type 0
+HasOwnNumber t [] = Unit {0}
+HasOwnNumber t (u ∷ us) = (u.number ≡ t.number → ⊥) × HasOwnNumber t us
 
-abbrev pub AllFit : ℕ → List Callsite → Stage TapeValue → TapeValue → List Left → Type 0
-AllFit d sites s tape [] = Unit {0}
-AllFit d sites s tape (t ∷ ts) = Fit d sites s tape t × Differs t ts × AllFit d sites s tape ts
+abbrev pub AllCanBePolled : ℕ → List Callsite → TaskScene TapeValue → TapeValue → List UnfinishedTask → Type 0
+AllCanBePolled d sites s tape [] = Unit {0}
+AllCanBePolled d sites s tape (t ∷ ts) = CanBePolled d sites s tape t × HasOwnNumber t ts × AllCanBePolled d sites s tape ts
 
 -- tasks of a queue that wait on a tape after k polls, all requests having been handed on
-pub record WaitOnTape (d : ℕ) (sites : List Callsite) (k : ℕ) (ts : List Left) (world : Worlds TapeValue) (lane : Lane) (fs : List (Instrumented Running)) : Type 0 where
+pub record WaitOnTape (d : ℕ) (sites : List Callsite) (k : ℕ) (ts : List UnfinishedTask) (world : Worlds TapeValue) (lane : Lane) (fs : List (Instrumented Running)) : Type 0 where
   pub handles : List Handle
   pub guards : List Held
   pub stand : AllStand handles ts fs
   pub tape : TapeValue
-  pub calm : Calm d sites k (record { world = world; lane = lane; handles = handles; guards = guards }) tape
-  pub fit : AllFit d sites (record { world = world; lane = lane; handles = handles; guards = guards }) tape ts
+  pub between : BetweenPolls d sites k (record { world = world; lane = lane; handles = handles; guards = guards }) tape
+  pub waiting : AllCanBePolled d sites (record { world = world; lane = lane; handles = handles; guards = guards }) tape ts
   pub none : tape.requests ≡ []
 
 -- ---- handing on
@@ -78,6 +78,6 @@ pub record HandsOn {K : Type 0} (takes : K → Request → K → Type 0) (d : �
   pub taken : TakesAll takes tape.requests before later
 
 -- the turns of some tasks were taken over a tape, and their requests handed on
-pub record HandsTurnsOn {K : Type 0} (takes : K → Request → K → Type 0) (sites : List Callsite) (ts : List Left) (polls : ℕ) (before later : K) : Type 0 where
+pub record HandsTurnsOn {K : Type 0} (takes : K → Request → K → Type 0) (sites : List Callsite) (ts : List UnfinishedTask) (polls : ℕ) (before later : K) : Type 0 where
   pub polled : polls ≡ all_polls ts
-  pub taken : TakesAll takes (turns sites (all_polls ts) 0 ts) before later
+  pub taken : TakesAll takes (turns_requests sites (all_polls ts) 0 ts) before later

@@ -6,6 +6,7 @@ use Rattle.trace_base.specs.declared.lane.Lane.{Lane}
 use Rattle.trace_base.specs.declared.level.LevelFilter.{LevelFilter}
 use Rattle.trace_base.specs.Calls.{SubscriberCall}
 use Rattle.trace_base.specs.Gate.{Worlds}
+use Rattle.trace_base.specs.lanes.Contexts.{attached_as}
 use Rattle.trace_base.specs.Spans.{Span, Spans, span_at, entries_on}
 use Rattle.span_handles.specs.Worlds.{spans_in}
 use Rattle.span_handles.specs.Handles.{Handle, Held}
@@ -13,9 +14,9 @@ use Rattle.span_futures.specs.declared.instrument.Instrumented.{Instrumented}
 use Rattle.span_futures.specs.Lent.{HasAll, AreAllAttached}
 use Rattle.otel_layer.specs.Parts.{PartCall}
 use Rattle.trace_tasks.specs.declared.running.Running.{Running}
-use Rattle.trace_tasks.specs.Acts.{left_of}
+use Rattle.trace_tasks.specs.Acts.{steps_left}
 use Rattle.trace_tasks.specs.Carrying.{Carries}
-use Rattle.trace_tasks.specs.Flat.{Left, poll, moment_of}
+use Rattle.trace_tasks.specs.Flat.{UnfinishedTask, poll_requests, moment_of}
 
 -- the subscriber that serves a lane by the lane's default
 abbrev pub served_by : Option ℕ → ℕ
@@ -47,18 +48,22 @@ pub record IsAlone (made : List Span) (d site : ℕ) (handle : Handle) : Type 0 
   pub held_is : IsAloneAs made d site handle.held
 
 -- the task of a handle's number
-abbrev pub left_as : ℕ → ℕ → Running → Left
+abbrev pub left_as : ℕ → ℕ → Running → UnfinishedTask
 left_as number site f = record { number = number; site = site; steps = f.steps.items }
 
 -- what becomes of a task that is polled: it has the steps behind the yield left, or it is finished
 abbrev pub IsLeft : Option (Instrumented Running) → Instrumented Running → Type 0
-IsLeft None f = left_of f.inner.steps.items ≡ None
-IsLeft (Some g) f = (left_of f.inner.steps.items ≡ Some g.inner.steps.items) × (g.span ≡ f.span)
+IsLeft None f = steps_left f.inner.steps.items ≡ None
+IsLeft (Some g) f = (steps_left f.inner.steps.items ≡ Some g.inner.steps.items) × (g.span ≡ f.span)
 
 -- the spans after a poll: all are the same, but for one that closed
 abbrev pub SpansStay : Option (Instrumented Running) → Held → List Span → List Span → Type 0
 SpansStay None held old new = (q : ℕ) → (option_map (λ h. h.1) held ≡ Some q → ⊥) → span_at new q ≡ span_at old q
 SpansStay (Some g) held old new = new ≡ old
+
+-- the same contexts are attached to a lane, by their numbers
+abbrev pub SameAttached : Lane → Lane → Type 0
+SameAttached before later = (number : ℕ) → attached_as number later ≡ attached_as number before
 
 -- a poll of a task, and its end if it is finished, are the requests of its poll
 pub record Turned {S : Type 0} (spans : S → Spans) (hint : S → Option LevelFilter) (enables : S → ℕ → Callsite → Bool) (kept : S → ℕ → ℕ → ℕ) (is_whole : S → Type 0) (does : S → SubscriberCall → S → Type 0) (touches : S → PartCall → S → Type 0)
@@ -67,9 +72,10 @@ pub record Turned {S : Type 0} (spans : S → Spans) (hint : S → Option LevelF
   pub ready : Ready spans kept is_whole new later
   pub lane_id : later.id ≡ before.id
   pub default : later.default ≡ before.default
+  pub attached : SameAttached before later
   pub sites : new.sites ≡ old.sites
   pub count : length new.subscribers ≡ length old.subscribers
   pub stay : SpansStay left f.span.held (spans_in spans old (dispatch_serving before)).made (spans_in spans new (dispatch_serving before)).made
   pub carried : (number site k : ℕ) (handles : List Handle) (guards : List Held) → at ≡ moment_of k → length guards ≡ k → slice_get handles number ≡ Some f.span → f.span.site ≡ Some site
-      → Carries spans hint enables does touches (dispatch_serving before) (poll old.sites k (left_as number site f.inner))
+      → Carries spans hint enables does touches (dispatch_serving before) (poll_requests old.sites k (left_as number site f.inner))
       (record { world = old; lane = before; handles = handles; guards = guards }) (record { world = new; lane = later; handles = handles; guards = guards ++ f.span.held ∷ [] })

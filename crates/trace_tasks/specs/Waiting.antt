@@ -1,5 +1,5 @@
 -- Tasks in a queue.
-use Rattle.std.specs.Prelude.{◌≡◌, ℕ, ◌+◌, List, [], ◌∷◌, ◌++◌, Bool, Option, Some, None, slice_get, sum_by}
+use Rattle.std.specs.Prelude.{◌≡◌, ℕ, ◌+◌, List, [], ◌∷◌, ◌++◌, Bool, true, false, Option, Some, None, slice_get, sum_by}
 use Rattle.trace_base.specs.declared.callsite.Callsite.{Callsite}
 use Rattle.trace_base.specs.declared.lane.Lane.{Lane}
 use Rattle.trace_base.specs.declared.level.LevelFilter.{LevelFilter}
@@ -12,8 +12,8 @@ use Rattle.span_futures.specs.declared.instrument.Instrumented.{Instrumented}
 use Rattle.otel_layer.specs.Parts.{PartCall}
 use Rattle.trace_tasks.specs.declared.running.Running.{Running}
 use Rattle.trace_tasks.specs.Carrying.{Carries}
-use Rattle.trace_tasks.specs.Flat.{Left, yields, all_polls, turns}
-use Rattle.trace_tasks.specs.Turning.{IsAlone, dispatch_serving}
+use Rattle.trace_tasks.specs.Flat.{UnfinishedTask, yield_count, all_polls, turns_requests}
+use Rattle.trace_tasks.specs.Turning.{IsAlone, Turned, dispatch_serving}
 
 -- a task whose handle is known and alone holds its span
 pub record Waits {S : Type 0} (spans : S → Spans) (world : Worlds S) (d : ℕ) (f : Instrumented Running) : Type 0 where
@@ -44,12 +44,12 @@ abbrev pub KeepsBut : {S : Type 0} → (S → Spans) → Worlds S → Worlds S �
 KeepsBut spans old new closed = (held : Held) → (held ≡ closed → ⊥) → IsKnown spans old held → IsKnown spans new held
 
 -- tasks, and where they stand in a script
-pub record TaskStands (handles : List Handle) (t : Left) (f : Instrumented Running) : Type 0 where
+pub record TaskStands (handles : List Handle) (t : UnfinishedTask) (f : Instrumented Running) : Type 0 where
   pub handle : slice_get handles t.number ≡ Some f.span
   pub site : f.span.site ≡ Some t.site
   pub steps : t.steps ≡ f.inner.steps.items
 
-abbrev pub AllStand : List Handle → List Left → List (Instrumented Running) → Type 0
+abbrev pub AllStand : List Handle → List UnfinishedTask → List (Instrumented Running) → Type 0
 AllStand handles [] [] = Unit {0}
 AllStand handles [] (f ∷ fs) = ⊥
 AllStand handles (t ∷ ts) [] = ⊥
@@ -62,12 +62,29 @@ queue_with fs (Some g) = fs ++ g ∷ []
 
 -- as many polls as a queue takes
 abbrev pub polls_in : List (Instrumented Running) → ℕ
-polls_in fs = sum_by (λ f. yields f.inner.steps.items + 1) fs
+polls_in fs = sum_by (λ f. yield_count f.inner.steps.items + 1) fs
+
+-- the first task of a queue was polled once, and went to the end if it wasn't finished
+pub record TakesTurn {S : Type 0} (spans : S → Spans) (hint : S → Option LevelFilter) (enables : S → ℕ → Callsite → Bool) (kept : S → ℕ → ℕ → ℕ) (is_whole : S → Type 0) (does : S → SubscriberCall → S → Type 0) (touches : S → PartCall → S → Type 0)
+    (at : ℕ) (first : List (Instrumented Running)) (old : Worlds S) (before : Lane) (last : List (Instrumented Running)) (new : Worlds S) (later : Lane) : Type 0 where
+  pub f : Instrumented Running
+  pub others : List (Instrumented Running)
+  pub is : first ≡ f ∷ others
+  pub left : Option (Instrumented Running)
+  pub queue : last ≡ queue_with others left
+  pub turned : Turned spans hint enables kept is_whole does touches at f old before left new later
+  pub wait : AllWait spans new (dispatch_serving later) last
+
+-- the same if there is a task
+abbrev pub TakesTurnIf : {S : Type 0} → (S → Spans) → (S → Option LevelFilter) → (S → ℕ → Callsite → Bool) → (S → ℕ → ℕ → ℕ) → (S → Type 0) → (S → SubscriberCall → S → Type 0) → (S → PartCall → S → Type 0)
+    → ℕ → Bool → List (Instrumented Running) → Worlds S → Lane → List (Instrumented Running) → Worlds S → Lane → Type 0
+TakesTurnIf spans hint enables kept is_whole does touches at true first old before last new later = TakesTurn spans hint enables kept is_whole does touches at first old before last new later
+TakesTurnIf spans hint enables kept is_whole does touches at false first old before last new later = (first ≡ []) × (last ≡ []) × (new ≡ old) × (later ≡ before)
 
 -- the tasks of a queue were polled in turn until all were finished
 pub record TakesTurns {S : Type 0} (spans : S → Spans) (hint : S → Option LevelFilter) (enables : S → ℕ → Callsite → Bool) (does : S → SubscriberCall → S → Type 0) (touches : S → PartCall → S → Type 0)
-    (handles : List Handle) (ts : List Left) (old new : Worlds S) (before later : Lane) (polls : ℕ) : Type 0 where
+    (handles : List Handle) (ts : List UnfinishedTask) (old new : Worlds S) (before later : Lane) (polls : ℕ) : Type 0 where
   pub guards : List Held
   pub polled : polls ≡ all_polls ts
-  pub carried : Carries spans hint enables does touches (dispatch_serving before) (turns old.sites (all_polls ts) 0 ts)
+  pub carried : Carries spans hint enables does touches (dispatch_serving before) (turns_requests old.sites (all_polls ts) 0 ts)
       (record { world = old; lane = before; handles = handles; guards = [] }) (record { world = new; lane = later; handles = handles; guards = guards })

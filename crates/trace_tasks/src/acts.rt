@@ -1,6 +1,6 @@
 //! What a step of a task does.
 ghost use Rattle.std.specs.Prelude.{◌≡◌, ◌<◌, length, Some, OnOk, OnErr};
-ghost use Rattle.trace_base.specs.Gate.{IsOwn, dispatch_on};
+ghost use Rattle.trace_base.specs.Gate.{IsInWorld, dispatch_on};
 ghost use Rattle.span_futures.specs.Lent.{HasAll};
 ghost use Rattle.trace_tasks.specs.declared.script.Step.TheVariants as steps;
 ghost use Rattle.trace_tasks.specs.Acts.{StepOn, Changes, Wants};
@@ -28,7 +28,7 @@ pub(crate) fn act<S: OtelSubscriber>(
     at: u64,
     step: Step,
 ) -> Result<(), Memory>
-    requires own { IsOwn world.old lane.now.default }
+    requires own { IsInWorld world.old lane.now.default }
     requires whole { HasAll S.Subscriber.is_whole world.old }
     ensures ok { OnOk result (StepOn S.Subscriber.spans S.Subscriber.hint S.Subscriber.enables S.Subscriber.does
         S.OtelPart.touches lane.now at step world.old world.new) }
@@ -59,7 +59,7 @@ fn tell<S: OtelSubscriber>(
     site: u64,
     fields: Items<(Text, Value)>,
 ) -> Result<(), Memory>
-    requires own { IsOwn world.old lane.now.default }
+    requires own { IsInWorld world.old lane.now.default }
     requires serves { dispatch_on lane.now.default world.old.global ≡ Some dispatch }
     requires there { dispatch < length world.old.subscribers }
     requires whole { HasAll S.Subscriber.is_whole world.old }
@@ -80,7 +80,8 @@ fn tell<S: OtelSubscriber>(
     }
     let values = values_of(alloc, world.site(found), fields)?;
     let (subscriber, callsite) = world.subscriber_and_site(dispatch, found);
-    subscriber.event(lane, at, Parent::Current, found, callsite, &values)
+    let current = subscriber.current_id(lane.id);
+    subscriber.event(lane, at, Parent::Current, current, found, callsite, &values)
 }
 
 // Records on the current span, if there is one.

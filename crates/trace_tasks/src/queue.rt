@@ -3,10 +3,9 @@ ghost use Rattle.std.specs.Prelude.{◌≡◌, ◌<◌, ◌^◌, [], IfOk, IfErr
 ghost use Rattle.std.specs.VecDeque.{deque_len, deque_capacity};
 ghost use Rattle.futures.specs.Task.{Keeps};
 ghost use Rattle.span_futures.specs.Lent.{HasAll};
-ghost use Rattle.trace_tasks.specs.Carrying.{Carries};
-ghost use Rattle.trace_tasks.specs.Stops.{StopsTurns, drops_of_tasks};
+ghost use Rattle.trace_tasks.specs.Stops.{StopsTurns, StopsInTurn, DropsAll};
 ghost use Rattle.trace_tasks.specs.Turning.{Ready, dispatch_serving};
-ghost use Rattle.trace_tasks.specs.Waiting.{AllWait, AllKnown, AllStand, TakesTurns, polls_in, queue_with};
+ghost use Rattle.trace_tasks.specs.Waiting.{AllWait, AllKnown, AllStand, TakesTurnIf, TakesTurns, polls_in, queue_with};
 
 use crate::running::Running;
 use crate::turn::turn;
@@ -18,8 +17,44 @@ use std::collections::VecDeque;
 use trace_base::lane::Lane;
 use trace_base::world::World;
 
-/// Polls the first task of a queue, which goes to the end if it isn't finished, until none is left; answers the number of
-/// polls. The k-th poll is at the moment 10 k. A poll that is refused ends it, and all handles are closed at its moment.
+/// Polls the first task of a queue, which goes to the end if it isn't finished; false if there is none. A poll that is
+/// refused closes the handles of all tasks, at its moment.
+pub(crate) fn take_turn<S: OtelSubscriber>(
+    queue: &mut VecDeque<Instrumented<Running>>,
+    world: &mut World<S>,
+    lane: &mut Lane,
+    at: u64,
+    cx: &mut Context<'_>,
+) -> Result<bool, EnterError>
+    requires ready { Ready S.Subscriber.spans S.Subscriber.kept S.Subscriber.is_whole world.old lane.old }
+    requires wait { AllWait S.Subscriber.spans world.old (dispatch_serving lane.old) queue.old.items }
+
+    ensures ok { IfOk result (λ taken. TakesTurnIf S.Subscriber.spans S.Subscriber.hint S.Subscriber.enables
+        S.Subscriber.kept S.Subscriber.is_whole S.Subscriber.does S.OtelPart.touches
+        at taken queue.old.items world.old lane.old queue.new.items world.new lane.new) }
+    ensures stops { IfErr result (λ e. StopsInTurn S.Subscriber.spans S.Subscriber.hint S.Subscriber.enables
+        S.Subscriber.activates S.Subscriber.does S.OtelPart.touches S.Subscriber.same
+        at queue.old.items world.old lane.old e world.new lane.new) }
+    ensures empty { IfErr result (λ e. queue.new.items ≡ []) }
+    ensures whole { HasAll S.Subscriber.is_whole world.new }
+    ensures context { Keeps cx.old cx.new }
+{
+    let Some(task) = queue.pop_front() else {
+        return Ok(false);
+    };
+    match turn(task, world, lane, at, cx) {
+        Ok(left) => {
+            put_back(queue, left);
+            Ok(true)
+        }
+        Err(error) => {
+            close_all(queue, world, at);
+            Err(error)
+        }
+    }
+}
+
+/// Polls the tasks of a queue in turn until none is left; answers the number of polls. The k-th poll is at the moment 10 k.
 pub(crate) fn poll_all<S: OtelSubscriber>(
     queue: &mut VecDeque<Instrumented<Running>>,
     world: &mut World<S>,
@@ -38,29 +73,17 @@ pub(crate) fn poll_all<S: OtelSubscriber>(
         S.OtelPart.touches S.Subscriber.same (dispatch_serving lane.old) world.old.sites ts e
         (record { world = world.old; lane = lane.old; handles = handles; guards = [] }) world.new lane.new) }
     ensures empty { queue.new.items ≡ [] }
-    ensures whole { HasAll S.Subscriber.is_whole world.new }
     ensures context { Keeps cx.old cx.new }
 {
     let mut polls = 0;
-    while let Some(task) = queue.pop_front() {
-        let at = 10 * (polls + 1);
-        match turn(task, world, lane, at, cx) {
-            Ok(left) => put_back(queue, left),
-            Err(error) => {
-                close_all(queue, world, at);
-                return Err(error);
-            }
-        }
+    while take_turn(queue, world, lane, 10 * (polls + 1), cx)? {
         polls += 1;
     }
     Ok(polls)
 }
 
-/// A task goes to the end of the queue, if it isn't finished.
-pub(crate) fn put_back(
-    queue: &mut VecDeque<Instrumented<Running>>,
-    left: Option<Instrumented<Running>>,
-)
+// A task goes to the end of the queue, if it isn't finished.
+fn put_back(queue: &mut VecDeque<Instrumented<Running>>, left: Option<Instrumented<Running>>)
     requires { deque_len queue.old < deque_capacity queue.old }
     ensures { queue.new.items ≡ queue_with queue.old.items left }
 {
@@ -78,10 +101,8 @@ pub(crate) fn close_all<S: OtelSubscriber>(
 )
     requires known { AllKnown S.Subscriber.spans world.old queue.old.items }
     requires whole { HasAll S.Subscriber.is_whole world.old }
-    ensures closed { (handles : _) (ts : _) → AllStand handles ts queue.old.items → (d : _) (lane : _) (guards : _)
-        → Carries S.Subscriber.spans S.Subscriber.hint S.Subscriber.enables S.Subscriber.does S.OtelPart.touches d
-        (drops_of_tasks at ts) (record { world = world.old; lane = lane; handles = handles; guards = guards })
-        (record { world = world.new; lane = lane; handles = handles; guards = guards }) }
+    ensures dropped { DropsAll S.Subscriber.spans S.Subscriber.hint S.Subscriber.enables S.Subscriber.does
+        S.OtelPart.touches at queue.old.items world.old world.new }
     ensures empty { queue.new.items ≡ [] }
     ensures whole { HasAll S.Subscriber.is_whole world.new }
 {

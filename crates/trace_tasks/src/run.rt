@@ -3,14 +3,15 @@ ghost use Rattle.std.specs.Prelude.{◌≡◌, ◌<◌, ◌^◌, ◌+◌, [], le
 ghost use Rattle.futures.specs.Task.{Keeps};
 ghost use Rattle.span_handles.specs.Worlds.{spans_in};
 ghost use Rattle.trace_tasks.specs.Begun.{AllSited, Ran};
-ghost use Rattle.trace_tasks.specs.Flat.{all_polls, tasks_at_first, yields};
+ghost use Rattle.trace_tasks.specs.Flat.{all_polls, tasks_at_first, yield_count};
 ghost use Rattle.trace_tasks.specs.Stops.{GaveUp};
 ghost use Rattle.trace_tasks.specs.Turning.{Ready, dispatch_serving};
 
 use crate::begin::begin_all;
+use crate::copies::copied_tasks;
 use crate::queue::{close_all, poll_all};
 use crate::running::Running;
-use crate::script::Task;
+use crate::script::{Task, TaskScript};
 use futures::task::Context;
 use otel_base::enter_error::EnterError;
 use otel_base::list::Items;
@@ -22,30 +23,34 @@ use std::collections::VecDeque;
 use trace_base::lane::Lane;
 use trace_base::world::World;
 
-/// Puts each task under a span of its own, and polls them in turn until all are finished; answers
-/// how many polls there were. `Full` only where an entry met a full lane, `Memory` freely: what was done before a refusal
-/// stays, and the handles that are left are closed.
+/// Puts each task of a script under a span of its own, and polls them in turn until all are finished; answers
+/// how many polls there were. `Full` only where the lane had as many contexts as may be at the call, `Memory` freely: what was
+/// done before a refusal stays, and the handles that are left are closed.
 pub fn run_tasks<S: OtelSubscriber>(
     alloc: Global,
-    tasks: Items<Task>,
+    script: &TaskScript,
     world: &mut World<S>,
     lane: &mut Lane,
     cx: &mut Context<'_>,
 ) -> Result<u64, EnterError>
     requires ready { Ready S.Subscriber.spans S.Subscriber.kept S.Subscriber.is_whole world.old lane.old }
-    requires sited { AllSited (length world.old.sites) tasks }
-    requires few { length (spans_in S.Subscriber.spans world.old (dispatch_serving lane.old)).made + length tasks < 2 ^ 63 }
-    requires few_polls { all_polls (tasks_at_first 0 tasks) < 2 ^ 60 }
+    requires sites { world.old.sites ≡ script.now.settings.callsites }
+    requires sited { AllSited (length script.now.settings.callsites) script.now.tasks }
+    requires few { length (spans_in S.Subscriber.spans world.old (dispatch_serving lane.old)).made + length script.now.tasks < 2 ^ 63 }
+    requires few_polls { all_polls (tasks_at_first 0 script.now.tasks) < 2 ^ 60 }
 
     ensures ok { IfOk result (Ran S.Subscriber.spans S.Subscriber.hint S.Subscriber.enables S.Subscriber.does
-        S.OtelPart.touches world.old.sites tasks world.old world.new lane.old lane.new) }
-    ensures answer { IfOk result (λ polls. polls ≡ sum_by (λ t. yields t.steps) tasks + length tasks) }
+        S.OtelPart.touches script.now.settings.callsites script.now.tasks world.old world.new lane.old lane.new) }
+    ensures answer { IfOk result (λ polls. polls ≡ sum_by (λ t. yield_count t.steps) script.now.tasks + length script.now.tasks) }
     ensures gives_up { IfErr result (λ e.
         GaveUp S.Subscriber.spans S.Subscriber.hint S.Subscriber.enables S.Subscriber.activates S.Subscriber.does
-        S.OtelPart.touches S.Subscriber.same (dispatch_serving lane.old) world.old.sites tasks e
+        S.OtelPart.touches S.Subscriber.same (dispatch_serving lane.old) script.now.settings.callsites script.now.tasks e
         (record { world = world.old; lane = lane.old; handles = []; guards = [] }) world.new lane.new) }
     ensures context { Keeps cx.old cx.new }
 {
+    let Ok(tasks) = copied_tasks(alloc, script.tasks.as_slice()) else {
+        return Err(EnterError::Memory);
+    };
     let mut queue = VecDeque::new(alloc);
     let answer = begin_and_poll(alloc, tasks, &mut queue, world, lane, cx);
     queue.destroy_empty();
@@ -69,7 +74,7 @@ fn begin_and_poll<S: OtelSubscriber>(
 
     ensures ok { IfOk result (Ran S.Subscriber.spans S.Subscriber.hint S.Subscriber.enables S.Subscriber.does
         S.OtelPart.touches world.old.sites tasks world.old world.new lane.old lane.new) }
-    ensures answer { IfOk result (λ polls. polls ≡ sum_by (λ t. yields t.steps) tasks + length tasks) }
+    ensures answer { IfOk result (λ polls. polls ≡ sum_by (λ t. yield_count t.steps) tasks + length tasks) }
     ensures gives_up { IfErr result (λ e.
         GaveUp S.Subscriber.spans S.Subscriber.hint S.Subscriber.enables S.Subscriber.activates S.Subscriber.does
         S.OtelPart.touches S.Subscriber.same (dispatch_serving lane.old) world.old.sites tasks e

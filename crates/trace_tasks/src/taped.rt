@@ -1,20 +1,20 @@
-//! A run of tasks over a tape.
-ghost use Rattle.std.specs.Prelude.{◌≡◌, ◌≢◌, ◌<◌, ◌^◌, ◌+◌, [], length, sum_by, Err, IfOk, OnOk};
+//! Runs of tasks over a tape.
+ghost use Rattle.std.specs.Prelude.{◌≡◌, ◌≢◌, ◌<◌, ◌^◌, ◌+◌, [], length, sum_by, Some, Err, IfOk, OnOk, slice_get};
 ghost use Rattle.futures.specs.Task.{Keeps};
 ghost use Rattle.otel_base.specs.declared.enter_error.EnterError.TheVariants as faults;
 ghost use Rattle.trace_tasks.specs.Begun.{AllSited};
-ghost use Rattle.trace_tasks.specs.Flat.{all_polls, tasks_at_first, flat, yields};
+ghost use Rattle.trace_tasks.specs.Flat.{all_polls, tasks_at_first, flat_list, yield_count};
 ghost use Rattle.trace_tasks.specs.Spelled.{AreTested, IsNewTape, tape_spans};
 ghost use Rattle.trace_tasks.specs.TapeTurns.{WaitOnTape, TakesAll, OnlyRequestsChange, HandsOn, HandsTurnsOn};
 ghost use Rattle.trace_tasks.specs.Turning.{Ready, dispatch_serving};
 ghost use Rattle.trace_tasks.specs.Waiting.{AllWait, polls_in};
 
 use crate::begin::begin_all;
-use crate::queue::{close_all, put_back};
+use crate::queue::{close_all, take_turn};
 use crate::request_sink::RequestSink;
+use crate::run::run_tasks;
 use crate::running::Running;
-use crate::script::Task;
-use crate::turn::turn;
+use crate::script::{Task, TaskScript};
 use futures::task::Context;
 use otel_base::enter_error::EnterError;
 use otel_base::list::Items;
@@ -27,6 +27,32 @@ use trace_base::dispatcher::Dispatch;
 use trace_base::lane::Lane;
 use trace_base::world::World;
 use trace_tape::tape::Tape;
+
+/// Runs the tasks of a script over a new tape, which keeps exactly the flat list; answers how many polls that has: one for
+/// each task and one for each yield. Never `Full`, `Memory` freely.
+pub fn spell_tasks(
+    alloc: Global,
+    script: &TaskScript,
+    world: &mut World<Tape>,
+    lane: &mut Lane,
+    cx: &mut Context<'_>,
+) -> Result<u64, EnterError>
+    requires new_tape { (tape : _) × IsNewTape world.old (dispatch_serving lane.old) tape }
+    requires ready { Ready tape_spans (λ s lane number. 0) (λ s. Unit {0}) world.old lane.old }
+    requires sites { world.old.sites ≡ script.now.settings.callsites }
+    requires sited { AllSited (length script.now.settings.callsites) script.now.tasks }
+    requires tested { AreTested script.now.settings.callsites script.now.tasks }
+    requires few { length script.now.tasks < 2 ^ 63 }
+    requires few_polls { all_polls (tasks_at_first 0 script.now.tasks) < 2 ^ 60 }
+
+    ensures polls { IfOk result (λ polls. polls ≡ sum_by (λ t. yield_count t.steps) script.now.tasks + length script.now.tasks) }
+    ensures never_full { result ≢ Err faults.Full }
+    ensures spelled { IfOk result (λ polls. (tape : _) × (slice_get world.new.subscribers (dispatch_serving lane.old) ≡ Some tape)
+        × (tape.requests ≡ flat_list script.now.settings.callsites script.now.tasks)) }
+    ensures context { Keeps cx.old cx.new }
+{
+    run_tasks(alloc, script, world, lane, cx)
+}
 
 /// Runs tasks over a new tape, and hands the requests that they spell on, those of a poll as soon as it has ended: the sink
 /// takes exactly the flat list. Answers how many polls that has: one for each task and one for each yield. Never `Full`,
@@ -48,9 +74,9 @@ pub fn run_on_tape<K: RequestSink>(
     requires few { length tasks < 2 ^ 63 }
     requires few_polls { all_polls (tasks_at_first 0 tasks) < 2 ^ 60 }
 
-    ensures polls { IfOk result (λ polls. polls ≡ sum_by (λ t. yields t.steps) tasks + length tasks) }
+    ensures polls { IfOk result (λ polls. polls ≡ sum_by (λ t. yield_count t.steps) tasks + length tasks) }
     ensures never_full { result ≢ Err faults.Full }
-    ensures taken { IfOk result (λ polls. TakesAll K.takes (flat world.old.sites tasks) sink.old sink.new) }
+    ensures taken { IfOk result (λ polls. TakesAll K.takes (flat_list world.old.sites tasks) sink.old sink.new) }
     ensures context { Keeps cx.old cx.new }
 {
     let mut queue = VecDeque::new(alloc);
@@ -79,9 +105,9 @@ fn begin_and_spell<K: RequestSink>(
     requires few { length tasks < 2 ^ 63 }
     requires few_polls { all_polls (tasks_at_first 0 tasks) < 2 ^ 60 }
 
-    ensures polls { IfOk result (λ polls. polls ≡ sum_by (λ t. yields t.steps) tasks + length tasks) }
+    ensures polls { IfOk result (λ polls. polls ≡ sum_by (λ t. yield_count t.steps) tasks + length tasks) }
     ensures never_full { result ≢ Err faults.Full }
-    ensures taken { IfOk result (λ polls. TakesAll K.takes (flat world.old.sites tasks) sink.old sink.new) }
+    ensures taken { IfOk result (λ polls. TakesAll K.takes (flat_list world.old.sites tasks) sink.old sink.new) }
     ensures empty { queue.new.items ≡ [] }
     ensures context { Keeps cx.old cx.new }
 {
@@ -122,22 +148,12 @@ fn spell_turns<K: RequestSink>(
     ensures context { Keeps cx.old cx.new }
 {
     let mut polls = 0;
-    while let Some(task) = queue.pop_front() {
-        let at = 10 * (polls + 1);
-        match turn(task, world, lane, at, cx) {
-            Ok(left) => put_back(queue, left),
-            Err(error) => {
-                close_all(queue, world, at);
-                return Err(error);
-            }
+    while take_turn(queue, world, lane, 10 * (polls + 1), cx)? {
+        if let Err(Memory) = hand_on(world, dispatch, sink) {
+            close_all(queue, world, 10 * (polls + 1));
+            return Err(EnterError::Memory);
         }
-        match hand_on(world, dispatch, sink) {
-            Ok(()) => polls += 1,
-            Err(Memory) => {
-                close_all(queue, world, at);
-                return Err(EnterError::Memory);
-            }
-        }
+        polls += 1;
     }
     Ok(polls)
 }

@@ -1,6 +1,6 @@
 -- A poll of a task that was refused.
 use Rattle.std.proofs.Common.{◌≡◌, ℕ, List, [], ◌∷◌, ◌++◌, length, map, Bool, Option, Some, None, Err, refl, sym, ap, subst, ◌∙◌, slice_get, inl, inr, ◌⊎◌, append_assoc}
-use Rattle.trace_tasks.proofs.Common.{EnterError, Callsite, Lane, LevelFilter, SubscriberCall, Enter, spans_after_call, with_span_entry, Lanes, Worlds, Spans, entries_on, current_on, Replaced, Chain, spans_in, no_spans, Handle, Held, ReplacedOn, BeginsInside, LeavesLane, MeetsFullLane, seen_before, seen_later, Instrumented, Polled, CannotEnter, IsInside, PartCall, Request, on_first_lane, Running, Step, left_of, PollsSteps, Wants, untouched, spare, Stage, Entered, Exited, Handled, Left, step_call, moment_of, drop_at_end, poll, StopsPoll, TurnStops, MeetsFull, dispatch_serving, Ready, IsAlone, IsAloneAs, left_as}
+use Rattle.trace_tasks.proofs.Common.{EnterError, Callsite, Lane, LevelFilter, SubscriberCall, Enter, spans_after_call, with_span_entry, CallLanes, Worlds, Spans, entries_on, current_on, Replaced, Chain, spans_in, no_spans, Handle, Held, ReplacedOn, BeginsInside, LeavesLane, MeetsFullLane, seen_before, seen_later, Instrumented, Polled, CannotEnter, IsInside, PartCall, StaysStack, Request, on_first_lane, Running, Step, steps_left, PollsSteps, Wants, untouched, spare, TaskScene, Entered, Exited, Handled, UnfinishedTask, step_call, moment_of, drop_at_end, poll_requests, StopsPoll, TurnStops, MeetsFull, dispatch_serving, Ready, IsAlone, IsAloneAs, left_as}
 use Rattle.span_script.specs.declared.request.Call.TheVariants as call
 use Rattle.trace_tasks.proofs.queues.RootLemmas.{entered_current, none_current}
 use Rattle.trace_tasks.proofs.polls.StepLemmas.{IsAt, disabled, enabled, first_acts, acts_carry}
@@ -15,8 +15,8 @@ map_both f (x ∷ xs) ys = ap (λ zs. f x ∷ zs) (map_both f xs ys)
 
 module _ {S : Type 0} (spans : S → Spans) (hint : S → Option LevelFilter) (enables : S → ℕ → Callsite → Bool) (attaches : S → Bool) (activates : S → ℕ → Bool) (kept : S → ℕ → ℕ → ℕ) (is_whole : S → Type 0)
     (does : S → SubscriberCall → S → Type 0) (touches : S → PartCall → S → Type 0) (same : S → S → Type 0)
-    (shows : (s : S) (call : SubscriberCall) (t : S) → does s call t → spans t ≡ spans_after_call (spans s) call) (lanes : (s : S) (call : SubscriberCall) (t : S) → does s call t → Lanes (attaches s) (kept s) call (kept t))
-    (stays : (s : S) (call : PartCall) (t : S) → touches s call t → spans t ≡ spans s) where
+    (shows : (s : S) (call : SubscriberCall) (t : S) → does s call t → spans t ≡ spans_after_call (spans s) call) (lanes : (s : S) (call : SubscriberCall) (t : S) → does s call t → CallLanes (attaches s) (kept s) call (kept t))
+    (stays : (s : S) (call : PartCall) (t : S) → touches s call t → StaysStack spans kept attaches is_whole s t) where
   -- what is current once a task's span was entered
   record Inner (d : ℕ) (held : Held) (own : Option ℕ) (site : ℕ) (old world : Worlds S) (before lane : Lane) : Type 0 where
     sites : world.sites ≡ old.sites
@@ -62,7 +62,7 @@ module _ {S : Type 0} (spans : S → Spans) (hint : S → Option LevelFilter) (e
     abbrev d : ℕ
     d = dispatch_serving before
 
-    abbrev t : Left
+    abbrev t : UnfinishedTask
     t = left_as number site f.inner
 
     abbrev m : ℕ
@@ -71,7 +71,7 @@ module _ {S : Type 0} (spans : S → Spans) (hint : S → Option LevelFilter) (e
     abbrev guarded : List Held
     guarded = guards ++ f.span.held ∷ []
 
-    abbrev start : Stage S
+    abbrev start : TaskScene S
     start = record { world = old; lane = before; handles = handles; guards = guards }
 
     drop_at : (gs : List Held) → ReplacedOn (λ id s t. Chain spans does m (Some id) s t) world new f.span.held
@@ -96,7 +96,7 @@ module _ {S : Type 0} (spans : S → Spans) (hint : S → Option LevelFilter) (e
     refused : CannotEnter {A = Unit {0}} same activates f old before (Err e) g world later → ReplacedOn (λ id s t. Chain spans does m (Some id) s t) world new f.span.held → StopsPoll spans hint enables activates does touches same d old.sites m k t e start new later
     refused r chain = record {
       part = [];
-      others = poll old.sites k t;
+      others = poll_requests old.sites k t;
       within = refl;
       not_entered = λ is_full. refl;
       stopped = record {
@@ -125,7 +125,7 @@ module _ {S : Type 0} (spans : S → Spans) (hint : S → Option LevelFilter) (e
           handles = refl;
           guards = refl;
         } in
-        let did = acts_carry spans hint enables does touches d shows stays old.sites t m i.lane handles guarded (inn.default ∙ ready.default) f.span (current_by f.span.held site) inn.here is
+        let did = acts_carry spans hint enables attaches kept is_whole does touches d shows lanes stays old.sites t m i.lane handles guarded (inn.default ∙ ready.default) f.span (current_by f.span.held site) inn.here is
         stop.done (first_acts stop.done stop.others f.inner.steps.items stop.within) i.world stop.world inn.sites inn.current stop.did in
         let exit : Exited spans hint enables does touches d m k (record { world = i.left_world; lane = i.left_lane; handles = handles; guards = guarded }) (record { world = world; lane = later; handles = handles; guards = guarded }) = record {
           held = f.span.held;
@@ -135,7 +135,7 @@ module _ {S : Type 0} (spans : S → Spans) (hint : S → Option LevelFilter) (e
           handles = refl;
           guards = refl;
         } in
-        let tail : List Request = on_first_lane m (call.Exit k) ∷ drop_at_end k number (left_of f.inner.steps.items) in
+        let tail : List Request = on_first_lane m (call.Exit k) ∷ drop_at_end k number (steps_left f.inner.steps.items) in
         record {
           part = on_first_lane m (call.Enter number) ∷ map f' stop.done;
           others = map f' stop.others ++ tail;

@@ -1,6 +1,6 @@
 -- A poll of a task's steps, so far.
 use Rattle.std.proofs.Common.{◌≡◌, ℕ, List, [], ◌∷◌, ◌++◌, Bool, Option, Ok, Err, refl, sym, ap, subst, ◌∙◌, ◌⊎◌, inl, inr, append_assoc}
-use Rattle.trace_tasks.proofs.Common.{Callsite, Lane, LevelFilter, Worlds, Spans, SubscriberCall, spans_after_call, Lanes, CallsBy, KeepsLent, calls_none, calls_then, keeps_nothing, PartCall, StaysStack, Step, now_of, left_of, StepOn, StepsOn, PollsSteps, Changes, Asks, Wants}
+use Rattle.trace_tasks.proofs.Common.{Callsite, Lane, LevelFilter, Worlds, Spans, SubscriberCall, spans_after_call, CallLanes, CallsBy, KeepsLent, calls_none, calls_then, keeps_nothing, PartCall, StaysStack, Step, steps_now, steps_left, StepOn, StepsOn, PollsSteps, Changes, Asks, Wants}
 use Rattle.std.proofs.lemmas.List.{append-nil}
 use Rattle.otel_base.specs.declared.enter_error.EnterError.TheVariants as faults
 use Rattle.futures.specs.declared.task.Poll.TheVariants as polls
@@ -24,9 +24,9 @@ module _ {S : Type 0} (spans : S → Spans) (hint : S → Option LevelFilter) (e
   pub record Polling (first steps : List Step) (old world : Worlds S) : Type 0 where
     pub lent : KeepsLent spans kept is_whole old world lane lane
     pub called : CallsBy does (Asks touches) same at old world
-    pub left : left_of steps ≡ left_of first
+    pub left : steps_left steps ≡ steps_left first
     pub done : List Step
-    pub split : done ++ now_of steps ≡ now_of first
+    pub split : done ++ steps_now steps ≡ steps_now first
     pub did : StepsOn spans hint enables does touches lane at done old world
 
   -- one step more at the end
@@ -39,7 +39,7 @@ module _ {S : Type 0} (spans : S → Spans) (hint : S → Option LevelFilter) (e
     polling_first steps world = record { lent = keeps_nothing spans kept is_whole world lane; called = calls_none does (Asks touches) same same_refl same_trans at world; left = refl; done = []; split = refl; did = refl }
 
     module _ (same_spans : (s t : S) → same s t → spans t ≡ spans s) (same_kept : (s t : S) → same s t → kept t ≡ kept s) (same_whole : (s t : S) → same s t → is_whole s → is_whole t)
-        (shows : (s : S) (call : SubscriberCall) (t : S) → does s call t → spans t ≡ spans_after_call (spans s) call) (lanes : (s : S) (call : SubscriberCall) (t : S) → does s call t → Lanes (attaches s) (kept s) call (kept t))
+        (shows : (s : S) (call : SubscriberCall) (t : S) → does s call t → spans t ≡ spans_after_call (spans s) call) (lanes : (s : S) (call : SubscriberCall) (t : S) → does s call t → CallLanes (attaches s) (kept s) call (kept t))
         (keeps_whole : (s : S) (call : SubscriberCall) (t : S) → does s call t → is_whole s → is_whole t)
         (stays : (s : S) (call : PartCall) (t : S) → touches s call t → StaysStack spans kept attaches is_whole s t) where
       pub lent_more : (first steps : List Step) (old world next : Worlds S) → Polling first steps old world → Changes spans hint enables does touches same at world next → KeepsLent spans kept is_whole old next lane lane
@@ -52,13 +52,13 @@ module _ {S : Type 0} (spans : S → Spans) (hint : S → Option LevelFilter) (e
           calls_then does (Asks touches) same same_refl same_trans at old world next so_far.called
           (changes_call spans hint enables attaches kept is_whole does touches same same_refl same_trans at world next changes)
 
-      next_left : (s : Step) (steps : List Step) → IsAct s → left_of (s ∷ steps) ≡ left_of steps
+      next_left : (s : Step) (steps : List Step) → IsAct s → steps_left (s ∷ steps) ≡ steps_left steps
       next_left step.Yield steps act = absurd act
       next_left (step.Event site fields) steps act = refl
       next_left (step.Record fields) steps act = refl
       next_left (step.SetAttribute key value) steps act = refl
 
-      next_now : (s : Step) (steps : List Step) → IsAct s → now_of (s ∷ steps) ≡ s ∷ now_of steps
+      next_now : (s : Step) (steps : List Step) → IsAct s → steps_now (s ∷ steps) ≡ s ∷ steps_now steps
       next_now step.Yield steps act = absurd act
       next_now (step.Event site fields) steps act = refl
       next_now (step.Record fields) steps act = refl
@@ -69,22 +69,22 @@ module _ {S : Type 0} (spans : S → Spans) (hint : S → Option LevelFilter) (e
       polling_more first all s steps old world next so_far is act on changes = record {
         lent = lent_more first all old world next so_far changes;
         called = called_more first all old world next so_far changes;
-        left = sym (next_left s steps act) ∙ sym (ap left_of is) ∙ so_far.left;
+        left = sym (next_left s steps act) ∙ sym (ap steps_left is) ∙ so_far.left;
         done = so_far.done ++ s ∷ [];
-        split = append_assoc so_far.done (s ∷ []) (now_of steps) ∙ ap (λ (xs : List Step). so_far.done ++ xs) (sym (ap now_of is ∙ next_now s steps act)) ∙ so_far.split;
+        split = append_assoc so_far.done (s ∷ []) (steps_now steps) ∙ ap (λ (xs : List Step). so_far.done ++ xs) (sym (ap steps_now is ∙ next_now s steps act)) ∙ so_far.split;
         did = did_more so_far.done s old world next so_far.did on;
       }
 
-  all_done : (first all : List Step) (old world : Worlds S) (so_far : Polling first all old world) → now_of all ≡ [] → StepsOn spans hint enables does touches lane at (now_of first) old world
+  all_done : (first all : List Step) (old world : Worlds S) (so_far : Polling first all old world) → steps_now all ≡ [] → StepsOn spans hint enables does touches lane at (steps_now first) old world
   all_done first all old world so_far none =
       subst (λ (xs : List Step). StepsOn spans hint enables does touches lane at xs old world) (sym (append-nil so_far.done) ∙ ap (λ (xs : List Step). so_far.done ++ xs) (sym none) ∙ so_far.split) so_far.did
 
   pub polled_pending : (first all steps : List Step) (old world : Worlds S) → Polling first all old world → all ≡ step.Yield ∷ steps → PollsSteps spans hint enables does touches same first old lane at (Ok polls.Pending) steps world lane
-  polled_pending first all steps old world so_far is = (refl, sym so_far.left ∙ ap left_of is, all_done first all old world so_far (ap now_of is))
+  polled_pending first all steps old world so_far is = (refl, sym so_far.left ∙ ap steps_left is, all_done first all old world so_far (ap steps_now is))
 
   pub polled_ready : (first all steps : List Step) (old world : Worlds S) → Polling first all old world → all ≡ [] → PollsSteps spans hint enables does touches same first old lane at (Ok (polls.Ready tt)) steps world lane
-  polled_ready first all steps old world so_far is = (refl, sym so_far.left ∙ ap left_of is, all_done first all old world so_far (ap now_of is))
+  polled_ready first all steps old world so_far is = (refl, sym so_far.left ∙ ap steps_left is, all_done first all old world so_far (ap steps_now is))
 
   -- a step wanted memory
   pub polled_wants : (first all steps : List Step) (old world next : Worlds S) → Polling first all old world → Wants spans hint enables does touches same at world next → PollsSteps spans hint enables does touches same first old lane at (Err faults.Memory) steps next lane
-  polled_wants first all steps old world next so_far wants = (refl, refl, record { done = so_far.done; others = now_of all; within = so_far.split; world = world; did = so_far.did; wants = wants })
+  polled_wants first all steps old world next so_far wants = (refl, refl, record { done = so_far.done; others = steps_now all; within = so_far.split; world = world; did = so_far.did; wants = wants })

@@ -1,6 +1,6 @@
 -- A poll of a task, and its end if it is finished.
 use Rattle.std.proofs.Common.{◌≡◌, ℕ, List, [], ◌∷◌, ◌++◌, length, map, Bool, Option, Some, None, Ok, refl, sym, ap, subst, ◌∙◌, arith, inl, inr, ◌⊎◌}
-use Rattle.trace_tasks.proofs.Common.{option_map_or, Callsite, Lane, LevelFilter, SubscriberCall, TryClose, Exit, spans_after_call, Lanes, Worlds, Span, Spans, span_at, entries_on, next_of, without_hold, Replaced, Chain, ended, closes, ReleasesChain, all_released, releases, spans_in, no_spans, Handle, Held, HasOn, ReplacedOn, as_many, seen_before, seen_later, chain_shown, Instrumented, HasAll, AreAllAttached, KeepsLent, Polled, CannotEnter, IsInside, same_kept, keeps_all, PartCall, on_first_lane, Running, Step, now_of, StepsOn, PollsSteps, Stage, Handled, Carries, Left, step_call, moment_of, drop_at_end, served_by, dispatch_serving, Ready, root_of_one_handle, IsAlone, IsAloneAs, left_as, Turned}
+use Rattle.trace_tasks.proofs.Common.{option_map_or, Callsite, Lane, LevelFilter, SubscriberCall, TryClose, Exit, spans_after_call, CallLanes, Worlds, Span, Spans, span_at, entries_on, next_of, without_hold, Replaced, Chain, ended, closes, ReleasesChain, all_released, releases, spans_in, no_spans, Handle, Held, HasOn, ReplacedOn, as_many, seen_before, seen_later, chain_shown, Instrumented, HasAll, AreAllAttached, KeepsLent, Polled, CannotEnter, IsInside, same_kept, keeps_all, PartCall, StaysStack, on_first_lane, Running, Step, steps_now, StepsOn, PollsSteps, TaskScene, Handled, Carries, UnfinishedTask, step_call, moment_of, drop_at_end, served_by, dispatch_serving, Ready, root_of_one_handle, IsAlone, IsAloneAs, left_as, Turned}
 use Rattle.std.specs.Option.{option_map}
 use Rattle.futures.specs.declared.task.Poll.{Poll}
 use Rattle.futures.specs.declared.task.Poll.TheVariants as polls
@@ -24,8 +24,9 @@ rel_some _ _ _ (releases i at x y own rest) id is none =
 module _ {S : Type 0} (spans : S → Spans) (hint : S → Option LevelFilter) (enables : S → ℕ → Callsite → Bool) (attaches : S → Bool) (activates : S → ℕ → Bool) (kept : S → ℕ → ℕ → ℕ) (is_whole : S → Type 0)
     (does : S → SubscriberCall → S → Type 0) (touches : S → PartCall → S → Type 0) (same : S → S → Type 0)
     (allowed : (s : S) (call : SubscriberCall) (t : S) → does s call t → Allowed (spans s) call) (shows : (s : S) (call : SubscriberCall) (t : S) → does s call t → spans t ≡ spans_after_call (spans s) call)
-    (lanes : (s : S) (call : SubscriberCall) (t : S) → does s call t → Lanes (attaches s) (kept s) call (kept t)) (keeps_attaches : (s : S) (call : SubscriberCall) (t : S) → does s call t → attaches t ≡ attaches s)
-    (keeps_whole : (s : S) (call : SubscriberCall) (t : S) → does s call t → is_whole s → is_whole t) (stays : (s : S) (call : PartCall) (t : S) → touches s call t → spans t ≡ spans s) where
+    (lanes : (s : S) (call : SubscriberCall) (t : S) → does s call t → CallLanes (attaches s) (kept s) call (kept t)) (keeps_attaches : (s : S) (call : SubscriberCall) (t : S) → does s call t → attaches t ≡ attaches s)
+    (keeps_whole : (s : S) (call : SubscriberCall) (t : S) → does s call t → is_whole s → is_whole t)
+    (stays : (s : S) (call : PartCall) (t : S) → touches s call t → StaysStack spans kept attaches is_whole s t) (none_kept : (s : S) (lane number : ℕ) → is_whole s → entries_on lane (spans s).lanes ≡ [] → kept s lane number ≡ 0) where
   -- what a poll of a task's steps is
   abbrev pub RunPolls : Running → Worlds S → Lane → ℕ → Polled (Unit {0}) → Running → Worlds S → Lane → Type 0
   RunPolls f world lane at r g new later = PollsSteps spans hint enables does touches same f.steps.items world lane at r g.steps.items new later
@@ -50,11 +51,11 @@ module _ {S : Type 0} (spans : S → Spans) (hint : S → Option LevelFilter) (e
 
   -- the entry, the steps and the exit of a poll
   through_of : (f g : Instrumented Running) (at site : ℕ) (old new : Worlds S) (before later : Lane) (p : Poll (Unit {0})) → Ready spans kept is_whole old before → IsAlone (spans_in spans old (dispatch_serving before)).made (dispatch_serving before) site f.span
-      → (inside : IsInside does activates RunPolls f old before at (Ok p) g new later) → inside.left_lane ≡ inside.lane → StepsOn spans hint enables does touches inside.lane at (now_of f.inner.steps.items) inside.world inside.left_world
-      → Through spans hint enables attaches kept does touches (dispatch_serving before) shows lanes stays f.span.held f.span.site site at f.inner.steps.items old new before later
-  through_of f g at site old new before later p ready lone inside same_lane on =
-      through spans hint enables attaches kept does touches (dispatch_serving before) shows lanes stays f.span.held f.span.site site at f.inner.steps.items old inside.world inside.left_world new before inside.lane later
-      ready.default lone.site_is ready.none_open lone.held_is inside.entered on
+      → HasAll is_whole new → (inside : IsInside does activates RunPolls f old before at (Ok p) g new later) → inside.left_lane ≡ inside.lane → StepsOn spans hint enables does touches inside.lane at (steps_now f.inner.steps.items) inside.world inside.left_world
+      → Through spans hint enables attaches kept is_whole does touches (dispatch_serving before) shows lanes stays none_kept f.span.held f.span.site site at f.inner.steps.items old new before later
+  through_of f g at site old new before later p ready lone whole inside same_lane on =
+      through spans hint enables attaches kept is_whole does touches (dispatch_serving before) shows lanes stays none_kept f.span.held f.span.site site at f.inner.steps.items old inside.world inside.left_world new before inside.lane later
+      ready.default lone.site_is ready.whole whole ready.none_open lone.held_is inside.entered on
       (subst (λ (l : Lane). ReplacedOn (λ id s t. does s (Exit id at l later) t) inside.left_world new f.span.held) same_lane inside.exited)
       (λ no. inside.none no ∙ same_lane)
 
@@ -63,20 +64,21 @@ module _ {S : Type 0} (spans : S → Spans) (hint : S → Option LevelFilter) (e
       → Turned spans hint enables kept is_whole does touches at f old before (Some g) new later
   pending f g at site old new before later ready lone lent inside =
       let polled : PollsSteps spans hint enables does touches same f.inner.steps.items inside.world inside.lane at (Ok polls.Pending) g.inner.steps.items inside.left_world inside.left_lane = inside.polled in
-      let thr = through_of f g at site old new before later polls.Pending ready lone inside polled.0 polled.2 in
+      let thr = through_of f g at site old new before later polls.Pending ready lone (lent.whole ready.whole) inside polled.0 polled.2 in
       record {
         left_is = (polled.1, inside.span_same);
         ready = ready_after old new before later ready thr.default thr.count (lent.whole ready.whole) (lent.attached ready.still) thr.none_open;
         lane_id = thr.lane_id;
         default = thr.default;
+        attached = thr.attached;
         sites = thr.sites;
         count = thr.count;
         stay = thr.made;
         carried = λ number own k handles guards moment count is own_is.
             let same : site ≡ own = cc (lone.site_is, own_is) in
-            let t : Left = left_as number own f.inner in
-            let end : Stage S = record { world = new; lane = later; handles = handles; guards = guards ++ f.span.held ∷ [] } in
-            subst (λ (o : Option (List Step)). Carries spans hint enables does touches (dispatch_serving before) (on_first_lane (moment_of k) (call.Enter number) ∷ map (λ s. on_first_lane (moment_of k) (step_call old.sites t s)) (now_of f.inner.steps.items) ++ on_first_lane (moment_of k) (call.Exit k) ∷ drop_at_end k number o)
+            let t : UnfinishedTask = left_as number own f.inner in
+            let end : TaskScene S = record { world = new; lane = later; handles = handles; guards = guards ++ f.span.held ∷ [] } in
+            subst (λ (o : Option (List Step)). Carries spans hint enables does touches (dispatch_serving before) (on_first_lane (moment_of k) (call.Enter number) ∷ map (λ s. on_first_lane (moment_of k) (step_call old.sites t s)) (steps_now f.inner.steps.items) ++ on_first_lane (moment_of k) (call.Exit k) ∷ drop_at_end k number o)
             (record { world = old; lane = before; handles = handles; guards = guards }) end) (sym polled.1)
             (thr.carried t k handles guards [] end moment count (sym same) refl is refl);
       }
@@ -125,7 +127,7 @@ module _ {S : Type 0} (spans : S → Spans) (hint : S → Option LevelFilter) (e
   finished f g at site old world new before later ready lone lent inside chain whole =
       let d : ℕ = dispatch_serving before in
       let polled : PollsSteps spans hint enables does touches same f.inner.steps.items inside.world inside.lane at (Ok (polls.Ready tt)) g.inner.steps.items inside.left_world inside.left_lane = inside.polled in
-      let thr = through_of f g at site old world before later (polls.Ready tt) ready lone inside polled.0 polled.2 in
+      let thr = through_of f g at site old world before later (polls.Ready tt) ready lone (lent.whole ready.whole) inside polled.0 polled.2 in
       let ends_it : ReplacedOn (λ id s t. Chain spans does at (Some id) s t) world new f.span.held = subst (λ (h : Handle). ReplacedOn (λ id s t. Chain spans does at (Some id) s t) world new h.held) inside.span_same chain in
       let gone = closed f.span.held at d site world new (subst (λ (made : List Span). IsAloneAs made d site f.span.held) (sym thr.made) lone.held_is) ends_it in
       record {
@@ -133,15 +135,16 @@ module _ {S : Type 0} (spans : S → Spans) (hint : S → Option LevelFilter) (e
         ready = ready_after old new before later ready thr.default (gone.count ∙ thr.count) whole (gone.still later (lent.attached ready.still)) (ap (λ xs. entries_on later.id xs) gone.lanes_same ∙ thr.none_open);
         lane_id = thr.lane_id;
         default = thr.default;
+        attached = thr.attached;
         sites = gone.sites ∙ thr.sites;
         count = gone.count ∙ thr.count;
         stay = λ q apart. gone.stay q apart ∙ ap (λ (made : List Span). span_at made q) thr.made;
         carried = λ number own k handles guards moment count is own_is.
             let same : site ≡ own = cc (lone.site_is, own_is) in
-            let t : Left = left_as number own f.inner in
+            let t : UnfinishedTask = left_as number own f.inner in
             let m : ℕ = moment_of k in
             let guarded : List Held = guards ++ f.span.held ∷ [] in
-            let end : Stage S = record { world = new; lane = later; handles = handles; guards = guarded } in
+            let end : TaskScene S = record { world = new; lane = later; handles = handles; guards = guarded } in
             let drop : Handled spans hint enables does touches d m number (call.Drop number) (record { world = world; lane = later; handles = handles; guards = guarded }) end = record {
               handle = f.span;
               is = is;
@@ -149,7 +152,7 @@ module _ {S : Type 0} (spans : S → Spans) (hint : S → Option LevelFilter) (e
               handles = refl;
               guards = refl;
             } in
-            subst (λ (o : Option (List Step)). Carries spans hint enables does touches d (on_first_lane m (call.Enter number) ∷ map (λ s. on_first_lane m (step_call old.sites t s)) (now_of f.inner.steps.items) ++ on_first_lane m (call.Exit k) ∷ drop_at_end k number o)
+            subst (λ (o : Option (List Step)). Carries spans hint enables does touches d (on_first_lane m (call.Enter number) ∷ map (λ s. on_first_lane m (step_call old.sites t s)) (steps_now f.inner.steps.items) ++ on_first_lane m (call.Exit k) ∷ drop_at_end k number o)
             (record { world = old; lane = before; handles = handles; guards = guards }) end) (sym polled.1)
             (thr.carried t k handles guards (on_first_lane m (call.Drop number) ∷ []) end moment count (sym same) refl is (end, drop, refl));
       }

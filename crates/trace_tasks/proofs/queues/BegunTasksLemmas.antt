@@ -1,12 +1,14 @@
 -- Tasks that were begun, one more.
-use Rattle.std.proofs.Common.{◌≡◌, ℕ, zero, suc, ◌+◌, ◌<◌, ◌≤◌, ◌^◌, List, [], ◌∷◌, ◌++◌, length, Bool, Option, Some, None, Result, Ok, Err, refl, sym, ap, subst, ◌∙◌, arith, slice_get, sum_by, append_assoc, inl, inr, IfOk, IfErr, OnErr}
-use Rattle.std.proofs.lemmas.List.{append-nil}
+use Rattle.std.proofs.Common.{◌≡◌, ℕ, ◌+◌, ◌<◌, ◌≤◌, ◌^◌, List, [], ◌∷◌, ◌++◌, length, Bool, Option, Some, None, Result, Ok, Err, refl, sym, ap, subst, ◌∙◌, arith, sum_by, append_assoc, inl, inr, IfOk, IfErr, OnErr}
+use Rattle.std.proofs.lemmas.List.{append-nil, length_push}
 use Rattle.otel_base.specs.declared.enter_error.EnterError.TheVariants as faults
-use Rattle.trace_tasks.proofs.Common.{sum_by-cons, EnterError, Callsite, Lane, LevelFilter, SubscriberCall, Worlds, Span, Spans, span_at, made_if_held, spans_in, Handle, Held, id_of, Instrumented, PartCall, Request, on_first_lane, Running, Task, Begins, AreBegun, Ran, Stage, Carries, Left, yields, polls_left, all_polls, tasks_at_first, makings, moment_of, rounds, turns, drops_of_tasks, leavings, StopsTurns, StopsBeginning, GaveUp, IsAloneAs, Ready, dispatch_serving, Waits, IsApart, AreApart, AllWait, AllKnown, TaskStands, AllStand, TakesTurns, polls_in}
+use Rattle.trace_tasks.proofs.Common.{sum_by-cons, EnterError, Callsite, Lane, LevelFilter, SubscriberCall, Worlds, Span, Spans, span_at, made_if_held, spans_in, Handle, Held, id_of, Instrumented, PartCall, Request, on_first_lane, Running, Task, Begins, AreBegun, Ran, TaskScene, Carries, UnfinishedTask, yield_count, polls_left, all_polls, tasks_at_first, makings, moment_of, rounds_requests, flat_list, untouched, turns_requests, DropsAll, leaving_requests, StopsTurns, StopsBeginning, GaveUp, IsAloneAs, Ready, dispatch_serving, Waits, AllWait, AllKnown, AllStand, TakesTurns, polls_in}
 use Rattle.span_handles.specs.Knowing.{KeepsHandles}
 use Rattle.span_script.specs.declared.request.Call.TheVariants as call
-use Rattle.span_script.specs.declared.request.Place.TheVariants as place
-use Rattle.trace_tasks.proofs.polls.EntryLemmas.{get_push}
+use Rattle.span_script.specs.declared.request.RequestParent.TheVariants as request_parent
+use Rattle.trace_tasks.proofs.polls.CarriesLemmas.{carry_then}
+use Rattle.trace_tasks.proofs.polls.EntryLemmas.{get_push, get_before}
+use Rattle.trace_tasks.proofs.queues.QueueLemmas.{stand_push, apart_push}
 use Rattle.trace_tasks.proofs.tapes.RoundsLemmas.{rounds_are_turns}
 
 -- what holds anyway holds at an error
@@ -14,50 +16,27 @@ pub on_err : {A E : Type 0} (r : Result A E) (P : Type 0) → P → OnErr r P
 on_err (Ok x) P p = tt
 on_err (Err e) P p = p
 
-get_before : {X : Type 0} (xs : List X) (x y : X) (n : ℕ) → slice_get xs n ≡ Some y → slice_get (xs ++ x ∷ []) n ≡ Some y
-get_before [] x y n is = absurd (cc is)
-get_before (z ∷ xs) x y zero is = is
-get_before (z ∷ xs) x y (suc n) is = get_before xs x y n is
-
 -- with a handle more the tasks stand where they stood
-stand_more : (handles : List Handle) (h : Handle) (ts : List Left) (fs : List (Instrumented Running)) → AllStand handles ts fs → AllStand (handles ++ h ∷ []) ts fs
+stand_more : (handles : List Handle) (h : Handle) (ts : List UnfinishedTask) (fs : List (Instrumented Running)) → AllStand handles ts fs → AllStand (handles ++ h ∷ []) ts fs
 stand_more handles h [] [] all = tt
 stand_more handles h [] (f ∷ fs) all = absurd all
 stand_more handles h (t ∷ ts) [] all = absurd all
 stand_more handles h (t ∷ ts) (f ∷ fs) all = (record { handle = get_before handles h f.span t.number all.0.handle; site = all.0.site; steps = all.0.steps }, stand_more handles h ts fs all.1)
 
-stand_end : (handles : List Handle) (ts : List Left) (fs : List (Instrumented Running)) (t : Left) (f : Instrumented Running) → AllStand handles ts fs → TaskStands handles t f → AllStand handles (ts ++ t ∷ []) (fs ++ f ∷ [])
-stand_end handles [] [] t f all one = (one, tt)
-stand_end handles [] (g ∷ fs) t f all one = absurd all
-stand_end handles (u ∷ ts) [] t f all one = absurd all
-stand_end handles (u ∷ ts) (g ∷ fs) t f all one = (all.0, stand_end handles ts fs t f all.1 one)
-
 begun_end : (n : ℕ) (tasks : List Task) (task : Task) → tasks_at_first n (tasks ++ task ∷ []) ≡ tasks_at_first n tasks ++ record { number = n + length tasks; site = task.site; steps = task.steps } ∷ []
-begun_end n [] task = (let e : n ≡ n + 0 = omega arith in ap (λ (m : ℕ). let t : Left = record { number = m; site = task.site; steps = task.steps } in t ∷ []) e)
+begun_end n [] task = (let e : n ≡ n + 0 = omega arith in ap (λ (m : ℕ). let t : UnfinishedTask = record { number = m; site = task.site; steps = task.steps } in t ∷ []) e)
 begun_end n (x ∷ tasks) task =
-    let t : Left = record { number = n; site = x.site; steps = x.steps } in
+    let t : UnfinishedTask = record { number = n; site = x.site; steps = x.steps } in
     let e : n + 1 + length tasks ≡ n + length (x ∷ tasks) = omega arith in
-    ap (λ (ts : List Left). t ∷ ts) (begun_end (n + 1) tasks task ∙ ap (λ (m : ℕ). let u : Left = record { number = m; site = task.site; steps = task.steps } in tasks_at_first (n + 1) tasks ++ u ∷ []) e)
+    ap (λ (ts : List UnfinishedTask). t ∷ ts) (begun_end (n + 1) tasks task ∙ ap (λ (m : ℕ). let u : UnfinishedTask = record { number = m; site = task.site; steps = task.steps } in tasks_at_first (n + 1) tasks ++ u ∷ []) e)
 
-makings_end : (tasks : List Task) (task : Task) → makings (tasks ++ task ∷ []) ≡ makings tasks ++ on_first_lane 0 (call.New task.site place.Contextual task.fields) ∷ []
+makings_end : (tasks : List Task) (task : Task) → makings (tasks ++ task ∷ []) ≡ makings tasks ++ on_first_lane 0 (call.New task.site request_parent.Contextual task.fields) ∷ []
 makings_end [] task = refl
-makings_end (x ∷ tasks) task = ap (λ (rs : List Request). on_first_lane 0 (call.New x.site place.Contextual x.fields) ∷ rs) (makings_end tasks task)
+makings_end (x ∷ tasks) task = ap (λ (rs : List Request). on_first_lane 0 (call.New x.site request_parent.Contextual x.fields) ∷ rs) (makings_end tasks task)
 
 makings_both : (first others : List Task) → makings (first ++ others) ≡ makings first ++ makings others
 makings_both [] others = refl
-makings_both (x ∷ first) others = ap (λ (rs : List Request). on_first_lane 0 (call.New x.site place.Contextual x.fields) ∷ rs) (makings_both first others)
-
-length_end : (tasks : List Task) (task : Task) → length (tasks ++ task ∷ []) ≡ length tasks + 1
-length_end [] task = refl
-length_end (x ∷ tasks) task = (let r = length_end tasks task in omega (arith, r))
-
-handles_end : (handles : List Handle) (h : Handle) → length (handles ++ h ∷ []) ≡ length handles + 1
-handles_end [] h = refl
-handles_end (x ∷ handles) h = (let r = handles_end handles h in omega (arith, r))
-
-apart_end : (f : Instrumented Running) (fs : List (Instrumented Running)) (g : Instrumented Running) → AreApart f fs → IsApart f.span.held g.span.held → AreApart f (fs ++ g ∷ [])
-apart_end f [] g all one = (one, tt)
-apart_end f (x ∷ fs) g all one = (all.0, apart_end f fs g all.1 one)
+makings_both (x ∷ first) others = ap (λ (rs : List Request). on_first_lane 0 (call.New x.site request_parent.Contextual x.fields) ∷ rs) (makings_both first others)
 
 module _ {S : Type 0} (spans : S → Spans) where
   -- the span of a task that waits is there
@@ -84,7 +63,7 @@ module _ {S : Type 0} (spans : S → Spans) where
         site = all.0.site;
         lone = record { site_is = all.0.lone.site_is; held_is = lone_stays old new d all.0.site g.span.held stay all.0.lone.held_is };
       },
-      apart_end g fs f all.1 (λ id is other. (let a = below old d all.0.site g.span.held id all.0.lone.held_is is in let b = fresh id other in absurd (omega (arith, a, b)))),
+      apart_push g fs f all.1 (λ id is other. (let a = below old d all.0.site g.span.held id all.0.lone.held_is is in let b = fresh id other in absurd (omega (arith, a, b)))),
       wait_end fs all.2,
     )
 
@@ -99,11 +78,11 @@ module _ {S : Type 0} (spans : S → Spans) (hint : S → Option LevelFilter) (e
   one_more_begun tasks task lane old world new fs f so_far one keeps =
       let d : ℕ = dispatch_serving lane in
       let handles : List Handle = so_far.handles ++ f.span ∷ [] in
-      let last : Left = record { number = 0 + length tasks; site = task.site; steps = task.steps } in
+      let last : UnfinishedTask = record { number = 0 + length tasks; site = task.site; steps = task.steps } in
       record {
         handles = handles;
-        count = (let a = handles_end so_far.handles f.span in let b = length_end tasks task in let c = so_far.count in omega (arith, a, b, c));
-        stand = subst (λ (ts : List Left). AllStand handles ts (fs ++ f ∷ [])) (sym (begun_end 0 tasks task)) (stand_end handles (tasks_at_first 0 tasks) fs last f (stand_more so_far.handles f.span (tasks_at_first 0 tasks) fs so_far.stand) (record {
+        count = (let a = length_push so_far.handles f.span in let b = length_push tasks task in let c = so_far.count in omega (arith, a, b, c));
+        stand = subst (λ (ts : List UnfinishedTask). AllStand handles ts (fs ++ f ∷ [])) (sym (begun_end 0 tasks task)) (stand_push handles (tasks_at_first 0 tasks) fs last f (stand_more so_far.handles f.span (tasks_at_first 0 tasks) fs so_far.stand) (record {
           handle = get_push so_far.handles f.span (0 + length tasks) (let c = so_far.count in omega (arith, c));
           site = one.site;
           steps = sym one.steps;
@@ -111,28 +90,25 @@ module _ {S : Type 0} (spans : S → Spans) (hint : S → Option LevelFilter) (e
         wait = wait_end spans world new d f keeps one.stay one.fresh (record { known = one.known; site = task.site; lone = one.lone }) fs so_far.wait;
         ready = one.ready;
         sites = one.sites ∙ so_far.sites;
-        few = (let a = so_far.few in let b = one.count in let c = length_end tasks task in omega (arith, a, b, c));
+        few = (let a = so_far.few in let b = one.count in let c = length_push tasks task in omega (arith, a, b, c));
         carried = subst (λ (rs : List Request). Carries spans hint enables does touches d rs (record { world = old; lane = lane; handles = []; guards = [] }) (record { world = new; lane = lane; handles = handles; guards = [] })) (sym (makings_end tasks task))
-            (then_one (makings tasks) (on_first_lane 0 (call.New task.site place.Contextual task.fields) ∷ []) (record { world = old; lane = lane; handles = []; guards = [] }) (record { world = world; lane = lane; handles = so_far.handles; guards = [] }) (record { world = new; lane = lane; handles = handles; guards = [] })
+            (carry_then spans hint enables does touches d (makings tasks) (on_first_lane 0 (call.New task.site request_parent.Contextual task.fields) ∷ []) (record { world = old; lane = lane; handles = []; guards = [] }) (record { world = world; lane = lane; handles = so_far.handles; guards = [] }) (record { world = new; lane = lane; handles = handles; guards = [] })
             so_far.carried (record { world = new; lane = lane; handles = handles; guards = [] }, one.made so_far.handles [], refl));
-      } where
-        then_one : (rs more : List Request) (s m t : Stage S) → Carries spans hint enables does touches (dispatch_serving lane) rs s m → Carries spans hint enables does touches (dispatch_serving lane) more m t → Carries spans hint enables does touches (dispatch_serving lane) (rs ++ more) s t
-        then_one [] more s m t is rest = subst (λ (x : Stage S). Carries spans hint enables does touches (dispatch_serving lane) more x t) is rest
-        then_one (r ∷ rs) more s m t (x, first, later) rest = (x, first, then_one rs more x m t later rest)
+      }
 
   -- no task yet
   pub none_begun : (lane : Lane) (old : Worlds S) → Ready spans kept is_whole old lane → AreBegun spans hint enables kept is_whole does touches [] lane old old []
   none_begun lane old ready = record { handles = []; count = refl; stand = tt; wait = tt; ready = ready; sites = refl; few = omega arith; carried = refl }
 
 -- as many polls as the tasks take
-same_polls : (handles : List Handle) (ts : List Left) (fs : List (Instrumented Running)) → AllStand handles ts fs → all_polls ts ≡ polls_in fs
+same_polls : (handles : List Handle) (ts : List UnfinishedTask) (fs : List (Instrumented Running)) → AllStand handles ts fs → all_polls ts ≡ polls_in fs
 same_polls handles [] [] all = refl
 same_polls handles [] (f ∷ fs) all = absurd all
 same_polls handles (t ∷ ts) [] all = absurd all
 same_polls handles (t ∷ ts) (f ∷ fs) all = (
     let a = sum_by-cons polls_left t ts in
-    let b = sum_by-cons (λ (g : Instrumented Running). yields g.inner.steps.items + 1) f fs in
-    let e = ap yields all.0.steps in
+    let b = sum_by-cons (λ (g : Instrumented Running). yield_count g.inner.steps.items + 1) f fs in
+    let e = ap yield_count all.0.steps in
     let r = same_polls handles ts fs all.1 in
     omega (arith, a, b, e, r))
 
@@ -140,45 +116,41 @@ module _ {S : Type 0} (spans : S → Spans) (hint : S → Option LevelFilter) (e
   pub few_polls : (tasks : List Task) (lane : Lane) (old world : Worlds S) (fs : List (Instrumented Running)) → AreBegun spans hint enables kept is_whole does touches tasks lane old world fs → all_polls (tasks_at_first 0 tasks) < 2 ^ 60 → polls_in fs < 2 ^ 60
   few_polls tasks lane old world fs all few = (let e = same_polls all.handles (tasks_at_first 0 tasks) fs all.stand in omega (arith, e, few))
 
-  after_all : (d : ℕ) (rs more : List Request) (s m t : Stage S) → Carries spans hint enables does touches d rs s m → Carries spans hint enables does touches d more m t → Carries spans hint enables does touches d (rs ++ more) s t
-  after_all d [] more s m t is rest = subst (λ (x : Stage S). Carries spans hint enables does touches d more x t) is rest
-  after_all d (r ∷ rs) more s m t (x, first, later) rest = (x, first, after_all d rs more x m t later rest)
-
   -- the makings and the turns are the flat list
   pub ran : (sites : List Callsite) (tasks : List Task) (lane later : Lane) (old world new : Worlds S) (fs : List (Instrumented Running)) (result : Result ℕ EnterError) → old.sites ≡ sites → AreBegun spans hint enables kept is_whole does touches tasks lane old world fs
-      → IfOk result (λ polls. (handles : List Handle) (ts : List Left) → AllStand handles ts fs → TakesTurns spans hint enables does touches handles ts world new lane later polls)
+      → IfOk result (λ polls. (handles : List Handle) (ts : List UnfinishedTask) → AllStand handles ts fs → TakesTurns spans hint enables does touches handles ts world new lane later polls)
       → IfOk result (λ polls. Ran spans hint enables does touches sites tasks old new lane later polls)
   ran sites tasks lane later old world new fs (Err e) same all turned = tt
   ran sites tasks lane later old world new fs (Ok polls) same all turned =
-      let ts : List Left = tasks_at_first 0 tasks in
+      let ts : List UnfinishedTask = tasks_at_first 0 tasks in
       let taken = turned all.handles ts all.stand in
-      let start : Stage S = record { world = old; lane = lane; handles = []; guards = [] } in
-      let middle : Stage S = record { world = world; lane = lane; handles = all.handles; guards = [] } in
-      let end : Stage S = record { world = new; lane = later; handles = all.handles; guards = taken.guards } in
-      let rest : Carries spans hint enables does touches (dispatch_serving lane) (rounds sites (all_polls ts) 0 ts) middle end =
+      let start : TaskScene S = record { world = old; lane = lane; handles = []; guards = [] } in
+      let middle : TaskScene S = record { world = world; lane = lane; handles = all.handles; guards = [] } in
+      let end : TaskScene S = record { world = new; lane = later; handles = all.handles; guards = taken.guards } in
+      let rest : Carries spans hint enables does touches (dispatch_serving lane) (rounds_requests sites (all_polls ts) 0 ts) middle end =
       subst (λ (rs : List Request). Carries spans hint enables does touches (dispatch_serving lane) rs middle end) (sym (rounds_are_turns sites (all_polls ts) 0 ts (omega arith)))
-      (subst (λ (xs : List Callsite). Carries spans hint enables does touches (dispatch_serving lane) (turns xs (all_polls ts) 0 ts) middle end) (all.sites ∙ same) taken.carried) in
+      (subst (λ (xs : List Callsite). Carries spans hint enables does touches (dispatch_serving lane) (turns_requests xs (all_polls ts) 0 ts) middle end) (all.sites ∙ same) taken.carried) in
       record {
         answer = taken.polled;
         handles = all.handles;
         guards = taken.guards;
-        carried = after_all (dispatch_serving lane) (makings tasks) (rounds sites (all_polls ts) 0 ts) start middle end all.carried rest;
+        carried = carry_then spans hint enables does touches (dispatch_serving lane) (makings tasks) (rounds_requests sites (all_polls ts) 0 ts) start middle end all.carried rest;
       }
 
   -- a run that was refused in a poll
   pub gave_up_polls : (activates : S → ℕ → Bool) (same : S → S → Type 0) (sites : List Callsite) (tasks : List Task) (lane later : Lane) (old world new : Worlds S) (fs : List (Instrumented Running)) (e : EnterError) → old.sites ≡ sites
       → AreBegun spans hint enables kept is_whole does touches tasks lane old world fs
-      → ((handles : List Handle) (ts : List Left) → AllStand handles ts fs → StopsTurns spans hint enables activates does touches same (dispatch_serving lane) world.sites ts e (record { world = world; lane = lane; handles = handles; guards = [] }) new later)
+      → ((handles : List Handle) (ts : List UnfinishedTask) → AllStand handles ts fs → StopsTurns spans hint enables activates does touches same (dispatch_serving lane) world.sites ts e (record { world = world; lane = lane; handles = handles; guards = [] }) new later)
       → GaveUp spans hint enables activates does touches same (dispatch_serving lane) sites tasks e (record { world = old; lane = lane; handles = []; guards = [] }) new later
   gave_up_polls activates same sites tasks lane later old world new fs e is all stops =
       let d : ℕ = dispatch_serving lane in
-      let ts : List Left = tasks_at_first 0 tasks in
-      let start : Stage S = record { world = old; lane = lane; handles = []; guards = [] } in
-      let middle : Stage S = record { world = world; lane = lane; handles = all.handles; guards = [] } in
+      let ts : List UnfinishedTask = tasks_at_first 0 tasks in
+      let start : TaskScene S = record { world = old; lane = lane; handles = []; guards = [] } in
+      let middle : TaskScene S = record { world = world; lane = lane; handles = all.handles; guards = [] } in
       let stop : StopsTurns spans hint enables activates does touches same d sites ts e middle new later =
       subst (λ (xs : List Callsite). StopsTurns spans hint enables activates does touches same d xs ts e middle new later) (all.sites ∙ is) (stops all.handles ts all.stand) in
       let st = stop.stopped in
-      let front : List Request = turns sites stop.polls 0 ts in
+      let front : List Request = turns_requests sites stop.polls 0 ts in
       record {
         first = tasks;
         polls = stop.polls;
@@ -189,13 +161,14 @@ module _ {S : Type 0} (spans : S → Spans) (hint : S → Option LevelFilter) (e
         at = moment_of stop.polls;
         moment = inl (refl, refl);
         not_entered = stop.not_entered;
+        full_at_call = stop.full_at_first;
         stopped = record {
           here = st.here;
-          carried = subst (λ (rs : List Request). Carries spans hint enables does touches d rs start st.here) (sym (append_assoc (makings tasks) front stop.part)) (after_all d (makings tasks) (front ++ stop.part) start middle st.here all.carried st.carried);
+          carried = subst (λ (rs : List Request). Carries spans hint enables does touches d rs start st.here) (sym (append_assoc (makings tasks) front stop.part)) (carry_then spans hint enables does touches d (makings tasks) (front ++ stop.part) start middle st.here all.carried st.carried);
           failed = st.failed;
           fails = st.fails;
           guards = st.guards;
-          closed = subst (λ (xs : List Left). Carries spans hint enables does touches d (leavings (moment_of stop.polls) stop.polls stop.part xs) st.failed (record { world = new; lane = later; handles = st.failed.handles; guards = st.guards })) (sym stop.next) st.closed;
+          closed = subst (λ (xs : List UnfinishedTask). Carries spans hint enables does touches d (leaving_requests (moment_of stop.polls) stop.polls stop.part xs) st.failed (record { world = new; lane = later; handles = st.failed.handles; guards = st.guards })) (sym stop.next) st.closed;
           full = st.full;
         };
       }
@@ -203,16 +176,16 @@ module _ {S : Type 0} (spans : S → Spans) (hint : S → Option LevelFilter) (e
   -- a run that was refused as it made spans
   pub gave_up_begun : (activates : S → ℕ → Bool) (same : S → S → Type 0) (sites : List Callsite) (tasks : List Task) (lane : Lane) (old world new : Worlds S) (fs : List (Instrumented Running))
       → StopsBeginning spans hint enables kept is_whole does touches same tasks lane old world fs
-      → ((handles : List Handle) (ts : List Left) → AllStand handles ts fs → (d : ℕ) (on : Lane) (gs : List Held) → Carries spans hint enables does touches d (drops_of_tasks 0 ts) (record { world = world; lane = on; handles = handles; guards = gs }) (record { world = new; lane = on; handles = handles; guards = gs }))
+      → DropsAll spans hint enables does touches 0 fs world new
       → GaveUp spans hint enables activates does touches same (dispatch_serving lane) sites tasks faults.Memory (record { world = old; lane = lane; handles = []; guards = [] }) new lane
   gave_up_begun activates same sites tasks lane old world new fs stop closes =
       let d : ℕ = dispatch_serving lane in
       let b = stop.so_far in
       let made : List Request = makings stop.first in
-      let ts : List Left = tasks_at_first 0 tasks in
-      let later : List Request = rounds sites (all_polls ts) 0 ts in
-      let start : Stage S = record { world = old; lane = lane; handles = []; guards = [] } in
-      let middle : Stage S = record { world = stop.world; lane = lane; handles = b.handles; guards = [] } in
+      let ts : List UnfinishedTask = tasks_at_first 0 tasks in
+      let later : List Request = rounds_requests sites (all_polls ts) 0 ts in
+      let start : TaskScene S = record { world = old; lane = lane; handles = []; guards = [] } in
+      let middle : TaskScene S = record { world = stop.world; lane = lane; handles = b.handles; guards = [] } in
       let none : (made ++ []) ++ [] ≡ made = append-nil (made ++ []) ∙ append-nil made in
       record {
         first = stop.first;
@@ -224,6 +197,7 @@ module _ {S : Type 0} (spans : S → Spans) (hint : S → Option LevelFilter) (e
         at = 0;
         moment = inr (refl, refl, refl, refl);
         not_entered = λ is_full. refl;
+        full_at_call = λ is_full. absurd (cc is_full);
         stopped = record {
           here = middle;
           carried = subst (λ (rs : List Request). Carries spans hint enables does touches d rs start middle) (sym none) b.carried;
@@ -235,25 +209,51 @@ module _ {S : Type 0} (spans : S → Spans) (hint : S → Option LevelFilter) (e
         };
       }
 
+  -- a run that was refused before it made a span
+  pub gave_up_first : (activates : S → ℕ → Bool) (same : S → S → Type 0) (sites : List Callsite) (tasks : List Task) (lane : Lane) (world : Worlds S)
+      → GaveUp spans hint enables activates does touches same (dispatch_serving lane) sites tasks faults.Memory (record { world = world; lane = lane; handles = []; guards = [] }) world lane
+  gave_up_first activates same sites tasks lane world =
+      let start : TaskScene S = record { world = world; lane = lane; handles = []; guards = [] } in
+      record {
+        first = [];
+        polls = 0;
+        part = [];
+        others = flat_list sites tasks;
+        within = refl;
+        at = 0;
+        moment = inr (refl, refl, refl, refl);
+        not_entered = λ is_full. refl;
+        full_at_call = λ is_full. absurd (cc is_full);
+        stopped = record {
+          here = start;
+          carried = refl;
+          failed = start;
+          fails = record { world = untouched refl; lane = record { id = refl; name = refl; default = refl; live = refl }; handles = refl; guards = refl };
+          guards = [];
+          closed = refl;
+          full = λ is_full. absurd (cc is_full);
+        };
+      }
+
   pub gave_up_if : (activates : S → ℕ → Bool) (same : S → S → Type 0) (sites : List Callsite) (tasks : List Task) (lane later : Lane) (old world new : Worlds S) (fs : List (Instrumented Running)) (result : Result ℕ EnterError) → old.sites ≡ sites
       → AreBegun spans hint enables kept is_whole does touches tasks lane old world fs
-      → IfErr result (λ e. (handles : List Handle) (ts : List Left) → AllStand handles ts fs → StopsTurns spans hint enables activates does touches same (dispatch_serving lane) world.sites ts e (record { world = world; lane = lane; handles = handles; guards = [] }) new later)
+      → IfErr result (λ e. (handles : List Handle) (ts : List UnfinishedTask) → AllStand handles ts fs → StopsTurns spans hint enables activates does touches same (dispatch_serving lane) world.sites ts e (record { world = world; lane = lane; handles = handles; guards = [] }) new later)
       → IfErr result (λ e. GaveUp spans hint enables activates does touches same (dispatch_serving lane) sites tasks e (record { world = old; lane = lane; handles = []; guards = [] }) new later)
   gave_up_if activates same sites tasks lane later old world new fs (Ok polls) is all stops = tt
   gave_up_if activates same sites tasks lane later old world new fs (Err e) is all stops = gave_up_polls activates same sites tasks lane later old world new fs e is all stops
 
 -- one poll for each task and one for each yield
-pub answer_is : (n : ℕ) (tasks : List Task) → all_polls (tasks_at_first n tasks) ≡ sum_by (λ t. yields t.steps) tasks + length tasks
+pub answer_is : (n : ℕ) (tasks : List Task) → all_polls (tasks_at_first n tasks) ≡ sum_by (λ t. yield_count t.steps) tasks + length tasks
 answer_is n [] = refl
 answer_is n (t ∷ tasks) = (
-    let u : Left = record { number = n; site = t.site; steps = t.steps } in
+    let u : UnfinishedTask = record { number = n; site = t.site; steps = t.steps } in
     let a = sum_by-cons polls_left u (tasks_at_first (n + 1) tasks) in
-    let b = sum_by-cons (λ (x : Task). yields x.steps) t tasks in
+    let b = sum_by-cons (λ (x : Task). yield_count x.steps) t tasks in
     let r = answer_is (n + 1) tasks in
     omega (arith, a, b, r))
 
 pub answered : {S : Type 0} (spans : S → Spans) (hint : S → Option LevelFilter) (enables : S → ℕ → Callsite → Bool) (does : S → SubscriberCall → S → Type 0) (touches : S → PartCall → S → Type 0)
     (sites : List Callsite) (tasks : List Task) (old new : Worlds S) (lane later : Lane) (result : Result ℕ EnterError) → IfOk result (λ polls. Ran spans hint enables does touches sites tasks old new lane later polls)
-    → IfOk result (λ polls. polls ≡ sum_by (λ t. yields t.steps) tasks + length tasks)
+    → IfOk result (λ polls. polls ≡ sum_by (λ t. yield_count t.steps) tasks + length tasks)
 answered spans hint enables does touches sites tasks old new lane later (Ok polls) ran = ran.answer ∙ answer_is 0 tasks
 answered spans hint enables does touches sites tasks old new lane later (Err e) ran = tt

@@ -1,6 +1,7 @@
 -- A span that was made for a task.
 use Rattle.std.proofs.Common.{◌≡◌, ℕ, zero, suc, ◌+◌, ◌<◌, ◌≤◌, List, [], ◌∷◌, ◌++◌, length, Bool, true, false, Option, Some, None, Result, Ok, Err, refl, sym, ap, subst, ◌∙◌, arith, slice_get, IfOk, OnErr}
-use Rattle.trace_tasks.proofs.Common.{Memory, Callsite, ValueSet, Lane, LevelFilter, SubscriberCall, NewSpan, spans_after_call, with_new_span, Lanes, Worlds, Span, Spans, span_at, entries_on, place_on, spans_in, no_spans, Handle, IsKnown, MakesIf, ReplacedIf, id_of, as_many, seen_before, seen_later, Instrumented, HasAll, same_kept, keeps_all, PartCall, Running, Task, Wants, untouched, spare, MakesOne, Begins, MakesGated, values_of, root_of_one_handle, IsAlone, IsAloneAs, Ready, dispatch_serving}
+use Rattle.std.proofs.lemmas.List.{length_push}
+use Rattle.trace_tasks.proofs.Common.{Memory, Callsite, ValueSet, Lane, LevelFilter, SubscriberCall, NewSpan, spans_after_call, with_new_span, CallLanes, Worlds, Span, Spans, span_at, entries_on, parent_on, spans_in, no_spans, Handle, IsKnown, MakesIf, ReplacedIf, id_of, as_many, seen_before, seen_later, Instrumented, HasAll, same_kept, keeps_all, PartCall, Running, Task, Wants, untouched, spare, MakesOne, Begins, MakesGated, values_of, root_of_one_handle, IsAlone, IsAloneAs, Ready, dispatch_serving}
 use Rattle.trace_base.specs.declared.span.Parent.TheVariants as parent
 
 -- something is at each place
@@ -20,12 +21,8 @@ before_end [] new q less = absurd (omega (arith, less))
 before_end (x ∷ made) new zero less = refl
 before_end (x ∷ made) new (suc q) less = before_end made new q (omega (arith, less))
 
-one_longer : (made : List Span) (new : Span) → length (made ++ new ∷ []) ≡ length made + 1
-one_longer [] new = refl
-one_longer (x ∷ made) new = (let r = one_longer made new in omega (arith, r))
-
 module _ {S : Type 0} (spans : S → Spans) (hint : S → Option LevelFilter) (enables : S → ℕ → Callsite → Bool) (attaches : S → Bool) (kept : S → ℕ → ℕ → ℕ) (is_whole : S → Type 0) (does : S → SubscriberCall → S → Type 0) (touches : S → PartCall → S → Type 0)
-    (shows : (s : S) (call : SubscriberCall) (t : S) → does s call t → spans t ≡ spans_after_call (spans s) call) (lanes : (s : S) (call : SubscriberCall) (t : S) → does s call t → Lanes (attaches s) (kept s) call (kept t))
+    (shows : (s : S) (call : SubscriberCall) (t : S) → does s call t → spans t ≡ spans_after_call (spans s) call) (lanes : (s : S) (call : SubscriberCall) (t : S) → does s call t → CallLanes (attaches s) (kept s) call (kept t))
     (keeps_whole : (s : S) (call : SubscriberCall) (t : S) → does s call t → is_whole s → is_whole t) where
   begun : (task : Task) (lane : Lane) (old new : Worlds S) (f : Instrumented Running) (one : MakesOne spans hint enables does touches task.site task.fields lane old new f.span) → Ready spans kept is_whole old lane → IsKnown spans new f.span.held → f.inner.steps.items ≡ task.steps
       → (made : f.span.site ≡ Some task.site) → IsAlone (spans_in spans new (dispatch_serving lane)).made (dispatch_serving lane) task.site f.span → ((id : ℕ) → id_of f.span.held ≡ Some id → length (spans_in spans old (dispatch_serving lane)).made ≤ id)
@@ -73,7 +70,7 @@ module _ {S : Type 0} (spans : S → Spans) (hint : S → Option LevelFilter) (e
         let new_span : Span = root_of_one_handle task.site in
         let grown : spans_in spans new d ≡ record x { made = x.made ++ new_span ∷ [] } =
         seen_later R old new d r spans no_spans ∙ shows r.before call r.later r.did.1 ∙ ap (λ (y : Spans). spans_after_call y call) (sym (seen_before R old new d r spans no_spans))
-        ∙ ap (λ (ids : List ℕ). with_new_span x (place_on ids parent.Current) task.site) ready.none_open in
+        ∙ ap (λ (ids : List ℕ). with_new_span x (parent_on ids parent.Current) task.site) ready.none_open in
         let id_is : made.id ≡ length x.made = r.did.0 ∙ ap (λ (y : Spans). length y.made) (sym (seen_before R old new d r spans no_spans)) in
         let site : f.span.site ≡ Some task.site = ap (λ (h : Handle). h.site) made.handle_is in
         let lone_at : span_at (spans_in spans new d).made made.id ≡ root_of_one_handle task.site = ap (λ (y : Spans). span_at y.made made.id) grown ∙ at_end x.made new_span made.id id_is in
@@ -82,7 +79,7 @@ module _ {S : Type 0} (spans : S → Spans) (hint : S → Option LevelFilter) (e
         (record { site_is = site; held_is = subst (λ (h : Handle). IsAloneAs (spans_in spans new d).made d task.site h.held) (sym made.handle_is) (refl, lone_at) })
         (λ id is. (let e : made.id ≡ id = the_id made.id id (sym (ap (λ (h : Handle). id_of h.held) made.handle_is) ∙ is) in omega (arith, e, id_is)))
         (λ q less. ap (λ (y : Spans). span_at y.made q) grown ∙ before_end x.made new_span q less)
-        (let e = ap (λ (y : Spans). length y.made) grown in let l = one_longer x.made new_span in omega (arith, e, l))
+        (let e = ap (λ (y : Spans). length y.made) grown in let l = length_push x.made new_span in omega (arith, e, l))
         (record {
           default = ready.default;
           there = (let n = as_many R old new d r in let t = ready.there in omega (arith, n, t));

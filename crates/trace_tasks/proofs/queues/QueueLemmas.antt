@@ -1,12 +1,12 @@
 -- A queue after a poll of its first task.
 use Rattle.std.proofs.Common.{◌≡◌, ℕ, suc, ◌+◌, List, [], ◌∷◌, ◌++◌, Option, Some, None, refl, sym, ap, subst, ◌∙◌, arith}
 use Rattle.std.specs.Option.{option_map}
-use Rattle.trace_tasks.proofs.Common.{sum_by-cons, sum_by_push, Worlds, Span, Spans, span_at, spans_in, Handle, Held, IsKnown, id_of, Instrumented, Running, Step, left_of, Left, yields, polls_left, all_polls, after_poll, requeue, IsAlone, IsAloneAs, IsLeft, SpansStay, Waits, IsApart, AreApart, AllWait, AllKnown, TaskStands, AllStand, KeepsBut, queue_with, polls_in}
+use Rattle.trace_tasks.proofs.Common.{sum_by-cons, sum_by_push, Worlds, Span, Spans, span_at, spans_in, Handle, Held, IsKnown, id_of, Instrumented, Running, Step, steps_left, UnfinishedTask, yield_count, polls_left, all_polls, after_poll, requeue, IsAlone, IsAloneAs, IsLeft, SpansStay, Waits, IsApart, AreApart, AllWait, AllKnown, TaskStands, AllStand, KeepsBut, queue_with, polls_in}
 use Rattle.trace_tasks.specs.declared.script.Step.TheVariants as step
 
 -- ---- polls
 
-pub yields_none : (steps : List Step) → left_of steps ≡ None → yields steps ≡ 0
+pub yields_none : (steps : List Step) → steps_left steps ≡ None → yield_count steps ≡ 0
 yields_none [] is = refl
 yields_none (step.Yield ∷ steps) is = absurd (cc is)
 yields_none (step.Event site fields ∷ steps) is = yields_none steps is
@@ -16,15 +16,15 @@ yields_none (step.SetAttribute key value ∷ steps) is = yields_none steps is
 the_steps : (a b : List Step) → ◌≡◌ {A = Option (List Step)} (Some a) (Some b) → a ≡ b
 the_steps a b e = cc e
 
-pub yields_some : (steps rest : List Step) → left_of steps ≡ Some rest → yields steps ≡ yields rest + 1
+pub yields_some : (steps rest : List Step) → steps_left steps ≡ Some rest → yield_count steps ≡ yield_count rest + 1
 yields_some [] rest is = absurd (cc is)
-yields_some (step.Yield ∷ steps) rest is = ap (λ (xs : List Step). yields xs + 1) (the_steps steps rest is)
+yields_some (step.Yield ∷ steps) rest is = ap (λ (xs : List Step). yield_count xs + 1) (the_steps steps rest is)
 yields_some (step.Event site fields ∷ steps) rest is = yields_some steps rest is
 yields_some (step.Record fields ∷ steps) rest is = yields_some steps rest is
 yields_some (step.SetAttribute key value ∷ steps) rest is = yields_some steps rest is
 
-pub polls_cons : (f : Instrumented Running) (fs : List (Instrumented Running)) → polls_in (f ∷ fs) ≡ yields f.inner.steps.items + 1 + polls_in fs
-polls_cons f fs = sum_by-cons (λ (g : Instrumented Running). yields g.inner.steps.items + 1) f fs
+pub polls_cons : (f : Instrumented Running) (fs : List (Instrumented Running)) → polls_in (f ∷ fs) ≡ yield_count f.inner.steps.items + 1 + polls_in fs
+polls_cons f fs = sum_by-cons (λ (g : Instrumented Running). yield_count g.inner.steps.items + 1) f fs
 
 -- one poll less
 pub polls_after : (f : Instrumented Running) (fs : List (Instrumented Running)) (left : Option (Instrumented Running)) → IsLeft left f → polls_in (f ∷ fs) ≡ polls_in (queue_with fs left) + 1
@@ -32,38 +32,38 @@ polls_after f fs None is = (let a = polls_cons f fs in let b = yields_none f.inn
 polls_after f fs (Some g) is = (
     let a = polls_cons f fs in
     let b = yields_some f.inner.steps.items g.inner.steps.items is.0 in
-    let c = sum_by_push (λ (h : Instrumented Running). yields h.inner.steps.items + 1) fs g in
+    let c = sum_by_push (λ (h : Instrumented Running). yield_count h.inner.steps.items + 1) fs g in
     omega (arith, a, b, c))
 
-left_cons : (t : Left) (ts : List Left) → all_polls (t ∷ ts) ≡ polls_left t + all_polls ts
+left_cons : (t : UnfinishedTask) (ts : List UnfinishedTask) → all_polls (t ∷ ts) ≡ polls_left t + all_polls ts
 left_cons t ts = sum_by-cons polls_left t ts
 
-left_after : (t : Left) (ts : List Left) (o : Option (List Step)) → left_of t.steps ≡ o → all_polls (t ∷ ts) ≡ suc (all_polls (requeue ts (option_map (λ steps. record t { steps = steps }) o)))
+left_after : (t : UnfinishedTask) (ts : List UnfinishedTask) (o : Option (List Step)) → steps_left t.steps ≡ o → all_polls (t ∷ ts) ≡ suc (all_polls (requeue ts (option_map (λ steps. record t { steps = steps }) o)))
 left_after t ts None is = (let a = left_cons t ts in let b = yields_none t.steps is in omega (arith, a, b))
 left_after t ts (Some rest) is = (
-    let u : Left = record t { steps = rest } in
+    let u : UnfinishedTask = record t { steps = rest } in
     let a = left_cons t ts in
     let b = yields_some t.steps rest is in
     let c = sum_by_push polls_left ts u in
     omega (arith, a, b, c))
 
-pub left_less : (t : Left) (ts : List Left) → all_polls (t ∷ ts) ≡ suc (all_polls (requeue ts (after_poll t)))
-left_less t ts = left_after t ts (left_of t.steps) refl
+pub left_less : (t : UnfinishedTask) (ts : List UnfinishedTask) → all_polls (t ∷ ts) ≡ suc (all_polls (requeue ts (after_poll t)))
+left_less t ts = left_after t ts (steps_left t.steps) refl
 
 -- ---- where the tasks stand
 
-stand_push : (handles : List Handle) (ts : List Left) (fs : List (Instrumented Running)) (t : Left) (f : Instrumented Running) → AllStand handles ts fs → TaskStands handles t f → AllStand handles (ts ++ t ∷ []) (fs ++ f ∷ [])
+pub stand_push : (handles : List Handle) (ts : List UnfinishedTask) (fs : List (Instrumented Running)) (t : UnfinishedTask) (f : Instrumented Running) → AllStand handles ts fs → TaskStands handles t f → AllStand handles (ts ++ t ∷ []) (fs ++ f ∷ [])
 stand_push handles [] [] t f all one = (one, tt)
 stand_push handles [] (g ∷ fs) t f all one = absurd all
 stand_push handles (u ∷ ts) [] t f all one = absurd all
 stand_push handles (u ∷ ts) (g ∷ fs) t f all one = (all.0, stand_push handles ts fs t f all.1 one)
 
-pub stand_after : (handles : List Handle) (t : Left) (ts : List Left) (f : Instrumented Running) (fs : List (Instrumented Running)) (left : Option (Instrumented Running)) → TaskStands handles t f → AllStand handles ts fs → IsLeft left f
+pub stand_after : (handles : List Handle) (t : UnfinishedTask) (ts : List UnfinishedTask) (f : Instrumented Running) (fs : List (Instrumented Running)) (left : Option (Instrumented Running)) → TaskStands handles t f → AllStand handles ts fs → IsLeft left f
     → AllStand handles (requeue ts (after_poll t)) (queue_with fs left)
 stand_after handles t ts f fs None one all is =
-    subst (λ (o : Option (List Step)). AllStand handles (requeue ts (option_map (λ steps. record t { steps = steps }) o)) fs) (sym (ap left_of one.steps ∙ is)) all
+    subst (λ (o : Option (List Step)). AllStand handles (requeue ts (option_map (λ steps. record t { steps = steps }) o)) fs) (sym (ap steps_left one.steps ∙ is)) all
 stand_after handles t ts f fs (Some g) one all is =
-    subst (λ (o : Option (List Step)). AllStand handles (requeue ts (option_map (λ steps. record t { steps = steps }) o)) (fs ++ g ∷ [])) (sym (ap left_of one.steps ∙ is.0))
+    subst (λ (o : Option (List Step)). AllStand handles (requeue ts (option_map (λ steps. record t { steps = steps }) o)) (fs ++ g ∷ [])) (sym (ap steps_left one.steps ∙ is.0))
     (stand_push handles ts fs (record t { steps = g.inner.steps.items }) g all (record {
       handle = one.handle ∙ ap (λ (h : Handle). Some h) (sym is.1);
       site = ap (λ (h : Handle). h.site) is.1 ∙ one.site;
@@ -75,7 +75,7 @@ stand_after handles t ts f fs (Some g) one all is =
 apart_sym : (a b : Held) → IsApart a b → IsApart b a
 apart_sym a b apart = λ id is other. apart id other is
 
-apart_push : (f : Instrumented Running) (fs : List (Instrumented Running)) (g : Instrumented Running) → AreApart f fs → IsApart f.span.held g.span.held → AreApart f (fs ++ g ∷ [])
+pub apart_push : (f : Instrumented Running) (fs : List (Instrumented Running)) (g : Instrumented Running) → AreApart f fs → IsApart f.span.held g.span.held → AreApart f (fs ++ g ∷ [])
 apart_push f [] g all one = (one, tt)
 apart_push f (x ∷ fs) g all one = (all.0, apart_push f fs g all.1 one)
 

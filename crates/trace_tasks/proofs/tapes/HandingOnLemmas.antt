@@ -2,16 +2,17 @@
 use Rattle.std.proofs.Common.{◌≡◌, ℕ, zero, suc, ◌+◌, ◌<◌, ◌^◌, List, [], ◌∷◌, ◌++◌, length, true, false, Option, Some, None, Result, Ok, Err, refl, sym, ap, subst, ◌∙◌, arith, slice_get, slice_set, OnOk}
 use Rattle.std.proofs.lemmas.Bool.{true≢false}
 use Rattle.otel_base.specs.declared.enter_error.EnterError.TheVariants as faults
-use Rattle.trace_tasks.proofs.Common.{EnterError, Memory, Callsite, Lane, Worlds, Spans, cached_at, entries_on, no_spans, spans_in, now_there, seen_before, seen_later, Handle, Held, IsKnown, Request, Instrumented, Running, refused, TapeValue, DoesTape, TouchesTape, Step, left_of, Stage, Left, poll, after_poll, requeue, turns, all_polls, moment_of, tape_spans, CarriesTape, left_after, Ready, IsAlone, left_as, Turned, dispatch_serving, served_by, AllStand, AllWait, AllKnown, KeepsBut, Waits, polls_in, queue_with, TurnStops}
+use Rattle.trace_tasks.proofs.Common.{EnterError, Memory, Callsite, Lane, Worlds, Spans, cached_at, entries_on, no_spans, spans_in, now_there, seen_before, seen_later, Handle, Held, Request, Instrumented, Running, refused, TapeValue, DoesTape, TouchesTape, Step, steps_left, TaskScene, UnfinishedTask, poll_requests, after_poll, requeue, turns_requests, all_polls, moment_of, tape_spans, CarriesTape, left_after, Ready, IsAlone, left_as, Turned, dispatch_serving, served_by, AllStand, AllWait, AllKnown, polls_in, queue_with, TakesTurn, StopsInTurn}
 use Rattle.span_futures.specs.Lent.{more_parts}
 use Rattle.span_handles.specs.Knowing.{KeepsHandles}
 use Rattle.span_handles.proofs.KnownHandlesLemmas.{handles_same}
-use Rattle.trace_tasks.specs.TapeTurns.{Calm, AllFit, WaitOnTape, TakesAll, OnlyRequestsChange, HandsOn, HandsTurnsOn}
+use Rattle.trace_tasks.specs.TapeTurns.{BetweenPolls, AllCanBePolled, WaitOnTape, TakesAll, OnlyRequestsChange, HandsOn, HandsTurnsOn}
 use Rattle.trace_tasks.proofs.queues.BegunTasksLemmas.{known_stays}
-use Rattle.trace_tasks.proofs.queues.QueueLemmas.{polls_after, left_less, stand_after, wait_after}
+use Rattle.trace_tasks.proofs.queues.QueueLemmas.{left_less, stand_after}
+use Rattle.trace_tasks.proofs.queues.TurnsLemmas.{one_poll_less}
 use Rattle.trace_tasks.proofs.tapes.PollsLemmas.{poll_spells}
 use Rattle.trace_tasks.proofs.tapes.RoundsLemmas.{turns_more, left_more}
-use Rattle.trace_tasks.proofs.tapes.RunsLemmas.{fit_after}
+use Rattle.trace_tasks.proofs.tapes.RunsLemmas.{tasks_after}
 
 -- ---- where only the requests on the tape are others
 
@@ -100,28 +101,28 @@ module _ {K : Type 0} (takes : K → Request → K → Type 0) (d : ℕ) (sites 
   only_requests = record { before = h.tape; later = record h.tape { requests = [] }; there = h.there; did = refl; others = h.emptied }
 
   module _ (lane : Lane) (handles : List Handle) (guards : List Held) (tape : TapeValue) where
-    abbrev pub stage_before : Stage TapeValue
+    abbrev pub stage_before : TaskScene TapeValue
     stage_before = record { world = old; lane = lane; handles = handles; guards = guards }
 
-    abbrev pub stage_after : Stage TapeValue
+    abbrev pub stage_after : TaskScene TapeValue
     stage_after = record { world = new; lane = lane; handles = handles; guards = guards }
 
-    emptied_calm : (k : ℕ) → Calm d sites k stage_before tape → Calm d sites k stage_after (record tape { requests = [] })
-    emptied_calm k calm = record {
+    emptied_between : (k : ℕ) → BetweenPolls d sites k stage_before tape → BetweenPolls d sites k stage_after (record tape { requests = [] })
+    emptied_between k between = record {
       there = now_there (λ s t. t ≡ record s { requests = t.requests }) old new d only_requests
-          ∙ ap (λ (x : TapeValue). let y : TapeValue = record x { requests = [] } in Some y) (the_tape h.tape tape (sym h.there ∙ calm.there));
-      sites_are = ap (λ (w : Worlds TapeValue). w.sites) h.emptied ∙ calm.sites_are;
-      cached = λ n less. ap (λ (w : Worlds TapeValue). cached_at w.cached d n) h.emptied ∙ calm.cached n less;
-      no_due = calm.no_due;
-      no_entries = calm.no_entries;
-      guards = calm.guards;
-      guard_count = calm.guard_count;
-      none_open = calm.none_open;
+          ∙ ap (λ (x : TapeValue). let y : TapeValue = record x { requests = [] } in Some y) (the_tape h.tape tape (sym h.there ∙ between.there));
+      sites_are = ap (λ (w : Worlds TapeValue). w.sites) h.emptied ∙ between.sites_are;
+      cached = λ n less. ap (λ (w : Worlds TapeValue). cached_at w.cached d n) h.emptied ∙ between.cached n less;
+      no_due = between.no_due;
+      no_entries = between.no_entries;
+      guards = between.guards;
+      guard_count = between.guard_count;
+      none_open = between.none_open;
     }
 
-    emptied_fit : (ts : List Left) → AllFit d sites stage_before tape ts → AllFit d sites stage_after (record tape { requests = [] }) ts
-    emptied_fit [] all = tt
-    emptied_fit (t ∷ ts) all = (
+    emptied_tasks : (ts : List UnfinishedTask) → AllCanBePolled d sites stage_before tape ts → AllCanBePolled d sites stage_after (record tape { requests = [] }) ts
+    emptied_tasks [] all = tt
+    emptied_tasks (t ∷ ts) all = (
       record {
         waits = record { handle = all.0.waits.handle; lone = all.0.waits.lone; once = all.0.waits.once };
         callsite = all.0.callsite;
@@ -129,89 +130,81 @@ module _ {K : Type 0} (takes : K → Request → K → Type 0) (d : ℕ) (sites 
         tested = all.0.tested;
       },
       all.1,
-      emptied_fit ts all.2,
+      emptied_tasks ts all.2,
     )
 
     -- tasks that stand wait on the tape, and the sink took what was spelled
-    pub waits_emptied : (k : ℕ) (ts : List Left) (fs : List (Instrumented Running)) → AllStand handles ts fs → Calm d sites k stage_before tape → AllFit d sites stage_before tape ts → WaitOnTape d sites k ts new lane fs
-    waits_emptied k ts fs stand calm fit = record {
+    pub waits_emptied : (k : ℕ) (ts : List UnfinishedTask) (fs : List (Instrumented Running)) → AllStand handles ts fs → BetweenPolls d sites k stage_before tape → AllCanBePolled d sites stage_before tape ts → WaitOnTape d sites k ts new lane fs
+    waits_emptied k ts fs stand between waiting = record {
       handles = handles;
       guards = guards;
       stand = stand;
       tape = record tape { requests = [] };
-      calm = emptied_calm k calm;
-      fit = emptied_fit ts fit;
+      between = emptied_between k between;
+      waiting = emptied_tasks ts waiting;
       none = refl;
     }
 
-    pub taken_from : (k : ℕ) (rs : List Request) → Calm d sites k stage_before tape → tape.requests ≡ rs → TakesAll takes rs before later
-    taken_from k rs calm is = subst (λ (xs : List Request). TakesAll takes xs before later) (ap (λ (x : TapeValue). x.requests) (the_tape h.tape tape (sym h.there ∙ calm.there)) ∙ is) h.taken
+    pub taken_from : (k : ℕ) (rs : List Request) → BetweenPolls d sites k stage_before tape → tape.requests ≡ rs → TakesAll takes rs before later
+    taken_from k rs between is = subst (λ (xs : List Request). TakesAll takes xs before later) (ap (λ (x : TapeValue). x.requests) (the_tape h.tape tape (sym h.there ∙ between.there)) ∙ is) h.taken
 
 -- ---- one turn
 
--- those that are left wait still
-pub wait_turned : (at : ℕ) (all : List (Instrumented Running)) (f : Instrumented Running) (fs : List (Instrumented Running)) (left : Option (Instrumented Running)) (world next : Worlds TapeValue) (lane later : Lane) → all ≡ f ∷ fs → AllWait tape_spans world (dispatch_serving lane) all
-    → Turned tape_spans (λ s. None) (λ s lane c. true) (λ s lane number. 0) (λ s. Unit {0}) DoesTape TouchesTape at f world lane left next later → KeepsBut tape_spans world next f.span.held → ((g : Instrumented Running) → left ≡ Some g → IsKnown tape_spans next g.span.held)
-    → AllWait tape_spans next (dispatch_serving lane) (queue_with fs left)
-wait_turned at all f fs left world next lane later is wait turned keeps known =
-    wait_after tape_spans world next (dispatch_serving lane) f fs left (subst (λ (xs : List (Instrumented Running)). AllWait tape_spans world (dispatch_serving lane) xs) is wait) turned.left_is turned.stay keeps known
-
 -- the subscriber is there still
-pub still_there : (d at : ℕ) (f : Instrumented Running) (left : Option (Instrumented Running)) (world next : Worlds TapeValue) (lane later : Lane) → dispatch_serving lane ≡ d
-    → Turned tape_spans (λ s. None) (λ s lane c. true) (λ s lane number. 0) (λ s. Unit {0}) DoesTape TouchesTape at f world lane left next later → d < length next.subscribers
-still_there d at f left world next lane later serves turned = (
-    let there = turned.ready.there in
-    let same : dispatch_serving later ≡ d = ap served_by turned.default ∙ serves in
+pub still_there : (d at : ℕ) (all last : List (Instrumented Running)) (world next : Worlds TapeValue) (lane later : Lane) → dispatch_serving lane ≡ d → TakesTurn tape_spans (λ s. None) (λ s lane c. true) (λ s lane number. 0) (λ s. Unit {0}) DoesTape TouchesTape at all world lane last next later → d < length next.subscribers
+still_there d at all last world next lane later serves turn = (
+    let there = turn.turned.ready.there in
+    let same : dispatch_serving later ≡ d = ap served_by turn.turned.default ∙ serves in
     omega (arith, there, same))
 
 module _ {K : Type 0} (takes : K → Request → K → Type 0) (d : ℕ) (sites : List Callsite) where
-  pub record TurnHandedOn (k : ℕ) (ts : List Left) (new : Worlds TapeValue) (later : Lane) (fs : List (Instrumented Running)) (before after : K) : Type 0 where
-    pub t : Left
-    pub rest : List Left
+  pub record TurnHandedOn (k : ℕ) (ts : List UnfinishedTask) (new : Worlds TapeValue) (later : Lane) (fs : List (Instrumented Running)) (before after : K) : Type 0 where
+    pub t : UnfinishedTask
+    pub rest : List UnfinishedTask
     pub is : ts ≡ t ∷ rest
     pub waits : WaitOnTape d sites (k + 1) (requeue rest (after_poll t)) new later fs
-    pub taken : TakesAll takes (poll sites k t) before after
+    pub taken : TakesAll takes (poll_requests sites k t) before after
 
-  hands_turn_on : (k : ℕ) (ts : List Left) (f : Instrumented Running) (fs : List (Instrumented Running)) (left : Option (Instrumented Running)) (world next new : Worlds TapeValue) (lane later : Lane) (before after : K) → k < 2 ^ 63 → dispatch_serving lane ≡ d
+  hands_turn_on : (k : ℕ) (ts : List UnfinishedTask) (f : Instrumented Running) (fs : List (Instrumented Running)) (left : Option (Instrumented Running)) (world next new : Worlds TapeValue) (lane later : Lane) (before after : K) → k < 2 ^ 63 → dispatch_serving lane ≡ d
       → WaitOnTape d sites k ts world lane (f ∷ fs) → Turned tape_spans (λ s. None) (λ s lane c. true) (λ s lane number. 0) (λ s. Unit {0}) DoesTape TouchesTape (moment_of k) f world lane left next later → HandsOn takes d next new before after
       → TurnHandedOn k ts new later (queue_with fs left) before after
   hands_turn_on k [] f fs left world next new lane later before after few serves w turned handed = absurd w.stand
   hands_turn_on k (t ∷ rest) f fs left world next new lane later before after few serves w turned handed =
-      let u : Left = left_as t.number t.site f.inner in
-      let same : u ≡ t = ap (λ (xs : List Step). let v : Left = record { number = t.number; site = t.site; steps = xs } in v) (sym w.stand.0.steps) in
-      let s : Stage TapeValue = record { world = world; lane = lane; handles = w.handles; guards = w.guards } in
-      let m : Stage TapeValue = record { world = next; lane = later; handles = w.handles; guards = w.guards ++ f.span.held ∷ [] } in
-      let did : CarriesTape d (poll sites k t) s m =
-      subst (λ (n : ℕ). CarriesTape n (poll sites k t) s m) serves
-      (subst (λ (xs : List Callsite). CarriesTape (dispatch_serving lane) (poll xs k t) s m) w.calm.sites_are
-      (subst (λ (v : Left). CarriesTape (dispatch_serving lane) (poll world.sites k v) s m) same
-      (turned.carried t.number t.site k w.handles w.guards refl w.calm.guard_count w.stand.0.handle w.stand.0.site))) in
-      let p = poll_spells d sites k t few w.fit.0.callsite w.fit.0.is w.fit.0.tested s m w.tape w.calm w.fit.0.waits did in
+      let u : UnfinishedTask = left_as t.number t.site f.inner in
+      let same : u ≡ t = ap (λ (xs : List Step). let v : UnfinishedTask = record { number = t.number; site = t.site; steps = xs } in v) (sym w.stand.0.steps) in
+      let s : TaskScene TapeValue = record { world = world; lane = lane; handles = w.handles; guards = w.guards } in
+      let m : TaskScene TapeValue = record { world = next; lane = later; handles = w.handles; guards = w.guards ++ f.span.held ∷ [] } in
+      let did : CarriesTape d (poll_requests sites k t) s m =
+      subst (λ (n : ℕ). CarriesTape n (poll_requests sites k t) s m) serves
+      (subst (λ (xs : List Callsite). CarriesTape (dispatch_serving lane) (poll_requests xs k t) s m) w.between.sites_are
+      (subst (λ (v : UnfinishedTask). CarriesTape (dispatch_serving lane) (poll_requests world.sites k v) s m) same
+      (turned.carried t.number t.site k w.handles w.guards refl w.between.guard_count w.stand.0.handle w.stand.0.site))) in
+      let p = poll_spells d sites k t few w.waiting.0.callsite w.waiting.0.is w.waiting.0.tested s m w.tape w.between w.waiting.0.waits did in
       record {
         t = t;
         rest = rest;
         is = refl;
         waits = waits_emptied takes d sites next new before after handed later w.handles (w.guards ++ f.span.held ∷ []) p.now (k + 1) (requeue rest (after_poll t)) (queue_with fs left)
-            (stand_after w.handles t rest f fs left w.stand.0 w.stand.1 turned.left_is) p.calm (fit_after d sites k t s m w.tape p rest w.fit (left_of t.steps) refl);
-        taken = taken_from takes d sites next new before after handed later w.handles (w.guards ++ f.span.held ∷ []) p.now (k + 1) (poll sites k t) p.calm
-            (p.requests ∙ ap (λ (rs : List Request). rs ++ poll sites k t) w.none);
+            (stand_after w.handles t rest f fs left w.stand.0 w.stand.1 turned.left_is) p.between (tasks_after d sites k t s m w.tape p rest w.waiting (steps_left t.steps) refl);
+        taken = taken_from takes d sites next new before after handed later w.handles (w.guards ++ f.span.held ∷ []) p.now (k + 1) (poll_requests sites k t) p.between
+            (p.requests ∙ ap (λ (rs : List Request). rs ++ poll_requests sites k t) w.none);
       }
 
   -- ---- all turns so far
 
-  pub record TurnsSoFar (ts : List Left) (polls : ℕ) (world : Worlds TapeValue) (lane : Lane) (fs : List (Instrumented Running)) (start now : K) : Type 0 where
-    pub left : List Left
+  pub record TurnsSoFar (ts : List UnfinishedTask) (polls : ℕ) (world : Worlds TapeValue) (lane : Lane) (fs : List (Instrumented Running)) (start now : K) : Type 0 where
+    pub left : List UnfinishedTask
     pub after : left_after polls ts ≡ left
     pub polled : polls + all_polls left ≡ all_polls ts
     pub waits : WaitOnTape d sites polls left world lane fs
-    pub taken : TakesAll takes (turns sites polls 0 ts) start now
+    pub taken : TakesAll takes (turns_requests sites polls 0 ts) start now
 
   pub record HandedSoFar (first fs : List (Instrumented Running)) (old world : Worlds TapeValue) (before lane : Lane) (polls : ℕ) (start now : K) : Type 0 where
     pub ready : Ready tape_spans (λ s lane number. 0) (λ s. Unit {0}) world lane
     pub serves : dispatch_serving lane ≡ d
     pub wait : AllWait tape_spans world (dispatch_serving lane) fs
     pub few : polls + polls_in fs ≡ polls_in first
-    pub so_far : (ts : List Left) → WaitOnTape d sites 0 ts old before first → TurnsSoFar ts polls world lane fs start now
+    pub so_far : (ts : List UnfinishedTask) → WaitOnTape d sites 0 ts old before first → TurnsSoFar ts polls world lane fs start now
 
   pub handed_first : (fs : List (Instrumented Running)) (world : Worlds TapeValue) (lane : Lane) (start : K) → Ready tape_spans (λ s lane number. 0) (λ s. Unit {0}) world lane → dispatch_serving lane ≡ d → AllWait tape_spans world (dispatch_serving lane) fs
       → HandedSoFar fs fs world world lane lane 0 start start
@@ -223,7 +216,7 @@ module _ {K : Type 0} (takes : K → Request → K → Type 0) (d : ℕ) (sites 
     so_far = λ ts waits. record { left = ts; after = refl; polled = omega arith; waits = waits; taken = refl };
   }
 
-  turns_so_far : (ts : List Left) (f : Instrumented Running) (fs : List (Instrumented Running)) (left : Option (Instrumented Running)) (world next new : Worlds TapeValue) (lane later : Lane) (polls : ℕ) (start before after : K) → polls < 2 ^ 63 → dispatch_serving lane ≡ d
+  turns_so_far : (ts : List UnfinishedTask) (f : Instrumented Running) (fs : List (Instrumented Running)) (left : Option (Instrumented Running)) (world next new : Worlds TapeValue) (lane later : Lane) (polls : ℕ) (start before after : K) → polls < 2 ^ 63 → dispatch_serving lane ≡ d
       → Turned tape_spans (λ s. None) (λ s lane c. true) (λ s lane number. 0) (λ s. Unit {0}) DoesTape TouchesTape (moment_of polls) f world lane left next later → HandsOn takes d next new before after
       → TurnsSoFar ts polls world lane (f ∷ fs) start before → TurnsSoFar ts (polls + 1) new later (queue_with fs left) start after
   turns_so_far ts f fs left world next new lane later polls start before after few serves turned handed s =
@@ -235,36 +228,34 @@ module _ {K : Type 0} (takes : K → Request → K → Type 0) (d : ℕ) (sites 
         polled = (let p = s.polled in let q = ap all_polls one.is in let less = left_less one.t one.rest in omega (arith, p, q, less));
         waits = one.waits;
         taken = subst (λ (rs : List Request). TakesAll takes rs start after) (sym (turns_more sites polls ts one.t one.rest is))
-            (takes_after takes (turns sites polls 0 ts) (poll sites polls one.t) start before after s.taken one.taken);
+            (takes_after takes (turns_requests sites polls 0 ts) (poll_requests sites polls one.t) start before after s.taken one.taken);
       }
 
-  pub handed_more : (first all : List (Instrumented Running)) (f : Instrumented Running) (fs : List (Instrumented Running)) (left : Option (Instrumented Running)) (old world next new : Worlds TapeValue) (before lane later : Lane) (polls at : ℕ) (start now then : K)
-      → polls_in first < 2 ^ 60 → all ≡ f ∷ fs → at ≡ moment_of polls → HandedSoFar first all old world before lane polls start now
-      → Turned tape_spans (λ s. None) (λ s lane c. true) (λ s lane number. 0) (λ s. Unit {0}) DoesTape TouchesTape at f world lane left next later → KeepsBut tape_spans world next f.span.held → ((g : Instrumented Running) → left ≡ Some g → IsKnown tape_spans next g.span.held)
-      → HandsOn takes d next new now then → HandedSoFar first (queue_with fs left) old new before later (polls + 1) start then
-  handed_more first all f fs left old world next new before lane later polls at start now then bound is moment h turned keeps known handed =
-      let T : ℕ → Type 0 = λ n. Turned tape_spans (λ s. None) (λ s lane c. true) (λ s lane number. 0) (λ s. Unit {0}) DoesTape TouchesTape n f world lane left next later in
-      let at_moment : T (moment_of polls) = subst T moment turned in
+  pub handed_more : (first all last : List (Instrumented Running)) (old world next new : Worlds TapeValue) (before lane later : Lane) (polls at : ℕ) (start now then : K) → polls_in first < 2 ^ 60 → at ≡ moment_of polls → HandedSoFar first all old world before lane polls start now
+      → TakesTurn tape_spans (λ s. None) (λ s lane c. true) (λ s lane number. 0) (λ s. Unit {0}) DoesTape TouchesTape at all world lane last next later → HandsOn takes d next new now then → HandedSoFar first last old new before later (polls + 1) start then
+  handed_more first all last old world next new before lane later polls at start now then bound moment h turn handed =
+      let T : ℕ → Type 0 = λ n. Turned tape_spans (λ s. None) (λ s lane c. true) (λ s lane number. 0) (λ s. Unit {0}) DoesTape TouchesTape n turn.f world lane turn.left next later in
+      let turned : T (moment_of polls) = subst T moment turn.turned in
       let r = only_requests takes d sites next new now then handed in
       let serves : dispatch_serving later ≡ d = ap served_by turned.default ∙ h.serves in
-      let wait : AllWait tape_spans next (dispatch_serving lane) (queue_with fs left) = wait_turned at all f fs left world next lane later is h.wait turned keeps known in
       let few : polls < 2 ^ 63 = (let a = h.few in let b = bound in omega (arith, a, b)) in
       record {
         ready = ready_still d next new r later serves turned.ready;
         serves = serves;
-        wait = subst (λ (n : ℕ). AllWait tape_spans new n (queue_with fs left)) (sym serves) (wait_still d next new r (queue_with fs left) (subst (λ (n : ℕ). AllWait tape_spans next n (queue_with fs left)) h.serves wait));
-        few = (let a = h.few in let b = ap polls_in is in let c = polls_after f fs left turned.left_is in omega (arith, a, b, c));
-        so_far = λ ts waits. turns_so_far ts f fs left world next new lane later polls start now then few h.serves at_moment handed
-            (subst (λ (xs : List (Instrumented Running)). TurnsSoFar ts polls world lane xs start now) is (h.so_far ts waits));
+        wait = subst (λ (n : ℕ). AllWait tape_spans new n last) (sym serves) (wait_still d next new r last (subst (λ (n : ℕ). AllWait tape_spans next n last) serves turn.wait));
+        few = (let a = h.few in let b = one_poll_less tape_spans (λ s. None) (λ s lane c. true) (λ s lane number. 0) (λ s. Unit {0}) DoesTape TouchesTape at all last world next lane later turn in omega (arith, a, b));
+        so_far = λ ts waits. subst (λ (xs : List (Instrumented Running)). TurnsSoFar ts (polls + 1) new later xs start then) (sym turn.queue)
+            (turns_so_far ts turn.f turn.others turn.left world next new lane later polls start now then few h.serves turned handed
+            (subst (λ (xs : List (Instrumented Running)). TurnsSoFar ts polls world lane xs start now) turn.is (h.so_far ts waits)));
       }
 
-  at_last : (ts : List Left) (polls : ℕ) (world : Worlds TapeValue) (lane : Lane) (start now : K) (left : List Left) → polls + all_polls left ≡ all_polls ts → WaitOnTape d sites polls left world lane [] → TakesAll takes (turns sites polls 0 ts) start now → HandsTurnsOn takes sites ts polls start now
+  at_last : (ts : List UnfinishedTask) (polls : ℕ) (world : Worlds TapeValue) (lane : Lane) (start now : K) (left : List UnfinishedTask) → polls + all_polls left ≡ all_polls ts → WaitOnTape d sites polls left world lane [] → TakesAll takes (turns_requests sites polls 0 ts) start now → HandsTurnsOn takes sites ts polls start now
   at_last ts polls world lane start now [] polled waits taken =
       let is : polls ≡ all_polls ts = omega (arith, polled) in
-      record { polled = is; taken = subst (λ (n : ℕ). TakesAll takes (turns sites n 0 ts) start now) is taken }
+      record { polled = is; taken = subst (λ (n : ℕ). TakesAll takes (turns_requests sites n 0 ts) start now) is taken }
   at_last ts polls world lane start now (t ∷ left) polled waits taken = absurd waits.stand
 
-  pub handed_all : (first fs : List (Instrumented Running)) (old world : Worlds TapeValue) (before lane : Lane) (polls : ℕ) (start now : K) → fs ≡ [] → HandedSoFar first fs old world before lane polls start now → (ts : List Left) → WaitOnTape d sites 0 ts old before first
+  pub handed_all : (first fs : List (Instrumented Running)) (old world : Worlds TapeValue) (before lane : Lane) (polls : ℕ) (start now : K) → fs ≡ [] → HandedSoFar first fs old world before lane polls start now → (ts : List UnfinishedTask) → WaitOnTape d sites 0 ts old before first
       → HandsTurnsOn takes sites ts polls start now
   handed_all first fs old world before lane polls start now none h ts waits =
       let s = subst (λ (xs : List (Instrumented Running)). TurnsSoFar ts polls world lane xs start now) none (h.so_far ts waits) in
@@ -280,8 +271,9 @@ guard_count : (n : ℕ) → length (no_guards n) ≡ n
 guard_count zero = refl
 guard_count (suc n) = (let e = guard_count n in omega (arith, e))
 
-pub full_never : (d polls at : ℕ) (f : Instrumented Running) (old new : Worlds TapeValue) (before later : Lane) (e : EnterError) → Waits tape_spans old d f → at ≡ moment_of polls
-    → TurnStops tape_spans (λ s. None) (λ s lane c. true) (λ s id. false) DoesTape TouchesTape (λ s t. t ≡ s) at f old before e new later → e ≡ faults.Full → ⊥
-full_never d polls at f old new before later e waits moment stops is =
-    let stopped = (stops.stops 0 waits.site polls (f.span ∷ []) (no_guards polls) moment refl (guard_count polls) waits.lone.site_is).stopped in
+pub full_never : (d polls at : ℕ) (all : List (Instrumented Running)) (old new : Worlds TapeValue) (before later : Lane) (e : EnterError) → AllWait tape_spans old d all → at ≡ moment_of polls
+    → StopsInTurn tape_spans (λ s. None) (λ s lane c. true) (λ s id. false) DoesTape TouchesTape (λ s t. t ≡ s) at all old before e new later → e ≡ faults.Full → ⊥
+full_never d polls at all old new before later e wait moment turn is =
+    let waits = (subst (λ (xs : List (Instrumented Running)). AllWait tape_spans old d xs) turn.is wait).0 in
+    let stopped = (turn.stops.stops 0 waits.site polls (turn.f.span ∷ []) (no_guards polls) moment refl (guard_count polls) waits.lone.site_is).stopped in
     absurd (true≢false (sym (stopped.full is).attaches))

@@ -1,6 +1,6 @@
 -- What requests that are carried out over a tape spell.
 use Rattle.std.proofs.Common.{◌≡◌, ℕ, List, [], ◌∷◌, map, Bool, true, false, Option, Some, None, refl, sym, ap, ◌∙◌, slice_get, ◌&&◌, if◌then◌else◌, filter_map, is_some, position, bytes_eq, slice_index_or}
-use Rattle.trace_tasks.proofs.Common.{list_all, cons_option, Callsite, SubscriberCall, spans_after_call, place_of, Worlds, Replaced, now_there, TapeValue, DoesTape, taped_after, name_at, named_values, Fields, declared_value, declares, values_of, declared_ones}
+use Rattle.trace_tasks.proofs.Common.{list_all, cons_option, Callsite, SubscriberCall, spans_after_call, place_of, Worlds, Replaced, now_there, TapeValue, DoesTape, taped_after, field_name_at, named_values, Fields, declared_value, declares, values_of, declared_ones}
 use Rattle.std.specs.Option.{option_map}
 use Rattle.std.proofs.lemmas.Bool.{true≢false}
 use Rattle.std.specs.Cmp.Lexicographic.{same_text}
@@ -13,19 +13,19 @@ named_at : (name : List ℕ) (fields : List (List ℕ)) (n : ℕ) → position (
 named_at name fields n is = same_text (slice_index_or fields n []) name (sym (position-Some (λ (field : List ℕ). bytes_eq field name) fields n [] is).1)
 
 module _ (c : Callsite) where
-  name_back : (name : List ℕ) (n : ℕ) → place_of name c ≡ Some n → name_at c n ≡ name
+  name_back : (name : List ℕ) (n : ℕ) → place_of name c ≡ Some n → field_name_at c n ≡ name
   name_back name n is = named_at name c.fields n is
 
   -- fields that are declared are spelled as they were given
   pub named_back : (fields : Fields) → list_all (λ field. declares c field.0) fields ≡ true → named_values c (values_of c fields) ≡ fields
   named_back [] all = refl
   named_back (f ∷ fs) all = by_place (λ rest. named_back fs rest) (place_of f.0 c) refl where
-    by_place : (list_all (λ field. declares c field.0) fs ≡ true → named_values c (values_of c fs) ≡ fs) → (p : Option ℕ) → place_of f.0 c ≡ p → map (λ pair. (name_at c pair.0, pair.1)) (cons_option (option_map (λ place. (place, f.1)) (place_of f.0 c)) (filter_map (declared_value c) fs)) ≡ f ∷ fs
+    by_place : (list_all (λ field. declares c field.0) fs ≡ true → named_values c (values_of c fs) ≡ fs) → (p : Option ℕ) → place_of f.0 c ≡ p → map (λ pair. (field_name_at c pair.0, pair.1)) (cons_option (option_map (λ place. (place, f.1)) (place_of f.0 c)) (filter_map (declared_value c) fs)) ≡ f ∷ fs
     by_place back None is = absurd (true≢false (sym all ∙ ap (λ (p : Option ℕ). is_some p && list_all (λ field. declares c field.0) fs) is))
     by_place back (Some n) is =
         let rest : list_all (λ field. declares c field.0) fs ≡ true = sym (ap (λ (p : Option ℕ). is_some p && list_all (λ field. declares c field.0) fs) is) ∙ all in
-        ap (λ (p : Option ℕ). map (λ pair. (name_at c pair.0, pair.1)) (cons_option (option_map (λ place. (place, f.1)) p) (filter_map (declared_value c) fs))) is
-        ∙ ap (λ (name : List ℕ). (name, f.1) ∷ map (λ pair. (name_at c pair.0, pair.1)) (filter_map (declared_value c) fs)) (name_back f.0 n is)
+        ap (λ (p : Option ℕ). map (λ pair. (field_name_at c pair.0, pair.1)) (cons_option (option_map (λ place. (place, f.1)) p) (filter_map (declared_value c) fs))) is
+        ∙ ap (λ (name : List ℕ). (name, f.1) ∷ map (λ pair. (field_name_at c pair.0, pair.1)) (filter_map (declared_value c) fs)) (name_back f.0 n is)
         ∙ ap (λ (xs : Fields). f ∷ xs) (back rest)
 
   -- the declared ones are declared

@@ -16,8 +16,8 @@ loop-task-preserved g c =
           c.in-Some.ensures.items (c.loop-task.invariant.closing handles ts stand) c.into_inner-ended.ensures.did;
     }
 
-pub returns-clause-closed : goal.returns-clause-closed
-returns-clause-closed g c = λ handles ts stand.
+pub returns-clause-dropped : goal.returns-clause-dropped
+returns-clause-dropped g c = λ handles ts stand.
     let empty : c.loop-task.queue.items ≡ [] = first_of (grind (arith, common_steps), grind (arith, common_steps, c.in_default.ensures.items, c.in_default.ensures.cases, c.loop-task.queue.ok)) in
     closed_all g.S.Subscriber.spans g.S.Subscriber.hint g.S.Subscriber.enables g.S.Subscriber.does g.S.OtelPart.touches c.args.at c.args.queue.now.items c.loop-task.queue.items c.args.world.now c.loop-task.world handles ts empty (c.loop-task.invariant.closing handles ts stand)
 

@@ -1,53 +1,59 @@
 -- One poll more, whose requests are handed on.
-use Rattle.std.proofs.Common.{◌≡◌, [], ◌+◌, List, Option, subst, sym, ap, refl, arith, IfSome}
-use Rattle.trace_tasks.proofs.Common.{common_steps, IsKnown, Instrumented, Running, dispatch_serving, AllWait, tape_spans, polls_in}
-use Rattle.trace_tasks.proofs.queues.QueueLemmas.{all_known, known_after, polls_after}
-use Rattle.trace_tasks.proofs.tapes.HandingOnLemmas.{HandedSoFar, handed_first, handed_more, handed_all, full_never, known_still, wait_turned, still_there}
+use Rattle.std.proofs.Common.{◌≡◌, ◌∙◌, true, None, Err, refl, ap, arith}
+use Rattle.std.proofs.lemmas.Result.{err_from_is_err_and}
+use Rattle.trace_tasks.proofs.Common.{dispatch_serving, DoesTape, TouchesTape, tape_spans}
+use Rattle.trace_tasks.proofs.queues.QueueLemmas.{all_known}
+use Rattle.trace_tasks.proofs.queues.TurnsLemmas.{turn_if, no_turn, one_poll_less}
+use Rattle.trace_tasks.proofs.tapes.HandingOnLemmas.{handed_first, handed_more, handed_all, full_never, known_still, still_there}
 use Rattle.trace_tasks.proofs.taped.spell_turns.Goals as goal
 
-pub loop-task-init : goal.loop-task-init
-loop-task-init g c = record {
+pub loop-world-init : goal.loop-world-init
+loop-world-init g c = record {
   handed = handed_first g.K.RequestSink.takes c.args.dispatch c.args.world.now.sites c.args.queue.now.items c.args.world.now c.args.lane.now c.args.sink.now c.requires.ready c.requires.serves c.requires.wait;
   context = λ fact h. h;
 }
 
+pub hand_on-requires : goal.hand_on-requires
+hand_on-requires g c =
+    let turn = turn_if tape_spans (λ s. None) (λ s lane c. true) (λ s lane number. 0) (λ s. Unit {0}) DoesTape TouchesTape c.in_ok-take_turn.field-0 _ c.loop-world.queue.items c.take_turn.new.queue.items c.loop-world.world c.take_turn.new.world c.loop-world.lane c.take_turn.new.lane c.if-branch.true c.in_ok-take_turn.ensures.ok in
+    record { there = still_there c.args.dispatch _ c.loop-world.queue.items c.take_turn.new.queue.items c.loop-world.world c.take_turn.new.world c.loop-world.lane c.take_turn.new.lane c.loop-world.invariant.handed.serves turn }
+
 pub close_all-requires-clause-known : goal.close_all-requires-clause-known
 close_all-requires-clause-known g c =
-    let wait = subst (λ (xs : List (Instrumented Running)). AllWait tape_spans c.loop-task.world (dispatch_serving c.loop-task.lane) xs) c.in-Some.ensures.items c.loop-task.invariant.handed.wait in
-    known_after tape_spans c.loop-task.world c.turn.new.world c.in-Some.task c.pop_front.new.self.items c.turn.ensures.keeps wait.1 (all_known tape_spans c.loop-task.world (dispatch_serving c.loop-task.lane) c.pop_front.new.self.items wait.2)
+    let turn = turn_if tape_spans (λ s. None) (λ s lane c. true) (λ s lane number. 0) (λ s. Unit {0}) DoesTape TouchesTape c.in_ok-take_turn.field-0 _ c.loop-world.queue.items c.take_turn.new.queue.items c.loop-world.world c.take_turn.new.world c.loop-world.lane c.take_turn.new.lane c.if-branch.true c.in_ok-take_turn.ensures.ok in
+    known_still c.args.dispatch c.take_turn.new.world c.hand_on.new.world c.hand_on.ensures.changes c.take_turn.new.queue.items (all_known tape_spans c.take_turn.new.world (dispatch_serving c.take_turn.new.lane) c.take_turn.new.queue.items turn.wait)
 
-pub hand_on-requires : goal.hand_on-requires
-hand_on-requires g c = record { there = still_there c.args.dispatch _ c.in-Some.task c.in-Ok.left c.loop-task.world c.turn.new.world c.loop-task.lane c.turn.new.lane c.loop-task.invariant.handed.serves c.in-Ok.ensures.ok }
+pub loop-world-smaller : goal.loop-world-smaller
+loop-world-smaller g c =
+    let turn = turn_if tape_spans (λ s. None) (λ s lane c. true) (λ s lane number. 0) (λ s. Unit {0}) DoesTape TouchesTape c.in_ok-take_turn.field-0 _ c.loop-world.queue.items c.take_turn.new.queue.items c.loop-world.world c.take_turn.new.world c.loop-world.lane c.take_turn.new.lane c.if-branch.true c.in_ok-take_turn.ensures.ok in
+    let less = one_poll_less tape_spans (λ s. None) (λ s lane c. true) (λ s lane number. 0) (λ s. Unit {0}) DoesTape TouchesTape _ c.loop-world.queue.items c.take_turn.new.queue.items c.loop-world.world c.take_turn.new.world c.loop-world.lane c.take_turn.new.lane turn in
+    omega (arith, less)
 
-pub close_all-requires-in-Err-hand_on-clause-known : goal.close_all-requires-in-Err-hand_on-clause-known
-close_all-requires-in-Err-hand_on-clause-known g c =
-    let wait = wait_turned _ c.loop-task.queue.items c.in-Some.task c.pop_front.new.self.items c.in-Ok.left c.loop-task.world c.turn.new.world c.loop-task.lane c.turn.new.lane c.in-Some.ensures.items c.loop-task.invariant.handed.wait c.in-Ok.ensures.ok c.turn.ensures.keeps
-    (λ g' is. subst (λ (o : Option (Instrumented Running)). IfSome o (λ h. IsKnown tape_spans c.turn.new.world h.span.held)) is c.in-Ok.ensures.known) in
-    known_still c.args.dispatch c.turn.new.world c.hand_on.new.world c.hand_on.ensures.changes _ (rw c.put_back.ensures (all_known tape_spans c.turn.new.world (dispatch_serving c.loop-task.lane) _ wait))
-
-pub loop-task-smaller : goal.loop-task-smaller
-loop-task-smaller g c =
-    let a = ap polls_in c.put_back.ensures in
-    let b = ap polls_in c.in-Some.ensures.items in
-    let e = polls_after c.in-Some.task c.pop_front.new.self.items c.in-Ok.left c.in-Ok.ensures.ok.left_is in
-    omega (arith, a, b, e)
-
-pub loop-task-preserved : goal.loop-task-preserved
-loop-task-preserved g c = record {
-  handed =
-      subst (λ (xs : List (Instrumented Running)). HandedSoFar g.K.RequestSink.takes c.args.dispatch c.args.world.now.sites c.args.queue.now.items xs c.args.world.now c.hand_on.new.world c.args.lane.now c.turn.new.lane (c.loop-task.polls + 1) c.args.sink.now c.hand_on.new.sink) (sym c.put_back.ensures)
-      (handed_more g.K.RequestSink.takes c.args.dispatch c.args.world.now.sites c.args.queue.now.items c.loop-task.queue.items c.in-Some.task c.pop_front.new.self.items c.in-Ok.left c.args.world.now c.loop-task.world c.turn.new.world c.hand_on.new.world c.args.lane.now c.loop-task.lane c.turn.new.lane c.loop-task.polls _ c.args.sink.now c.loop-task.sink c.hand_on.new.sink
-      c.requires.few c.in-Some.ensures.items refl c.loop-task.invariant.handed c.in-Ok.ensures.ok c.turn.ensures.keeps
-      (λ g' is. subst (λ (o : Option (Instrumented Running)). IfSome o (λ h. IsKnown tape_spans c.turn.new.world h.span.held)) is c.in-Ok.ensures.known) c.in-Ok-hand_on.ensures.ok);
-  context = λ fact h. c.turn.ensures.context fact (c.loop-task.invariant.context fact h);
-}
+pub loop-world-preserved : goal.loop-world-preserved
+loop-world-preserved g c =
+    let turn = turn_if tape_spans (λ s. None) (λ s lane c. true) (λ s lane number. 0) (λ s. Unit {0}) DoesTape TouchesTape c.in_ok-take_turn.field-0 _ c.loop-world.queue.items c.take_turn.new.queue.items c.loop-world.world c.take_turn.new.world c.loop-world.lane c.take_turn.new.lane c.if-branch.true c.in_ok-take_turn.ensures.ok in
+    record {
+      handed = handed_more g.K.RequestSink.takes c.args.dispatch c.args.world.now.sites c.args.queue.now.items c.loop-world.queue.items c.take_turn.new.queue.items c.args.world.now c.loop-world.world c.take_turn.new.world c.hand_on.new.world c.args.lane.now c.loop-world.lane c.take_turn.new.lane c.loop-world.polls _
+          c.args.sink.now c.loop-world.sink c.hand_on.new.sink c.requires.few refl c.loop-world.invariant.handed turn c.in_default.ensures.ok;
+      context = λ fact h. c.take_turn.ensures.context fact (c.loop-world.invariant.context fact h);
+    }
 
 pub returns-clause-turns : goal.returns-clause-turns
-returns-clause-turns g c = λ ts waits. (
-    let empty : c.loop-task.queue.items ≡ [] = first_of (grind (arith, common_steps), grind (arith, common_steps, c.in_default.ensures.items, c.in_default.ensures.cases, c.loop-task.queue.ok)) in
-    handed_all g.K.RequestSink.takes c.args.dispatch c.args.world.now.sites c.args.queue.now.items c.loop-task.queue.items c.args.world.now c.loop-task.world c.args.lane.now c.loop-task.lane c.loop-task.polls c.args.sink.now c.loop-task.sink empty c.loop-task.invariant.handed ts waits)
+returns-clause-turns g c =
+    let none = no_turn tape_spans (λ s. None) (λ s lane c. true) (λ s lane number. 0) (λ s. Unit {0}) DoesTape TouchesTape c.in_ok-take_turn.field-0 _ c.loop-world.queue.items c.take_turn.new.queue.items c.loop-world.world c.take_turn.new.world c.loop-world.lane c.take_turn.new.lane c.if-branch.false c.in_ok-take_turn.ensures.ok in
+    handed_all g.K.RequestSink.takes c.args.dispatch c.args.world.now.sites c.args.queue.now.items c.loop-world.queue.items c.args.world.now c.loop-world.world c.args.lane.now c.loop-world.lane c.loop-world.polls c.args.sink.now c.loop-world.sink none.0 c.loop-world.invariant.handed
 
-pub returns-in-Err-clause-never_full : goal.returns-in-Err-clause-never_full
-returns-in-Err-clause-never_full g c = λ is. (
-    let wait = subst (λ (xs : List (Instrumented Running)). AllWait tape_spans c.loop-task.world (dispatch_serving c.loop-task.lane) xs) c.in-Some.ensures.items c.loop-task.invariant.handed.wait in
-    full_never (dispatch_serving c.loop-task.lane) c.loop-task.polls _ c.in-Some.task c.loop-task.world c.turn.new.world c.loop-task.lane c.turn.new.lane c.in-Err.error wait.0 refl c.in-Err.ensures.stops (cc is))
+pub returns-clause-context : goal.returns-clause-context
+returns-clause-context g c = λ fact h. c.take_turn.ensures.context fact (c.loop-world.invariant.context fact h)
+
+pub returns-in-Err-clause-context : goal.returns-in-Err-clause-context
+returns-in-Err-clause-context g c = λ fact h. c.take_turn.ensures.context fact (c.loop-world.invariant.context fact h)
+
+pub returns-in_err-take_turn-clause-context : goal.returns-in_err-take_turn-clause-context
+returns-in_err-take_turn-clause-context g c = λ fact h. c.take_turn.ensures.context fact (c.loop-world.invariant.context fact h)
+
+pub returns-in_err-take_turn-clause-never_full : goal.returns-in_err-take_turn-clause-never_full
+returns-in_err-take_turn-clause-never_full g c = λ is.
+    let p = err_from_is_err_and c.from_residual.result c.from_residual.ensures.1 in
+    let same : c.from_residual.result ≡ Err c.in_err-take_turn.field-0.0 = p.1 ∙ ap Err p.2 in
+    full_never (dispatch_serving c.loop-world.lane) c.loop-world.polls _ c.loop-world.queue.items c.loop-world.world c.take_turn.new.world c.loop-world.lane c.take_turn.new.lane c.in_err-take_turn.field-0.0 c.loop-world.invariant.handed.wait refl c.in_err-take_turn.ensures.stops (cc (is, same))

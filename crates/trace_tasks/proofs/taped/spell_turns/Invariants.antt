@@ -3,11 +3,11 @@ use Rattle.trace_tasks.proofs.Common.{Keeps, polls_in}
 use Rattle.trace_tasks.proofs.tapes.HandingOnLemmas.{HandedSoFar}
 use Rattle.trace_tasks.proofs.taped.spell_turns.Given as goal
 
-abbrev pub invariant-loop-task : goal.invariant-loop-task
-invariant-loop-task g l = record {
+abbrev pub invariant-loop-world : goal.invariant-loop-world
+invariant-loop-world g l = record {
   handed : HandedSoFar g.K.RequestSink.takes l.fn.dispatch l.fn.world.sites l.fn.queue.items l.queue.items l.fn.world l.world l.fn.lane l.lane l.polls l.fn.sink l.sink;
   context : Keeps l.fn.cx l.cx;
 }
 
-abbrev pub decreases-loop-task : goal.decreases-loop-task
-decreases-loop-task g l = polls_in l.queue.items
+abbrev pub decreases-loop-world : goal.decreases-loop-world
+decreases-loop-world g l = polls_in l.queue.items

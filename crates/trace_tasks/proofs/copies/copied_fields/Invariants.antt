@@ -1,0 +1,6 @@
+-- The fields that were passed.
+use Rattle.std.proofs.Common.{◌≡◌, take}
+use Rattle.trace_tasks.proofs.copies.copied_fields.Given as goal
+
+abbrev pub invariant-loop-field : goal.invariant-loop-field
+invariant-loop-field l = l.copy ≡ take l.field-index l.fields
