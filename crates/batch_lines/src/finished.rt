@@ -5,10 +5,8 @@ use otel_base::memory::Memory;
 use otel_base::record::Record;
 use std::alloc::Global;
 use trace_batch::Finished;
+use trace_lines::TextBuffer;
 use trace_lines::write::record::add_record;
-
-// The bytes that most records need.
-const LONG: usize = 512;
 
 /// A span that has closed. Its text is the object of its record's line, with its lane.
 #[derive(Drop)]
@@ -23,8 +21,8 @@ impl Finished for FinishedSpan {
     ghost text = { object_text };
 
     fn make_text(&self, alloc: Global, lane: u64, place: u64) -> Result<Items<u8>, Memory> {
-        let mut out = Vec::with_capacity(alloc, LONG)?;
+        let mut out = TextBuffer::new(alloc);
         add_record(&mut out, place, Some(lane), &self.content)?;
-        Ok(Items::from(out))
+        Ok(Items::from(out.into_vec()))
     }
 }

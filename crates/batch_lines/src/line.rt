@@ -6,10 +6,11 @@ ghost use Rattle.serde_json.specs.Written.{compact_text};
 
 use std::alloc::AllocError;
 use trace_batch::Sent;
+use trace_lines::TextBuffer;
 use trace_lines::write::pieces::{add, add_number, separator};
 
 // Adds the text of an item.
-fn add_sent(out: &mut Vec<u8>, front: &str, sent: &Sent) -> Result<(), AllocError>
+fn add_sent(out: &mut TextBuffer, front: &str, sent: &Sent) -> Result<(), AllocError>
     ensures { OnOk result (out.new.items ≡ out.old.items ++ (front.now ++ sent.now.text)) }
 {
     add(out, front)?;
@@ -18,7 +19,7 @@ fn add_sent(out: &mut Vec<u8>, front: &str, sent: &Sent) -> Result<(), AllocErro
 }
 
 // Adds the texts of items, with commas between them.
-fn add_items(out: &mut Vec<u8>, batch: &[Sent]) -> Result<(), AllocError>
+fn add_items(out: &mut TextBuffer, batch: &[Sent]) -> Result<(), AllocError>
     ensures { OnOk result (out.new.items ≡ out.old.items ++ listed_texts false batch.now) }
 {
     let mut later = false;
@@ -30,7 +31,7 @@ fn add_items(out: &mut Vec<u8>, batch: &[Sent]) -> Result<(), AllocError>
 }
 
 /// Adds the line of the batch with a number.
-pub fn add_batch(out: &mut Vec<u8>, number: u64, batch: &[Sent]) -> Result<(), AllocError>
+pub fn add_batch(out: &mut TextBuffer, number: u64, batch: &[Sent]) -> Result<(), AllocError>
     ensures { OnOk result (out.new.items ≡ out.old.items ++ batch_text number batch.now) }
 {
     add(out, "{\"batch\":[")?;
@@ -42,7 +43,7 @@ pub fn add_batch(out: &mut Vec<u8>, number: u64, batch: &[Sent]) -> Result<(), A
 
 // Adds how many batches and records there are, and how many spans are open.
 fn add_counts(
-    out: &mut Vec<u8>,
+    out: &mut TextBuffer,
     batches: u64,
     open_spans: u64,
     records: u64,
@@ -58,7 +59,7 @@ fn add_counts(
 
 /// Adds the end line: how many batches and records there are, and how many spans are open.
 pub fn add_end(
-    out: &mut Vec<u8>,
+    out: &mut TextBuffer,
     batches: u64,
     open_spans: u64,
     records: u64,

@@ -13,17 +13,18 @@ use std::thread::Threads;
 use trace_batch::Sent;
 use trace_batch::batches::batches;
 use trace_batch::relay::relay;
+use trace_lines::TextBuffer;
 use turnstile::Turnstile;
 
 // Adds the line of the batch with a number.
-fn add_line(out: &mut Vec<u8>, number: u64, batch: &Vec<Sent>) -> Result<(), AllocError>
+fn add_line(out: &mut TextBuffer, number: u64, batch: &Vec<Sent>) -> Result<(), AllocError>
     ensures { OnOk result (out.new.items ≡ out.old.items ++ batch_text number batch.now.items) }
 {
     add_batch(out, number, batch.as_slice())
 }
 
 // Adds the lines of batches, numbered from 1 on.
-fn add_batches(out: &mut Vec<u8>, batches: &[Vec<Sent>]) -> Result<(), AllocError>
+fn add_batches(out: &mut TextBuffer, batches: &[Vec<Sent>]) -> Result<(), AllocError>
     ensures { OnOk result (out.new.items ≡ out.old.items ++ batch_lines 0 (map (λ b. b.items) batches.now)) }
 {
     let mut number = 0;
@@ -63,10 +64,10 @@ fn lines_of(
     ensures { IfOk result (λ text. text.items ≡ batch_lines 0 (map (λ b. b.items) batches.now.items)
         ++ batches_end_text (length batches.now.items) open_spans records) }
 {
-    let mut out = Vec::new(alloc);
+    let mut out = TextBuffer::new(alloc);
     add_batches(&mut out, batches.as_slice())?;
     add_end(&mut out, batches.len() as u64, open_spans, records)?;
-    Ok(out)
+    Ok(out.into_vec())
 }
 
 /// The records of a script in batches of `size`, as lines, and the end line. `lanes` has for each record the lane on which

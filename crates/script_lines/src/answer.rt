@@ -5,7 +5,7 @@ ghost use Rattle.trace_lines.specs.text.Texts.{refusal_text};
 use crate::refused_line::RefusedLine;
 use otel_base::memory::Memory;
 use std::alloc::Global;
-use trace_lines::{Refusal, Told, add_refusal_line};
+use trace_lines::{Refusal, TextBuffer, Told, add_refusal_line};
 
 /// All that is written for an input.
 #[derive(Drop)]
@@ -22,10 +22,10 @@ pub fn refused_answer(alloc: Global, refused: RefusedLine) -> Result<Answer, Mem
     ensures text { IfOk result (λ answer. answer.text.items ≡ refusal_text refused.line refused.told) }
     ensures refused { IfOk result (λ answer. answer.refused ≡ true) }
 {
-    let mut text = Vec::new(alloc);
+    let mut text = TextBuffer::new(alloc);
     add_refusal_line(&mut text, refused.line, &refused.told)?;
     Ok(Answer {
-        text,
+        text: text.into_vec(),
         refused: true,
     })
 }

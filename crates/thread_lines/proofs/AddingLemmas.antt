@@ -6,19 +6,19 @@ use Rattle.trace_lines.specs.Lines.{is_blank}
 use Rattle.script_lines.specs.declared.refused_line.RefusedLine.{RefusedLine}
 use Rattle.script_lines.specs.Refusals.{IsTold}
 use Rattle.thread_script.specs.declared.script.ThreadScript.{ThreadScript}
-use Rattle.thread_lines.specs.declared.stop.Stop.{Stop}
-use Rattle.thread_lines.specs.declared.stop.Stop.TheVariants as stop
+use Rattle.thread_lines.specs.declared.stop.ScriptStop.{ScriptStop}
+use Rattle.thread_lines.specs.declared.stop.ScriptStop.TheVariants as stop
 use Rattle.thread_lines.specs.Answers.{AnswersTest, AddsToScript}
 use Rattle.thread_lines.specs.Steps.{script_opened, text_added, at_line, lines_added, script_from, script_of}
 use Rattle.thread_lines.proofs.ToldLemmas.{script_told}
 
 -- ---- why a line is refused
 
-pub not_added : (U : Type 0) (new : ThreadScript) (why : Stop) (t : Told) (r : Result ThreadScript Told) → AddsToScript {U = U} new (Err why) r → why ≡ stop.Refused t → r ≡ Err t
-not_added U new why t r adds is = subst (λ (x : Stop). AddsToScript {U = U} new (Err x) r) is adds
+pub not_added : (U : Type 0) (new : ThreadScript) (why : ScriptStop) (t : Told) (r : Result ThreadScript Told) → AddsToScript {U = U} new (Err why) r → why ≡ stop.Refused t → r ≡ Err t
+not_added U new why t r adds is = subst (λ (x : ScriptStop). AddsToScript {U = U} new (Err x) r) is adds
 
-pub not_answered : {A B : Type 0} (view : A → B) (why : Stop) (t : Told) (r : Result B Told) → AnswersTest view (Err why) r → why ≡ stop.Refused t → r ≡ Err t
-not_answered view why t r answers is = subst (λ (x : Stop). AnswersTest view (Err x) r) is answers
+pub not_answered : {A B : Type 0} (view : A → B) (why : ScriptStop) (t : Told) (r : Result B Told) → AnswersTest view (Err why) r → why ≡ stop.Refused t → r ≡ Err t
+not_answered view why t r answers is = subst (λ (x : ScriptStop). AnswersTest view (Err x) r) is answers
 
 -- ---- behind the settings line
 

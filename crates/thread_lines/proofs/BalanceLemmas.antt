@@ -13,7 +13,7 @@ use Rattle.trace_base.specs.declared.callsite.Callsite.{Callsite}
 use Rattle.trace_base.specs.declared.field.Value.{Value}
 use Rattle.trace_base.specs.declared.field.ValueSet.{ValueSet}
 use Rattle.trace_lines.specs.declared.told.Told.{Told}
-use Rattle.trace_threads.specs.Moves.{Move, enters, exits, stays, move_of, opens_after}
+use Rattle.trace_threads.specs.Moves.{Move, enters, exits, stays, move_of, open_count_after}
 use Rattle.span_script.specs.Effects.{is_bad_moment}
 use Rattle.thread_script.specs.declared.plan.Plan.{Plan}
 use Rattle.thread_script.specs.declared.script.ThreadScript.{ThreadScript}
@@ -25,7 +25,7 @@ use Rattle.thread_script.specs.Plans.{op_asked, record_asked, event_asked, site_
 use Rattle.thread_lines.specs.declared.line.ThreadOp.{ThreadOp}
 use Rattle.thread_lines.specs.declared.line.ThreadCall.{ThreadCall}
 use Rattle.thread_lines.specs.declared.line.ThreadCall.TheVariants as said
-use Rattle.thread_lines.specs.Steps.{◌>>=◌, refuse_unless, names_nothing, need, in_time, move_of_call, entered_on, entered_after, has_entry_for, is_shared, is_entered, call_tested, op_tested, ops_tested}
+use Rattle.thread_lines.specs.Steps.{◌>>=◌, refuse_unless, names_nothing, need, time_tested, move_of_call, entered_on, entered_after, has_entry_for, shared_tested, entry_tested, call_tested, op_tested, ops_tested}
 
 -- ---- tests that were passed
 
@@ -43,20 +43,20 @@ both false b e = absurd (cc e)
 
 -- ---- the span of a call is there
 
-there : (s : ThreadScript) (span : ℕ) (u : ⊤) → is_shared s span ≡ Ok u → span < length s.shared
+there : (s : ThreadScript) (span : ℕ) (u : ⊤) → shared_tested s span ≡ Ok u → span < length s.shared
 there s span u e = ltb-true span (length s.shared) (held (names_nothing names.Handle) (nat_lt span (length s.shared)) u e)
 
 call_there : (s : ThreadScript) (entered : List ℕ) (span : ℕ) (call : ThreadCall) (what : WorkerCall) → call_tested s entered span call ≡ Ok what → span < length s.shared
-call_there s entered span (said.Record fields) what e = let a = then_ok (is_shared s span) _ what e in there s span a.0 a.1
+call_there s entered span (said.Record fields) what e = let a = then_ok (shared_tested s span) _ what e in there s span a.0 a.1
 call_there s entered span (said.Event site fields) what e =
     let a = then_ok (need names.Site (event_site s.callsites site)) _ what e in
-    let b = then_ok (is_shared s span) _ what a.2 in
+    let b = then_ok (shared_tested s span) _ what a.2 in
     there s span b.0 b.1
-call_there s entered span (said.Own op) what e = let a = then_ok (is_shared s span) _ what e in there s span a.0 a.1
+call_there s entered span (said.Own op) what e = let a = then_ok (shared_tested s span) _ what e in there s span a.0 a.1
 
 pub op_there : (s : ThreadScript) (before : ℕ) (entered : List ℕ) (o : ThreadOp) (op : WorkerOp) → op_tested s before entered o ≡ Ok op → op.span < length s.shared
 op_there s before entered o op e =
-    let a = then_ok (in_time before o.at) _ op e in
+    let a = then_ok (time_tested before o.at) _ op e in
     let b = then_ok (call_tested s entered o.span o.call) _ op a.2 in
     let is : record { at = o.at; span = o.span; what = b.0 } ≡ op = cc b.2 in
     subst (λ (x : WorkerOp). x.span < length s.shared) is (call_there s entered o.span o.call b.0 b.1)
@@ -87,26 +87,26 @@ asked_moves plan span at (work.Own op) = refl
 
 -- ---- one call
 
-by_move : (n : ℕ) (m : Move) (rest : ℕ → Bool) → has_entry_for n m ≡ true → rest (opens_after n m) ≡ true → balanced_by n m rest ≡ true
+by_move : (n : ℕ) (m : Move) (rest : ℕ → Bool) → has_entry_for n m ≡ true → rest (open_count_after n m) ≡ true → balanced_by n m rest ≡ true
 by_move n enters rest has e = e
 by_move n exits rest has e = ap (λ b. b && rest (n - 1)) has ∙ e
 by_move n stays rest has e = e
 
-by_part : (n at : ℕ) (m : Move) (op : Option Op) (rest : List Ask) → MovesAs m op → has_entry_for n m ≡ true → is_balanced rest (opens_after n m) ≡ true → is_balanced (part_by at op rest) n ≡ true
-by_part n at m None rest moves has e = subst (λ (x : Move). is_balanced rest (opens_after n x) ≡ true) moves e
+by_part : (n at : ℕ) (m : Move) (op : Option Op) (rest : List Ask) → MovesAs m op → has_entry_for n m ≡ true → is_balanced rest (open_count_after n m) ≡ true → is_balanced (part_by at op rest) n ≡ true
+by_part n at m None rest moves has e = subst (λ (x : Move). is_balanced rest (open_count_after n x) ≡ true) moves e
 by_part n at m (Some op) rest moves has e =
     subst (λ (x : Move). balanced_by n x (is_balanced rest) ≡ true) (sym moves) (by_move n m (is_balanced rest) has e)
 
 -- ---- one call of a list
 
 -- what is open on a span after a call there, and after one elsewhere
-here : (entered : List ℕ) (span k : ℕ) (m : Move) → span ≡ k → k < length entered → slice_index_or (entered_after entered span m) k 0 ≡ opens_after (slice_index_or entered k 0) m
+here : (entered : List ℕ) (span k : ℕ) (m : Move) → span ≡ k → k < length entered → slice_index_or (entered_after entered span m) k 0 ≡ open_count_after (slice_index_or entered k 0) m
 here entered span k m e low =
-    ap (λ (x : ℕ). slice_index_or (set entered x (opens_after (entered_on entered x) m)) k 0) e
-    ∙ get_or-set_same entered k (opens_after (entered_on entered k) m) 0 low
+    ap (λ (x : ℕ). slice_index_or (set entered x (open_count_after (entered_on entered x) m)) k 0) e
+    ∙ get_or-set_same entered k (open_count_after (entered_on entered k) m) 0 low
 
 elsewhere : (entered : List ℕ) (span k : ℕ) (m : Move) → (k ≡ span → ⊥) → slice_index_or (entered_after entered span m) k 0 ≡ slice_index_or entered k 0
-elsewhere entered span k m other = get_or-set_other entered span k (opens_after (entered_on entered span) m) 0 other
+elsewhere entered span k m other = get_or-set_other entered span k (open_count_after (entered_on entered span) m) 0 other
 
 one_more : (plan : Plan) (entered : List ℕ) (k : ℕ) (o : WorkerOp) (rest : List Ask) (b : Bool) → (o.span == k) ≡ b → k < length entered
     → has_entry_for (entered_on entered o.span) (move_of_call o.what) ≡ true
@@ -127,18 +127,18 @@ has_stays n = refl
 
 call_has : (s : ThreadScript) (entered : List ℕ) (span : ℕ) (call : ThreadCall) (what : WorkerCall) → call_tested s entered span call ≡ Ok what → has_entry_for (entered_on entered span) (move_of_call what) ≡ true
 call_has s entered span (said.Record fields) what e =
-    let a = then_ok (is_shared s span) _ what e in
+    let a = then_ok (shared_tested s span) _ what e in
     let is : work.Record fields ≡ what = cc a.2 in
     subst (λ (w : WorkerCall). has_entry_for (entered_on entered span) (move_of_call w) ≡ true) is refl
 call_has s entered span (said.Event site fields) what e =
     let a = then_ok (need names.Site (event_site s.callsites site)) _ what e in
-    let b = then_ok (is_shared s span) _ what a.2 in
+    let b = then_ok (shared_tested s span) _ what a.2 in
     let c = then_ok (need names.Field (all_values a.0 fields)) _ what b.2 in
     let is : work.Event site c.0 ≡ what = cc c.2 in
     subst (λ (w : WorkerCall). has_entry_for (entered_on entered span) (move_of_call w) ≡ true) is refl
 call_has s entered span (said.Own op) what e =
-    let a = then_ok (is_shared s span) _ what e in
-    let b = then_ok (is_entered (entered_on entered span) op) _ what a.2 in
+    let a = then_ok (shared_tested s span) _ what e in
+    let b = then_ok (entry_tested (entered_on entered span) op) _ what a.2 in
     let is : work.Own op ≡ what = cc b.2 in
     subst (λ (w : WorkerCall). has_entry_for (entered_on entered span) (move_of_call w) ≡ true) is (held (names_nothing names.Guard) (has_entry_for (entered_on entered span) (move_of op)) b.0 b.1)
 
@@ -147,7 +147,7 @@ not_late true b e = absurd (true≢false (sym e))
 not_late false true e = absurd (true≢false (sym e))
 not_late false false e = refl
 
-pub timely : (before at : ℕ) (u : ⊤) → in_time before at ≡ Ok u → at ≤ GREATEST
+pub timely : (before at : ℕ) (u : ⊤) → time_tested before at ≡ Ok u → at ≤ GREATEST
 timely before at u e = let h = ltb-false LAST_MOMENT at (not_late (nat_lt at before) (nat_lt LAST_MOMENT at) (held _ (not (is_bad_moment before at)) u e)) in omega (arith, h)
 
 -- A call that passed: it isn't too late, and it exits only what is entered.
@@ -157,7 +157,7 @@ pub record Passed (entered : List ℕ) (o : WorkerOp) : Type 0 where
 
 passed : (s : ThreadScript) (before : ℕ) (entered : List ℕ) (o : ThreadOp) (op : WorkerOp) → op_tested s before entered o ≡ Ok op → Passed entered op
 passed s before entered o op e =
-    let a = then_ok (in_time before o.at) _ op e in
+    let a = then_ok (time_tested before o.at) _ op e in
     let b = then_ok (call_tested s entered o.span o.call) _ op a.2 in
     let is : record { at = o.at; span = o.span; what = b.0 } ≡ op = cc b.2 in
     subst (λ (x : WorkerOp). Passed entered x) is (record { timed = timely before o.at a.0 a.1; has = call_has s entered o.span o.call b.0 b.1 })
@@ -179,7 +179,7 @@ more_balances plan entered o ops p b = record {
   timed = (p.timed, b.timed);
   closed = λ k low.
       one_more plan entered k o (part_on plan k 0 ops) (o.span == k) refl low p.has
-      (b.closed k (omega (arith, low, length-set entered o.span (opens_after (entered_on entered o.span) (move_of_call o.what)))));
+      (b.closed k (omega (arith, low, length-set entered o.span (open_count_after (entered_on entered o.span) (move_of_call o.what)))));
 }
 
 pub all_balance : (s : ThreadScript) (plan : Plan) (before : ℕ) (entered : List ℕ) (os : List ThreadOp) (ops : List WorkerOp) → ops_tested s before entered os ≡ Ok ops → Balances plan entered ops

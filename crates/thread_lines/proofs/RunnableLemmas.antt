@@ -19,7 +19,7 @@ use Rattle.thread_lines.specs.declared.line.ThreadLine.{ThreadLine}
 use Rattle.thread_lines.specs.declared.line.ThreadLine.TheVariants as line
 use Rattle.thread_lines.specs.declared.line.ThreadOp.{ThreadOp}
 use Rattle.thread_lines.specs.Runnable.{AreShared, IsRunnable}
-use Rattle.thread_lines.specs.Steps.{need, in_time, has_lane, last_made, no_workers, with_shared, with_worker, shared_added, ops_tested, worker_added, line_added, text_added}
+use Rattle.thread_lines.specs.Steps.{need, time_tested, lane_tested, last_made, no_workers, with_shared, with_worker, shared_added, ops_tested, worker_added, line_added, text_added}
 use Rattle.thread_lines.proofs.BalanceLemmas.{then_ok, held, both, timely, all_balance}
 
 is_named : {A : Type 0} (w : What) (o : Option A) (a : A) → need w o ≡ Ok a → is_some o ≡ true
@@ -43,8 +43,8 @@ pushed (y ∷ xs) x = ap suc (pushed xs x)
 with_shared_runs : (s : ThreadScript) (l : SharedLine) (t : ThreadScript) → shared_added s l ≡ Ok t → IsRunnable s → IsRunnable t
 with_shared_runs s l t e r =
     let a = then_ok _ _ t e in
-    let b = then_ok (in_time (last_made s.shared) l.at) _ t a.2 in
-    let c = then_ok (has_lane s 0) _ t b.2 in
+    let b = then_ok (time_tested (last_made s.shared) l.at) _ t a.2 in
+    let c = then_ok (lane_tested s 0) _ t b.2 in
     let d = then_ok (need what.Site (span_site s.callsites l.site)) _ t c.2 in
     let room = both (no_workers s.workers) (nat_lt (length s.shared) MOST_SPANS) (held _ _ a.0 a.1) in
     let few = ltb-true (length s.shared) MOST_SPANS room.1 in
@@ -78,7 +78,7 @@ so_many (suc n) = ap suc (so_many n)
 with_worker_runs : (s : ThreadScript) (os : List ThreadOp) (t : ThreadScript) → worker_added s os ≡ Ok t → IsRunnable s → IsRunnable t
 with_worker_runs s os t e r =
     let a = then_ok _ _ t e in
-    let b = then_ok (has_lane s (length s.workers)) _ t a.2 in
+    let b = then_ok (lane_tested s (length s.workers)) _ t a.2 in
     let c = then_ok (ops_tested s (last_made s.shared) (replicate (length s.shared) 0) os) _ t b.2 in
     let few = ltb-true (length s.workers) MOST_WORKERS (held _ (nat_lt (length s.workers) MOST_WORKERS) a.0 a.1) in
     let balances = all_balance s (plan_of s) (last_made s.shared) (replicate (length s.shared) 0) os c.0 c.1 in

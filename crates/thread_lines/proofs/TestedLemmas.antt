@@ -9,10 +9,10 @@ use Rattle.thread_script.specs.declared.script.ThreadScript.{ThreadScript}
 use Rattle.thread_script.specs.declared.script.WorkerOp.{WorkerOp}
 use Rattle.thread_lines.specs.declared.line.ThreadOp.{ThreadOp}
 use Rattle.thread_lines.specs.declared.limits.TheConstants.{MOST_WORKERS}
-use Rattle.thread_lines.specs.declared.stop.Stop.{Stop}
-use Rattle.thread_lines.specs.declared.stop.Stop.TheVariants as stop
+use Rattle.thread_lines.specs.declared.stop.ScriptStop.{ScriptStop}
+use Rattle.thread_lines.specs.declared.stop.ScriptStop.TheVariants as stop
 use Rattle.thread_lines.specs.Answers.{AnswersTest, AddsToScript}
-use Rattle.thread_lines.specs.Steps.{◌>>=◌, refuse_unless, has_lane, last_made, with_worker, worker_added, move_of_call, entered_after, op_tested, ops_tested}
+use Rattle.thread_lines.specs.Steps.{◌>>=◌, refuse_unless, lane_tested, last_made, with_worker, worker_added, move_of_call, entered_after, op_tested, ops_tested}
 
 abbrev pub in_front : {A : Type 0} → List A → Result (List A) Told → Result (List A) Told
 in_front front (Ok more) = Ok (front ++ more)
@@ -59,35 +59,35 @@ left_open s before entered front w e = ap (λ (r : Result ⊤ Told). in_front fr
 
 -- ---- what is answered
 
-module _ (s : ThreadScript) (before : ℕ) (entered : List ℕ) (front : List WorkerOp) (all : Result (List WorkerOp) Told) (r : Result (List WorkerOp) Stop) (why : Stop) (is : r ≡ Err why) where
+module _ (s : ThreadScript) (before : ℕ) (entered : List ℕ) (front : List WorkerOp) (all : Result (List WorkerOp) Told) (r : Result (List WorkerOp) ScriptStop) (why : ScriptStop) (is : r ≡ Err why) where
   pub refused_here : (o : ThreadOp) (os : List ThreadOp) → AnswersTest {A = WorkerOp} (λ op. op) (Err why) (op_tested s before entered o) → in_front front (ops_tested s before entered (o ∷ os)) ≡ in_front [] all → AnswersTest {A = List WorkerOp} (λ l. l) r all
-  refused_here o os a e = subst (λ (x : Result (List WorkerOp) Stop). AnswersTest {A = List WorkerOp} (λ l. l) x all) (sym is) (by_why why a)
+  refused_here o os a e = subst (λ (x : Result (List WorkerOp) ScriptStop). AnswersTest {A = List WorkerOp} (λ l. l) x all) (sym is) (by_why why a)
     where
-      by_why : (w : Stop) → AnswersTest {A = WorkerOp} (λ op. op) (Err w) (op_tested s before entered o) → AnswersTest {A = List WorkerOp} (λ l. l) (Err w) all
+      by_why : (w : ScriptStop) → AnswersTest {A = WorkerOp} (λ op. op) (Err w) (op_tested s before entered o) → AnswersTest {A = List WorkerOp} (λ l. l) (Err w) all
       by_why (stop.Refused t) refused = all_err all t (one_refused s before entered front o os t refused ∙ e)
       by_why stop.Memory refused = tt
 
   pub left_here : AnswersTest {A = ⊤} (λ u. u) (Err why) (refuse_unless (told.Step refusal.InUse) (list_all (λ n. n == 0) entered)) → in_front front (ops_tested s before entered []) ≡ in_front [] all → AnswersTest {A = List WorkerOp} (λ l. l) r all
-  left_here a e = subst (λ (x : Result (List WorkerOp) Stop). AnswersTest {A = List WorkerOp} (λ l. l) x all) (sym is) (by_why why a)
+  left_here a e = subst (λ (x : Result (List WorkerOp) ScriptStop). AnswersTest {A = List WorkerOp} (λ l. l) x all) (sym is) (by_why why a)
     where
-      by_why : (w : Stop) → AnswersTest {A = ⊤} (λ u. u) (Err w) (refuse_unless (told.Step refusal.InUse) (list_all (λ n. n == 0) entered)) → AnswersTest {A = List WorkerOp} (λ l. l) (Err w) all
+      by_why : (w : ScriptStop) → AnswersTest {A = ⊤} (λ u. u) (Err w) (refuse_unless (told.Step refusal.InUse) (list_all (λ n. n == 0) entered)) → AnswersTest {A = List WorkerOp} (λ l. l) (Err w) all
       by_why (stop.Refused t) refused = all_err all t (left_open s before entered front t refused ∙ e)
       by_why stop.Memory refused = tt
 
 -- ---- the line of a worker
 
-module _ (s : ThreadScript) (os : List ThreadOp) (u v : ⊤) (room : refuse_unless told.BadLine (nat_lt (length s.workers) MOST_WORKERS) ≡ Ok u) (lane : has_lane s (length s.workers) ≡ Ok v) where
+module _ (s : ThreadScript) (os : List ThreadOp) (u v : ⊤) (room : refuse_unless told.BadLine (nat_lt (length s.workers) MOST_WORKERS) ≡ Ok u) (lane : lane_tested s (length s.workers) ≡ Ok v) where
   worker_by : worker_added s os ≡ (ops_tested s (last_made s.shared) (replicate (length s.shared) 0) os >>= (λ ops. Ok (with_worker s ops)))
   worker_by =
-      ap (λ (r : Result ⊤ Told). r >>= (λ x. has_lane s (length s.workers) >>= (λ y. ops_tested s (last_made s.shared) (replicate (length s.shared) 0) os >>= (λ ops. Ok (with_worker s ops))))) room
+      ap (λ (r : Result ⊤ Told). r >>= (λ x. lane_tested s (length s.workers) >>= (λ y. ops_tested s (last_made s.shared) (replicate (length s.shared) 0) os >>= (λ ops. Ok (with_worker s ops))))) room
       ∙ ap (λ (r : Result ⊤ Told). r >>= (λ y. ops_tested s (last_made s.shared) (replicate (length s.shared) 0) os >>= (λ ops. Ok (with_worker s ops)))) lane
 
   pub worker_passed : (ops : List WorkerOp) → ops_tested s (last_made s.shared) (replicate (length s.shared) 0) os ≡ Ok ops → worker_added s os ≡ Ok (with_worker s ops)
   worker_passed ops e = worker_by ∙ ap (λ (r : Result (List WorkerOp) Told). r >>= (λ ops. Ok (with_worker s ops))) e
 
-  pub worker_stopped : {U : Type 0} (r : Result U Stop) (why : Stop) → r ≡ Err why → AnswersTest {A = List WorkerOp} (λ l. l) (Err why) (ops_tested s (last_made s.shared) (replicate (length s.shared) 0) os) → AddsToScript s r (worker_added s os)
-  worker_stopped {U = U} r why is e = subst (λ (x : Result U Stop). AddsToScript s x (worker_added s os)) (sym is) (by_why why e)
+  pub worker_stopped : {U : Type 0} (r : Result U ScriptStop) (why : ScriptStop) → r ≡ Err why → AnswersTest {A = List WorkerOp} (λ l. l) (Err why) (ops_tested s (last_made s.shared) (replicate (length s.shared) 0) os) → AddsToScript s r (worker_added s os)
+  worker_stopped {U = U} r why is e = subst (λ (x : Result U ScriptStop). AddsToScript s x (worker_added s os)) (sym is) (by_why why e)
     where
-      by_why : (w : Stop) → AnswersTest {A = List WorkerOp} (λ l. l) (Err w) (ops_tested s (last_made s.shared) (replicate (length s.shared) 0) os) → AddsToScript {U = U} s (Err w) (worker_added s os)
+      by_why : (w : ScriptStop) → AnswersTest {A = List WorkerOp} (λ l. l) (Err w) (ops_tested s (last_made s.shared) (replicate (length s.shared) 0) os) → AddsToScript {U = U} s (Err w) (worker_added s os)
       by_why (stop.Refused t) e = worker_by ∙ ap (λ (r : Result (List WorkerOp) Told). r >>= (λ ops. Ok (with_worker s ops))) e
       by_why stop.Memory e = tt

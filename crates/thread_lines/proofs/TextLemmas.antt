@@ -14,10 +14,10 @@ use Rattle.span_script.specs.declared.open_error.OpenError.TheVariants as errors
 use Rattle.span_script.proofs.filter.TextsLemmas.{read_filter_is, unread_is}
 use Rattle.trace_lines.specs.declared.told.Told.{Told}
 use Rattle.trace_lines.specs.declared.told.Told.TheVariants as told
-use Rattle.thread_lines.specs.declared.stop.Stop.{Stop}
-use Rattle.thread_lines.specs.declared.stop.Stop.TheVariants as stop
+use Rattle.thread_lines.specs.declared.stop.ScriptStop.{ScriptStop}
+use Rattle.thread_lines.specs.declared.stop.ScriptStop.TheVariants as stop
 use Rattle.thread_lines.specs.Answers.{AnswersTest}
-use Rattle.thread_lines.specs.Steps.{directives}
+use Rattle.thread_lines.specs.Steps.{directives_tested}
 
 -- the builder of filters without patterns
 abbrev pub fixed : BuilderValue
@@ -49,10 +49,10 @@ no_memory text piece cause f = subst (λ (x : ParseError). is_memory x ≡ false
 
 -- ---- what is told
 
-pub is_read : (counting : Bool) (text : List ℕ) (ds : List Directive) → ReadsText false text ds [] → directives (fault_in counting (text_read text)) ≡ Ok tt
+pub is_read : (counting : Bool) (text : List ℕ) (ds : List Directive) → ReadsText false text ds [] → directives_tested (fault_in counting (text_read text)) ≡ Ok tt
 is_read counting text ds reads =
     let is = read_filter_is default_builder fixed text (filter_by fixed ds) refl refl (record { directives = ds; reads = reads; is = refl }) in
-    ap (λ (x : TextRead). directives (fault_in counting x)) is.read
+    ap (λ (x : TextRead). directives_tested (fault_in counting x)) is.read
 
 unread_at : (counting : Bool) (text : List ℕ) (piece : ℕ) (cause : ParseError) → is_memory cause ≡ false → IsFirstFault false text piece cause → fault_in counting (text_read text) ≡ Err (counting, piece)
 unread_at counting text piece fault.Shape told_no f = unread_is counting default_builder fixed text piece fault.Shape (errors.Directive counting piece) refl refl f
@@ -63,24 +63,24 @@ unread_at counting text piece fault.Equals told_no f = unread_is counting defaul
 unread_at counting text piece (fault.Fields many) told_no f = unread_is counting default_builder fixed text piece (fault.Fields many) (errors.Directive counting piece) refl refl f
 unread_at counting text piece fault.Memory told_no f = absurd (true≢false told_no)
 
-pub is_unread : (counting : Bool) (text : List ℕ) (piece : ℕ) (cause : ParseError) → IsFirstFault false text piece cause → directives (fault_in counting (text_read text)) ≡ Err (told.Directive counting piece)
-is_unread counting text piece cause f = ap directives (unread_at counting text piece cause (no_memory text piece cause f) f)
+pub is_unread : (counting : Bool) (text : List ℕ) (piece : ℕ) (cause : ParseError) → IsFirstFault false text piece cause → directives_tested (fault_in counting (text_read text)) ≡ Err (told.Directive counting piece)
+is_unread counting text piece cause f = ap directives_tested (unread_at counting text piece cause (no_memory text piece cause f) f)
 
 -- ---- both texts of settings
 
-first_passed : (one other : OpeningRead) (u : ⊤) → directives one ≡ Ok u → directives (first_fault one other) ≡ directives other
+first_passed : (one other : OpeningRead) (u : ⊤) → directives_tested one ≡ Ok u → directives_tested (first_fault one other) ≡ directives_tested other
 first_passed (Ok read) other u e = refl
 first_passed (Err unread) other u e = absurd (cc e)
 
-first_refused : (one other : OpeningRead) (w : Told) → directives one ≡ Err w → directives (first_fault one other) ≡ Err w
+first_refused : (one other : OpeningRead) (w : Told) → directives_tested one ≡ Err w → directives_tested (first_fault one other) ≡ Err w
 first_refused (Ok read) other w e = absurd (cc e)
 first_refused (Err unread) other w e = e
 
 -- where the filter's text passed, the text for counting decides
-pub counting_decides : (filter : List ℕ) (counting : Option (List ℕ)) (u : ⊤) → directives (fault_in false (text_read filter)) ≡ Ok u → directives (opening_read filter counting) ≡ directives (counting_read counting)
+pub counting_decides : (filter : List ℕ) (counting : Option (List ℕ)) (u : ⊤) → directives_tested (fault_in false (text_read filter)) ≡ Ok u → directives_tested (opening_read filter counting) ≡ directives_tested (counting_read counting)
 counting_decides filter counting u e = first_passed (fault_in false (text_read filter)) (counting_read counting) u e
 
 -- what stops at the filter's text stops at both
-pub filter_stops : (filter : List ℕ) (counting : Option (List ℕ)) (why : Stop) → AnswersTest {A = ⊤} (λ u. u) (Err why) (directives (fault_in false (text_read filter))) → AnswersTest {A = ⊤} (λ u. u) (Err why) (directives (opening_read filter counting))
+pub filter_stops : (filter : List ℕ) (counting : Option (List ℕ)) (why : ScriptStop) → AnswersTest {A = ⊤} (λ u. u) (Err why) (directives_tested (fault_in false (text_read filter))) → AnswersTest {A = ⊤} (λ u. u) (Err why) (directives_tested (opening_read filter counting))
 filter_stops filter counting (stop.Refused w) e = first_refused (fault_in false (text_read filter)) (counting_read counting) w e
 filter_stops filter counting stop.Memory e = tt

@@ -26,7 +26,7 @@ use Rattle.thread_lines.specs.declared.line.ThreadCall.{ThreadCall}
 use Rattle.thread_lines.specs.declared.line.ThreadCall.TheVariants as said
 use Rattle.script_lines.specs.declared.refused_line.RefusedLine.{RefusedLine}
 use Rattle.script_lines.specs.Refusals.{IsTold}
-use Rattle.thread_lines.specs.Steps.{◌>>=◌, refuse_unless, names_nothing, need, in_time, has_lane, directives, script_at_first, script_if_read, script_opened, last_made, has_room, shared_added, move_of_call, entered_on, entered_after, is_shared, is_entered, call_tested, op_tested, ops_tested, worker_added, line_added, text_added, at_line, lines_added, script_from, script_of}
+use Rattle.thread_lines.specs.Steps.{◌>>=◌, refuse_unless, names_nothing, need, time_tested, lane_tested, directives_tested, script_at_first, script_if_read, script_opened, last_made, has_room, shared_added, move_of_call, entered_on, entered_after, shared_tested, entry_tested, call_tested, op_tested, ops_tested, worker_added, line_added, text_added, at_line, lines_added, script_from, script_of}
 use Rattle.thread_lines.specs.ThreadForm.{thread_form}
 
 -- what refuses is told
@@ -59,10 +59,10 @@ then_told : {A B : Type 0} (r : Result A Told) (go : A → Result B Told) → Te
 then_told (Ok a) go first later w e = later a w e
 then_told (Err why) go first later w e = first w (let same : why ≡ w = cc e in ap Err same)
 
-time_told : (before at : ℕ) → Tells (in_time before at)
+time_told : (before at : ℕ) → Tells (time_tested before at)
 time_told before at = required_told (told.Step (refusal.BadMoment before at)) (not (is_bad_moment before at)) (step_told (refusal.BadMoment before at) (λ e. cc e))
 
-lane_told : (s : ThreadScript) (place : ℕ) → Tells (has_lane s place)
+lane_told : (s : ThreadScript) (place : ℕ) → Tells (lane_tested s place)
 lane_told s place = required_told (names_nothing what.Lane) (nat_lt place (length s.lanes)) (no_name what.Lane)
 
 -- ---- lines
@@ -71,39 +71,39 @@ spelled_told : {A : Type 0} (o : Option A) → Tells (ok_or o told.BadLine)
 spelled_told (Some x) w e = absurd (cc e)
 spelled_told None w e = (let same : told.BadLine ≡ w = cc e in subst IsTold same bad_line)
 
-directives_told : (r : OpeningRead) → Tells (directives r)
+directives_told : (r : OpeningRead) → Tells (directives_tested r)
 directives_told (Ok read) w e = absurd (cc e)
 directives_told (Err unread) w e = (let same : told.Directive unread.0 unread.1 ≡ w = cc e in subst IsTold same (λ no. cc no))
 
 opened_told : (s : Settings) → Tells (script_if_read s)
-opened_told s = then_told (directives (opening_read s.filter s.counting)) _ (directives_told (opening_read s.filter s.counting)) (λ a. none_told (script_at_first s))
+opened_told s = then_told (directives_tested (opening_read s.filter s.counting)) _ (directives_told (opening_read s.filter s.counting)) (λ a. none_told (script_at_first s))
 
 shared_told : (s : ThreadScript) (l : SharedLine) → Tells (shared_added s l)
 shared_told s l =
     then_told (refuse_unless told.BadLine (has_room s)) _ (required_told told.BadLine (has_room s) bad_line) (λ a.
-    then_told (in_time (last_made s.shared) l.at) _ (time_told (last_made s.shared) l.at) (λ b.
-    then_told (has_lane s 0) _ (lane_told s 0) (λ c.
+    then_told (time_tested (last_made s.shared) l.at) _ (time_told (last_made s.shared) l.at) (λ b.
+    then_told (lane_tested s 0) _ (lane_told s 0) (λ c.
     then_told (need what.Site (span_site s.callsites l.site)) _ (named_told what.Site (span_site s.callsites l.site)) (λ d. none_told _))))
 
-there_told : (s : ThreadScript) (span : ℕ) → Tells (is_shared s span)
+there_told : (s : ThreadScript) (span : ℕ) → Tells (shared_tested s span)
 there_told s span = required_told (names_nothing what.Handle) (nat_lt span (length s.shared)) (no_name what.Handle)
 
-entered_told : (n : ℕ) (op : Op) → Tells (is_entered n op)
+entered_told : (n : ℕ) (op : Op) → Tells (entry_tested n op)
 entered_told n op = required_told (names_nothing what.Guard) _ (no_name what.Guard)
 
 call_told : (s : ThreadScript) (entered : List ℕ) (span : ℕ) (call : ThreadCall) → Tells (call_tested s entered span call)
-call_told s entered span (said.Record fields) = then_told (is_shared s span) _ (there_told s span) (λ a. none_told _)
+call_told s entered span (said.Record fields) = then_told (shared_tested s span) _ (there_told s span) (λ a. none_told _)
 call_told s entered span (said.Event site fields) =
     then_told _ _ (named_told what.Site _) (λ c.
-    then_told (is_shared s span) _ (there_told s span) (λ a.
+    then_told (shared_tested s span) _ (there_told s span) (λ a.
     then_told _ _ (named_told what.Field _) (λ v. none_told _)))
 call_told s entered span (said.Own op) =
-    then_told (is_shared s span) _ (there_told s span) (λ a.
-    then_told (is_entered (entered_on entered span) op) _ (entered_told (entered_on entered span) op) (λ b. none_told _))
+    then_told (shared_tested s span) _ (there_told s span) (λ a.
+    then_told (entry_tested (entered_on entered span) op) _ (entered_told (entered_on entered span) op) (λ b. none_told _))
 
 op_told : (s : ThreadScript) (before : ℕ) (entered : List ℕ) (o : ThreadOp) → Tells (op_tested s before entered o)
 op_told s before entered o =
-    then_told (in_time before o.at) _ (time_told before o.at) (λ a.
+    then_told (time_tested before o.at) _ (time_told before o.at) (λ a.
     then_told (call_tested s entered o.span o.call) _ (call_told s entered o.span o.call) (λ c. none_told _))
 
 ops_told : (s : ThreadScript) (before : ℕ) (entered : List ℕ) (os : List ThreadOp) → Tells (ops_tested s before entered os)
@@ -116,7 +116,7 @@ ops_told s before entered (o ∷ os) =
 worker_told : (s : ThreadScript) (os : List ThreadOp) → Tells (worker_added s os)
 worker_told s os =
     then_told (refuse_unless told.BadLine (nat_lt (length s.workers) MOST_WORKERS)) _ (required_told told.BadLine (nat_lt (length s.workers) MOST_WORKERS) bad_line) (λ a.
-    then_told (has_lane s (length s.workers)) _ (lane_told s (length s.workers)) (λ b.
+    then_told (lane_tested s (length s.workers)) _ (lane_told s (length s.workers)) (λ b.
     then_told (ops_tested s (last_made s.shared) (replicate (length s.shared) 0) os) _ (ops_told s (last_made s.shared) (replicate (length s.shared) 0) os) (λ c. none_told _)))
 
 line_told : (s : ThreadScript) (l : ThreadLine) → Tells (line_added s l)

@@ -2,7 +2,7 @@
 use Rattle.std.specs.Prelude.{ℕ, ◌+◌, ok_or, ◌&&◌, nat_lt, List, [], ◌∷◌, ◌++◌, length, Bool, true, false, not, if◌then◌else◌, Option, Some, None, Result, Ok, Err, set, slice_index_or, replicate, ◌==◌, ⊤}
 use Rattle.std.specs.List.{list_all}
 use Rattle.otel_state.specs.declared.op.Op.{Op}
-use Rattle.trace_threads.specs.Moves.{Move, enters, exits, stays, move_of, opens_after}
+use Rattle.trace_threads.specs.Moves.{Move, enters, exits, stays, move_of, open_count_after}
 use Rattle.thread_script.specs.declared.script.ThreadScript.{ThreadScript}
 use Rattle.thread_script.specs.declared.script.SharedLine.{SharedLine}
 use Rattle.thread_script.specs.declared.script.WorkerOp.{WorkerOp}
@@ -53,12 +53,12 @@ need w (Some x) = Ok x
 need w None = Err (names_nothing w)
 
 -- there is a lane at this place
-abbrev pub has_lane : ThreadScript → ℕ → Result ⊤ Told
-has_lane s place = refuse_unless (names_nothing what.Lane) (nat_lt place (length s.lanes))
+abbrev pub lane_tested : ThreadScript → ℕ → Result ⊤ Told
+lane_tested s place = refuse_unless (names_nothing what.Lane) (nat_lt place (length s.lanes))
 
 -- the moment is neither too late nor below the one before
-abbrev pub in_time : ℕ → ℕ → Result ⊤ Told
-in_time before at = refuse_unless (told.Step (refusal.BadMoment before at)) (not (is_bad_moment before at))
+abbrev pub time_tested : ℕ → ℕ → Result ⊤ Told
+time_tested before at = refuse_unless (told.Step (refusal.BadMoment before at)) (not (is_bad_moment before at))
 
 -- ---- the settings line
 
@@ -67,13 +67,13 @@ abbrev pub script_at_first : Settings → ThreadScript
 script_at_first s = record { filter = s.filter; callsites = s.callsites; lanes = s.lanes; layer = s.layer; shared = []; workers = [] }
 
 -- a text of directives that isn't read is refused
-abbrev pub directives : OpeningRead → Result ⊤ Told
-directives (Ok read) = Ok tt
-directives (Err unread) = Err (told.Directive unread.0 unread.1)
+abbrev pub directives_tested : OpeningRead → Result ⊤ Told
+directives_tested (Ok read) = Ok tt
+directives_tested (Err unread) = Err (told.Directive unread.0 unread.1)
 
 abbrev pub script_if_read : Settings → Result ThreadScript Told
 script_if_read s = do
-  read ← directives (opening_read s.filter s.counting)
+  read ← directives_tested (opening_read s.filter s.counting)
   Ok (script_at_first s)
 
 -- the script of a settings line
@@ -103,8 +103,8 @@ with_shared s l = record s { shared = s.shared ++ l ∷ [] }
 abbrev pub shared_added : ThreadScript → SharedLine → Result ThreadScript Told
 shared_added s l = do
   room ← refuse_unless told.BadLine (has_room s)
-  time ← in_time (last_made s.shared) l.at
-  lane ← has_lane s 0
+  time ← time_tested (last_made s.shared) l.at
+  lane ← lane_tested s 0
   callsite ← need what.Site (span_site s.callsites l.site)
   Ok (with_shared s l)
 
@@ -121,11 +121,11 @@ abbrev pub entered_on : List ℕ → ℕ → ℕ
 entered_on entered span = slice_index_or entered span 0
 
 abbrev pub entered_after : List ℕ → ℕ → Move → List ℕ
-entered_after entered span m = set entered span (opens_after (entered_on entered span) m)
+entered_after entered span m = set entered span (open_count_after (entered_on entered span) m)
 
 -- there is such a shared span
-abbrev pub is_shared : ThreadScript → ℕ → Result ⊤ Told
-is_shared s span = refuse_unless (names_nothing what.Handle) (nat_lt span (length s.shared))
+abbrev pub shared_tested : ThreadScript → ℕ → Result ⊤ Told
+shared_tested s span = refuse_unless (names_nothing what.Handle) (nat_lt span (length s.shared))
 
 -- an exit needs an open entry, so many being open
 abbrev pub has_entry_for : ℕ → Move → Bool
@@ -133,32 +133,32 @@ has_entry_for n exits = nat_lt 0 n
 has_entry_for n enters = true
 has_entry_for n stays = true
 
-abbrev pub is_entered : ℕ → Op → Result ⊤ Told
-is_entered n op = refuse_unless (names_nothing what.Guard) (has_entry_for n (move_of op))
+abbrev pub entry_tested : ℕ → Op → Result ⊤ Told
+entry_tested n op = refuse_unless (names_nothing what.Guard) (has_entry_for n (move_of op))
 
 -- an op, where so many entries are open on the span
 abbrev pub own_tested : ℕ → Op → Result WorkerCall Told
 own_tested n op = do
-  open_there ← is_entered n op
+  open_there ← entry_tested n op
   Ok (work.Own op)
 
 -- a call on a span, where the worker has so many entries open on each
 abbrev pub call_tested : ThreadScript → List ℕ → ℕ → ThreadCall → Result WorkerCall Told
 call_tested s entered span (said.Record fields) = do
-  there ← is_shared s span
+  there ← shared_tested s span
   Ok (work.Record fields)
 call_tested s entered span (said.Event site fields) = do
   callsite ← need what.Site (event_site s.callsites site)
-  there ← is_shared s span
+  there ← shared_tested s span
   values ← need what.Field (all_values callsite fields)
   Ok (work.Event site values)
 call_tested s entered span (said.Own op) = do
-  there ← is_shared s span
+  there ← shared_tested s span
   own_tested (entered_on entered span) op
 
 abbrev pub op_tested : ThreadScript → ℕ → List ℕ → ThreadOp → Result WorkerOp Told
 op_tested s before entered o = do
-  time ← in_time before o.at
+  time ← time_tested before o.at
   call ← call_tested s entered o.span o.call
   Ok (record { at = o.at; span = o.span; what = call })
 
@@ -178,7 +178,7 @@ with_worker s ops = record s { workers = s.workers ++ ops ∷ [] }
 abbrev pub worker_added : ThreadScript → List ThreadOp → Result ThreadScript Told
 worker_added s os = do
   room ← refuse_unless told.BadLine (nat_lt (length s.workers) MOST_WORKERS)
-  lane ← has_lane s (length s.workers)
+  lane ← lane_tested s (length s.workers)
   ops ← ops_tested s (last_made s.shared) (replicate (length s.shared) 0) os
   Ok (with_worker s ops)
 

@@ -6,8 +6,6 @@ use Rattle.otel_base.specs.declared.context.SpanContext.{SpanContext}
 use Rattle.otel_state.specs.declared.op.Op.{Op}
 use Rattle.otel_state.specs.declared.op.Op.TheVariants as op
 use Rattle.span_script.specs.calls.Links.{happens_at}
-use Rattle.thread_lines.specs.declared.read.op.OpWord.{OpWord}
-use Rattle.thread_lines.specs.declared.read.op.OpWord.TheVariants as word
 use Rattle.thread_lines.specs.declared.line.ThreadCall.{ThreadCall}
 use Rattle.thread_lines.specs.declared.line.ThreadCall.TheVariants as calls
 use Rattle.thread_lines.specs.declared.line.ThreadOp.{ThreadOp}
@@ -19,24 +17,6 @@ use Rattle.trace_lines.specs.forms.FieldForm.{fields_of}
 use Rattle.trace_lines.specs.forms.Forms.{Form, ◌>>=◌, give, when, natural, text, member, optional, each, object_of}
 use Rattle.trace_lines.specs.text.Hex.{id_word, long_id_word}
 use Rattle.trace_lines.specs.forms.RequestForm.{fields_form}
-
--- the words of `do` that workers have
-abbrev pub word_of_op : List ℕ → Option OpWord
-word_of_op w =
-    if bytes_eq w (codes "record") then Some word.Record else
-    (if bytes_eq w (codes "event") then Some word.Event else
-    (if bytes_eq w (codes "set_attribute") then Some word.SetAttribute else
-    (if bytes_eq w (codes "set_status") then Some word.SetStatus else
-    (if bytes_eq w (codes "add_event") then Some word.AddEvent else
-    (if bytes_eq w (codes "add_link") then Some word.AddLink else
-    (if bytes_eq w (codes "enter") then Some word.Enter else
-    (if bytes_eq w (codes "exit") then Some word.Exit else
-    (if bytes_eq w (codes "start") then Some word.Start else None))))))))
-
-abbrev pub word_form : Form OpWord
-word_form = do
-  w ← text (codes "do")
-  when (word_of_op w)
 
 -- ---- what each word goes on with
 
@@ -104,16 +84,18 @@ own_call form = do
 abbrev pub no_ids : SpanContext
 no_ids = record { trace = 0; span = 0 }
 
-abbrev pub call_form : ℕ → OpWord → Form ThreadCall
-call_form at word.Record = record_op_form
-call_form at word.Event = event_op_form
-call_form at word.SetAttribute = own_call attribute_op_form
-call_form at word.SetStatus = own_call status_op_form
-call_form at word.AddEvent = own_call (added_event_form at)
-call_form at word.AddLink = own_call link_op_form
-call_form at word.Enter = give (calls.Own op.Enter)
-call_form at word.Exit = give (calls.Own op.Exit)
-call_form at word.Start = give (calls.Own (op.Start no_ids))
+-- what a word of `do` goes on with; workers have no other word
+abbrev pub call_by : ℕ → List ℕ → Form ThreadCall
+call_by at word =
+    if bytes_eq word (codes "record") then record_op_form else
+    (if bytes_eq word (codes "event") then event_op_form else
+    (if bytes_eq word (codes "set_attribute") then own_call attribute_op_form else
+    (if bytes_eq word (codes "set_status") then own_call status_op_form else
+    (if bytes_eq word (codes "add_event") then own_call (added_event_form at) else
+    (if bytes_eq word (codes "add_link") then own_call link_op_form else
+    (if bytes_eq word (codes "enter") then give (calls.Own op.Enter) else
+    (if bytes_eq word (codes "exit") then give (calls.Own op.Exit) else
+    (if bytes_eq word (codes "start") then give (calls.Own (op.Start no_ids)) else when None))))))))
 
 -- ---- lines
 
@@ -122,8 +104,8 @@ unfoldable pub op_form : Form ThreadOp
 op_form = do
   at ← natural (codes "at")
   span ← natural (codes "span")
-  w ← word_form
-  what ← call_form at w
+  word ← text (codes "do")
+  what ← call_by at word
   give (record { at = at; span = span; call = what })
 
 abbrev pub op_of : Data → Option ThreadOp

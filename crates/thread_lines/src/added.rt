@@ -3,13 +3,13 @@ ghost use Rattle.std.specs.Prelude.{◌≡◌, IfOk, OnOk};
 ghost use Rattle.span_script.specs.Admission.{fault_in, text_read, opening_read};
 ghost use Rattle.thread_lines.specs.Answers.{AnswersTest, AddsToScript, stop_of};
 ghost use Rattle.thread_lines.specs.Runnable.{HasFilter, IsRunnable};
-ghost use Rattle.thread_lines.specs.Steps.{last_made, directives, script_opened, shared_added, worker_added, text_added};
+ghost use Rattle.thread_lines.specs.Steps.{last_made, directives_tested, script_opened, shared_added, worker_added, text_added};
 
 use crate::limits::{MOST_SPANS, MOST_WORKERS};
 use crate::line::{ThreadLine, ThreadOp};
 use crate::read::read_thread_line;
 use crate::require::{require, span_site, test_lane, test_moment};
-use crate::stop::Stop;
+use crate::stop::ScriptStop;
 use crate::worker_ops::test_ops;
 use event_gate::{GateError, TextFilter};
 use otel_base::list::Items;
@@ -21,34 +21,34 @@ use thread_script::{SharedLine, ThreadScript};
 use trace_lines::{LineError, Settings, Told, read_settings};
 
 // Why nothing was read of a line.
-fn unread(error: LineError) -> Stop
+fn unread(error: LineError) -> ScriptStop
     ensures { result ≡ stop_of error }
 {
     match error {
-        LineError::BadLine => Stop::Refused {
+        LineError::BadLine => ScriptStop::Refused {
             told: Told::BadLine,
         },
-        LineError::Memory => Stop::Memory,
+        LineError::Memory => ScriptStop::Memory,
     }
 }
 
 // Tests the text of a filter, which is one for counting or not.
-fn test_directives(alloc: Global, counting: bool, text: &Text) -> Result<(), Stop>
-    ensures directives { AnswersTest (λ u. u) result (directives (fault_in counting (text_read text.now))) }
+fn test_directives(alloc: Global, counting: bool, text: &Text) -> Result<(), ScriptStop>
+    ensures directives { AnswersTest (λ u. u) result (directives_tested (fault_in counting (text_read text.now))) }
     ensures filter { OnOk result (HasFilter text.now) }
 {
     match TextFilter::read(alloc, text.as_str()) {
         Ok(_) => Ok(()),
-        Err(GateError::Directive { piece }) => Err(Stop::Refused {
+        Err(GateError::Directive { piece }) => Err(ScriptStop::Refused {
             told: Told::Directive { counting, piece },
         }),
-        Err(GateError::Memory) => Err(Stop::Memory),
+        Err(GateError::Memory) => Err(ScriptStop::Memory),
     }
 }
 
 // Tests the texts of settings, that of the filter first.
-fn test_texts(alloc: Global, settings: &Settings) -> Result<(), Stop>
-    ensures directives { AnswersTest (λ u. u) result (directives (opening_read settings.now.filter settings.now.counting)) }
+fn test_texts(alloc: Global, settings: &Settings) -> Result<(), ScriptStop>
+    ensures directives { AnswersTest (λ u. u) result (directives_tested (opening_read settings.now.filter settings.now.counting)) }
     ensures filter { OnOk result (HasFilter settings.now.filter) }
 {
     test_directives(alloc, false, &settings.filter)?;
@@ -59,7 +59,7 @@ fn test_texts(alloc: Global, settings: &Settings) -> Result<(), Stop>
 }
 
 /// The script of a settings line, before its other lines.
-pub(crate) fn open_script(alloc: Global, line: &[u8]) -> Result<ThreadScript, Stop>
+pub(crate) fn open_script(alloc: Global, line: &[u8]) -> Result<ThreadScript, ScriptStop>
     ensures opened { AnswersTest (λ s. s) result (script_opened line.now) }
     ensures runnable { IfOk result IsRunnable }
 {
@@ -93,7 +93,7 @@ fn last_made(shared: &[SharedLine]) -> Moment
 }
 
 // Adds a shared span.
-fn add_shared(script: &mut ThreadScript, line: SharedLine) -> Result<(), Stop>
+fn add_shared(script: &mut ThreadScript, line: SharedLine) -> Result<(), ScriptStop>
     ensures { AddsToScript script.new result (shared_added script.old line) }
 {
     let shared = script.shared.as_slice();
@@ -107,7 +107,11 @@ fn add_shared(script: &mut ThreadScript, line: SharedLine) -> Result<(), Stop>
 }
 
 // Adds a worker.
-fn add_worker(alloc: Global, script: &mut ThreadScript, ops: Items<ThreadOp>) -> Result<(), Stop>
+fn add_worker(
+    alloc: Global,
+    script: &mut ThreadScript,
+    ops: Items<ThreadOp>,
+) -> Result<(), ScriptStop>
     ensures { AddsToScript script.new result (worker_added script.old ops) }
 {
     let worker = script.workers.as_slice().len();
@@ -120,7 +124,11 @@ fn add_worker(alloc: Global, script: &mut ThreadScript, ops: Items<ThreadOp>) ->
 }
 
 /// Adds the line behind the settings line that a text spells.
-pub(crate) fn add_text(alloc: Global, script: &mut ThreadScript, text: &[u8]) -> Result<(), Stop>
+pub(crate) fn add_text(
+    alloc: Global,
+    script: &mut ThreadScript,
+    text: &[u8],
+) -> Result<(), ScriptStop>
     ensures { AddsToScript script.new result (text_added script.old text.now) }
 {
     match read_thread_line(alloc, text).map_err(unread)? {

@@ -3,22 +3,22 @@ ghost use Rattle.std.specs.Prelude.{◌≡◌};
 ghost use Rattle.span_script.specs.Setups.{span_site, event_site};
 ghost use Rattle.span_script.specs.declared.reply.What.TheVariants.{Site};
 ghost use Rattle.thread_lines.specs.Answers.{AnswersTest};
-ghost use Rattle.thread_lines.specs.Steps.{refuse_unless, need, in_time, names_nothing, has_lane};
+ghost use Rattle.thread_lines.specs.Steps.{refuse_unless, need, time_tested, names_nothing, lane_tested};
 
-use crate::stop::Stop;
+use crate::stop::ScriptStop;
 use otel_base::record::Moment;
 use thread_script::ThreadScript;
 use trace_base::callsite::{Callsite, Kind};
 use trace_lines::{LAST_MOMENT, Refusal, Told, What};
 
 /// Refuses unless this holds.
-pub(crate) fn require(told: Told, holds: bool) -> Result<(), Stop>
+pub(crate) fn require(told: Told, holds: bool) -> Result<(), ScriptStop>
     ensures { AnswersTest (λ u. u) result (refuse_unless told holds) }
 {
     if holds {
         Ok(())
     } else {
-        Err(Stop::Refused { told })
+        Err(ScriptStop::Refused { told })
     }
 }
 
@@ -32,8 +32,8 @@ pub(crate) fn unknown_name(what: What) -> Told
 }
 
 /// Tests that a moment is neither too late nor below the one before.
-pub(crate) fn test_moment(before: Moment, at: Moment) -> Result<(), Stop>
-    ensures { AnswersTest (λ u. u) result (in_time before at) }
+pub(crate) fn test_moment(before: Moment, at: Moment) -> Result<(), ScriptStop>
+    ensures { AnswersTest (λ u. u) result (time_tested before at) }
 {
     let refusal = Refusal::BadMoment { before, given: at };
     let is_bad = at < before || at > LAST_MOMENT;
@@ -41,8 +41,8 @@ pub(crate) fn test_moment(before: Moment, at: Moment) -> Result<(), Stop>
 }
 
 /// Tests that there is a lane at a place.
-pub(crate) fn test_lane(script: &ThreadScript, place: usize) -> Result<(), Stop>
-    ensures { AnswersTest (λ u. u) result (has_lane script.now place) }
+pub(crate) fn test_lane(script: &ThreadScript, place: usize) -> Result<(), ScriptStop>
+    ensures { AnswersTest (λ u. u) result (lane_tested script.now place) }
 {
     require(
         unknown_name(What::Lane),
@@ -51,24 +51,24 @@ pub(crate) fn test_lane(script: &ThreadScript, place: usize) -> Result<(), Stop>
 }
 
 /// The callsite at a place, which has to make spans.
-pub(crate) fn span_site(script: &ThreadScript, place: u64) -> Result<&Callsite, Stop>
+pub(crate) fn span_site(script: &ThreadScript, place: u64) -> Result<&Callsite, ScriptStop>
     ensures { AnswersTest (λ c. c.now) result (need Site (span_site script.now.callsites place)) }
 {
     match script.callsites.as_slice().get(place as usize) {
         Some(callsite) if callsite.kind == Kind::Span => Ok(callsite),
-        _ => Err(Stop::Refused {
+        _ => Err(ScriptStop::Refused {
             told: unknown_name(What::Site),
         }),
     }
 }
 
 /// The callsite at a place, which has to make events.
-pub(crate) fn event_site(script: &ThreadScript, place: u64) -> Result<&Callsite, Stop>
+pub(crate) fn event_site(script: &ThreadScript, place: u64) -> Result<&Callsite, ScriptStop>
     ensures { AnswersTest (λ c. c.now) result (need Site (event_site script.now.callsites place)) }
 {
     match script.callsites.as_slice().get(place as usize) {
         Some(callsite) if callsite.kind == Kind::Event => Ok(callsite),
-        _ => Err(Stop::Refused {
+        _ => Err(ScriptStop::Refused {
             told: unknown_name(What::Site),
         }),
     }

@@ -6,7 +6,7 @@ ghost use Rattle.thread_lines.specs.Runnable.{IsRunnable};
 ghost use Rattle.thread_lines.specs.Steps.{script_of, script_from, lines_added};
 
 use crate::added::{add_text, open_script};
-use crate::stop::Stop;
+use crate::stop::ScriptStop;
 use otel_base::memory::Memory;
 use script_lines::{RefusedLine, first_line, is_blank};
 use std::alloc::Global;
@@ -21,12 +21,12 @@ fn next_number(number: u64) -> Result<u64, Memory>
 }
 
 // The line that was refused, unless memory wanted.
-fn refused_line(line: u64, stop: Stop) -> Result<RefusedLine, Memory>
-    ensures { IfOk result (λ r. (r.line ≡ line) × (stop ≡ Stop.Refused r.told)) }
+fn refused_line(line: u64, stop: ScriptStop) -> Result<RefusedLine, Memory>
+    ensures { IfOk result (λ r. (r.line ≡ line) × (stop ≡ ScriptStop.Refused r.told)) }
 {
     match stop {
-        Stop::Refused { told } => Ok(RefusedLine { line, told }),
-        Stop::Memory => Err(Memory),
+        ScriptStop::Refused { told } => Ok(RefusedLine { line, told }),
+        ScriptStop::Memory => Err(Memory),
     }
 }
 

@@ -1,6 +1,6 @@
 //! Why a script isn't gone on with.
 ghost use Rattle.std.specs.Prelude.{◌≡◌};
-ghost use Rattle.thread_lines.specs.declared.stop.Stop.TheVariants as stop;
+ghost use Rattle.thread_lines.specs.declared.stop.ScriptStop.TheVariants as stop;
 
 use otel_base::memory;
 use std::alloc::AllocError;
@@ -8,25 +8,25 @@ use trace_lines::Told;
 
 /// Why a script isn't gone on with.
 #[derive(Clone, Copy)]
-pub enum Stop {
+pub enum ScriptStop {
     /// A line is refused.
     Refused { told: Told },
     /// No memory was to be had.
     Memory,
 }
 
-impl From<memory::Memory> for Stop {
+impl From<memory::Memory> for ScriptStop {
     ghost from_gives = { λ _ e. e ≡ stop.Memory };
 
-    fn from(_error: memory::Memory) -> Stop {
-        Stop::Memory
+    fn from(_error: memory::Memory) -> ScriptStop {
+        ScriptStop::Memory
     }
 }
 
-impl From<AllocError> for Stop {
+impl From<AllocError> for ScriptStop {
     ghost from_gives = { λ _ e. e ≡ stop.Memory };
 
-    fn from(_error: AllocError) -> Stop {
-        Stop::Memory
+    fn from(_error: AllocError) -> ScriptStop {
+        ScriptStop::Memory
     }
 }

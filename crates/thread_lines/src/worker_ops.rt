@@ -4,12 +4,12 @@ ghost use Rattle.std.specs.Prelude.{◌≡◌, ◌<◌, ◌==◌, IfOk, OnOk, le
 ghost use Rattle.span_script.specs.Fields.{all_values};
 ghost use Rattle.span_script.specs.declared.reply.What.TheVariants.{Field};
 ghost use Rattle.thread_lines.specs.Answers.{AnswersTest};
-ghost use Rattle.thread_lines.specs.Steps.{need, is_shared, has_entry_for, own_tested, move_of_call, entered_after, call_tested, op_tested, ops_tested};
-ghost use Rattle.trace_threads.specs.Moves.{move_of, opens_after};
+ghost use Rattle.thread_lines.specs.Steps.{need, shared_tested, has_entry_for, own_tested, move_of_call, entered_after, call_tested, op_tested, ops_tested};
+ghost use Rattle.trace_threads.specs.Moves.{move_of, open_count_after};
 
 use crate::line::{ThreadCall, ThreadOp};
 use crate::require::{event_site, require, test_moment, unknown_name};
-use crate::stop::Stop;
+use crate::stop::ScriptStop;
 use otel_base::list::Items;
 use otel_base::memory::Memory;
 use otel_base::record::Moment;
@@ -22,8 +22,8 @@ use trace_base::field::{Value, ValueSet};
 use trace_lines::{Refusal, Told, What};
 
 // Tests that there is a shared span at a place.
-fn test_span(script: &ThreadScript, span: u64) -> Result<(), Stop>
-    ensures { AnswersTest (λ u. u) result (is_shared script.now span) }
+fn test_span(script: &ThreadScript, span: u64) -> Result<(), ScriptStop>
+    ensures { AnswersTest (λ u. u) result (shared_tested script.now span) }
 {
     let count = script.shared.as_slice().len() as u64;
     require(unknown_name(What::Handle), span < count)
@@ -34,13 +34,13 @@ fn all_values(
     alloc: Global,
     callsite: &Callsite,
     fields: Items<(Text, Value)>,
-) -> Result<ValueSet, Stop>
+) -> Result<ValueSet, ScriptStop>
     ensures { AnswersTest (λ v. v) result (need Field (all_values callsite.now fields)) }
 {
     let given = fields.as_slice().len();
     let values = values_of(alloc, callsite, fields)?;
     if values.pairs.as_slice().len() < given {
-        return Err(Stop::Refused {
+        return Err(ScriptStop::Refused {
             told: unknown_name(What::Field),
         });
     }
@@ -58,13 +58,13 @@ fn may_come(entries: u64, op: &Op) -> bool
 }
 
 // An op of a worker, where it has so many entries open on the span: an exit needs one.
-fn own_call(entries: u64, op: Op) -> Result<WorkerCall, Stop>
+fn own_call(entries: u64, op: Op) -> Result<WorkerCall, ScriptStop>
     ensures { AnswersTest (λ c. c) result (own_tested entries op) }
 {
     if may_come(entries, &op) {
         Ok(WorkerCall::Own { op })
     } else {
-        Err(Stop::Refused {
+        Err(ScriptStop::Refused {
             told: unknown_name(What::Guard),
         })
     }
@@ -77,7 +77,7 @@ fn test_call(
     entered: &[u64],
     span: u64,
     call: ThreadCall,
-) -> Result<WorkerCall, Stop>
+) -> Result<WorkerCall, ScriptStop>
     requires { length entered.now ≡ length script.now.shared }
     ensures { AnswersTest (λ c. c) result (call_tested script.now entered.now span call) }
 {
@@ -106,7 +106,7 @@ fn test_op(
     before: Moment,
     entered: &[u64],
     op: ThreadOp,
-) -> Result<WorkerOp, Stop>
+) -> Result<WorkerOp, ScriptStop>
     requires { length entered.now ≡ length script.now.shared }
     ensures { AnswersTest (λ o. o) result (op_tested script.now before entered.now op) }
 {
@@ -118,7 +118,7 @@ fn test_op(
 
 // How many entries are open after a call, so many being open before. No line has so many calls that the sum wraps.
 fn entries_after(entries: u64, call: &WorkerCall) -> Result<u64, Memory>
-    ensures { IfOk result (λ n. n ≡ opens_after entries (move_of_call call.now)) }
+    ensures { IfOk result (λ n. n ≡ open_count_after entries (move_of_call call.now)) }
 {
     match call {
         WorkerCall::Own { op: Op::Enter } => entries.checked_add(1).ok_or(Memory),
@@ -152,7 +152,7 @@ fn test_counted(
     before: Moment,
     entered: &mut [u64],
     op: ThreadOp,
-) -> Result<WorkerOp, Stop>
+) -> Result<WorkerOp, ScriptStop>
     requires { length entered.old ≡ length script.now.shared }
     ensures tested { AnswersTest (λ o. o) result (op_tested script.now before entered.old op) }
     ensures len { length entered.new ≡ length entered.old }
@@ -170,7 +170,7 @@ fn test_each(
     made_at: Moment,
     entered: &mut [u64],
     ops: Items<ThreadOp>,
-) -> Result<Items<WorkerOp>, Stop>
+) -> Result<Items<WorkerOp>, ScriptStop>
     requires { length entered.old ≡ length script.now.shared }
     ensures { AnswersTest (λ l. l) result (ops_tested script.now made_at entered.old ops) }
 {
@@ -192,7 +192,7 @@ pub(crate) fn test_ops(
     script: &ThreadScript,
     made_at: Moment,
     ops: Items<ThreadOp>,
-) -> Result<Items<WorkerOp>, Stop>
+) -> Result<Items<WorkerOp>, ScriptStop>
     ensures { AnswersTest (λ l. l) result (ops_tested script.now made_at (replicate (length script.now.shared) 0) ops) }
 {
     let mut entered = vec![in alloc; 0u64; script.shared.as_slice().len()]?;

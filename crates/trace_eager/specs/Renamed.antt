@@ -3,7 +3,7 @@ use Rattle.std.specs.Prelude.{◌≡◌, ℕ, ◌+◌, List, [], ◌∷◌, map,
 use Rattle.span_script.specs.declared.settings.Settings.{Settings}
 use Rattle.span_script.specs.Outcomes.{outcome_of}
 use Rattle.span_script.specs.Setups.{setup_by}
-use Rattle.span_eager.specs.Early.{MayStartEarly, answers, eager_id, lazy}
+use Rattle.span_eager.specs.Early.{MayStartEarly, answers, eager_id, lazy_setup}
 use Rattle.span_eager.specs.Renaming.{answer_by}
 use Rattle.trace_lines.specs.declared.told.Told.{Told}
 use Rattle.trace_lines.specs.Lines.{is_blank}
@@ -28,13 +28,13 @@ script_from n (text ∷ lines) = if is_blank text then script_from (n + 1) lines
 -- what is written of the script where no span starts at its making, with each id replaced by the number of its span's making
 abbrev pub renamed_text : Script → List ℕ
 renamed_text script =
-    let setup = lazy (setup_by script.settings) in
+    let setup = lazy_setup (setup_by script.settings) in
     let requests = requests_of script.lines in
     answers_text 0 (numbers_of script.number script.lines) (map (answer_by (eager_id setup requests)) (answers setup requests)) (outcome_of setup requests).left_open
 
 -- a text of such a script, if spans start early in it and that changes ids alone
 abbrev pub RenamesIds : Script → List ℕ → Type 0
-RenamesIds script text = script.settings.layer.eager ≡ true → MayStartEarly (lazy (setup_by script.settings)) (requests_of script.lines) → text ≡ renamed_text script
+RenamesIds script text = script.settings.layer.eager ≡ true → MayStartEarly (lazy_setup (setup_by script.settings)) (requests_of script.lines) → text ≡ renamed_text script
 
 abbrev pub IsRenamed : List (List ℕ) → List ℕ → Type 0
 IsRenamed lines text = MatchOption (script_from 0 lines) (Unit {0}) (λ script. RenamesIds script text)

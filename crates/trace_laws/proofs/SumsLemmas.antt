@@ -7,8 +7,8 @@ use Rattle.std.proofs.lemmas.List.FromFn.{length-range_with_len}
 use Rattle.std.proofs.lemmas.Option.{slice_get_past}
 use Rattle.span_script.proofs.runs.RunLemmas.{goes_on_with}
 use Rattle.trace_lines.specs.declared.signal.Signal.TheVariants as signal
-use Rattle.trace_lines.specs.Generated.{made_lines, made_requests, made_script, made_settings, made_setup, request_line}
-use Rattle.trace_lines.specs.Replay.{busy_of, events_of, history_unless_refused, history_after, summary_of}
+use Rattle.trace_lines.specs.Generated.{generated_lines, generated_requests, generated_script, generated_settings, generated_setup, request_line}
+use Rattle.trace_lines.specs.Replay.{busy_of, event_count, history_unless_refused, history_after, summary_of}
 use Rattle.trace_lines.proofs.made.LinesLemmas.{Each, HasLine, made_each, script_lines, settings_read}
 use Rattle.trace_laws.proofs.FeedsLemmas.{all_lines, end_line}
 use Rattle.trace_laws.proofs.FrontsLemmas.{records_are}
@@ -30,7 +30,7 @@ numbers_are n (r ∷ requests) all =
     let behind = numbers_of (n + 1) (map request_line requests) in
     ap (λ (b : Bool). if b then behind else (n + 1) ∷ behind) all.0.shown ∙ ap (λ (numbers : List ℕ). (n + 1) ∷ numbers) (numbers_are (n + 1) requests all.1)
 
-made_from : (n : ℕ) → n ≤ 50000 → script_from 0 (lines_of (made_script n)) ≡ Some (record { settings = made_settings; number = 1; lines = map request_line (made_requests n) })
+made_from : (n : ℕ) → n ≤ 50000 → script_from 0 (lines_of (generated_script n)) ≡ Some (record { settings = generated_settings; number = 1; lines = map request_line (generated_requests n) })
 made_from n few = ap (script_from 0) (script_lines n few) ∙ rw settings_read refl
 
 -- ---- the history of requests that are all served
@@ -70,70 +70,70 @@ is_opened : (read : OpeningRead) (report : Report) (line : ℕ) → (report_on_o
 is_opened (Ok read) report line accepted = refl
 is_opened (Err unread) report line accepted = absurd (cc accepted)
 
-module _ (n : ℕ) (few : n ≤ 50000) (valid : IsValid (made_script n)) (h : History) (is : history_after made_setup [] (made_requests n) ≡ Some h) where
+module _ (n : ℕ) (few : n ≤ 50000) (valid : IsValid (generated_script n)) (h : History) (is : history_after generated_setup [] (generated_requests n) ≡ Some h) where
   abbrev requests : List Request
-  requests = made_requests n
+  requests = generated_requests n
 
   abbrev lines : List (List ℕ)
   lines = map request_line requests
 
   abbrev script : Script
-  script = record { settings = made_settings; number = 1; lines = lines }
+  script = record { settings = generated_settings; number = 1; lines = lines }
 
   abbrev all : List (Reply × List Record)
-  all = answers made_setup requests
+  all = answers generated_setup requests
 
   abbrev done : History
-  done = history_of made_setup requests
+  done = history_of generated_setup requests
 
   each : Each HasLine requests
   each = made_each n few
 
   same : h ≡ done
-  same = replayed_is made_setup requests [] h is
+  same = replayed_is generated_setup requests [] h is
 
   many : length done ≡ length requests
-  many = let count = replayed_many made_setup requests [] h is in let alike = ap (λ (x : History). length x) same in omega (arith, count, alike)
+  many = let count = replayed_many generated_setup requests [] h is in let alike = ap (λ (x : History). length x) same in omega (arith, count, alike)
 
-  opening_is : accepts (made_lines n) ≡ (report_on_opening (opening_read made_settings.filter made_settings.counting) (report_on signal.Traces made_setup [] 1 0 lines) 1).accepted
+  opening_is : accepts (generated_lines n) ≡ (report_on_opening (opening_read generated_settings.filter generated_settings.counting) (report_on signal.Traces generated_setup [] 1 0 lines) 1).accepted
   opening_is = rw (accepts, settings_read) refl
 
-  read : opening_read made_settings.filter made_settings.counting ≡ Ok tt
-  read = is_opened (opening_read made_settings.filter made_settings.counting) (report_on signal.Traces made_setup [] 1 0 lines) 1
+  read : opening_read generated_settings.filter generated_settings.counting ≡ Ok tt
+  read = is_opened (opening_read generated_settings.filter generated_settings.counting) (report_on signal.Traces generated_setup [] 1 0 lines) 1
       (sym opening_is ∙ sym (ap (λ ls. accepts ls) (script_lines n few)) ∙ valid.accepted)
 
   abbrev numbers : List ℕ
   numbers = range_with_len 2 (length all)
 
   numbered : numbers_of 1 lines ≡ numbers
-  numbered = let answered = answers_many made_setup requests in numbers_are 1 requests each ∙ ap (range_with_len 2) (omega (arith, many, answered))
+  numbered = let answered = answers_many generated_setup requests in numbers_are 1 requests each ∙ ap (range_with_len 2) (omega (arith, many, answered))
 
-  written : output signal.Traces (made_script n) ≡ answer_lines 0 numbers all ++ end_text (open_spans (tables made_setup done)) (length (records_of_history made_setup done))
+  written : output signal.Traces (generated_script n) ≡ answer_lines 0 numbers all ++ end_text (open_spans (tables generated_setup done)) (length (records_of_history generated_setup done))
   written =
-      subst (λ (o : Option Script). IsOutput (first_line 0 (lines_of (made_script n))) o (output signal.Traces (made_script n))) (made_from n few) (is_output (made_script n))
+      subst (λ (o : Option Script). IsOutput (first_line 0 (lines_of (generated_script n))) o (output signal.Traces (generated_script n))) (made_from n few) (is_output (generated_script n))
       ∙ ap (λ (r : OpeningRead). opened_text r script) read
-      ∙ ap (λ (rs : List Request). outcome_text (numbers_of 1 lines) (unread_from 1 lines) (answers made_setup rs) (outcome_of made_setup rs)) (requests_back requests each)
-      ∙ ap₂ (λ (refused : Option (ℕ × Refusal)) (unread : Option (ℕ × Told)). answer_lines 0 (numbers_of 1 lines) all ++ last_line (numbers_of 1 lines) refused unread (open_spans (tables made_setup done)) (length (records_of_history made_setup done)))
-      (none_refused made_setup requests done (omega (arith, many))) (all_spelled 1 requests each)
-      ∙ ap (λ (ns : List ℕ). answer_lines 0 ns all ++ end_text (open_spans (tables made_setup done)) (length (records_of_history made_setup done))) numbered
+      ∙ ap (λ (rs : List Request). outcome_text (numbers_of 1 lines) (unread_from 1 lines) (answers generated_setup rs) (outcome_of generated_setup rs)) (requests_back requests each)
+      ∙ ap₂ (λ (refused : Option (ℕ × Refusal)) (unread : Option (ℕ × Told)). answer_lines 0 (numbers_of 1 lines) all ++ last_line (numbers_of 1 lines) refused unread (open_spans (tables generated_setup done)) (length (records_of_history generated_setup done)))
+      (none_refused generated_setup requests done (omega (arith, many))) (all_spelled 1 requests each)
+      ∙ ap (λ (ns : List ℕ). answer_lines 0 ns all ++ end_text (open_spans (tables generated_setup done)) (length (records_of_history generated_setup done))) numbered
 
-  counted : Counts (output signal.Traces (made_script n)) all (summary_of made_setup done)
+  counted : Counts (output signal.Traces (generated_script n)) all (summary_of generated_setup done)
   counted =
-      let found : records_in all ≡ records_of_history made_setup done = records_are (no_tables made_setup) done in
-      let answered = answers_many made_setup requests in
+      let found : records_in all ≡ records_of_history generated_setup done = records_are (no_tables generated_setup) done in
+      let answered = answers_many generated_setup requests in
       let recorded = ap (λ (rs : List Record). length rs) found in
       record {
         is = written;
         requests = sym answered;
         records = sym recorded;
-        events = ap (λ (rs : List Record). sum_by events_of rs) (sym found);
+        events = ap (λ (rs : List Record). sum_by event_count rs) (sym found);
         busy = ap (λ (rs : List Record). sum_by busy_of rs) (sym found);
         lines =
-            let apart = all_lines 0 numbers all (end_text (open_spans (tables made_setup done)) (length (records_of_history made_setup done))) (length-range_with_len 2 (length all)) in
-            let last = end_line (open_spans (tables made_setup done)) (length (records_of_history made_setup done)) in
+            let apart = all_lines 0 numbers all (end_text (open_spans (tables generated_setup done)) (length (records_of_history generated_setup done))) (length-range_with_len 2 (length all)) in
+            let last = end_line (open_spans (tables generated_setup done)) (length (records_of_history generated_setup done)) in
             let whole = ap (λ (text : List ℕ). length (lines_of text)) written in
             omega (arith, answered, recorded, apart, last, whole);
       }
 
-  pub made_counts : Counts (output signal.Traces (made_script n)) all (summary_of made_setup h)
-  made_counts = subst (λ (x : History). Counts (output signal.Traces (made_script n)) all (summary_of made_setup x)) (sym same) counted
+  pub made_counts : Counts (output signal.Traces (generated_script n)) all (summary_of generated_setup h)
+  made_counts = subst (λ (x : History). Counts (output signal.Traces (generated_script n)) all (summary_of generated_setup x)) (sym same) counted

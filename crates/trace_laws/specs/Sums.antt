@@ -5,7 +5,7 @@ use Rattle.otel_base.specs.declared.record.Record.{Record}
 use Rattle.span_script.specs.declared.reply.Reply.{Reply}
 use Rattle.trace_lines.specs.declared.write.summary.Summary.{Summary}
 use Rattle.trace_lines.specs.Lines.{lines_of}
-use Rattle.trace_lines.specs.Replay.{busy_of, events_of}
+use Rattle.trace_lines.specs.Replay.{busy_of, event_count}
 use Rattle.trace_lines.specs.text.Texts.{end_text}
 use Rattle.trace_laws.specs.Written.{answer_lines}
 
@@ -19,6 +19,6 @@ pub record Counts (text : List ℕ) (all : List (Reply × List Record)) (summary
   pub is : text ≡ answer_lines 0 (range_with_len 2 (length all)) all ++ end_text summary.open_spans summary.records
   pub requests : summary.requests ≡ length all
   pub records : summary.records ≡ length (records_in all)
-  pub events : summary.events ≡ sum_by events_of (records_in all)
+  pub events : summary.events ≡ sum_by event_count (records_in all)
   pub busy : summary.busy ≡ sum_by busy_of (records_in all)
   pub lines : summary.lines ≡ length (lines_of text)

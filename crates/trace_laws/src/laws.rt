@@ -8,7 +8,7 @@ ghost use Rattle.trace_laws.specs.Headline.{TellsScript};
 ghost use Rattle.trace_laws.specs.Sums.{Counts};
 ghost use Rattle.trace_laws.specs.Written.{IsOutput, first_line};
 ghost use Rattle.trace_lines.specs.Lines.{lines_of};
-ghost use Rattle.trace_lines.specs.Generated.{made_requests, made_script, made_setup};
+ghost use Rattle.trace_lines.specs.Generated.{generated_requests, generated_script, generated_setup};
 ghost use Rattle.trace_lines.specs.Replay.{history_after, summary_of};
 ghost use Rattle.trace_lines.specs.Report.{output, IsValid};
 ghost use Rattle.trace_lines.specs.declared.generated.TheConstants.{MOST_ROUNDS};
@@ -31,7 +31,7 @@ pub fn headline()
 /// The line of `make` counts what the script that it makes writes, the answers to its requests and the end line: the lines,
 /// the requests and the records, with their events and busy times; the open spans are those that the end line tells.
 pub fn sums()
-    ensures { (rounds : ℕ) (h : History) → rounds ≤ MOST_ROUNDS → IsValid (made_script rounds)
-        → history_after made_setup [] (made_requests rounds) ≡ Some h
-        → Counts (output signal.Traces (made_script rounds)) (answers made_setup (made_requests rounds)) (summary_of made_setup h) }
+    ensures { (rounds : ℕ) (h : History) → rounds ≤ MOST_ROUNDS → IsValid (generated_script rounds)
+        → history_after generated_setup [] (generated_requests rounds) ≡ Some h
+        → Counts (output signal.Traces (generated_script rounds)) (answers generated_setup (generated_requests rounds)) (summary_of generated_setup h) }
 {}

@@ -36,12 +36,12 @@ pub use Rattle.trace_base.specs.declared.field.Value.{Value}
 pub use Rattle.span_script.specs.Admission.{OpeningRead, opening_read}
 pub use Rattle.span_script.specs.Effects.{effect_of, effect_of_call, is_bad_moment}
 pub use Rattle.span_script.specs.Setups.{HasOwnIds, Setup, id_at, setup_by}
-pub use Rattle.span_script.specs.Tables.{Attached, Effect, EntryOf, History, Scope, ScopeGuard, Tables, after_effect, is_by, records_of, scope_of, slot_at, tables, with_attached, with_detached}
+pub use Rattle.span_script.specs.Tables.{Attached, Effect, EntryOf, History, Scope, ScopeGuard, Tables, after_effect, is_attached_by, records_of, scope_of, slot_at, tables, with_attached, with_detached}
 pub use Rattle.span_script.specs.calls.Here.{Resolved, here_at}
 pub use Rattle.span_script.specs.declared.request.Call.{Call}
 pub use Rattle.span_script.specs.declared.request.Request.{Request}
 pub use Rattle.span_script.specs.declared.request.TheConstants.{LAST_MOMENT}
-pub use Rattle.trace_lines.specs.Generated.{made_lines, made_requests, made_script, made_settings, made_setup, made_site, request_line, request_members, root_fields, round, rounds, row_fields, settings_line}
+pub use Rattle.trace_lines.specs.Generated.{generated_lines, generated_requests, generated_script, generated_settings, generated_setup, generated_site, request_line, request_members, root_fields, round, rounds, row_fields, settings_line}
 pub use Rattle.trace_lines.specs.Lines.{is_blank, lines_of}
 pub use Rattle.trace_lines.specs.Replay.{history_after, history_unless_refused}
 unfoldable pub use Rattle.trace_lines.specs.Replay.{summary_text}
@@ -55,7 +55,7 @@ pub use Rattle.trace_lines.specs.forms.FieldForm.{field_data, field_of, fields_o
 unfoldable pub use Rattle.trace_lines.specs.forms.FieldForm.{error_form, typed_form}
 pub use Rattle.trace_lines.specs.forms.Forms.{all_of, as_whole, at_most, each, no_more, object_of, pair_with, unit_if, without_member}
 unfoldable pub use Rattle.trace_lines.specs.forms.RequestForm.{attach_form, clone_form, context_form, detach_form, drop_form, enabled_form, enter_form, entered_form, event_form, exit_form, has_field_form, new_form, or_current_form, record_form, reload_form, remote_form, request_form}
-pub use Rattle.trace_lines.specs.forms.SettingsForm.{Lane, all_differ, lane_ids}
+pub use Rattle.trace_lines.specs.forms.SettingsForm.{GivenLane, all_differ, lane_ids}
 unfoldable pub use Rattle.trace_lines.specs.forms.SettingsForm.{callsite_form, error_flags, lane_form, layer_form, settings_form, span_flags}
 pub use Rattle.trace_lines.specs.reading.Left.{members_left, value_data}
 pub use Rattle.trace_lines.specs.reading.Object.{array_of, by_name, items}

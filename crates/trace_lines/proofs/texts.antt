@@ -1,5 +1,6 @@
 -- Texts that are written.
 pub mod AddsLemmas
+pub mod CutsLemmas
 pub mod DecimalsLemmas
 pub mod DigitsLemmas
 pub mod EscapesLemmas

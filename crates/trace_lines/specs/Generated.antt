@@ -12,7 +12,7 @@ use Rattle.trace_base.specs.declared.field.Value.TheVariants.{I64, Str}
 use Rattle.trace_base.specs.declared.level.Level.TheVariants.{INFO}
 use Rattle.span_script.specs.declared.request.Call.{Call}
 use Rattle.span_script.specs.declared.request.Call.TheVariants as call
-use Rattle.span_script.specs.declared.request.Place.TheVariants as place
+use Rattle.span_script.specs.declared.request.RequestParent.TheVariants as request_parent
 use Rattle.span_script.specs.declared.request.Request.{Request}
 use Rattle.span_script.specs.declared.settings.Settings.{Settings}
 use Rattle.span_script.specs.Setups.{Setup, setup_by}
@@ -22,8 +22,8 @@ use Rattle.trace_lines.specs.values.RequestData.{number_member, parent_member, w
 -- ---- the settings
 
 -- a callsite at the level INFO, of which no place in a file is known
-abbrev pub made_site : List ℕ → List ℕ → Kind → List (List ℕ) → Callsite
-made_site name target what fields = record {
+abbrev pub generated_site : List ℕ → List ℕ → Kind → List (List ℕ) → Callsite
+generated_site name target what fields = record {
   name = name;
   target = target;
   level = INFO;
@@ -36,16 +36,16 @@ made_site name target what fields = record {
 
 -- the callsites of a request's span, of the one below it, and of a row's event
 abbrev pub web_request_site : Callsite
-web_request_site = made_site (codes "request") (codes "web") kind.Span (codes "otel.kind" ∷ codes "id" ∷ [])
+web_request_site = generated_site (codes "request") (codes "web") kind.Span (codes "otel.kind" ∷ codes "id" ∷ [])
 
 abbrev pub query_site : Callsite
-query_site = made_site (codes "query") (codes "web::db") kind.Span []
+query_site = generated_site (codes "query") (codes "web::db") kind.Span []
 
 abbrev pub row_site : Callsite
-row_site = made_site (codes "row") (codes "web::db") kind.Event (codes "message" ∷ [])
+row_site = generated_site (codes "row") (codes "web::db") kind.Event (codes "message" ∷ [])
 
-abbrev pub made_settings : Settings
-made_settings = record {
+abbrev pub generated_settings : Settings
+generated_settings = record {
   filter = codes "info";
   counting = None;
   lanes = (1, Some (codes "a")) ∷ (2, Some (codes "b")) ∷ [];
@@ -56,14 +56,14 @@ made_settings = record {
 abbrev pub settings_line : List ℕ
 settings_line = codes "{\"callsites\":[{\"fields\":[\"otel.kind\",\"id\"],\"kind\":\"span\",\"level\":\"info\",\"name\":\"request\",\"target\":\"web\"},{\"fields\":[],\"kind\":\"span\",\"level\":\"info\",\"name\":\"query\",\"target\":\"web::db\"},{\"fields\":[\"message\"],\"kind\":\"event\",\"level\":\"info\",\"name\":\"row\",\"target\":\"web::db\"}],\"filter\":\"info\",\"lanes\":[{\"id\":1,\"name\":\"a\"},{\"id\":2,\"name\":\"b\"}]}"
 
-abbrev pub made_setup : Setup
-made_setup = setup_by made_settings
+abbrev pub generated_setup : Setup
+generated_setup = setup_by generated_settings
 
 -- ---- the requests
 
 -- a call so many nanoseconds after the beginning of a round, on the lanes in turn
 abbrev pub in_round : ℕ → ℕ → Call → Request
-in_round i later said = record { at = 1000 * i + later; lane = i % 2; call = said }
+in_round i later said = record { at = 1000 * i + later; lane_place = i % 2; call = said }
 
 abbrev pub root_fields : ℕ → List (List ℕ × Value)
 root_fields i = (codes "otel.kind", Str (codes "server")) ∷ (codes "id", I64 (pos i)) ∷ []
@@ -75,11 +75,11 @@ row_fields = (codes "message", Str (codes "row")) ∷ []
 -- drops both.
 abbrev pub round_with : ℕ → List (List ℕ × Value) → List (List ℕ × Value) → List (List ℕ × Value) → List Request
 round_with i root below row =
-    in_round i 0 (call.New 0 place.Root root)
+    in_round i 0 (call.New 0 request_parent.Root root)
     ∷ in_round i 10 (call.Enter (2 * i))
-    ∷ in_round i 20 (call.New 1 place.Contextual below)
+    ∷ in_round i 20 (call.New 1 request_parent.Contextual below)
     ∷ in_round i 30 (call.Enter (2 * i + 1))
-    ∷ in_round i 40 (call.Event 2 place.Contextual row)
+    ∷ in_round i 40 (call.Event 2 request_parent.Contextual row)
     ∷ in_round i 50 (call.Exit (2 * i + 1))
     ∷ in_round i 60 (call.Drop (2 * i + 1))
     ∷ in_round i 70 (call.Exit (2 * i))
@@ -92,8 +92,8 @@ round i = round_with i (root_fields i) [] row_fields
 abbrev pub rounds : ℕ → ℕ → List Request
 rounds first n = flat_map round (range_with_len first n)
 
-abbrev pub made_requests : ℕ → List Request
-made_requests n = rounds 0 n
+abbrev pub generated_requests : ℕ → List Request
+generated_requests n = rounds 0 n
 
 -- ---- the lines
 
@@ -106,15 +106,15 @@ call_members other = number_members_of other
 abbrev pub request_members : Request → Members
 request_members request = by_name (
     (codes "at", whole_number request.at) ∷
-    (codes "lane", whole_number request.lane) ∷
+    (codes "lane", whole_number request.lane_place) ∷
     (codes "do", string (word_of request.call)) ∷ call_members request.call)
 
 abbrev pub request_line : Request → List ℕ
 request_line request = compact_text (object (request_members request))
 
-abbrev pub made_lines : ℕ → List (List ℕ)
-made_lines n = settings_line ∷ map request_line (made_requests n)
+abbrev pub generated_lines : ℕ → List (List ℕ)
+generated_lines n = settings_line ∷ map request_line (generated_requests n)
 
 -- each line ends by a line feed
-abbrev pub made_script : ℕ → List ℕ
-made_script n = flat_map (λ (line : List ℕ). line ++ 10 ∷ []) (made_lines n)
+abbrev pub generated_script : ℕ → List ℕ
+generated_script n = flat_map (λ (line : List ℕ). line ++ 10 ∷ []) (generated_lines n)

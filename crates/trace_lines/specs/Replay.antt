@@ -46,14 +46,14 @@ busy_in attribute = if bytes_eq attribute.key (codes "busy_ns") then number_in a
 abbrev pub busy_of : Record → ℕ
 busy_of r = sum_by busy_in r.attributes
 
-abbrev pub events_of : Record → ℕ
-events_of r = length r.events
+abbrev pub event_count : Record → ℕ
+event_count r = length r.events
 
 -- A history is written as a reply for each request, a line for each record, and the end line.
 abbrev pub summary_of : Setup → History → Summary
 summary_of setup h = record {
   busy = sum_by busy_of (records_of_history setup h);
-  events = sum_by events_of (records_of_history setup h);
+  events = sum_by event_count (records_of_history setup h);
   lines = length h + length (records_of_history setup h) + 1;
   open_spans = open_spans (tables setup h);
   records = length (records_of_history setup h);

@@ -1,6 +1,6 @@
 //! The script that is made for a number of rounds, as settings and requests.
 ghost use Rattle.std.specs.Prelude.{◌≡◌, ◌+◌, ◌<◌, IfOk};
-ghost use Rattle.trace_lines.specs.Generated.{made_site, web_request_site, row_site, made_settings, in_round, root_fields, row_fields, round_with, round};
+ghost use Rattle.trace_lines.specs.Generated.{generated_site, web_request_site, row_site, generated_settings, in_round, root_fields, row_fields, round_with, round};
 
 pub mod laws;
 
@@ -8,7 +8,7 @@ use otel_base::list::Items;
 use otel_base::memory::Memory;
 use otel_base::text::Text;
 use otel_state::settings::LayerSettings;
-use span_script::request::{Call, Place, Request};
+use span_script::request::{Call, Request, RequestParent};
 use span_script::settings::Settings;
 use std::alloc::Global;
 use trace_base::callsite::{Callsite, Kind};
@@ -31,7 +31,7 @@ fn callsite(
     kind: Kind,
     fields: Items<Text>,
 ) -> Result<Callsite, Memory>
-    ensures { IfOk result (λ callsite. callsite ≡ made_site name.now target.now kind fields) }
+    ensures { IfOk result (λ callsite. callsite ≡ generated_site name.now target.now kind fields) }
 {
     Ok(Callsite {
         name: text(alloc, name)?,
@@ -65,7 +65,7 @@ fn row_site(alloc: Global) -> Result<Callsite, Memory>
 }
 
 fn callsites(alloc: Global) -> Result<Items<Callsite>, Memory>
-    ensures { IfOk result (λ callsites. callsites ≡ made_settings.callsites) }
+    ensures { IfOk result (λ callsites. callsites ≡ generated_settings.callsites) }
 {
     let mut callsites = Items::new(alloc);
     callsites.push(web_request_site(alloc)?)?;
@@ -75,7 +75,7 @@ fn callsites(alloc: Global) -> Result<Items<Callsite>, Memory>
 }
 
 fn lanes(alloc: Global) -> Result<Items<(u64, Option<Text>)>, Memory>
-    ensures { IfOk result (λ lanes. lanes ≡ made_settings.lanes) }
+    ensures { IfOk result (λ lanes. lanes ≡ generated_settings.lanes) }
 {
     let mut lanes = Items::new(alloc);
     lanes.push((1, Some(text(alloc, "a")?)))?;
@@ -84,8 +84,8 @@ fn lanes(alloc: Global) -> Result<Items<(u64, Option<Text>)>, Memory>
 }
 
 /// The settings of the script: two lanes, and callsites of two spans and an event. `Memory` freely.
-pub fn made_settings(alloc: Global) -> Result<Settings, Memory>
-    ensures { IfOk result (λ settings. settings ≡ made_settings) }
+pub fn generated_settings(alloc: Global) -> Result<Settings, Memory>
+    ensures { IfOk result (λ settings. settings ≡ generated_settings) }
 {
     Ok(Settings {
         filter: text(alloc, "info")?,
@@ -103,7 +103,7 @@ fn in_round(i: u64, later: u64, call: Call) -> Request
 {
     Request {
         at: 1000 * i + later,
-        lane: i % 2,
+        lane_place: i % 2,
         call,
     }
 }
@@ -161,7 +161,7 @@ fn calls(
             0,
             Call::New {
                 site: 0,
-                parent: Place::Root,
+                parent: RequestParent::Root,
                 fields: root,
             },
         ),
@@ -171,7 +171,7 @@ fn calls(
             20,
             Call::New {
                 site: 1,
-                parent: Place::Contextual,
+                parent: RequestParent::Contextual,
                 fields: below,
             },
         ),
@@ -181,7 +181,7 @@ fn calls(
             40,
             Call::Event {
                 site: 2,
-                parent: Place::Contextual,
+                parent: RequestParent::Contextual,
                 fields: row,
             },
         ),

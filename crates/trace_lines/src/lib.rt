@@ -19,10 +19,10 @@ pub use read::{
     read_trace_id, read_value,
 };
 pub use signal::Signal;
-pub use span_script::{Call, LAST_MOMENT, Place, Refusal, Reply, Request, Settings, What};
+pub use span_script::{Call, LAST_MOMENT, Refusal, Reply, Request, RequestParent, Settings, What};
 pub use told::Told;
 pub use write::{
-    add_end_line, add_measure_line, add_measures_end_line, add_record_line, add_refusal_line,
-    add_reply_line, end_line, measure_line, measures_end_line, record_line, record_object,
-    refusal_line, reply_line,
+    TextBuffer, add_end_line, add_measure_line, add_measures_end_line, add_record_line,
+    add_refusal_line, add_reply_line, end_line, measure_line, measures_end_line, record_line,
+    record_object, refusal_line, reply_line,
 };

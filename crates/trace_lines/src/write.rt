@@ -17,6 +17,7 @@ pub mod record;
 mod refusal;
 mod reply;
 pub mod summary;
+pub mod text_buffer;
 mod value;
 
 use crate::told::Told;
@@ -32,15 +33,11 @@ use reply::add_reply;
 use span_script::reply::Reply;
 use std::alloc::{AllocError, Global};
 use summary::{Summary, add_summary};
+pub use text_buffer::TextBuffer;
 pub use value::record_object;
 
-// The bytes that most lines need, of records and of others.
-const LONG: usize = 512;
-
-const SHORT: usize = 128;
-
 /// Adds the line of a reply.
-pub fn add_reply_line(out: &mut Vec<u8>, line: u64, reply: &Reply) -> Result<(), AllocError>
+pub fn add_reply_line(out: &mut TextBuffer, line: u64, reply: &Reply) -> Result<(), AllocError>
     ensures { Writes result out.old out.new (reply_text line reply.now) }
 {
     add_reply(out, line, reply)?;
@@ -49,7 +46,11 @@ pub fn add_reply_line(out: &mut Vec<u8>, line: u64, reply: &Reply) -> Result<(),
 }
 
 /// Adds the line of a record.
-pub fn add_record_line(out: &mut Vec<u8>, number: u64, finished: &Record) -> Result<(), AllocError>
+pub fn add_record_line(
+    out: &mut TextBuffer,
+    number: u64,
+    finished: &Record,
+) -> Result<(), AllocError>
     ensures { Writes result out.old out.new (record_text number finished.now) }
 {
     add_record(out, number, None, finished)?;
@@ -58,7 +59,11 @@ pub fn add_record_line(out: &mut Vec<u8>, number: u64, finished: &Record) -> Res
 }
 
 /// Adds the line of a measure.
-pub fn add_measure_line(out: &mut Vec<u8>, line: u64, measure: &Measure) -> Result<(), AllocError>
+pub fn add_measure_line(
+    out: &mut TextBuffer,
+    line: u64,
+    measure: &Measure,
+) -> Result<(), AllocError>
     ensures { Writes result out.old out.new (measure_text line measure.now) }
 {
     add_measure(out, line, measure)?;
@@ -67,7 +72,7 @@ pub fn add_measure_line(out: &mut Vec<u8>, line: u64, measure: &Measure) -> Resu
 }
 
 /// Adds the line of a refusal. Want of memory has no such line.
-pub fn add_refusal_line(out: &mut Vec<u8>, line: u64, told: &Told) -> Result<(), AllocError>
+pub fn add_refusal_line(out: &mut TextBuffer, line: u64, told: &Told) -> Result<(), AllocError>
     requires { told.now ≢ Told.Step Refusal.Memory }
     ensures { Writes result out.old out.new (refusal_text line told.now) }
 {
@@ -77,7 +82,7 @@ pub fn add_refusal_line(out: &mut Vec<u8>, line: u64, told: &Told) -> Result<(),
 }
 
 /// Adds the end line of a run that tells traces.
-pub fn add_end_line(out: &mut Vec<u8>, open_spans: u64, records: u64) -> Result<(), AllocError>
+pub fn add_end_line(out: &mut TextBuffer, open_spans: u64, records: u64) -> Result<(), AllocError>
     ensures { Writes result out.old out.new (end_text open_spans records) }
 {
     add_end(out, open_spans, records)?;
@@ -86,7 +91,7 @@ pub fn add_end_line(out: &mut Vec<u8>, open_spans: u64, records: u64) -> Result<
 }
 
 /// Adds the end line of a run that tells metrics.
-pub fn add_measures_end_line(out: &mut Vec<u8>, measures: u64) -> Result<(), AllocError>
+pub fn add_measures_end_line(out: &mut TextBuffer, measures: u64) -> Result<(), AllocError>
     ensures { Writes result out.old out.new (measures_end_text measures) }
 {
     add_measures_end(out, measures)?;
@@ -95,7 +100,7 @@ pub fn add_measures_end_line(out: &mut Vec<u8>, measures: u64) -> Result<(), All
 }
 
 /// Adds the line of a summary.
-pub fn add_summary_line(out: &mut Vec<u8>, summary: &Summary) -> Result<(), AllocError>
+pub fn add_summary_line(out: &mut TextBuffer, summary: &Summary) -> Result<(), AllocError>
     ensures { Writes result out.old out.new (summary_text summary.now) }
 {
     add_summary(out, summary)?;
@@ -105,18 +110,18 @@ pub fn add_summary_line(out: &mut Vec<u8>, summary: &Summary) -> Result<(), Allo
 
 // The text that was written to a buffer of its own, without a copy.
 #[tactic(auto, using(crate::proofs::texts::HexLemmas::is_ok))]
-fn text_of(written: Vec<u8>) -> String
+fn text_of(written: TextBuffer) -> String
     requires { IsUtf8 written.items }
     ensures { string_bytes result ≡ written.items }
 {
-    String::from_utf8(written).unwrap()
+    String::from_utf8(written.into_vec()).unwrap()
 }
 
 /// The reply line of the request on a line.
 pub fn reply_line(alloc: Global, line: u64, reply: &Reply) -> Result<String, Memory>
     ensures { IfOk result (λ text. string_bytes text ≡ reply_text line reply.now) }
 {
-    let mut out = Vec::with_capacity(alloc, SHORT)?;
+    let mut out = TextBuffer::new(alloc);
     add_reply_line(&mut out, line, reply)?;
     Ok(text_of(out))
 }
@@ -125,7 +130,7 @@ pub fn reply_line(alloc: Global, line: u64, reply: &Reply) -> Result<String, Mem
 pub fn record_line(alloc: Global, number: u64, finished: &Record) -> Result<String, Memory>
     ensures { IfOk result (λ text. string_bytes text ≡ record_text number finished.now) }
 {
-    let mut out = Vec::with_capacity(alloc, LONG)?;
+    let mut out = TextBuffer::new(alloc);
     add_record_line(&mut out, number, finished)?;
     Ok(text_of(out))
 }
@@ -134,7 +139,7 @@ pub fn record_line(alloc: Global, number: u64, finished: &Record) -> Result<Stri
 pub fn measure_line(alloc: Global, line: u64, measure: &Measure) -> Result<String, Memory>
     ensures { IfOk result (λ text. string_bytes text ≡ measure_text line measure.now) }
 {
-    let mut out = Vec::with_capacity(alloc, SHORT)?;
+    let mut out = TextBuffer::new(alloc);
     add_measure_line(&mut out, line, measure)?;
     Ok(text_of(out))
 }
@@ -144,7 +149,7 @@ pub fn refusal_line(alloc: Global, line: u64, told: &Told) -> Result<String, Mem
     requires { told.now ≢ Told.Step Refusal.Memory }
     ensures { IfOk result (λ text. string_bytes text ≡ refusal_text line told.now) }
 {
-    let mut out = Vec::with_capacity(alloc, SHORT)?;
+    let mut out = TextBuffer::new(alloc);
     add_refusal_line(&mut out, line, told)?;
     Ok(text_of(out))
 }
@@ -153,7 +158,7 @@ pub fn refusal_line(alloc: Global, line: u64, told: &Told) -> Result<String, Mem
 pub fn end_line(alloc: Global, open_spans: u64, records: u64) -> Result<String, Memory>
     ensures { IfOk result (λ text. string_bytes text ≡ end_text open_spans records) }
 {
-    let mut out = Vec::with_capacity(alloc, SHORT)?;
+    let mut out = TextBuffer::new(alloc);
     add_end_line(&mut out, open_spans, records)?;
     Ok(text_of(out))
 }
@@ -162,7 +167,7 @@ pub fn end_line(alloc: Global, open_spans: u64, records: u64) -> Result<String, 
 pub fn measures_end_line(alloc: Global, measures: u64) -> Result<String, Memory>
     ensures { IfOk result (λ text. string_bytes text ≡ measures_end_text measures) }
 {
-    let mut out = Vec::with_capacity(alloc, SHORT)?;
+    let mut out = TextBuffer::new(alloc);
     add_measures_end_line(&mut out, measures)?;
     Ok(text_of(out))
 }

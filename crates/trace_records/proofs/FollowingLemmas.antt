@@ -16,16 +16,16 @@ use Rattle.trace_records.specs.declared.finished.FinishedSpans.{FinishedSpans}
 use Rattle.script_lines.specs.declared.refused_line.RefusedLine.{RefusedLine}
 use Rattle.trace_records.specs.declared.line.Opened.{Opened}
 use Rattle.trace_records.specs.declared.line.Answered.{Answered}
-use Rattle.trace_records.specs.declared.script.Stage.{Stage}
-use Rattle.trace_records.specs.declared.script.Stage.TheVariants as stage
-use Rattle.trace_records.specs.Scripts.{Run, lanes_on, script_of}
+use Rattle.trace_records.specs.declared.script.ScriptStage.{ScriptStage}
+use Rattle.trace_records.specs.declared.script.ScriptStage.TheVariants as stage
+use Rattle.trace_records.specs.Scripts.{ScriptResult, lanes_on, script_of}
 use Rattle.trace_records.specs.Lines.{Opens, AnswersRequest}
 use Rattle.trace_records.specs.Following.{without_taken, IsOpening, IsRunning, IsStopped, StandsAt, EndsAs, IsRefusedBy}
 
 -- ---- one line more
 
 -- what holds behind one line more
-on_line : (most : Option ℕ) (lines more : List (List ℕ)) (line : List ℕ) (r : Run) → script_of most (lines ++ line ∷ more) ≡ r → script_of most ((lines ++ line ∷ []) ++ more) ≡ r
+on_line : (most : Option ℕ) (lines more : List (List ℕ)) (line : List ℕ) (r : ScriptResult) → script_of most (lines ++ line ∷ more) ≡ r → script_of most ((lines ++ line ∷ []) ++ more) ≡ r
 on_line most lines more line r is = ap (script_of most) (append_assoc lines (line ∷ []) more) ∙ is
 
 -- the settings line
@@ -99,7 +99,7 @@ stands_beside old new t same stands = back new t (subst (λ (k : State). StandsF
 pub answered_on : {K : Type 0} (of : Record → K) (most : Option ℕ) (lines : List (List ℕ)) (count next : ℕ) (old mid new : State) (before after : FinishedSpans K) (line : List ℕ) (answered : Answered)
     (r : IsRunning of most lines count old before) → next ≡ count + 1 → is_blank line ≡ false → AnswersRequest line r.history old mid answered
     → without_taken new ≡ without_taken mid → new.recording.finished ≡ []
-    → after.spans.items ≡ before.spans.items ++ map of mid.recording.finished → after.lanes.items ≡ before.lanes.items ++ map (λ (x : Record). answered.lane) mid.recording.finished
+    → after.spans.items ≡ before.spans.items ++ map of mid.recording.finished → after.lanes.items ≡ before.lanes.items ++ map (λ (x : Record). answered.lane_place) mid.recording.finished
     → after.lane_count ≡ before.lane_count → IsRunning of most (lines ++ line ∷ []) next new after
 answered_on of most lines count next old mid new before after line answered r counted is a same taken spans_are lanes_are number =
     let h : History = r.history in

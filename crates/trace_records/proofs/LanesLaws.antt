@@ -11,7 +11,7 @@ use Rattle.trace_lines.specs.declared.told.Told.{Told}
 use Rattle.trace_lines.specs.Lines.{is_blank}
 use Rattle.trace_lines.specs.reading.Spelled.{settings_spelled}
 use Rattle.trace_lines.specs.Report.{effect_of_line}
-use Rattle.trace_records.specs.Scripts.{ScriptRan, Run, run_unless_refused, takes, setup_read, setup_of, setup_of_line, lanes_on, script_on, script_from, script_of}
+use Rattle.trace_records.specs.Scripts.{ScriptRan, ScriptResult, run_unless_refused, takes_lanes, setup_read, setup_of_settings, setup_of_line, lanes_on, script_on, script_from, script_of}
 use Rattle.trace_records.proofs.ScriptsLaws.{going_either}
 
 count : (settings : Settings) → length (setup_by settings).ids ≡ length settings.lanes
@@ -24,13 +24,13 @@ few_read (Err unread) few by setup is = absurd cc
 few_read (Ok read) true by setup is = (refl, is, cc)
 few_read (Ok read) false by setup is = absurd cc
 
-few_setup : (most : ℕ) (spelled : Result Settings Told) (setup : Setup) → setup_of (Some most) spelled ≡ Ok setup → (setup_of None spelled ≡ Ok setup) × (length setup.ids ≤ most)
+few_setup : (most : ℕ) (spelled : Result Settings Told) (setup : Setup) → setup_of_settings (Some most) spelled ≡ Ok setup → (setup_of_settings None spelled ≡ Ok setup) × (length setup.ids ≤ most)
 few_setup most (Err why) setup is = absurd cc
 few_setup most (Ok settings) setup is =
-    let read = few_read (opening_read settings.filter settings.counting) (takes (Some most) (length settings.lanes)) (setup_by settings) setup is in
+    let read = few_read (opening_read settings.filter settings.counting) (takes_lanes (Some most) (length settings.lanes)) (setup_by settings) setup is in
     (read.1, subst (λ (s : Setup). length s.ids ≤ most) read.2 (rw (count settings) (leb-true (length settings.lanes) most read.0)))
 
-all_setup : (most : ℕ) (spelled : Result Settings Told) (setup : Setup) → setup_of None spelled ≡ Ok setup → length setup.ids ≤ most → setup_of (Some most) spelled ≡ Ok setup
+all_setup : (most : ℕ) (spelled : Result Settings Told) (setup : Setup) → setup_of_settings None spelled ≡ Ok setup → length setup.ids ≤ most → setup_of_settings (Some most) spelled ≡ Ok setup
 all_setup most (Err why) setup is within = absurd cc
 all_setup most (Ok settings) setup is within =
     let read = few_read (opening_read settings.filter settings.counting) true (setup_by settings) setup is in
@@ -47,11 +47,11 @@ all_line most text setup is within = all_setup most (settings_spelled text) setu
 
 -- ---- the lines
 
-if_both : (P : Type 0) (b : Bool) (v w : Run) (s : ScriptRan) (x y : Run) → (if b then v else w) ≡ Ok s → (v ≡ Ok s → (x ≡ Ok s) × P) → (w ≡ Ok s → (y ≡ Ok s) × P) → ((if b then x else y) ≡ Ok s) × P
+if_both : (P : Type 0) (b : Bool) (v w : ScriptResult) (s : ScriptRan) (x y : ScriptResult) → (if b then v else w) ≡ Ok s → (v ≡ Ok s → (x ≡ Ok s) × P) → (w ≡ Ok s → (y ≡ Ok s) × P) → ((if b then x else y) ≡ Ok s) × P
 if_both P true v w s x y is first second = first is
 if_both P false v w s x y is first second = second is
 
-if_either : (P : Type 0) (b : Bool) (v w : Run) (s : ScriptRan) → (if b then v else w) ≡ Ok s → (v ≡ Ok s → P) → (w ≡ Ok s → P) → P
+if_either : (P : Type 0) (b : Bool) (v w : ScriptResult) (s : ScriptRan) → (if b then v else w) ≡ Ok s → (v ≡ Ok s → P) → (w ≡ Ok s → P) → P
 if_either P true v w s e left right = left e
 if_either P false v w s e left right = right e
 

@@ -19,7 +19,7 @@ use Rattle.trace_lines.specs.Report.{effect_of_line, effect_of_request}
 use Rattle.script_lines.specs.Refusals.{IsTold}
 use Rattle.trace_records.specs.declared.line.Opened.{Opened}
 use Rattle.trace_records.specs.declared.line.Answered.{Answered}
-use Rattle.trace_records.specs.Scripts.{takes, setup_of, setup_of_line, lane_spelled}
+use Rattle.trace_records.specs.Scripts.{takes_lanes, setup_of_settings, setup_of_line, lane_spelled}
 use Rattle.trace_records.specs.Lines.{Opens, AnswersRequest}
 
 -- the refusal of a step has a line but for want of memory
@@ -30,7 +30,7 @@ told_step why other is = let same : why ≡ refusal.Memory = cc in true≢false 
 
 pub not_settings : (most : Option ℕ) (text : List ℕ) (why : Told) → settings_spelled text ≡ Err why → setup_of_line most text ≡ Err why
 unfolding setup_of_line
-not_settings most text why is = ap (setup_of most) is
+not_settings most text why is = ap (setup_of_settings most) is
 
 pub not_read : (most : Option ℕ) (text : List ℕ) (settings : Settings) (counting : Bool) (piece : ℕ) → settings_spelled text ≡ Ok settings
     → opening_read settings.filter settings.counting ≡ Err (counting, piece) → setup_of_line most text ≡ Err (told.Directive counting piece)
@@ -38,21 +38,21 @@ unfolding setup_of_line
 not_read most text settings counting piece is why = rw (is, why) refl
 
 pub too_many : (most : Option ℕ) (text : List ℕ) (settings : Settings) → settings_spelled text ≡ Ok settings
-    → opening_read settings.filter settings.counting ≡ Ok tt → takes most (length settings.lanes) ≡ false → setup_of_line most text ≡ Err told.Lanes
+    → opening_read settings.filter settings.counting ≡ Ok tt → takes_lanes most (length settings.lanes) ≡ false → setup_of_line most text ≡ Err told.Lanes
 unfolding setup_of_line
 too_many most text settings is read many = rw (is, read, many) refl
 
 pub read_whole : (most : Option ℕ) (text : List ℕ) (settings : Settings) → settings_spelled text ≡ Ok settings
-    → opening_read settings.filter settings.counting ≡ Ok tt → takes most (length settings.lanes) ≡ true → setup_of_line most text ≡ Ok (setup_by settings)
+    → opening_read settings.filter settings.counting ≡ Ok tt → takes_lanes most (length settings.lanes) ≡ true → setup_of_line most text ≡ Ok (setup_by settings)
 unfolding setup_of_line
 read_whole most text settings is read few = rw (is, read, few) refl
 
 pub opens : (most : Option ℕ) (text : List ℕ) (settings : Settings) (opened : Opened) → settings_spelled text ≡ Ok settings
-    → opening_read settings.filter settings.counting ≡ Ok tt → takes most opened.lane_count ≡ true → opened.lane_count ≡ length settings.lanes
+    → opening_read settings.filter settings.counting ≡ Ok tt → takes_lanes most opened.lane_count ≡ true → opened.lane_count ≡ length settings.lanes
     → opened.pipeline.setup ≡ setup_by settings → StandsFor opened.pipeline (tables (setup_by settings) [])
     → opened.pipeline.recording.finished ≡ [] → opened.pipeline.measures ≡ [] → Opens most text opened
 opens most text settings opened is read few count setup stands records measures = record {
-  setup = read_whole most text settings is read (ap (takes most) (sym count) ∙ few) ∙ ap Ok (sym setup);
+  setup = read_whole most text settings is read (ap (takes_lanes most) (sym count) ∙ few) ∙ ap Ok (sym setup);
   stands = subst (λ (s : Setup). StandsFor opened.pipeline (tables s [])) (sym setup) stands;
   records = records;
   measures = measures;
@@ -76,7 +76,7 @@ unfolding effect_of_line
 stepped setup t text request effect is does = rw (is, does) refl
 
 pub answers : (text : List ℕ) (h : History) (old new : State) (request : Request) (answered : Answered) → request_spelled text ≡ Ok request
-    → answered.lane ≡ request.lane → ServedByHistory (effect_of old.setup (tables old.setup h) request) h old new answered.reply → AnswersRequest text h old new answered
+    → answered.lane_place ≡ request.lane_place → ServedByHistory (effect_of old.setup (tables old.setup h) request) h old new answered.reply → AnswersRequest text h old new answered
 answers text h old new request answered is lane did = record {
   effect = did.effect;
   is = stepped old.setup (tables old.setup h) text request did.effect is did.is;

@@ -25,15 +25,15 @@ use Rattle.trace_lines.specs.declared.told.Told.{Told}
 use Rattle.trace_lines.specs.Lines.{is_blank}
 use Rattle.trace_lines.specs.reading.Spelled.{settings_spelled, request_spelled}
 use Rattle.trace_lines.specs.Report.{Report, report_on_effect, effect_of_line, effect_of_request, told_step, report_on, report_from, report_on_settings, report_on_opening, accepts, answer_count}
-use Rattle.trace_records.specs.Scripts.{ScriptRan, Run, run_unless_refused, setup_read, setup_of, setup_of_line, lane_spelled, lanes_on, script_on, script_from, script_of}
+use Rattle.trace_records.specs.Scripts.{ScriptRan, ScriptResult, run_unless_refused, setup_read, setup_of_settings, setup_of_line, lane_spelled, lanes_on, script_on, script_from, script_of}
 
 -- ---- the same lines are accepted
 
-if_same : (b : Bool) (x y : Report) (v w : Run) → x.accepted ≡ is_ok v → y.accepted ≡ is_ok w → (if b then x else y).accepted ≡ is_ok (if b then v else w)
+if_same : (b : Bool) (x y : Report) (v w : ScriptResult) → x.accepted ≡ is_ok v → y.accepted ≡ is_ok w → (if b then x else y).accepted ≡ is_ok (if b then v else w)
 if_same true x y v w e f = e
 if_same false x y v w e f = f
 
-following_same : (r : Result Effect Told) (go : Effect → Report) (goes : Effect → Run) (line : ℕ) → ((e : Effect) → (go e).accepted ≡ is_ok (goes e)) → (report_on_effect r go line).accepted ≡ is_ok (run_unless_refused r line goes)
+following_same : (r : Result Effect Told) (go : Effect → Report) (goes : Effect → ScriptResult) (line : ℕ) → ((e : Effect) → (go e).accepted ≡ is_ok (goes e)) → (report_on_effect r go line).accepted ≡ is_ok (run_unless_refused r line goes)
 following_same (Ok e) go goes line same = same e
 following_same (Err why) go goes line same = refl
 
@@ -44,12 +44,12 @@ same_on setup h lanes n count (text ∷ lines) =
     (following_same (effect_of_line setup (tables setup h) text) _ _ (n + 1)
     (λ e. same_on setup (h ++ e ∷ []) (lanes ++ lanes_on text (records_of (tables setup h) e)) (n + 1) (count + answer_count signal.Traces (records_of (tables setup h) e) e.measures) lines))
 
-read_same : (read : OpeningRead) (r : Report) (setup : Setup) (goes : Setup → Run) (line : ℕ) → r.accepted ≡ is_ok (goes setup) → (report_on_opening read r line).accepted ≡ is_ok (run_unless_refused (setup_read read true setup) line goes)
+read_same : (read : OpeningRead) (r : Report) (setup : Setup) (goes : Setup → ScriptResult) (line : ℕ) → r.accepted ≡ is_ok (goes setup) → (report_on_opening read r line).accepted ≡ is_ok (run_unless_refused (setup_read read true setup) line goes)
 read_same (Ok read) r setup goes line same = same
 read_same (Err unread) r setup goes line same = refl
 
-opening_same : (s : Result Settings Told) (go : Settings → Report) (goes : Setup → Run) (line : ℕ) → ((settings : Settings) → (go settings).accepted ≡ is_ok (goes (setup_by settings)))
-    → (report_on_settings s go line).accepted ≡ is_ok (run_unless_refused (setup_of None s) line goes)
+opening_same : (s : Result Settings Told) (go : Settings → Report) (goes : Setup → ScriptResult) (line : ℕ) → ((settings : Settings) → (go settings).accepted ≡ is_ok (goes (setup_by settings)))
+    → (report_on_settings s go line).accepted ≡ is_ok (run_unless_refused (setup_of_settings None s) line goes)
 opening_same (Ok settings) go goes line same = read_same (opening_read settings.filter settings.counting) (go settings) (setup_by settings) goes line (same settings)
 opening_same (Err why) go goes line same = refl
 
@@ -71,11 +71,11 @@ pub record IsLegal (s : ScriptRan) : Type 0 where
   pub lanes : length s.lanes ≡ length (records_of_history s.setup s.history)
   pub within : All (λ lane. lane < length s.setup.ids) s.lanes
 
-if_either : (P : Type 0) (b : Bool) (v w : Run) (s : ScriptRan) → (if b then v else w) ≡ Ok s → (v ≡ Ok s → P) → (w ≡ Ok s → P) → P
+if_either : (P : Type 0) (b : Bool) (v w : ScriptResult) (s : ScriptRan) → (if b then v else w) ≡ Ok s → (v ≡ Ok s → P) → (w ≡ Ok s → P) → P
 if_either P true v w s e left right = left e
 if_either P false v w s e left right = right e
 
-pub going_either : {A : Type 0} (P : Type 0) (r : Result A Told) (line : ℕ) (go : A → Run) (s : ScriptRan) → run_unless_refused r line go ≡ Ok s → ((x : A) → r ≡ Ok x → go x ≡ Ok s → P) → P
+pub going_either : {A : Type 0} (P : Type 0) (r : Result A Told) (line : ℕ) (go : A → ScriptResult) (s : ScriptRan) → run_unless_refused r line go ≡ Ok s → ((x : A) → r ≡ Ok x → go x ≡ Ok s → P) → P
 going_either P (Ok x) line go s e holds = holds x refl e
 going_either P (Err why) line go s e holds = absurd cc
 
@@ -106,11 +106,11 @@ there w None go e is = absurd cc
 there w (Some x) go e is = (x, refl)
 
 -- a request that is served comes on a lane of the settings
-lane_within : (setup : Setup) (t : Tables) (request : Request) (e : Effect) → effect_of setup t request ≡ Ok e → request.lane < length setup.ids
+lane_within : (setup : Setup) (t : Tables) (request : Request) (e : Effect) → effect_of setup t request ≡ Ok e → request.lane_place < length setup.ids
 lane_within setup t request e is =
-    let id = there what.Lane (slice_get setup.ids request.lane) (λ x. effect_of_call setup t request.at request.lane request.call) e
+    let id = there what.Lane (slice_get setup.ids request.lane_place) (λ x. effect_of_call setup t request.at request.lane_place request.call) e
     (unless (is_bad_moment t.moment request.at) (refusal.BadMoment t.moment request.at) _ e is) in
-    slice_get_within setup.ids request.lane id.0 id.1
+    slice_get_within setup.ids request.lane_place id.0 id.1
 
 all_same : (P : ℕ → Type 0) (n : ℕ) (rs : List Record) → P n → All P (map (λ r. n) rs)
 all_same P n [] holds = All-nil P

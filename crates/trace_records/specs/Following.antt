@@ -9,8 +9,8 @@ use Rattle.script_lines.specs.Refusals.{IsTold, are_blank}
 use Rattle.trace_records.specs.declared.finished.FinishedSpans.{FinishedSpans}
 use Rattle.script_lines.specs.declared.refused_line.RefusedLine.{RefusedLine}
 use Rattle.trace_records.specs.declared.script.ScriptRun.{ScriptRun}
-use Rattle.trace_records.specs.declared.script.Stage.{Stage}
-use Rattle.trace_records.specs.declared.script.Stage.TheVariants as stage
+use Rattle.trace_records.specs.declared.script.ScriptStage.{ScriptStage}
+use Rattle.trace_records.specs.declared.script.ScriptStage.TheVariants as stage
 use Rattle.trace_records.specs.Scripts.{ScriptRan, script_on, script_from, script_of}
 
 -- what is kept beside the records and the measures that are to be taken
@@ -43,7 +43,7 @@ pub record IsStopped (most : Option ℕ) (lines : List (List ℕ)) (refused : Re
   pub script_is : (more : List (List ℕ)) → script_of most (lines ++ more) ≡ Err refused
 
 -- what holds at each stage
-abbrev pub StandsAt : {K : Type 0} → (Record → K) → Option ℕ → Stage → List (List ℕ) → ℕ → FinishedSpans K → Type 0
+abbrev pub StandsAt : {K : Type 0} → (Record → K) → Option ℕ → ScriptStage → List (List ℕ) → ℕ → FinishedSpans K → Type 0
 StandsAt of most stage.Opening lines count finished = IsOpening most lines count finished
 StandsAt of most (stage.Running pipeline) lines count finished = IsRunning of most lines count pipeline finished
 StandsAt of most (stage.Refused refused) lines count finished = IsStopped most lines refused

@@ -26,7 +26,7 @@ OpensLine most text (Err why) = (setup_of_line most text ≡ Err why) × IsTold 
 pub record AnswersRequest (text : List ℕ) (h : History) (old new : State) (answered : Answered) : Type 0 where
   pub effect : Effect
   pub is : effect_of_line old.setup (tables old.setup h) text ≡ Ok effect
-  pub lane : answered.lane ≡ lane_spelled (request_spelled text)
+  pub lane : answered.lane_place ≡ lane_spelled (request_spelled text)
   pub reply_is : answered.reply ≡ effect.reply
   pub setup : new.setup ≡ old.setup
   pub records : new.recording.finished ≡ old.recording.finished ++ records_of (tables old.setup h) effect

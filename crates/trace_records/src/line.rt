@@ -3,7 +3,7 @@ ghost use Rattle.std.specs.Prelude.{◌≡◌, Option, IfOk, IfErr, OnOk, OnErr,
 ghost use Rattle.span_script.specs.Fits.{StandsFor, is_for_memory};
 ghost use Rattle.span_script.specs.Tables.{History, tables};
 ghost use Rattle.script_lines.specs.Refusals.{IsTold};
-ghost use Rattle.trace_records.specs.Scripts.{takes};
+ghost use Rattle.trace_records.specs.Scripts.{takes_lanes};
 ghost use Rattle.trace_records.specs.Lines.{OpensLine, AnswersLine};
 
 use otel_base::memory::Memory;
@@ -26,14 +26,14 @@ pub struct Opened {
 #[derive(Clone, Copy)]
 pub struct Answered {
     /// The lane that it came on, by its place.
-    pub lane: u64,
+    pub lane_place: u64,
     /// The reply.
     pub reply: Reply,
 }
 
 // Whether so many lanes are no more than the most that are taken.
-fn takes(most_lanes: Option<u64>, lane_count: u64) -> bool
-    ensures { result ≡ takes most_lanes lane_count }
+fn takes_lanes(most_lanes: Option<u64>, lane_count: u64) -> bool
+    ensures { result ≡ takes_lanes most_lanes lane_count }
 {
     match most_lanes {
         Some(most) => lane_count <= most,
@@ -58,7 +58,7 @@ pub fn open_line(
     let lane_count = settings.lanes.as_slice().len() as u64;
     match Pipeline::open(alloc, settings) {
         Ok(pipeline) => {
-            if takes(most_lanes, lane_count) {
+            if takes_lanes(most_lanes, lane_count) {
                 Ok(Ok(Opened {
                     pipeline,
                     lane_count,
@@ -90,9 +90,9 @@ pub fn answer_line(
         Err(LineError::BadLine) => return Ok(Err(Told::BadLine)),
         Err(LineError::Memory) => return Err(Memory),
     };
-    let lane = request.lane;
+    let lane_place = request.lane_place;
     match pipeline.step(request) {
-        Ok(reply) => Ok(Ok(Answered { lane, reply })),
+        Ok(reply) => Ok(Ok(Answered { lane_place, reply })),
         Err(refusal) => {
             let told = told_of(refusal)?;
             Ok(Err(told))

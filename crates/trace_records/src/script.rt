@@ -14,7 +14,7 @@ use trace_lines::Told;
 use trace_pipeline::pipeline::Pipeline;
 
 /// Where a script stands between two lines.
-pub enum Stage {
+pub enum ScriptStage {
     /// No settings line came: each line so far is blank.
     Opening,
     /// The settings line came, and each request was answered.
@@ -24,12 +24,12 @@ pub enum Stage {
 }
 
 /// The pipeline is given up, if there is one.
-impl Discard for Stage {
+impl Discard for ScriptStage {
     fn discard(self) {
         match self {
-            Stage::Opening => {}
-            Stage::Running { pipeline } => pipeline.discard(),
-            Stage::Refused { refused } => drop(refused),
+            ScriptStage::Opening => {}
+            ScriptStage::Running { pipeline } => pipeline.discard(),
+            ScriptStage::Refused { refused } => drop(refused),
         }
     }
 }
@@ -39,7 +39,7 @@ pub struct ScriptRun<K> {
     /// How many lines came, blank ones included.
     pub lines: u64,
     /// Where the script stands.
-    pub stage: Stage,
+    pub stage: ScriptStage,
     /// The spans that finished so far.
     pub finished: FinishedSpans<K>,
 }
@@ -57,7 +57,7 @@ impl<K: Kept> Discard for ScriptRun<K> {
 }
 
 // Goes on to another stage.
-fn go_on(stage: &mut Stage, next: Stage)
+fn go_on(stage: &mut ScriptStage, next: ScriptStage)
     ensures { stage.new ≡ next }
 {
     mem::replace(stage, next).discard();
@@ -70,7 +70,7 @@ impl<K: Kept> ScriptRun<K> {
     {
         ScriptRun {
             lines: 0,
-            stage: Stage::Opening,
+            stage: ScriptStage::Opening,
             finished: FinishedSpans::new(alloc),
         }
     }
@@ -93,7 +93,7 @@ impl<K: Kept> ScriptRun<K> {
             return Ok(());
         }
         match &mut self.stage {
-            Stage::Opening => match open_line(alloc, most_lanes, line)? {
+            ScriptStage::Opening => match open_line(alloc, most_lanes, line)? {
                 Ok(
                     Opened {
                         pipeline,
@@ -101,7 +101,7 @@ impl<K: Kept> ScriptRun<K> {
                     },
                 ) => {
                     self.finished.lane_count = lane_count;
-                    go_on(&mut self.stage, Stage::Running { pipeline });
+                    go_on(&mut self.stage, ScriptStage::Running { pipeline });
                     Ok(())
                 }
                 Err(told) => {
@@ -109,26 +109,26 @@ impl<K: Kept> ScriptRun<K> {
                     Ok(())
                 }
             },
-            Stage::Running { pipeline } => match answer_line(alloc, pipeline, line)? {
+            ScriptStage::Running { pipeline } => match answer_line(alloc, pipeline, line)? {
                 Ok(answered) => {
                     drop_measures(pipeline);
-                    self.finished.take_records(pipeline, answered.lane)
+                    self.finished.take_records(pipeline, answered.lane_place)
                 }
                 Err(told) => {
                     self.refuse(number, told);
                     Ok(())
                 }
             },
-            Stage::Refused { .. } => Ok(()),
+            ScriptStage::Refused { .. } => Ok(()),
         }
     }
 
     // Stops at a line that is refused.
     fn refuse(&mut self, line: u64, told: Told)
-        ensures { self.new.stage ≡ Stage.Refused (record { line = line; told = told }) }
+        ensures { self.new.stage ≡ ScriptStage.Refused (record { line = line; told = told }) }
     {
         let refused = RefusedLine { line, told };
-        go_on(&mut self.stage, Stage::Refused { refused });
+        go_on(&mut self.stage, ScriptStage::Refused { refused });
     }
 
     /// The line that is refused whatever lines follow, if one is.
@@ -137,9 +137,9 @@ impl<K: Kept> ScriptRun<K> {
             → IsRefusedBy most lines result }
     {
         match &self.stage {
-            Stage::Opening => None,
-            Stage::Running { .. } => None,
-            Stage::Refused { refused } => {
+            ScriptStage::Opening => None,
+            ScriptStage::Running { .. } => None,
+            ScriptStage::Refused { refused } => {
                 let RefusedLine { line, told } = *refused;
                 Some(RefusedLine { line, told })
             }
@@ -158,18 +158,18 @@ impl<K: Kept> ScriptRun<K> {
             mut finished,
         } = self;
         match stage {
-            Stage::Opening => {
+            ScriptStage::Opening => {
                 // No input has so many lines that the sum wraps.
                 let line = lines.checked_add(1).ok_or(Memory)?;
                 let told = Told::BadLine;
                 Ok(Err(RefusedLine { line, told }))
             }
-            Stage::Running { pipeline } => {
+            ScriptStage::Running { pipeline } => {
                 finished.open_spans = pipeline.open_spans();
                 pipeline.discard();
                 Ok(Ok(finished))
             }
-            Stage::Refused { refused } => Ok(Err(refused)),
+            ScriptStage::Refused { refused } => Ok(Err(refused)),
         }
     }
 }

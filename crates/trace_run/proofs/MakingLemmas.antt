@@ -12,8 +12,8 @@ use Rattle.span_script.specs.Fits.{State, StandsFor, ServedByHistory}
 use Rattle.span_script.specs.Outcomes.{records_of_history}
 use Rattle.span_script.specs.Setups.{Setup}
 use Rattle.span_script.specs.Tables.{History, Tables, no_tables, tables, records_of}
-use Rattle.trace_lines.specs.Generated.{made_setup, made_requests, made_script, round, rounds}
-use Rattle.trace_lines.specs.Replay.{history_unless_refused, history_after, busy_of, events_of}
+use Rattle.trace_lines.specs.Generated.{generated_setup, generated_requests, generated_script, round, rounds}
+use Rattle.trace_lines.specs.Replay.{history_unless_refused, history_after, busy_of, event_count}
 use Rattle.trace_lines.specs.Report.{IsValid}
 use Rattle.trace_lines.specs.declared.write.summary.Summary.{Summary}
 use Rattle.trace_records.specs.Following.{without_taken}
@@ -33,26 +33,26 @@ with_none t =
     ∙ ap (λ e. record t { busy = t.busy; events = e; records = t.records + 0 }) events
     ∙ ap (λ n. record t { busy = t.busy; events = t.events; records = n }) records
 
-plain_totals : (n : ℕ) (rs : List Record) → with_records (of_requests n) rs ≡ record { busy = sum_by busy_of rs; events = sum_by events_of rs; records = length rs; requests = n }
+plain_totals : (n : ℕ) (rs : List Record) → with_records (of_requests n) rs ≡ record { busy = sum_by busy_of rs; events = sum_by event_count rs; records = length rs; requests = n }
 plain_totals n rs =
     let busy : 0 + sum_by busy_of rs ≡ sum_by busy_of rs = omega arith in
-    let events : 0 + sum_by events_of rs ≡ sum_by events_of rs = omega arith in
+    let events : 0 + sum_by event_count rs ≡ sum_by event_count rs = omega arith in
     let count : 0 + length rs ≡ length rs = omega arith in
-    ap (λ (b : ℕ). record (of_requests n) { busy = b; events = 0 + sum_by events_of rs; records = 0 + length rs }) busy
+    ap (λ (b : ℕ). record (of_requests n) { busy = b; events = 0 + sum_by event_count rs; records = 0 + length rs }) busy
     ∙ ap (λ (e : ℕ). record (of_requests n) { busy = sum_by busy_of rs; events = e; records = 0 + length rs }) events
-    ∙ ap (λ (k : ℕ). record (of_requests n) { busy = sum_by busy_of rs; events = sum_by events_of rs; records = k }) count
+    ∙ ap (λ (k : ℕ). record (of_requests n) { busy = sum_by busy_of rs; events = sum_by event_count rs; records = k }) count
 
 -- the totals of some requests with records, one request more, and its records
 with_request : (n m : ℕ) (rs ss : List Record) (t : Totals) → m ≡ n + 1 → t ≡ with_records (of_requests n) rs
     → with_records (record t { requests = t.requests + 1 }) ss ≡ with_records (of_requests m) (rs ++ ss)
 with_request n m rs ss t next is =
     let busy : (0 + sum_by busy_of rs) + sum_by busy_of ss ≡ 0 + sum_by busy_of (rs ++ ss) = omega (arith, sum_by-append busy_of rs ss) in
-    let events : (0 + sum_by events_of rs) + sum_by events_of ss ≡ 0 + sum_by events_of (rs ++ ss) = omega (arith, sum_by-append events_of rs ss) in
+    let events : (0 + sum_by event_count rs) + sum_by event_count ss ≡ 0 + sum_by event_count (rs ++ ss) = omega (arith, sum_by-append event_count rs ss) in
     let records : (0 + length rs) + length ss ≡ 0 + length (rs ++ ss) = omega (arith, length-append rs ss) in
     ap (λ (u : Totals). with_records (record u { requests = u.requests + 1 }) ss) is
-    ∙ ap (λ (b : ℕ). record (of_requests (n + 1)) { busy = b; events = (0 + sum_by events_of rs) + sum_by events_of ss; records = (0 + length rs) + length ss }) busy
+    ∙ ap (λ (b : ℕ). record (of_requests (n + 1)) { busy = b; events = (0 + sum_by event_count rs) + sum_by event_count ss; records = (0 + length rs) + length ss }) busy
     ∙ ap (λ (e : ℕ). record (of_requests (n + 1)) { busy = 0 + sum_by busy_of (rs ++ ss); events = e; records = (0 + length rs) + length ss }) events
-    ∙ ap (λ (k : ℕ). record (of_requests (n + 1)) { busy = 0 + sum_by busy_of (rs ++ ss); events = 0 + sum_by events_of (rs ++ ss); records = k }) records
+    ∙ ap (λ (k : ℕ). record (of_requests (n + 1)) { busy = 0 + sum_by busy_of (rs ++ ss); events = 0 + sum_by event_count (rs ++ ss); records = k }) records
     ∙ ap (λ (k : ℕ). with_records (of_requests k) (rs ++ ss)) (sym next)
 
 -- ---- histories
@@ -62,22 +62,22 @@ pub served : (h : History) (old mid new : State) (before last : Totals) (request
     → last ≡ with_records (record before { requests = before.requests + 1 }) mid.recording.finished → new.recording.finished ≡ [] → without_taken new ≡ without_taken mid
     → ServesRequests (request ∷ []) h new last
 served h old mid new before last request reply c a last_is taken state =
-    let t : Tables = tables made_setup h in
-    let setup : new.setup ≡ made_setup = ap (λ (k : State). k.setup) state ∙ a.setup ∙ c.setup in
-    let is : effect_of made_setup t request ≡ Ok a.effect = subst (λ (s : Setup). effect_of s (tables s h) request ≡ Ok a.effect) c.setup a.is in
+    let t : Tables = tables generated_setup h in
+    let setup : new.setup ≡ generated_setup = ap (λ (k : State). k.setup) state ∙ a.setup ∙ c.setup in
+    let is : effect_of generated_setup t request ≡ Ok a.effect = subst (λ (s : Setup). effect_of s (tables s h) request ≡ Ok a.effect) c.setup a.is in
     let finished : mid.recording.finished ≡ records_of t a.effect =
     a.records ∙ ap (λ (f : List Record). f ++ records_of (tables old.setup h) a.effect) c.taken ∙ ap (λ (s : Setup). records_of (tables s h) a.effect) c.setup in
     record {
       history = h ++ a.effect ∷ [];
       counts = record {
         setup = setup;
-        stands = stands_beside mid new (tables made_setup (h ++ a.effect ∷ [])) state (subst (λ (s : Setup). StandsFor mid (tables s (h ++ a.effect ∷ []))) c.setup a.stands);
+        stands = stands_beside mid new (tables generated_setup (h ++ a.effect ∷ [])) state (subst (λ (s : Setup). StandsFor mid (tables s (h ++ a.effect ∷ []))) c.setup a.stands);
         taken = taken;
         totals_are = last_is ∙ ap (λ (f : List Record). with_records (record before { requests = before.requests + 1 }) f) finished
-            ∙ with_request (length h) (length (h ++ a.effect ∷ [])) (records_of_history made_setup h) (records_of t a.effect) before (length-append h (a.effect ∷ [])) c.totals_are
-            ∙ ap (with_records (of_requests (length (h ++ a.effect ∷ [])))) (sym (records_push (no_tables made_setup) h a.effect));
+            ∙ with_request (length h) (length (h ++ a.effect ∷ [])) (records_of_history generated_setup h) (records_of t a.effect) before (length-append h (a.effect ∷ [])) c.totals_are
+            ∙ ap (with_records (of_requests (length (h ++ a.effect ∷ [])))) (sym (records_push (no_tables generated_setup) h a.effect));
       };
-      replays = λ more. ap (λ (r : Resolved). history_unless_refused r (λ e. history_after made_setup (h ++ e ∷ []) more)) is;
+      replays = λ more. ap (λ (r : Resolved). history_unless_refused r (λ e. history_after generated_setup (h ++ e ∷ []) more)) is;
     }
 
 pub serves_on : (xs ys all : List Request) (h : History) (k l : State) (t u : Totals) (s : ServesRequests xs h k t) → ServesRequests ys s.history l u → xs ++ ys ≡ all → ServesRequests all h l u
@@ -85,7 +85,7 @@ serves_on xs ys all h k l t u s z is =
     subst (λ (rs : List Request). ServesRequests rs h l u) is (record {
       history = z.history;
       counts = z.counts;
-      replays = λ more. ap (history_after made_setup h) (append_assoc xs ys more) ∙ s.replays (ys ++ more) ∙ z.replays more;
+      replays = λ more. ap (history_after generated_setup h) (append_assoc xs ys more) ∙ s.replays (ys ++ more) ∙ z.replays more;
     })
 
 pub rounds_more : (first i : ℕ) → rounds first (i + 1) ≡ rounds first i ++ round (first + i)
@@ -97,17 +97,17 @@ rounds_more first (suc i) =
 
 -- ---- the whole run
 
-pub opened : (k : State) → k.setup ≡ made_setup → StandsFor k (tables made_setup []) → k.recording.finished ≡ [] → Counts [] k (of_requests 0)
+pub opened : (k : State) → k.setup ≡ generated_setup → StandsFor k (tables generated_setup []) → k.recording.finished ≡ [] → Counts [] k (of_requests 0)
 opened k setup stands taken = record { setup = setup; stands = stands; taken = taken; totals_are = sym (with_none (of_requests 0)) }
 
-pub summed : (n : ℕ) (k : State) (t : Totals) (summary : Summary) (spans lines : ℕ) (s : ServesRequests (made_requests n) [] k t) → ((h : History) → history_after made_setup [] (made_requests n) ≡ Some h → IsValid (made_script n))
+pub summed : (n : ℕ) (k : State) (t : Totals) (summary : Summary) (spans lines : ℕ) (s : ServesRequests (generated_requests n) [] k t) → ((h : History) → history_after generated_setup [] (generated_requests n) ≡ Some h → IsValid (generated_script n))
     → ((u : Tables) → StandsFor k u → spans ≡ open_spans u) → lines ≡ t.requests + t.records + 1
     → summary ≡ record { busy = t.busy; events = t.events; lines = lines; open_spans = spans; records = t.records; requests = t.requests } → SumsUp n summary
 summed n k t summary spans lines s valid counts lines_are is =
-    let runs : history_after made_setup [] (made_requests n) ≡ Some s.history = ap (history_after made_setup []) (sym (append-nil (made_requests n))) ∙ s.replays [] in
+    let runs : history_after generated_setup [] (generated_requests n) ≡ Some s.history = ap (history_after generated_setup []) (sym (append-nil (generated_requests n))) ∙ s.replays [] in
     record {
       valid = valid s.history runs;
       history = s.history;
       runs = runs;
-      summary_is = is ∙ rw (lines_are, counts (tables made_setup s.history) s.counts.stands, s.counts.totals_are ∙ plain_totals (length s.history) (records_of_history made_setup s.history)) refl;
+      summary_is = is ∙ rw (lines_are, counts (tables generated_setup s.history) s.counts.stands, s.counts.totals_are ∙ plain_totals (length s.history) (records_of_history generated_setup s.history)) refl;
     }

@@ -7,7 +7,7 @@ use Rattle.trace_lines.specs.Lines.{lines_of}
 use Rattle.trace_lines.specs.declared.signal.Signal.TheVariants as signal
 use Rattle.trace_stream.specs.Carries.{Carries}
 use Rattle.trace_run.specs.Commands.{meaning_by}
-use Rattle.trace_stream.specs.Runs.{answering_of_run, runs}
+use Rattle.trace_stream.specs.Runs.{answering_of_run, meaning_of_runs}
 use Rattle.trace_stream.specs.reading.Reading.{LeavesStreams}
 use Rattle.trace_run.specs.Renames.{RenamesIds}
 use Rattle.trace_stream.specs.Streams.{Streams, Puts}
@@ -25,5 +25,5 @@ by_left before now (Some bytes) leaves =
 pub renames_ids : (asked : Invocation) (status : Status) (before now : Streams) → Carries (meaning_by asked) status before now → RenamesIds asked status before now
 renames_ids asked status before now carries is ok =
     let run = subst (λ (a : Invocation). Carries (meaning_by a) status before now) is carries in
-    let done = subst (λ (s : Status). Carries (runs signal.Traces) s before now) ok run in
+    let done = subst (λ (s : Status). Carries (meaning_of_runs signal.Traces) s before now) ok run in
     by_left before now before.left done.does.leaves

@@ -6,15 +6,15 @@ use Rattle.trace_stream.specs.declared.status.Status.{Status}
 use Rattle.trace_stream.specs.declared.status.Status.TheVariants as ends
 use Rattle.trace_stream.specs.Streams.{Streams, CountsFault, PutsFront}
 use Rattle.trace_stream.specs.Carries.{Causes, Carries}
-use Rattle.trace_run.specs.Commands.Make.{made_line, LeavesSum, CompletesSum, meaning_of_make}
+use Rattle.trace_run.specs.Commands.Make.{generated_line, LeavesSum, CompletesSum, meaning_of_make}
 
-sum_front : (status : Status) (rounds : ℕ) (before now : Option (List ℕ)) → LeavesSum status rounds before now → PutsFront before now (made_line rounds)
-sum_front ends.Ok rounds before now left = (made_line rounds, ([], sym (append-nil (made_line rounds))), left.1)
+sum_front : (status : Status) (rounds : ℕ) (before now : Option (List ℕ)) → LeavesSum status rounds before now → PutsFront before now (generated_line rounds)
+sum_front ends.Ok rounds before now left = (generated_line rounds, ([], sym (append-nil (generated_line rounds))), left.1)
 sum_front ends.Usage rounds before now left = absurd left
 sum_front ends.Refused rounds before now left = absurd left
 sum_front ends.ReadFault rounds before now left = absurd left
 sum_front ends.WriteFault rounds before now left = left
-sum_front ends.Memory rounds before now left = ([], (made_line rounds, refl), left)
+sum_front ends.Memory rounds before now left = ([], (generated_line rounds, refl), left)
 sum_front ends.TooLong rounds before now left = absurd left
 
 sum_causes : (status : Status) (rounds : ℕ) (before now : Streams) → LeavesSum status rounds before.held now.held

@@ -5,7 +5,7 @@ use Rattle.std.specs.Io.KnownBytes.{IsAtEnd}
 use Rattle.trace_lines.specs.Lines.{lines_of}
 use Rattle.thread_run.proofs.InputLemmas.{none_refused}
 use Rattle.thread_run.specs.Inputs.{accepts_threads, TellsThreads}
-use Rattle.thread_run.specs.declared.input.Outcome.{Outcome}
+use Rattle.thread_run.specs.declared.input.ThreadsOutcome.{ThreadsOutcome}
 use Rattle.thread_handles.specs.declared.gather.Ended.{Ended}
 use Rattle.trace_run.specs.Commands.Threads.{AnswersEnded, ComesOf}
 use Rattle.trace_stream.specs.reading.AllLines.{WritesAnswer, status_at_end}
@@ -35,7 +35,7 @@ ended_of false end.Whole before now read text ended took none flag comes put = r
 ended_of false end.Fault before now read text ended took none flag comes put = comes
 ended_of false end.TooLong before now read text ended took none flag comes put = comes
 
-pub accepted_of : (ending : End) (read : List ℕ) (o : Outcome) → WritesAnswer accepts_threads TellsThreads ending read o.answer → ending ≡ end.Whole → accepts_threads (lines_of read) ≡ not o.answer.refused
+pub accepted_of : (ending : End) (read : List ℕ) (o : ThreadsOutcome) → WritesAnswer accepts_threads TellsThreads ending read o.answer → ending ≡ end.Whole → accepts_threads (lines_of read) ≡ not o.answer.refused
 accepted_of end.Whole read o tells is = tells.1
 accepted_of end.Fault read o tells is = cc
 accepted_of end.TooLong read o tells is = cc

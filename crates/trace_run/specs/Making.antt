@@ -6,29 +6,29 @@ use Rattle.span_script.specs.declared.request.Request.{Request}
 use Rattle.span_script.specs.Tables.{History, tables}
 use Rattle.span_script.specs.Fits.{State, StandsFor}
 use Rattle.span_script.specs.Outcomes.{records_of_history}
-use Rattle.trace_lines.specs.Generated.{made_setup, made_requests, made_script}
-use Rattle.trace_lines.specs.Replay.{history_after, busy_of, events_of, summary_of}
+use Rattle.trace_lines.specs.Generated.{generated_setup, generated_requests, generated_script}
+use Rattle.trace_lines.specs.Replay.{history_after, busy_of, event_count, summary_of}
 use Rattle.trace_lines.specs.Report.{IsValid}
 use Rattle.trace_lines.specs.declared.write.summary.Summary.{Summary}
-use Rattle.trace_run.specs.Commands.Make.{made_line}
+use Rattle.trace_run.specs.Commands.Make.{generated_line}
 use Rattle.trace_run.specs.declared.make.Totals.{Totals}
 
 -- The script is valid, each of its requests has an effect, and a summary is that of these effects.
 pub record SumsUp (rounds : ℕ) (summary : Summary) : Type 0 where
-  pub valid : IsValid (made_script rounds)
+  pub valid : IsValid (generated_script rounds)
   pub history : History
-  pub runs : history_after made_setup [] (made_requests rounds) ≡ Some history
-  pub summary_is : summary ≡ summary_of made_setup history
+  pub runs : history_after generated_setup [] (generated_requests rounds) ≡ Some history
+  pub summary_is : summary ≡ summary_of generated_setup history
 
 -- the script is valid, and a text is its summary
-abbrev pub IsMadeLine : ℕ → List ℕ → Type 0
-IsMadeLine rounds text = IsValid (made_script rounds) × (text ≡ made_line rounds)
+abbrev pub IsGeneratedLine : ℕ → List ℕ → Type 0
+IsGeneratedLine rounds text = IsValid (generated_script rounds) × (text ≡ generated_line rounds)
 
 -- the totals with those of some records more
 abbrev pub with_records : Totals → List Record → Totals
 with_records totals finished = record totals {
   busy = totals.busy + sum_by busy_of finished;
-  events = totals.events + sum_by events_of finished;
+  events = totals.events + sum_by event_count finished;
   records = totals.records + length finished;
 }
 
@@ -37,12 +37,12 @@ abbrev pub of_requests : ℕ → Totals
 of_requests n = record { busy = 0; events = 0; records = 0; requests = n }
 
 abbrev pub totals_of : History → Totals
-totals_of h = with_records (of_requests (length h)) (records_of_history made_setup h)
+totals_of h = with_records (of_requests (length h)) (records_of_history generated_setup h)
 
 -- A pipeline stands for a history, its records are taken, and the totals are those of the history.
 pub record Counts (h : History) (kept : State) (totals : Totals) : Type 0 where
-  pub setup : kept.setup ≡ made_setup
-  pub stands : StandsFor kept (tables made_setup h)
+  pub setup : kept.setup ≡ generated_setup
+  pub stands : StandsFor kept (tables generated_setup h)
   pub taken : kept.recording.finished ≡ []
   pub totals_are : totals ≡ totals_of h
 
@@ -50,4 +50,4 @@ pub record Counts (h : History) (kept : State) (totals : Totals) : Type 0 where
 pub record ServesRequests (requests : List Request) (h : History) (kept : State) (totals : Totals) : Type 0 where
   pub history : History
   pub counts : Counts history kept totals
-  pub replays : (more : List Request) → history_after made_setup h (requests ++ more) ≡ history_after made_setup history more
+  pub replays : (more : List Request) → history_after generated_setup h (requests ++ more) ≡ history_after generated_setup history more

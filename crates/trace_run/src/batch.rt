@@ -6,7 +6,7 @@ ghost use Rattle.trace_batch.specs.declared.relay.TheConstants.{MOST_LANES};
 ghost use Rattle.trace_lines.specs.Lines.{lines_of};
 ghost use Rattle.trace_stream.specs.reading.AllLines.{AnswersCut, WritesAnswer};
 ghost use Rattle.trace_stream.specs.Carries.{Carries, StopsAtFault};
-ghost use Rattle.trace_run.specs.Commands.Batch.{TellsAll, accepts_few, batches};
+ghost use Rattle.trace_run.specs.Commands.Batch.{TellsAll, accepts_few, meaning_of_batches};
 ghost use Rattle.trace_stream.specs.Streams.{StopsReading, StopsWriting, streams_of};
 
 use batch_lines::batches_text;
@@ -41,9 +41,9 @@ pub fn run_batch<H: Threads + Wait + Sync, T: Turnstile + Sync, R: Source, W: Si
     source: &mut R,
     sink: &mut W,
 ) -> Status
-    requires { (batches size).IsPossible }
+    requires { (meaning_of_batches size).IsPossible }
     ensures carries { let at = streams_of R.remaining R.ends R.faults W.holds W.faults in
-        Carries (batches size) result (at source.old sink.old) (at source.new sink.new) }
+        Carries (meaning_of_batches size) result (at source.old sink.old) (at source.new sink.new) }
     ensures stops { StopsAtFault result (StopsReading R.faults R.remaining source.old source.new)
         (StopsWriting W.faults W.holds sink.old sink.new) }
 {

@@ -1,11 +1,11 @@
 //! Making a script and running it: what it came to is written as one line.
 ghost use Rattle.std.specs.Prelude.{◌≡◌, ◌∷◌, ◌≤◌, ◌<◌, [], IfOk, OnOk};
 ghost use Rattle.span_script.specs.Tables.{History};
-ghost use Rattle.trace_lines.specs.Generated.{made_requests};
+ghost use Rattle.trace_lines.specs.Generated.{generated_requests};
 ghost use Rattle.trace_lines.specs.Replay.{busy_in, busy_of};
 ghost use Rattle.trace_records.specs.Following.{without_taken};
 ghost use Rattle.trace_run.specs.Commands.Make.{LeavesSum, CompletesSum};
-ghost use Rattle.trace_run.specs.Making.{SumsUp, IsMadeLine, with_records, Counts, ServesRequests};
+ghost use Rattle.trace_run.specs.Making.{SumsUp, IsGeneratedLine, with_records, Counts, ServesRequests};
 ghost use Rattle.trace_stream.specs.Streams.{CountsFault, StopsWriting};
 
 use otel_base::memory::Memory;
@@ -14,8 +14,9 @@ use otel_base::value::{KeyValue, OtelValue};
 use span_script::request::Request;
 use std::alloc::Global;
 use trace_base::discard::Discard;
-use trace_lines::generated::laws::valid;
-use trace_lines::generated::{MOST_ROUNDS, made_settings, round};
+use trace_lines::TextBuffer;
+use trace_lines::generated::laws::validity;
+use trace_lines::generated::{MOST_ROUNDS, generated_settings, round};
 use trace_lines::write::add_summary_line;
 use trace_lines::write::summary::Summary;
 use trace_pipeline::pipeline::Pipeline;
@@ -32,7 +33,7 @@ pub fn make<W: Sink>(alloc: Global, rounds: u64, sink: &mut W) -> Status
     ensures complete { CompletesSum result (W.faults sink.old) (W.faults sink.new) }
     ensures write_stops { result ≡ Status.WriteFault → StopsWriting W.faults W.holds sink.old sink.new }
 {
-    let Ok(text) = made_line(alloc, rounds) else {
+    let Ok(text) = generated_line(alloc, rounds) else {
         return Status::Memory;
     };
     match write_all(sink, text.as_slice()) {
@@ -42,14 +43,14 @@ pub fn make<W: Sink>(alloc: Global, rounds: u64, sink: &mut W) -> Status
 }
 
 // The line of the summary.
-fn made_line(alloc: Global, rounds: u64) -> Result<Vec<u8>, Memory>
+fn generated_line(alloc: Global, rounds: u64) -> Result<Vec<u8>, Memory>
     requires { rounds ≤ MOST_ROUNDS }
-    ensures { IfOk result (λ text. IsMadeLine rounds text.items) }
+    ensures { IfOk result (λ text. IsGeneratedLine rounds text.items) }
 {
     let summary = run_rounds(alloc, rounds)?;
-    let mut text = Vec::new(alloc);
+    let mut text = TextBuffer::new(alloc);
     add_summary_line(&mut text, &summary)?;
-    Ok(text)
+    Ok(text.into_vec())
 }
 
 // Runs the script, and sums up what it came to.
@@ -57,8 +58,8 @@ fn run_rounds(alloc: Global, rounds: u64) -> Result<Summary, Memory>
     requires { rounds ≤ MOST_ROUNDS }
     ensures { IfOk result (λ summary. SumsUp rounds summary) }
 {
-    valid();
-    let settings = made_settings(alloc)?;
+    validity();
+    let settings = generated_settings(alloc)?;
     let Ok(mut pipeline) = Pipeline::open(alloc, settings) else {
         return Err(Memory);
     };
@@ -106,7 +107,7 @@ fn serve_rounds(
 ) -> Result<(), Memory>
     requires { rounds ≤ MOST_ROUNDS }
     ensures { Counts [] pipeline.old totals.old
-        → OnOk result (ServesRequests (made_requests rounds) [] pipeline.new totals.new) }
+        → OnOk result (ServesRequests (generated_requests rounds) [] pipeline.new totals.new) }
 {
     for i in 0..rounds {
         let requests = round(alloc, i)?;

@@ -7,7 +7,7 @@ ghost use Rattle.thread_run.specs.Inputs.{TellsThreads, accepts_threads};
 ghost use Rattle.trace_lines.specs.Lines.{lines_of};
 ghost use Rattle.trace_stream.specs.reading.AllLines.{AnswersCut, WritesAnswer};
 ghost use Rattle.trace_stream.specs.Carries.{Carries, StopsAtFault};
-ghost use Rattle.trace_run.specs.Commands.Threads.{AnswersEnded, ComesOf, works};
+ghost use Rattle.trace_run.specs.Commands.Threads.{AnswersEnded, ComesOf, meaning_of_threads};
 ghost use Rattle.trace_stream.specs.Streams.{StopsReading, StopsWriting, streams_of};
 
 use otel_base::memory::Memory;
@@ -16,7 +16,7 @@ use std::alloc::Global;
 use std::sync::Wait;
 use std::thread::Threads;
 use thread_handles::Ended;
-use thread_run::{Outcome, threads_answer, threads_refusal};
+use thread_run::{ThreadsOutcome, threads_answer, threads_refusal};
 use trace_lines::limits::MAX_INPUT;
 use trace_stream::all_lines::status_of;
 use trace_stream::failed::Failed;
@@ -38,7 +38,7 @@ pub fn run_threads<H: Threads + Wait + Sync, R: Source, W: Sink, T: Turnstile + 
     turns: &T,
 ) -> (Status, Vec<Ended>)
     ensures carries { let at = streams_of R.remaining R.ends R.faults W.holds W.faults in
-        Carries works result.0 (at source.old sink.old) (at source.new sink.new) }
+        Carries meaning_of_threads result.0 (at source.old sink.old) (at source.new sink.new) }
     ensures ended { let at = streams_of R.remaining R.ends R.faults W.holds W.faults in
         AnswersEnded result.0 result.1.items (at source.old sink.old) (at source.new sink.new) }
     ensures stops { StopsAtFault result.0 (StopsReading R.faults R.remaining source.old source.new)
@@ -62,7 +62,7 @@ fn threads_input<H: Threads + Wait + Sync, T: Turnstile + Sync>(
     alloc: Global,
     input: &Input,
     turns: &T,
-) -> Result<Outcome, Memory>
+) -> Result<ThreadsOutcome, Memory>
     ensures tells { IfOk result (λ outcome.
         WritesAnswer accepts_threads TellsThreads input.now.end input.now.bytes.items outcome.answer) }
     ensures ended { IfOk result (λ outcome.
@@ -74,7 +74,7 @@ fn threads_input<H: Threads + Wait + Sync, T: Turnstile + Sync>(
             let most = input.bytes.len().min(MAX_INPUT);
             let answer = threads_cut(alloc, whole_part(&input.bytes[..most]))?;
             let ended = Vec::new(alloc);
-            Ok(Outcome { answer, ended })
+            Ok(ThreadsOutcome { answer, ended })
         }
     }
 }

@@ -11,7 +11,7 @@ use Rattle.trace_stream.specs.declared.input.End.{End}
 use Rattle.trace_stream.specs.declared.input.End.TheVariants as end
 use Rattle.trace_stream.specs.declared.status.Status.TheVariants as ends
 use Rattle.script_lines.specs.Refusals.{Refuses, NoneRefused}
-use Rattle.trace_stream.specs.reading.AllLines.{writes_last, all_lines, AnswersCut, WritesAnswer, status_at_end}
+use Rattle.trace_stream.specs.reading.AllLines.{writes_last, meaning_of_all_lines, AnswersCut, WritesAnswer, status_at_end}
 use Rattle.trace_stream.specs.reading.Breaks.{whole_part, whole_lines}
 use Rattle.trace_stream.specs.Carries.{Causes, Carries, StopsAtFault}
 use Rattle.trace_stream.specs.reading.Reading.{HasRefused, PutsSome, LeavesStreams, IsRefusedAt}
@@ -149,7 +149,7 @@ module _ (accepts : List (List ℕ) → Bool) (Whole : List (List ℕ) → List 
   -- a write failed
   pub carries_broken : (ending : End) (before now : Streams) (read : List ℕ) (answer : Answer) → Takes before.left now.left read
       → (ending ≡ end.Whole → IsAtEnd now.left) → WritesAnswer accepts Whole ending read answer → PutsFront before.held now.held answer.text.items
-      → CountsFault before.write_faults now.write_faults → now.ends ≤ before.ends + 1 → Carries (all_lines accepts Whole) ends.WriteFault before now
+      → CountsFault before.write_faults now.write_faults → now.ends ≤ before.ends + 1 → Carries (meaning_of_all_lines accepts Whole) ends.WriteFault before now
   carries_broken ending before now read answer took none tells put fault once =
       let some : IfSome before.left (λ bytes. PutsSome (writes_last accepts Whole) bytes before.held now.held) =
       some_of ending before.left now.left before.held now.held read answer took none tells put in
@@ -211,7 +211,7 @@ pub record IsRead (ending : End) (before now : Streams) (read : List ℕ) : Type
 -- all was written
 pub carries_whole : (accepts : List (List ℕ) → Bool) (Whole : List (List ℕ) → List ℕ → Type 0) (ending : End) (before now : Streams) (read : List ℕ) (answer : Answer)
     → IsRead ending before now read → WritesAnswer accepts Whole ending read answer → Puts before.held now.held answer.text.items
-    → Carries (all_lines accepts Whole) (status_at_end answer.refused ending) before now
+    → Carries (meaning_of_all_lines accepts Whole) (status_at_end answer.refused ending) before now
 carries_whole accepts Whole ending before now read answer is tells put =
     let causes : Causes (status_at_end answer.refused ending) before now = causes_of answer.refused ending before now is.fault in
     let all : PutsFront before.held now.held answer.text.items = (answer.text.items, ([], sym (append-nil answer.text.items)), put) in

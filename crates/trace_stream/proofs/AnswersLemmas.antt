@@ -20,12 +20,12 @@ use Rattle.trace_lines.specs.Report as report
 use Rattle.trace_lines.specs.Report.{Report, with_text_before, refused_report, effect_of_line, answer_text, answer_count, last_text, report_on, report_from}
 use Rattle.trace_records.specs.declared.line.Opened.{Opened}
 use Rattle.trace_records.specs.declared.line.Answered.{Answered}
-use Rattle.trace_records.specs.Scripts.{setup_read, setup_of, setup_of_line}
+use Rattle.trace_records.specs.Scripts.{setup_read, setup_of_settings, setup_of_line}
 use Rattle.trace_records.specs.Lines.{OpensLine, AnswersLine}
 use Rattle.script_lines.proofs.BlankLemmas.{some_before, one_not_blank}
 use Rattle.trace_records.proofs.FollowingLemmas.{stands_beside}
-use Rattle.trace_stream.specs.declared.answers.Stage.{Stage}
-use Rattle.trace_stream.specs.declared.answers.Stage.TheVariants as stage
+use Rattle.trace_stream.specs.declared.answers.RunStage.{RunStage}
+use Rattle.trace_stream.specs.declared.answers.RunStage.TheVariants as stage
 use Rattle.trace_stream.specs.declared.written.Written.{Written}
 use Rattle.trace_stream.specs.reading.Answers.{IsAnswered, Opens, Runs, Stops, AnswersAt, is_refused, Cuts}
 
@@ -40,7 +40,7 @@ read_by : (read : OpeningRead) (setup : Setup) (go : Setup → Report) (line : �
 read_by (Ok read) setup go line = refl
 read_by (Err unread) setup go line = refl
 
-opens_by : (spelled : Result Settings Told) (go : Setup → Report) (line : ℕ) → report.report_on_settings spelled (λ settings. go (setup_by settings)) line ≡ report_by (setup_of None spelled) go line
+opens_by : (spelled : Result Settings Told) (go : Setup → Report) (line : ℕ) → report.report_on_settings spelled (λ settings. go (setup_by settings)) line ≡ report_by (setup_of_settings None spelled) go line
 opens_by (Ok settings) go line = read_by (opening_read settings.filter settings.counting) (setup_by settings) go line
 opens_by (Err why) go line = refl
 
@@ -140,7 +140,7 @@ pub stops_end : (signal : Signal) (lines : List (List ℕ)) (text : List ℕ) �
 stops_end signal lines text stops = with_none signal lines ∙ stops.report_is []
 
 -- where the lines break off
-pub cut_at : (signal : Signal) (at : Stage) (lines : List (List ℕ)) (count : ℕ) (text : List ℕ) (tally : ℕ) → AnswersAt signal at lines count text tally → Cuts signal (is_refused at) lines text
+pub cut_at : (signal : Signal) (at : RunStage) (lines : List (List ℕ)) (count : ℕ) (text : List ℕ) (tally : ℕ) → AnswersAt signal at lines count text tally → Cuts signal (is_refused at) lines text
 cut_at signal stage.Opening lines count text tally o =
     (inl (o.blank, o.empty), λ more. ((report_from signal 0 (lines ++ more)).written, rw o.empty refl))
 cut_at signal (stage.Running kept) lines count text tally r = (

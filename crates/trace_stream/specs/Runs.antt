@@ -14,5 +14,5 @@ answering_of_run signal = record {
   Broken = AnswersAll signal;
 }
 
-abbrev pub runs : Signal → Meaning
-runs signal = meaning_of_reading (answering_of_run signal)
+abbrev pub meaning_of_runs : Signal → Meaning
+meaning_of_runs signal = meaning_of_reading (answering_of_run signal)

@@ -15,7 +15,7 @@ use trace_pipeline::pipeline::Pipeline;
 use trace_records::line::{Opened, answer_line, open_line};
 
 /// Where a run stands between two lines.
-pub enum Stage {
+pub enum RunStage {
     /// No settings line came: each line so far is blank.
     Opening,
     /// The settings line came, and each request is answered.
@@ -25,11 +25,11 @@ pub enum Stage {
 }
 
 /// The pipeline is given up, if there is one.
-impl Discard for Stage {
+impl Discard for RunStage {
     fn discard(self) {
         match self {
-            Stage::Opening | Stage::Refused => {}
-            Stage::Running { pipeline } => pipeline.discard(),
+            RunStage::Opening | RunStage::Refused => {}
+            RunStage::Running { pipeline } => pipeline.discard(),
         }
     }
 }
@@ -41,7 +41,7 @@ pub struct Answers {
     /// How many they are, blank ones included.
     pub lines: u64,
     /// Where the run stands.
-    pub stage: Stage,
+    pub stage: RunStage,
 }
 
 /// What is written is dropped.
@@ -57,7 +57,7 @@ impl Discard for Answers {
 }
 
 // Goes on to another stage.
-fn go_on(stage: &mut Stage, next: Stage)
+fn go_on(stage: &mut RunStage, next: RunStage)
     ensures { stage.new ≡ next }
 {
     mem::replace(stage, next).discard();
@@ -66,10 +66,10 @@ fn go_on(stage: &mut Stage, next: Stage)
 // Ends at a line that is refused.
 #[cold]
 #[inline(never)]
-fn stop(stage: &mut Stage)
-    ensures { stage.new ≡ Stage.Refused }
+fn stop(stage: &mut RunStage)
+    ensures { stage.new ≡ RunStage.Refused }
 {
-    go_on(stage, Stage::Refused);
+    go_on(stage, RunStage::Refused);
 }
 
 impl Answers {
@@ -82,7 +82,7 @@ impl Answers {
         Answers {
             written: Written::new(alloc),
             lines: 0,
-            stage: Stage::Opening,
+            stage: RunStage::Opening,
         }
     }
 
@@ -102,7 +102,7 @@ impl Answers {
 
     /// Answers one line more. Behind a refused line nothing is written. `Memory` freely; what is left then answers
     /// no lines.
-    pub fn line(&mut self, alloc: Global, signal: Signal, line: &[u8]) -> Result<(), Memory>
+    pub fn answer_line(&mut self, alloc: Global, signal: Signal, line: &[u8]) -> Result<(), Memory>
         ensures { (put : List ℕ) (lines : List (List ℕ)) → AnswersTo signal put lines self.old
             → OnOk result (AnswersTo signal put (lines ++ line.now ∷ []) self.new) }
     {
@@ -113,15 +113,15 @@ impl Answers {
             return Ok(());
         }
         match &mut self.stage {
-            Stage::Opening => self.begin(alloc, signal, line),
-            Stage::Running { pipeline } => {
+            RunStage::Opening => self.begin(alloc, signal, line),
+            RunStage::Running { pipeline } => {
                 let served = answer(alloc, signal, pipeline, &mut self.written, number, line)?;
                 if !served {
                     stop(&mut self.stage);
                 }
                 Ok(())
             }
-            Stage::Refused => Ok(()),
+            RunStage::Refused => Ok(()),
         }
     }
 
@@ -130,8 +130,8 @@ impl Answers {
         ensures { result ≡ is_refused self.now.stage }
     {
         match &self.stage {
-            Stage::Opening | Stage::Running { .. } => false,
-            Stage::Refused => true,
+            RunStage::Opening | RunStage::Running { .. } => false,
+            RunStage::Refused => true,
         }
     }
 
@@ -143,18 +143,18 @@ impl Answers {
             ≡ record { written = put ++ self.new.written.text.items; accepted = accepted }) }
     {
         match &self.stage {
-            Stage::Opening => {
+            RunStage::Opening => {
                 // No input has so many lines that the sum wraps.
                 let end = self.lines.checked_add(1).ok_or(Memory)?;
                 self.written.refuse(end, &Told::BadLine)?;
                 Ok(false)
             }
-            Stage::Running { pipeline } => {
+            RunStage::Running { pipeline } => {
                 let spans = pipeline.open_spans();
                 self.written.end(signal, spans)?;
                 Ok(true)
             }
-            Stage::Refused => Ok(false),
+            RunStage::Refused => Ok(false),
         }
     }
 }
@@ -166,7 +166,7 @@ pub fn open(
     written: &mut Written,
     lines: u64,
     line: &[u8],
-) -> Result<Stage, Memory>
+) -> Result<RunStage, Memory>
     ensures { (put : List ℕ) (before : List (List ℕ)) (count : ℕ)
         → Opens signal before count (put ++ written.old.text.items) written.old.count → lines ≡ count + 1
         → is_blank line.now ≡ false
@@ -179,11 +179,11 @@ pub fn open(
                 pipeline,
                 lane_count: _,
             } = opened;
-            Ok(Stage::Running { pipeline })
+            Ok(RunStage::Running { pipeline })
         }
         Err(told) => {
             written.refuse(lines, &told)?;
-            Ok(Stage::Refused)
+            Ok(RunStage::Refused)
         }
     }
 }

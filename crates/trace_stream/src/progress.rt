@@ -57,16 +57,17 @@ impl Progress {
     }
 
     // Answers the line that these bytes end. `Memory` freely.
-    fn line(&mut self, alloc: Global, signal: Signal, line: &[u8]) -> Result<(), Memory>
+    fn answer_line(&mut self, alloc: Global, signal: Signal, line: &[u8]) -> Result<(), Memory>
         requires { has_feed line.now ≡ false }
         ensures { (put front : List ℕ) → Keeps signal put front self.old
             → OnOk result (Keeps signal put (front ++ line.now ++ 10 ∷ []) self.new) }
     {
         if self.kept.is_empty() {
-            return self.answers.line(alloc, signal, line);
+            return self.answers.answer_line(alloc, signal, line);
         }
         self.kept.extend_from_slice(line)?;
-        self.answers.line(alloc, signal, self.kept.as_slice())?;
+        self.answers
+            .answer_line(alloc, signal, self.kept.as_slice())?;
         self.kept.clear();
         Ok(())
     }
@@ -123,7 +124,7 @@ impl Progress {
     {
         let mut rest = piece;
         while let Some((line, after)) = cut_line(rest) {
-            let Ok(()) = self.line(alloc, signal, line) else {
+            let Ok(()) = self.answer_line(alloc, signal, line) else {
                 return Err(Stop::Memory);
             };
             let Ok(()) = self.relieve(sink) else {
@@ -149,7 +150,8 @@ impl Progress {
         if self.kept.is_empty() {
             return self.answers.end(signal);
         }
-        self.answers.line(alloc, signal, self.kept.as_slice())?;
+        self.answers
+            .answer_line(alloc, signal, self.kept.as_slice())?;
         self.answers.end(signal)
     }
 

@@ -3,7 +3,7 @@
 ghost use Rattle.std.specs.Prelude.{◌≡◌, ◌≢◌, ◌+◌, ◌<◌, ◌≤◌, [], false, length, IfSome};
 ghost use Rattle.trace_stream.specs.reading.Answers.{is_refused};
 ghost use Rattle.trace_stream.specs.Carries.{Carries, Causes, IsOver, StopsAtFault};
-ghost use Rattle.trace_stream.specs.Runs.{answering_of_run, runs};
+ghost use Rattle.trace_stream.specs.Runs.{answering_of_run, meaning_of_runs};
 ghost use Rattle.trace_stream.specs.Progress.{Keeps};
 ghost use Rattle.trace_stream.specs.reading.Reading.{LeavesStreams, PutsSome, IsRefusedAt};
 ghost use Rattle.trace_stream.specs.Streams.{MeetsEnd, StopsReading, StopsWriting, streams_of};
@@ -27,7 +27,7 @@ pub fn run<R: Source, W: Sink>(
     sink: &mut W,
 ) -> Status
     ensures carries { let at = streams_of R.remaining R.ends R.faults W.holds W.faults in
-        Carries (runs signal) result (at source.old sink.old) (at source.new sink.new) }
+        Carries (meaning_of_runs signal) result (at source.old sink.old) (at source.new sink.new) }
     ensures stops { StopsAtFault result (StopsReading R.faults R.remaining source.old source.new)
         (StopsWriting W.faults W.holds sink.old sink.new) }
 {

@@ -11,8 +11,8 @@ use crate::sink::{Sink, write_all};
 use otel_base::memory::Memory;
 use std::alloc::Global;
 use trace_lines::{
-    Refusal, Reply, Signal, Told, add_end_line, add_measure_line, add_measures_end_line,
-    add_record_line, add_refusal_line, add_reply_line,
+    Refusal, Reply, Signal, TextBuffer, Told, add_end_line, add_measure_line,
+    add_measures_end_line, add_record_line, add_refusal_line, add_reply_line,
 };
 use trace_pipeline::pipeline::Pipeline;
 use trace_records::finished::drop_measures;
@@ -21,7 +21,7 @@ use trace_records::finished::drop_measures;
 #[derive(Drop)]
 pub struct Written {
     /// The lines, each with its line feed.
-    pub text: Vec<u8>,
+    pub text: TextBuffer,
     /// How many records or measures are among them.
     pub count: u64,
 }
@@ -33,7 +33,7 @@ impl Written {
         ensures count { result.count ≡ 0 }
     {
         Written {
-            text: Vec::new(alloc),
+            text: TextBuffer::new(alloc),
             count: 0,
         }
     }

@@ -6,12 +6,13 @@ ghost use Rattle.tree_lines.specs.Texts.{node_text, total_text, tree_end_text};
 
 use itoa::Buffer;
 use std::alloc::AllocError;
+use trace_lines::TextBuffer;
 use trace_lines::write::hex::{add_id, add_long_id};
 use trace_lines::write::pieces::{add, add_number, add_text};
 use trace_tree::{TraceTotal, TreeSpan};
 
 // Adds a whole number as a text, since it may pass 64 bits.
-fn add_decimal(out: &mut Vec<u8>, front: &str, number: u128) -> Result<(), AllocError>
+fn add_decimal(out: &mut TextBuffer, front: &str, number: u128) -> Result<(), AllocError>
     ensures { Writes result out.old out.new (front.now ++ quoted (decimal number)) }
 {
     let mut buffer = Buffer::new();
@@ -20,7 +21,7 @@ fn add_decimal(out: &mut Vec<u8>, front: &str, number: u128) -> Result<(), Alloc
 }
 
 /// Adds the line of a span that stands so deep.
-pub fn add_node(out: &mut Vec<u8>, depth: u64, finished: &TreeSpan) -> Result<(), AllocError>
+pub fn add_node(out: &mut TextBuffer, depth: u64, finished: &TreeSpan) -> Result<(), AllocError>
     ensures { Writes result out.old out.new (node_text depth finished.now) }
 {
     add_decimal(out, "{\"busy\":", u128::from(finished.busy))?;
@@ -33,7 +34,7 @@ pub fn add_node(out: &mut Vec<u8>, depth: u64, finished: &TreeSpan) -> Result<()
 }
 
 /// Adds the line of a trace's total.
-pub fn add_total(out: &mut Vec<u8>, total: &TraceTotal) -> Result<(), AllocError>
+pub fn add_total(out: &mut TextBuffer, total: &TraceTotal) -> Result<(), AllocError>
     ensures { Writes result out.old out.new (total_text total.now) }
 {
     add_decimal(out, "{\"busy\":", total.busy)?;
@@ -46,7 +47,7 @@ pub fn add_total(out: &mut Vec<u8>, total: &TraceTotal) -> Result<(), AllocError
 
 /// Adds the end line: how many spans are open, how many records there are, and of how many traces.
 pub fn add_end(
-    out: &mut Vec<u8>,
+    out: &mut TextBuffer,
     open_spans: u64,
     records: u64,
     traces: u64,

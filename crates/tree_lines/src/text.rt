@@ -7,12 +7,13 @@ ghost use Rattle.tree_lines.specs.Texts.{TellsTree, node_line, total_text};
 use crate::line::{add_end, add_node, add_total};
 use otel_base::memory::Memory;
 use std::alloc::{AllocError, Global};
+use trace_lines::TextBuffer;
 use trace_tree::forest::forest;
 use trace_tree::totals::totals;
 use trace_tree::{Node, TraceTotal, TreeSpan};
 
 // Adds the line of a node.
-fn add_placed(out: &mut Vec<u8>, spans: &[TreeSpan], node: &Node) -> Result<(), AllocError>
+fn add_placed(out: &mut TextBuffer, spans: &[TreeSpan], node: &Node) -> Result<(), AllocError>
     requires { node.now.place < length spans.now }
     ensures { OnOk result (out.new.items ≡ out.old.items ++ node_line spans.now node.now) }
 {
@@ -21,7 +22,7 @@ fn add_placed(out: &mut Vec<u8>, spans: &[TreeSpan], node: &Node) -> Result<(), 
 }
 
 // Adds the lines of nodes.
-fn add_nodes(out: &mut Vec<u8>, spans: &[TreeSpan], nodes: &[Node]) -> Result<(), AllocError>
+fn add_nodes(out: &mut TextBuffer, spans: &[TreeSpan], nodes: &[Node]) -> Result<(), AllocError>
     requires { (i : ℕ) (d : Node) → i < length nodes.now → (get_or nodes.now i d).place < length spans.now }
     ensures { OnOk result (out.new.items ≡ out.old.items ++ flat_map (node_line spans.now) nodes.now) }
 {
@@ -32,7 +33,7 @@ fn add_nodes(out: &mut Vec<u8>, spans: &[TreeSpan], nodes: &[Node]) -> Result<()
 }
 
 // Adds the lines of totals.
-fn add_totals(out: &mut Vec<u8>, totals: &[TraceTotal]) -> Result<(), AllocError>
+fn add_totals(out: &mut TextBuffer, totals: &[TraceTotal]) -> Result<(), AllocError>
     ensures { OnOk result (out.new.items ≡ out.old.items ++ flat_map total_text totals.now) }
 {
     for total in totals {
@@ -49,10 +50,10 @@ pub fn tree_text(alloc: Global, spans: &[TreeSpan], open_spans: u64) -> Result<V
 {
     let nodes = forest(alloc, spans)?;
     let totals = totals(alloc, spans)?;
-    let mut out = Vec::new(alloc);
+    let mut out = TextBuffer::new(alloc);
     add_nodes(&mut out, spans, nodes.as_slice())?;
     add_totals(&mut out, totals.as_slice())?;
     let traces = totals.len() as u64;
     add_end(&mut out, open_spans, spans.len() as u64, traces)?;
-    Ok(out)
+    Ok(out.into_vec())
 }

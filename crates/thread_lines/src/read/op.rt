@@ -5,7 +5,7 @@ ghost use Rattle.trace_lines.specs.forms.AttributeForm.{attributes_form};
 ghost use Rattle.trace_lines.specs.forms.ExtensionForm.{as_moment, time_form};
 ghost use Rattle.trace_lines.specs.reading.Gives.{Gives};
 ghost use Rattle.line_members.specs.Left.{members_left};
-ghost use Rattle.thread_lines.specs.ThreadForm.{word_of_op, word_form, record_op_form, event_op_form, attribute_op_form, status_op_form, added_event_form, valid_context, link_op_form, call_form, op_form};
+ghost use Rattle.thread_lines.specs.ThreadForm.{record_op_form, event_op_form, attribute_op_form, status_op_form, added_event_form, valid_context, link_op_form, call_by, op_form};
 
 use crate::line::{ThreadCall, ThreadOp};
 use line_members::Members;
@@ -21,45 +21,6 @@ use trace_lines::{
     LAST_MOMENT, LineError, read_attribute_value, read_attributes, read_fields, read_span_id,
     read_status, read_trace_id,
 };
-
-// The words of `do` that workers have.
-#[derive(Clone, Copy)]
-pub(crate) enum OpWord {
-    Record,
-    Event,
-    SetAttribute,
-    SetStatus,
-    AddEvent,
-    AddLink,
-    Enter,
-    Exit,
-    Start,
-}
-
-fn word_of_op(word: &str) -> Option<OpWord>
-    ensures { result ≡ word_of_op word.now }
-{
-    match word {
-        "record" => Some(OpWord::Record),
-        "event" => Some(OpWord::Event),
-        "set_attribute" => Some(OpWord::SetAttribute),
-        "set_status" => Some(OpWord::SetStatus),
-        "add_event" => Some(OpWord::AddEvent),
-        "add_link" => Some(OpWord::AddLink),
-        "enter" => Some(OpWord::Enter),
-        "exit" => Some(OpWord::Exit),
-        "start" => Some(OpWord::Start),
-        _ => None,
-    }
-}
-
-// Takes the word of what is to be done.
-fn op_word(members: &mut Members) -> Result<OpWord, LineError>
-    ensures { Gives (λ w. (w, members_left members.new)) result (word_form (members_left members.old)) }
-{
-    let word = members.text("do")?;
-    word_of_op(word.as_str()).ok_or(LineError::BadLine)
-}
 
 // Takes the attributes that are given, which are none where nothing is said.
 fn given_attributes(alloc: Global, members: &mut Members) -> Result<Items<KeyValue>, LineError>
@@ -174,27 +135,28 @@ fn link_op(alloc: Global, members: &mut Members) -> Result<Op, LineError>
     Ok(Op::Link { link })
 }
 
-// What a word goes on with.
-fn call(
+// What a word of `do` goes on with. Workers have no other word.
+fn call_by(
     alloc: Global,
     at: Moment,
-    word: OpWord,
+    word: &str,
     members: &mut Members,
 ) -> Result<ThreadCall, LineError>
-    ensures { Gives (λ c. (c, members_left members.new)) result (call_form at word (members_left members.old)) }
+    ensures { Gives (λ c. (c, members_left members.new)) result (call_by at word.now (members_left members.old)) }
 {
     let op = match word {
-        OpWord::Record => return record_op(alloc, members),
-        OpWord::Event => return event_op(alloc, members),
-        OpWord::SetAttribute => attribute_op(alloc, members)?,
-        OpWord::SetStatus => status_op(alloc, members)?,
-        OpWord::AddEvent => added_event(alloc, at, members)?,
-        OpWord::AddLink => link_op(alloc, members)?,
-        OpWord::Enter => Op::Enter,
-        OpWord::Exit => Op::Exit,
-        OpWord::Start => Op::Start {
+        "record" => return record_op(alloc, members),
+        "event" => return event_op(alloc, members),
+        "set_attribute" => attribute_op(alloc, members)?,
+        "set_status" => status_op(alloc, members)?,
+        "add_event" => added_event(alloc, at, members)?,
+        "add_link" => link_op(alloc, members)?,
+        "enter" => Op::Enter,
+        "exit" => Op::Exit,
+        "start" => Op::Start {
             own: SpanContext { trace: 0, span: 0 },
         },
+        _ => return Err(LineError::BadLine),
     };
     Ok(ThreadCall::Own { op })
 }
@@ -206,7 +168,7 @@ pub(crate) fn op(alloc: Global, members: &mut Members) -> Result<ThreadOp, LineE
 {
     let at = members.whole("at")?;
     let span = members.whole("span")?;
-    let word = op_word(members)?;
-    let call = call(alloc, at, word, members)?;
+    let word = members.text("do")?;
+    let call = call_by(alloc, at, word.as_str(), members)?;
     Ok(ThreadOp { at, span, call })
 }

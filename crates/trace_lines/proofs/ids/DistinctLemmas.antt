@@ -1,6 +1,6 @@
 -- Whether the numbers of a list differ, told by a set of those that were seen.
 use Rattle.std.proofs.Common.{◌≡◌, ℕ, ◌+◌, ◌<◌, length, get_or, drop, is_eq, nat_cmp, arith, List, [], ◌∷◌, Bool, true, false, not, ◌&&◌, ◌||◌, ◌==◌, cond, refl, ap, ◌∙◌, sym}
-use Rattle.trace_lines.proofs.Common.{list_any, drop_more, nat_tests, Lane, lane_ids, all_differ}
+use Rattle.trace_lines.proofs.Common.{list_any, drop_more, nat_tests, GivenLane, lane_ids, all_differ}
 
 -- no number is in the set
 abbrev pub all_new : (ℕ → Bool) → List ℕ → Bool
@@ -47,7 +47,7 @@ module _ (n : ℕ) (before after : ℕ → Bool) (adds : (q : ℕ) → after q �
 ends : (n : ℕ) (before : ℕ → Bool) (ns : List ℕ) → before n ≡ true → still_differ before (n ∷ ns) ≡ false
 ends n before ns again = rw again
 
-module _ (before after : ℕ → Bool) (lanes : List Lane) (i : ℕ) (lane : Lane) (within : i < length lanes) (is : lane ≡ get_or lanes i lane) (added : Bool) (tells : added ≡ not (before lane.0)) where
+module _ (before after : ℕ → Bool) (lanes : List GivenLane) (i : ℕ) (lane : GivenLane) (within : i < length lanes) (is : lane ≡ get_or lanes i lane) (added : Bool) (tells : added ≡ not (before lane.0)) where
   at_lane : drop i lanes ≡ lane ∷ drop (i + 1) lanes
   at_lane = drop_more lanes i lane within ∙ ap (λ l. l ∷ drop (i + 1) lanes) (sym is)
 

@@ -1,10 +1,10 @@
 -- The lines of made scripts stand apart, and spell their requests.
 use Rattle.std.proofs.Common.{◌≡◌, ℕ, zero, suc, ◌+◌, ◌*◌, ◌<◌, ◌≤◌, ◌^◌, ◌==◌, ◌++◌, List, [], ◌∷◌, length, map, true, false, Some, Ok, option_and_then, decimal, refl, ap, ◌∙◌, arith, append_assoc, length-append}
 use Rattle.std.specs.Prelude.{⊤, ok_or, flat_map}
-use Rattle.trace_lines.proofs.Common.{and_parts, nat_tests, is_utf8, escape_byte, depth, number, object, Members, member, as_object, of_json, max_depth, outline, compact_text, serde_json_on_literals, number_of-decimal, Call, Request, BadLine, all_of, made_settings, root_fields, row_fields, round, rounds, made_requests, request_members, request_line, settings_line, made_lines, made_script, lines_of, is_blank, request_form, new_form, drop_form, enter_form, exit_form, event_form, settings_form, callsite_form, lane_form, error_flags, span_flags, layer_form, request_spelled, settings_spelled}
+use Rattle.trace_lines.proofs.Common.{and_parts, nat_tests, is_utf8, escape_byte, depth, number, object, Members, member, as_object, of_json, max_depth, outline, compact_text, serde_json_on_literals, number_of-decimal, Call, Request, BadLine, all_of, generated_settings, root_fields, row_fields, round, rounds, generated_requests, request_members, request_line, settings_line, generated_lines, generated_script, lines_of, is_blank, request_form, new_form, drop_form, enter_form, exit_form, event_form, settings_form, callsite_form, lane_form, error_flags, span_flags, layer_form, request_spelled, settings_spelled}
 use Rattle.std.specs.Str.{chars}
 use Rattle.span_script.specs.declared.request.Call.TheVariants as call
-use Rattle.span_script.specs.declared.request.Place.TheVariants as place
+use Rattle.span_script.specs.declared.request.RequestParent.TheVariants as request_parent
 use Rattle.trace_lines.proofs.readings.FieldsLemmas.{fields_read}
 use Rattle.trace_lines.proofs.readings.LinesLemmas.{read_value}
 use Rattle.trace_lines.proofs.texts.PlainTextsLemmas.{is_plain, are_plain, IsPlain, room, text_plain, text_length, has_numbers, plain_utf8}
@@ -36,7 +36,7 @@ line_is ms request plain shallow same spells short =
 
 -- a request with a number
 abbrev pub asked : ℕ → ℕ → Call → Request
-asked at lane said = record { at = at; lane = lane; call = said }
+asked at lane said = record { at = at; lane_place = lane; call = said }
 
 enter_line : (at lane handle : ℕ) → at < 10 ^ 8 → lane < 10 ^ 8 → handle < 10 ^ 8 → IsLine (request_line (asked at lane (call.Enter handle))) (asked at lane (call.Enter handle))
 unfolding request_form enter_form escape_byte
@@ -57,7 +57,7 @@ drop_line at lane handle a l h =
     (rw (number_of-decimal at (omega (arith, a)), number_of-decimal lane (omega (arith, l)), number_of-decimal handle (omega (arith, h))) refl) refl (omega arith)
 
 abbrev pub event_call : Call
-event_call = call.Event 2 place.Contextual row_fields
+event_call = call.Event 2 request_parent.Contextual row_fields
 
 event_line : (at lane : ℕ) → at < 10 ^ 8 → lane < 10 ^ 8 → IsLine (request_line (asked at lane event_call)) (asked at lane event_call)
 unfolding request_form event_form escape_byte
@@ -67,7 +67,7 @@ event_line at lane a l =
     (rw (number_of-decimal at (omega (arith, a)), number_of-decimal lane (omega (arith, l)), number_of-decimal 2 (omega arith)) refl) refl (omega arith)
 
 abbrev pub below_call : Call
-below_call = call.New 1 place.Contextual []
+below_call = call.New 1 request_parent.Contextual []
 
 below_line : (at lane : ℕ) → at < 10 ^ 8 → lane < 10 ^ 8 → IsLine (request_line (asked at lane below_call)) (asked at lane below_call)
 unfolding request_form new_form escape_byte
@@ -76,7 +76,7 @@ below_line at lane a l =
     (rw (number_of-decimal at (omega (arith, a)), number_of-decimal lane (omega (arith, l)), number_of-decimal 1 (omega arith)) refl) refl (omega arith)
 
 abbrev pub root_call : ℕ → Call
-root_call i = call.New 0 place.Root (root_fields i)
+root_call i = call.New 0 request_parent.Root (root_fields i)
 
 root_line : (at lane i : ℕ) → at < 10 ^ 8 → lane < 10 ^ 8 → i < 10 ^ 8 → IsLine (request_line (asked at lane (root_call i))) (asked at lane (root_call i))
 unfolding request_form new_form escape_byte
@@ -131,7 +131,7 @@ pub each_rounds : (P : Request → Type 0) (most : ℕ) → ((i : ℕ) → i < m
 each_rounds P most one first zero few = tt
 each_rounds P most one first (suc n) few = each-append P (round first) (rounds (first + 1) n) (one first (omega (arith, few))) (each_rounds P most one (first + 1) n (omega (arith, few)))
 
-pub made_each : (n : ℕ) → n ≤ 50000 → Each HasLine (made_requests n)
+pub made_each : (n : ℕ) → n ≤ 50000 → Each HasLine (generated_requests n)
 made_each n few = each_rounds HasLine 50000 round_lines 0 n (omega (arith, few))
 
 pub many_rounds : (first n : ℕ) → length (rounds first n) ≡ 9 * n
@@ -158,10 +158,10 @@ lines_apart [] all = refl
 lines_apart (r ∷ requests) all =
     feed_apart (request_line r) (flat_map with_feed (map request_line requests)) all.0.plain ∙ ap (λ (ls : List (List ℕ)). request_line r ∷ ls) (lines_apart requests all.1)
 
-pub script_lines : (n : ℕ) → n ≤ 50000 → lines_of (made_script n) ≡ made_lines n
+pub script_lines : (n : ℕ) → n ≤ 50000 → lines_of (generated_script n) ≡ generated_lines n
 script_lines n few =
-    feed_apart settings_line (flat_map with_feed (map request_line (made_requests n))) refl
-    ∙ ap (λ (ls : List (List ℕ)). settings_line ∷ ls) (lines_apart (made_requests n) (made_each n few))
+    feed_apart settings_line (flat_map with_feed (map request_line (generated_requests n))) refl
+    ∙ ap (λ (ls : List (List ℕ)). settings_line ∷ ls) (lines_apart (generated_requests n) (made_each n few))
 
 -- ---- how long the script is
 
@@ -170,14 +170,14 @@ lines_length [] all = omega arith
 lines_length (r ∷ requests) all =
     omega (arith, length-append (with_feed (request_line r)) (flat_map with_feed (map request_line requests)), length-append (request_line r) (10 ∷ []), all.0.short, lines_length requests all.1)
 
-pub script_short : (n : ℕ) → n ≤ 50000 → length (made_script n) ≤ 67108864
+pub script_short : (n : ℕ) → n ≤ 50000 → length (generated_script n) ≤ 67108864
 script_short n few =
     omega (
       arith,
       few,
-      length-append (with_feed settings_line) (flat_map with_feed (map request_line (made_requests n))),
+      length-append (with_feed settings_line) (flat_map with_feed (map request_line (generated_requests n))),
       length-append settings_line (10 ∷ []),
-      lines_length (made_requests n) (made_each n few),
+      lines_length (generated_requests n) (made_each n few),
       many_rounds 0 n,
     )
 
@@ -187,9 +187,9 @@ spelled_each : (requests : List Request) → Each HasLine requests → map (λ r
 spelled_each [] all = refl
 spelled_each (r ∷ requests) all = rw (all.0.spells, spelled_each requests all.1) refl
 
-pub requests_spelled : (n : ℕ) → n ≤ 50000 → map (λ request. request_spelled (request_line request)) (made_requests n) ≡ map Ok (made_requests n)
-requests_spelled n few = spelled_each (made_requests n) (made_each n few)
+pub requests_spelled : (n : ℕ) → n ≤ 50000 → map (λ request. request_spelled (request_line request)) (generated_requests n) ≡ map Ok (generated_requests n)
+requests_spelled n few = spelled_each (generated_requests n) (made_each n few)
 
-pub settings_read : settings_spelled settings_line ≡ Ok made_settings
+pub settings_read : settings_spelled settings_line ≡ Ok generated_settings
 unfolding serde_json_on_literals settings_spelled settings_form callsite_form lane_form error_flags span_flags layer_form is_utf8 chars
 settings_read = refl

@@ -1,6 +1,6 @@
 -- A made script whose requests have effects is valid.
 use Rattle.std.proofs.Common.{◌≡◌, ℕ, ◌+◌, ◌≤◌, List, [], ◌∷◌, ◌++◌, map, Option, Some, true, refl, ap, ◌∙◌, Ok, Err}
-use Rattle.trace_lines.proofs.Common.{Request, OpeningRead, opening_read, Resolved, effect_of, Setup, History, Effect, tables, records_of, made_settings, made_setup, made_requests, request_line, made_script, history_unless_refused, history_after, Report, told_step, effect_of_line, effect_of_request, report_on_effect, report_on_opening, report_on, answer_count, accepts, IsValid}
+use Rattle.trace_lines.proofs.Common.{Request, OpeningRead, opening_read, Resolved, effect_of, Setup, History, Effect, tables, records_of, generated_settings, generated_setup, generated_requests, request_line, generated_script, history_unless_refused, history_after, Report, told_step, effect_of_line, effect_of_request, report_on_effect, report_on_opening, report_on, answer_count, accepts, IsValid}
 use Rattle.trace_lines.specs.declared.signal.Signal.TheVariants as signal
 use Rattle.trace_lines.proofs.made.LinesLemmas.{Each, HasLine, made_each, script_lines, script_short, settings_read}
 
@@ -24,10 +24,10 @@ accepted_on setup h n count (r ∷ requests) all lines is =
 is_opened : (read : OpeningRead) (report : Report) (line : ℕ) → read ≡ Ok tt → report_on_opening read report line ≡ report
 is_opened read report line is = rw is refl
 
-pub made_valid : (n : ℕ) (h : History) → n ≤ 50000 → opening_read made_settings.filter made_settings.counting ≡ Ok tt → history_after made_setup [] (made_requests n) ≡ Some h → IsValid (made_script n)
+pub made_valid : (n : ℕ) (h : History) → n ≤ 50000 → opening_read generated_settings.filter generated_settings.counting ≡ Ok tt → history_after generated_setup [] (generated_requests n) ≡ Some h → IsValid (generated_script n)
 made_valid n h few read is = record {
   short = script_short n few;
   accepted = ap (λ ls. accepts ls) (script_lines n few) ∙ rw (accepts, settings_read)
-      (ap (λ (r : Report). r.accepted) (is_opened (opening_read made_settings.filter made_settings.counting) (report_on signal.Traces made_setup [] 1 0 (map request_line (made_requests n))) 1 read)
-      ∙ accepted_on made_setup [] 1 0 (made_requests n) h (made_each n few) is);
+      (ap (λ (r : Report). r.accepted) (is_opened (opening_read generated_settings.filter generated_settings.counting) (report_on signal.Traces generated_setup [] 1 0 (map request_line (generated_requests n))) 1 read)
+      ∙ accepted_on generated_setup [] 1 0 (generated_requests n) h (made_each n few) is);
 }

@@ -1,7 +1,7 @@
 -- Each request of a made script has an effect, whatever the filter lets through.
 use Rattle.std.proofs.Common.{◌≡◌, ℕ, zero, suc, ◌+◌, ◌-◌, ◌*◌, ◌%◌, ◌^◌, ◌<◌, ◌≤◌, ◌==◌, ◌&&◌, ◌||◌, List, [], ◌∷◌, ◌++◌, length, Bool, true, false, if◌then◌else◌, Option, Some, None, Ok, refl, sym, ap, subst, ◌∙◌, arith, append_assoc, append-nil, length-append, slice_get, slice_set, is_some, option_map, codes}
 use Rattle.std.specs.Option.{option_to_list}
-use Rattle.trace_lines.proofs.Common.{list_any, nat_tests, set-append_right, list_any-append, Call, Request, LAST_MOMENT, id_at, Scope, EntryOf, Attached, is_by, ScopeGuard, Effect, Tables, History, tables, after_effect, slot_at, scope_of, with_attached, with_detached, here_at, Resolved, effect_of, effect_of_call, is_bad_moment, made_site, made_setup, root_fields, row_fields, round, rounds, made_requests, history_unless_refused, history_after}
+use Rattle.trace_lines.proofs.Common.{list_any, nat_tests, set-append_right, list_any-append, Call, Request, LAST_MOMENT, id_at, Scope, EntryOf, Attached, is_attached_by, ScopeGuard, Effect, Tables, History, tables, after_effect, slot_at, scope_of, with_attached, with_detached, here_at, Resolved, effect_of, effect_of_call, is_bad_moment, generated_site, generated_setup, root_fields, row_fields, round, rounds, generated_requests, history_unless_refused, history_after}
 use Rattle.std.proofs.lemmas.List.{get_or-append-add}
 use Rattle.std.proofs.lemmas.List.Sums.{fold-append}
 use Rattle.otel_base.specs.declared.context.Context.{Context}
@@ -10,10 +10,10 @@ use Rattle.trace_base.specs.declared.callsite.Kind.TheVariants as kind
 use Rattle.trace_base.specs.declared.field.ValueSet.{ValueSet}
 use Rattle.trace_base.specs.Spans.{without_last, current_of}
 use Rattle.span_script.specs.declared.request.Call.TheVariants as call
-use Rattle.span_script.specs.declared.request.Place.{Place}
-use Rattle.span_script.specs.declared.request.Place.TheVariants as put
+use Rattle.span_script.specs.declared.request.RequestParent.{RequestParent}
+use Rattle.span_script.specs.declared.request.RequestParent.TheVariants as put
 use Rattle.span_script.specs.Fields.{values_of}
-use Rattle.span_script.specs.calls.Entries.{enter_effect, exit_effect, attached_by, active, is_full}
+use Rattle.span_script.specs.calls.Entries.{enter_effect, exit_effect, attached_by, activated_span, is_full}
 use Rattle.span_script.specs.calls.Events.{event_effect}
 use Rattle.span_script.specs.calls.Filter.{admits_at}
 use Rattle.span_script.specs.calls.Spans.{borrows, is_borrowed, new_effect, span_effect, disabled_effect, drop_effect}
@@ -22,18 +22,18 @@ use Rattle.trace_lines.proofs.made.LinesLemmas.{asked, root_call, below_call, ev
 -- ---- histories, a request more at a time
 
 abbrev made_tables : History → Tables
-made_tables h = tables made_setup h
+made_tables h = tables generated_setup h
 
 -- a request has an effect, and of the tables behind it something holds
 pub record Steps (t : Tables) (request : Request) (P : Tables → Type 0) : Type 0 where
   pub effect : Effect
-  pub is : effect_of made_setup t request ≡ Ok effect
+  pub is : effect_of generated_setup t request ≡ Ok effect
   pub now : P (after_effect t effect)
 
 -- some requests have effects
 pub record Replays (h : History) (requests : List Request) (P : Tables → Type 0) : Type 0 where
   pub history : History
-  pub replays : (more : List Request) → history_after made_setup h (requests ++ more) ≡ history_after made_setup history more
+  pub replays : (more : List Request) → history_after generated_setup h (requests ++ more) ≡ history_after generated_setup history more
   pub now : P (made_tables history)
 
 steps_on : (t : Tables) (request : Request) (P Q : Tables → Type 0) → Steps t request P → ((u : Tables) → P u → Q u) → Steps t request Q
@@ -45,7 +45,7 @@ tables_more h e = fold-append after_effect _ h (e ∷ [])
 one : (h : History) (request : Request) (P : Tables → Type 0) → Steps (made_tables h) request P → Replays h (request ∷ []) P
 one h request P s = record {
   history = h ++ s.effect ∷ [];
-  replays = λ more. ap (λ (r : Resolved). history_unless_refused r (λ e. history_after made_setup (h ++ e ∷ []) more)) s.is;
+  replays = λ more. ap (λ (r : Resolved). history_unless_refused r (λ e. history_after generated_setup (h ++ e ∷ []) more)) s.is;
   now = subst P (sym (tables_more h s.effect)) s.now;
 }
 
@@ -54,7 +54,7 @@ followed h requests more P Q first later =
     let second = later first.history first.now in
     record {
       history = second.history;
-      replays = λ rest. ap (history_after made_setup h) (append_assoc requests more rest) ∙ first.replays (more ++ rest) ∙ second.replays rest;
+      replays = λ rest. ap (history_after generated_setup h) (append_assoc requests more rest) ∙ first.replays (more ++ rest) ∙ second.replays rest;
       now = second.now;
     }
 
@@ -80,9 +80,9 @@ good_moment before at later fits = grind (arith, nat_tests, later, fits)
 
 -- the request is one of its lane
 abbrev pub OnTime : ℕ → ℕ → ℕ → Type 0
-OnTime before at place = (before ≤ at) × (at ≤ LAST_MOMENT) × (slice_get made_setup.ids place ≡ Some (id_at made_setup.ids place))
+OnTime before at place = (before ≤ at) × (at ≤ LAST_MOMENT) × (slice_get generated_setup.ids place ≡ Some (id_at generated_setup.ids place))
 
-resolved : (t : Tables) (at place : ℕ) (said : Call) → OnTime t.moment at place → effect_of made_setup t (asked at place said) ≡ effect_of_call made_setup t at place said
+resolved : (t : Tables) (at place : ℕ) (said : Call) → OnTime t.moment at place → effect_of generated_setup t (asked at place said) ≡ effect_of_call generated_setup t at place said
 resolved t at place said on = rw (good_moment t.moment at on.0 on.1, on.2) refl
 
 slot_behind : {A : Type 0} (slots front back : List (Option A)) (k : ℕ) (x : A) → slots ≡ front ++ back → slot_at back k ≡ Some x → slot_at slots (length front + k) ≡ Some x
@@ -96,10 +96,10 @@ spent_behind slots front back k is =
 
 -- ---- makings
 
-made_kept : (enabled : Bool) (t : Tables) (before at lane place site : ℕ) (callsite : Callsite) (values : ValueSet) (under : Place) (up : Scope)
+made_kept : (enabled : Bool) (t : Tables) (before at lane place site : ℕ) (callsite : Callsite) (values : ValueSet) (under : RequestParent) (up : Scope)
     (xs hs : List (Option Scope)) (ys gs : List (Option ScopeGuard)) (items : List Attached) → Within xs ys lane hs gs items before t
     → (scope : Scope) × Within xs ys lane (hs ++ Some scope ∷ []) gs items at
-    (after_effect t (if enabled then span_effect (here_at made_setup t at place) site callsite values under up else disabled_effect (here_at made_setup t at place)))
+    (after_effect t (if enabled then span_effect (here_at generated_setup t at place) site callsite values under up else disabled_effect (here_at generated_setup t at place)))
 made_kept true t before at lane place site callsite values under up xs hs ys gs items w = (
   length t.spans ∷ up,
   record {
@@ -120,32 +120,32 @@ made_kept false t before at lane place site callsite values under up xs hs ys gs
 )
 
 abbrev web_request_site : Callsite
-web_request_site = made_site (codes "request") (codes "web") kind.Span (codes "otel.kind" ∷ codes "id" ∷ [])
+web_request_site = generated_site (codes "request") (codes "web") kind.Span (codes "otel.kind" ∷ codes "id" ∷ [])
 
 abbrev query_site : Callsite
-query_site = made_site (codes "query") (codes "web::db") kind.Span []
+query_site = generated_site (codes "query") (codes "web::db") kind.Span []
 
 abbrev row_site : Callsite
-row_site = made_site (codes "row") (codes "web::db") kind.Event (codes "message" ∷ [])
+row_site = generated_site (codes "row") (codes "web::db") kind.Event (codes "message" ∷ [])
 
 root_step : (t : Tables) (before at lane place i : ℕ) (xs hs : List (Option Scope)) (ys gs : List (Option ScopeGuard)) (items : List Attached)
     → Within xs ys lane hs gs items before t → OnTime t.moment at place
     → Steps t (asked at place (root_call i)) (λ u. (scope : Scope) × Within xs ys lane (hs ++ Some scope ∷ []) gs items at u)
 root_step t before at lane place i xs hs ys gs items w on = record {
-  effect = new_effect (here_at made_setup t at place) 0 web_request_site (values_of web_request_site (root_fields i)) put.Root [];
+  effect = new_effect (here_at generated_setup t at place) 0 web_request_site (values_of web_request_site (root_fields i)) put.Root [];
   is = resolved t at place (root_call i) on;
-  now = made_kept (admits_at made_setup t (id_at made_setup.ids place) web_request_site) t before at lane place 0 web_request_site (values_of web_request_site (root_fields i)) put.Root [] xs hs ys gs items w;
+  now = made_kept (admits_at generated_setup t (id_at generated_setup.ids place) web_request_site) t before at lane place 0 web_request_site (values_of web_request_site (root_fields i)) put.Root [] xs hs ys gs items w;
 }
 
 below_step : (t : Tables) (before at lane place : ℕ) (xs hs : List (Option Scope)) (ys gs : List (Option ScopeGuard)) (items : List Attached)
     → Within xs ys lane hs gs items before t → OnTime t.moment at place
     → Steps t (asked at place below_call) (λ u. (scope : Scope) × Within xs ys lane (hs ++ Some scope ∷ []) gs items at u)
 below_step t before at lane place xs hs ys gs items w on =
-    let up = scope_of t.spans (current_of (t.entries (id_at made_setup.ids place))) in
+    let up = scope_of t.spans (current_of (t.entries (id_at generated_setup.ids place))) in
     record {
-      effect = new_effect (here_at made_setup t at place) 1 query_site (values_of query_site []) put.Contextual up;
+      effect = new_effect (here_at generated_setup t at place) 1 query_site (values_of query_site []) put.Contextual up;
       is = resolved t at place below_call on;
-      now = made_kept (admits_at made_setup t (id_at made_setup.ids place) query_site) t before at lane place 1 query_site (values_of query_site []) put.Contextual up xs hs ys gs items w;
+      now = made_kept (admits_at generated_setup t (id_at generated_setup.ids place) query_site) t before at lane place 1 query_site (values_of query_site []) put.Contextual up xs hs ys gs items w;
     }
 
 -- ---- events
@@ -153,9 +153,9 @@ below_step t before at lane place xs hs ys gs items w on =
 event_step : (t : Tables) (before at lane place : ℕ) (xs hs : List (Option Scope)) (ys gs : List (Option ScopeGuard)) (items : List Attached)
     → Within xs ys lane hs gs items before t → OnTime t.moment at place → Steps t (asked at place event_call) (Within xs ys lane hs gs items at)
 event_step t before at lane place xs hs ys gs items w on =
-    let id = id_at made_setup.ids place in
+    let id = id_at generated_setup.ids place in
     record {
-      effect = event_effect (here_at made_setup t at place) row_site (values_of row_site row_fields) (scope_of t.spans (current_of (t.entries id)));
+      effect = event_effect (here_at generated_setup t at place) row_site (values_of row_site row_fields) (scope_of t.spans (current_of (t.entries id)));
       is = resolved t at place event_call on;
       now = record { handles = w.handles; guards = w.guards; contexts = w.contexts; moment = omega arith };
     }
@@ -174,7 +174,7 @@ attached_more contexts lane items (Some a) is l = by_case (lane == l) refl
     by_case true e = ap (λ (xs : List Attached). xs ++ a ∷ []) (is lane ∙ rw (same lane) refl)
     by_case false e = is l ∙ rw e refl
 
-owned_entry : (t : Tables) (at : ℕ) (scope : Scope) → OwnedBy scope (option_to_list (attached_by t.recording at (active true scope)))
+owned_entry : (t : Tables) (at : ℕ) (scope : Scope) → OwnedBy scope (option_to_list (attached_by t.recording at (activated_span true scope)))
 owned_entry t at [] = refl
 owned_entry t at (s ∷ up) = (_, refl)
 
@@ -189,24 +189,24 @@ not_full some items few = rw (unequal (length items) few) (and_false some)
     and_false false = refl
 
 enter_step : (t : Tables) (before at place k : ℕ) (scope : Scope) (xs hs : List (Option Scope)) (ys gs : List (Option ScopeGuard)) (items : List Attached)
-    → Within xs ys (id_at made_setup.ids place) hs gs items before t → OnTime t.moment at place → slot_at hs k ≡ Some scope → length items ≤ 2
+    → Within xs ys (id_at generated_setup.ids place) hs gs items before t → OnTime t.moment at place → slot_at hs k ≡ Some scope → length items ≤ 2
     → Steps t (asked at place (call.Enter (length xs + k)))
-    (λ u. (new : List Attached) × OwnedBy scope new × Within xs ys (id_at made_setup.ids place) hs (gs ++ Some (entry (length xs + k) place scope) ∷ []) (items ++ new) at u)
+    (λ u. (new : List Attached) × OwnedBy scope new × Within xs ys (id_at generated_setup.ids place) hs (gs ++ Some (entry (length xs + k) place scope) ∷ []) (items ++ new) at u)
 enter_step t before at place k scope xs hs ys gs items w on there few =
-    let lane = id_at made_setup.ids place in
+    let lane = id_at generated_setup.ids place in
     let handle = length xs + k in
     let here : t.contexts lane ≡ items = w.contexts lane ∙ rw (same lane) refl in
     record {
-      effect = enter_effect (here_at made_setup t at place) handle false scope;
+      effect = enter_effect (here_at generated_setup t at place) handle false scope;
       is = resolved t at place (call.Enter handle) on
-          ∙ rw (slot_behind t.handles xs hs k scope w.handles there, here, not_full (is_some (active true scope)) items few) refl;
+          ∙ rw (slot_behind t.handles xs hs k scope w.handles there, here, not_full (is_some (activated_span true scope)) items few) refl;
       now = (
-        option_to_list (attached_by t.recording at (active true scope)),
+        option_to_list (attached_by t.recording at (activated_span true scope)),
         owned_entry t at scope,
         record {
           handles = w.handles;
           guards = ap (λ l. l ++ Some (entry handle place scope) ∷ []) w.guards ∙ append_assoc ys gs (Some (entry handle place scope) ∷ []);
-          contexts = attached_more t.contexts lane items (attached_by t.recording at (active true scope)) w.contexts;
+          contexts = attached_more t.contexts lane items (attached_by t.recording at (activated_span true scope)) w.contexts;
           moment = omega arith;
         },
       );
@@ -223,29 +223,29 @@ last_gone p (x ∷ items) a is = rw (list_any-append p items (a ∷ []), is, or_
     or_true false = refl
 
 detached_one : (contexts : ℕ → List Attached) (lane : ℕ) (items rest new : List Attached) (scope : Scope) → ((l : ℕ) → contexts l ≡ (if lane == l then items else []))
-    → items ≡ rest ++ new → OwnedBy scope new → (l : ℕ) → with_detached contexts lane (option_map EntryOf (active true scope)) l ≡ (if lane == l then rest else [])
+    → items ≡ rest ++ new → OwnedBy scope new → (l : ℕ) → with_detached contexts lane (option_map EntryOf (activated_span true scope)) l ≡ (if lane == l then rest else [])
 detached_one contexts lane items rest new [] is all none l = is l ∙ ap (λ (xs : List Attached). if lane == l then xs else []) (all ∙ ap (λ (xs : List Attached). rest ++ xs) none ∙ append-nil rest)
 detached_one contexts lane items rest new (s ∷ up) is all owned l = by_case (lane == l) refl
   where
     here : contexts lane ≡ items
     here = is lane ∙ rw (same lane) refl
 
-    gone : without_last (is_by (EntryOf s)) (contexts lane) ≡ rest
-    gone = ap (without_last (is_by (EntryOf s))) (here ∙ all ∙ ap (λ (xs : List Attached). rest ++ xs) owned.1)
-        ∙ last_gone (is_by (EntryOf s)) rest (record { owner = EntryOf s; context = owned.0 }) (same s)
+    gone : without_last (is_attached_by (EntryOf s)) (contexts lane) ≡ rest
+    gone = ap (without_last (is_attached_by (EntryOf s))) (here ∙ all ∙ ap (λ (xs : List Attached). rest ++ xs) owned.1)
+        ∙ last_gone (is_attached_by (EntryOf s)) rest (record { owner = EntryOf s; context = owned.0 }) (same s)
 
-    by_case : (b : Bool) → (lane == l) ≡ b → (if b then without_last (is_by (EntryOf s)) (contexts lane) else contexts l) ≡ (if b then rest else [])
+    by_case : (b : Bool) → (lane == l) ≡ b → (if b then without_last (is_attached_by (EntryOf s)) (contexts lane) else contexts l) ≡ (if b then rest else [])
     by_case true e = gone
     by_case false e = is l ∙ rw e refl
 
 exit_step : (t : Tables) (before at place k handle : ℕ) (scope : Scope) (xs hs : List (Option Scope)) (ys gs : List (Option ScopeGuard)) (items rest new : List Attached)
-    → Within xs ys (id_at made_setup.ids place) hs gs items before t → OnTime t.moment at place → slot_at gs k ≡ Some (entry handle place scope)
+    → Within xs ys (id_at generated_setup.ids place) hs gs items before t → OnTime t.moment at place → slot_at gs k ≡ Some (entry handle place scope)
     → items ≡ rest ++ new → OwnedBy scope new
-    → Steps t (asked at place (call.Exit (length ys + k))) (Within xs ys (id_at made_setup.ids place) hs (slice_set gs k None) rest at)
+    → Steps t (asked at place (call.Exit (length ys + k))) (Within xs ys (id_at generated_setup.ids place) hs (slice_set gs k None) rest at)
 exit_step t before at place k handle scope xs hs ys gs items rest new w on there all owned =
-    let lane = id_at made_setup.ids place in
+    let lane = id_at generated_setup.ids place in
     record {
-      effect = exit_effect (here_at made_setup t at place) (length ys + k) scope;
+      effect = exit_effect (here_at generated_setup t at place) (length ys + k) scope;
       is = resolved t at place (call.Exit (length ys + k)) on
           ∙ rw (slot_behind t.guards ys gs k (entry handle place scope) w.guards there, same place) refl;
       now = record {
@@ -259,14 +259,14 @@ exit_step t before at place k handle scope xs hs ys gs items rest new w on there
 -- ---- drops
 
 drop_step : (t : Tables) (before at place k : ℕ) (scope : Scope) (xs hs : List (Option Scope)) (ys gs : List (Option ScopeGuard)) (items : List Attached)
-    → Within xs ys (id_at made_setup.ids place) hs gs items before t → OnTime t.moment at place → slot_at hs k ≡ Some scope
+    → Within xs ys (id_at generated_setup.ids place) hs gs items before t → OnTime t.moment at place → slot_at hs k ≡ Some scope
     → list_any (borrows (length xs + k)) ys ≡ false → list_any (borrows (length xs + k)) gs ≡ false
-    → Steps t (asked at place (call.Drop (length xs + k))) (Within xs ys (id_at made_setup.ids place) (slice_set hs k None) gs items at)
+    → Steps t (asked at place (call.Drop (length xs + k))) (Within xs ys (id_at generated_setup.ids place) (slice_set hs k None) gs items at)
 drop_step t before at place k scope xs hs ys gs items w on there before_none none =
     let handle = length xs + k in
     let free : is_borrowed t.guards handle ≡ false = ap (list_any (borrows handle)) w.guards ∙ list_any-append (borrows handle) ys gs ∙ rw (before_none, none) refl in
     record {
-      effect = drop_effect (here_at made_setup t at place) handle scope;
+      effect = drop_effect (here_at generated_setup t at place) handle scope;
       is = resolved t at place (call.Drop handle) on ∙ rw (slot_behind t.handles xs hs k scope w.handles there, free) refl;
       now = record {
         handles = spent_behind t.handles xs hs k w.handles;
@@ -311,7 +311,7 @@ ends i lane at xs ys t handles guards free early w = record {
   moment = omega (arith, early, w.moment);
 }
 
-two_lanes : (n : ℕ) → n < 2 → slice_get made_setup.ids n ≡ Some (id_at made_setup.ids n)
+two_lanes : (n : ℕ) → n < 2 → slice_get generated_setup.ids n ≡ Some (id_at generated_setup.ids n)
 two_lanes zero few = refl
 two_lanes (suc zero) few = refl
 two_lanes (suc (suc n)) few = absurd (omega (arith, few))
@@ -344,7 +344,7 @@ round_behind : (i : ℕ) (h : History) → i < 50000 → Ready i (made_tables h)
 round_behind i h few r =
     let at = 1000 * i in
     let place = i % 2 in
-    let lane = id_at made_setup.ids place in
+    let lane = id_at generated_setup.ids place in
     let xs = (made_tables h).handles in
     let ys = (made_tables h).guards in
     let m = length xs in
@@ -383,7 +383,7 @@ rounds_replay first (suc n) h few r =
     followed h (round first) (rounds (first + 1) n) (Ready (first + 1)) (Ready (first + suc n)) (round_replays first h (omega (arith, few)) r)
     (λ g s. subst (λ k. Replays g (rounds (first + 1) n) (Ready k)) next (rounds_replay (first + 1) n g (omega (arith, few)) s))
 
-pub made_replays : (n : ℕ) → n ≤ 50000 → ((h : History) × (history_after made_setup [] (made_requests n) ≡ Some h))
+pub made_replays : (n : ℕ) → n ≤ 50000 → ((h : History) × (history_after generated_setup [] (generated_requests n) ≡ Some h))
 made_replays n few =
     let all = rounds_replay 0 n [] (omega (arith, few)) none_ready in
-    (all.history, ap (history_after made_setup []) (sym (append-nil (made_requests n))) ∙ all.replays [])
+    (all.history, ap (history_after generated_setup []) (sym (append-nil (generated_requests n))) ∙ all.replays [])

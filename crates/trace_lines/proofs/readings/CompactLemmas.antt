@@ -252,9 +252,12 @@ onto_push (x ∷ es) e ms = ap (member x.0.now (plain_data x.1)) (onto_push es e
 pub behind_byte : (text : List ℕ) (byte : ℕ) → 0 < length text → get_or text 0 0 ≡ byte → text ≡ byte ∷ drop 1 text
 behind_byte text byte some here = drop-cons text 0 0 some ∙ ap (λ x. x ∷ drop 1 text) here
 
-pub quoted_text : (bytes body rest : List ℕ) (at : ℕ) → bytes ≡ 34 ∷ body → escape (take at body) ≡ take at body → drop at body ≡ 34 ∷ rest → bytes ≡ quoted (take at body) ++ rest
-quoted_text bytes body rest at a plain b =
-    a ∙ ap (λ (l : List ℕ). 34 ∷ l) (sym (take-append-drop at body) ∙ ap (λ (l : List ℕ). take at body ++ l) b ∙ sym (append_assoc (take at body) (34 ∷ []) rest) ∙ ap (λ (l : List ℕ). (l ++ 34 ∷ []) ++ rest) (sym plain))
+pub text_cut : (bytes body rest : List ℕ) (at : ℕ) → bytes ≡ 34 ∷ body → drop at body ≡ 34 ∷ rest → bytes ≡ 34 ∷ (take at body ++ 34 ∷ rest)
+text_cut bytes body rest at a b = a ∙ ap (λ (l : List ℕ). 34 ∷ l) (sym (take-append-drop at body) ∙ ap (λ (l : List ℕ). take at body ++ l) b)
+
+pub quoted_text : (bytes words rest : List ℕ) → bytes ≡ 34 ∷ (words ++ 34 ∷ rest) → escape words ≡ words → bytes ≡ quoted words ++ rest
+quoted_text bytes words rest is plain =
+    is ∙ ap (λ (l : List ℕ). 34 ∷ l) (sym (append_assoc words (34 ∷ []) rest) ∙ ap (λ (l : List ℕ). (l ++ 34 ∷ []) ++ rest) (sym plain))
 
 pub word_is : (text front : List ℕ) (r : Option (Bor (List ℕ)))
     → MatchOption r (pointwise nat_eq (take (length front) text) front ≡ false) (λ x. (pointwise nat_eq (take (length front) text) front ≡ true) × (x.now ≡ drop (length front) text) × (length x.now + length front ≡ length text))

@@ -20,6 +20,11 @@ quoted_added old a b d new front s x begin body close utf8 =
     parts : (old front body : List ℕ) → (((old ++ front) ++ 34 ∷ []) ++ body) ++ 34 ∷ [] ≡ old ++ (front ++ 34 ∷ (body ++ 34 ∷ []))
     parts old front body = simp append_assoc
 
+-- a quote, a text and a quote, put down one after another
+pub quoted_put : (old begin body new text : List ℕ) → begin ≡ old ++ 34 ∷ [] → body ≡ begin ++ text → new ≡ body ++ 34 ∷ [] → new ≡ old ++ 34 ∷ (text ++ 34 ∷ [])
+quoted_put old begin body new text a b c =
+    c ∙ ap (λ (l : List ℕ). l ++ 34 ∷ []) (b ∙ ap (λ (l : List ℕ). l ++ text) a ∙ append_assoc old (34 ∷ []) text) ∙ append_assoc old (34 ∷ text) (34 ∷ [])
+
 -- a text of no byte
 pub none_added : (old text : List ℕ) → length text ≡ 0 → AddsText old old text
 none_added old [] none = begun old

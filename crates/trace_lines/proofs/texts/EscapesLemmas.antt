@@ -1,5 +1,5 @@
 -- What stands for a text's bytes.
-use Rattle.std.proofs.Common.{◌≡◌, ℕ, ◌+◌, ◌<◌, ◌≤◌, List, [], ◌∷◌, ◌++◌, length, get_or, take, drop, refl, sym, ap, ◌∙◌, append_assoc}
+use Rattle.std.proofs.Common.{◌≡◌, ℕ, ◌+◌, ◌<◌, ◌≤◌, List, [], ◌∷◌, ◌++◌, length, get_or, take, drop, refl, sym, ap, subst, arith, ◌∙◌, append_assoc}
 use Rattle.std.proofs.Math.ListN.{take-append-drop}
 use Rattle.trace_lines.proofs.Common.{drop_more, escape, escape_byte}
 use Rattle.std.proofs.lemmas.List.{take_all}
@@ -14,6 +14,10 @@ escape_append (x ∷ xs) ys = ap (λ (l : List ℕ). escape_byte x ++ l) (escape
 
 pub escape_step : (s : List ℕ) (x : ℕ) → escape s ≡ s → escape_byte x ≡ x ∷ [] → escape (s ++ x ∷ []) ≡ s ++ x ∷ []
 escape_step s x done plain = escape_append s (x ∷ []) ∙ rw (done, plain) refl
+
+-- where the run is all, the text stands for itself
+pub plain_whole : (s : List ℕ) (run : ℕ) → run ≡ length s → escape (take run s) ≡ take run s → escape s ≡ s
+plain_whole s run whole plain = subst (λ (l : List ℕ). escape l ≡ l) (take_all run s (omega (arith, whole))) plain
 
 -- a run that stands for itself, and a byte that doesn't
 pub run_added : (old mid new rest next all : List ℕ) (run : ℕ) → next ≡ drop (run + 1) rest → run < length rest → escape (take run rest) ≡ take run rest → mid ≡ old ++ take run rest → new ≡ mid ++ escape_byte (get_or rest run 0)

@@ -1,9 +1,14 @@
 -- Pairs of names and values, and fields in a text.
-use Rattle.std.proofs.Common.{◌≡◌, ◌≢◌, ℕ, ◌+◌, List, [], ◌∷◌, ◌++◌, length, Option, Some, None, option_map, option_and_then, unwrap_or, refl, sym, ap, ◌∙◌, arith, append_assoc, length-append}
-use Rattle.trace_lines.proofs.Common.{quoted, Data, null, boolean, number, string, array, object, no_items, item, as_object, compact_text, nested_value, BeginsWithValue, typed_form, value_spelled, field_data, field_of, fields_of, all_of, each, pair_with, value_data, items}
+use Rattle.std.proofs.Common.{◌≡◌, ◌≢◌, ◌<◌, ◌^◌, ℕ, ◌+◌, List, [], ◌∷◌, ◌++◌, length, Option, Some, None, option_map, option_and_then, unwrap_or, refl, sym, ap, ◌∙◌, arith, append_assoc, length-append, codes, decimal}
+use Rattle.std.specs.Str.{IsUtf8}
+use Rattle.std.specs.Borrow.{Bor}
+use Rattle.trace_lines.proofs.Common.{IsNumber-decimal, number_of-decimal, escape_byte, read, unsigned, member, no_members, plain_data, quoted, Data, null, boolean, number, string, array, object, no_items, item, as_object, compact_text, nested_value, BeginsWithValue, typed_form, value_spelled, field_data, field_of, fields_of, all_of, each, pair_with, value_data, items}
 use Rattle.trace_base.specs.declared.field.Value.{Value as FieldValue}
+use Rattle.trace_base.specs.declared.field.Value.TheVariants.{U64}
+use Rattle.trace_lines.specs.declared.read.plain.Plain.TheVariants.{Nested}
 use Rattle.trace_lines.specs.declared.read.syntax.value.Value.{Value}
-use Rattle.trace_lines.proofs.readings.CompactLemmas.{Pair, read_items}
+use Rattle.trace_lines.proofs.readings.CompactLemmas.{Pair, read_compact, read_items}
+use Rattle.trace_lines.proofs.readings.LinesLemmas.{read_value}
 use Rattle.trace_lines.proofs.readings.ValuesLemmas.{of_nested_array}
 
 -- ---- pairs
@@ -37,10 +42,26 @@ pub nested_fields : (o : Option Data) → fields_of (nested_value (unwrap_or o n
 nested_fields None = refl
 nested_fields (Some d) = ap (option_and_then (each field_of)) (of_nested_array d)
 
+-- the object that names a number of 64 bits
+pub u64_nested : (words : Bor (List ℕ)) (n : ℕ) → IsUtf8 words.now → n < 2 ^ 64 → words.now ≡ codes "{\"u64\":" ++ (decimal n ++ 125 ∷ []) → value_spelled (plain_data (Nested words)) ≡ Some (U64 n)
+unfolding typed_form escape_byte
+u64_nested words n utf8 fits is =
+    let named = object (member (codes "u64") (number (unsigned n)) no_members) in
+    let value = read_value words.now named utf8 (ap read is ∙ read_compact named named (IsNumber-decimal n fits, tt) (omega arith) (rw (number_of-decimal n fits) refl)) in
+    ap (λ v. value_spelled (nested_value (unwrap_or v null))) value
+
 -- ---- a pair in a text
 
 joined : (name value rest : List ℕ) → 91 ∷ (name ++ 44 ∷ (value ++ 93 ∷ rest)) ≡ (91 ∷ (name ++ 44 ∷ (value ++ 93 ∷ []))) ++ rest
 joined name value rest = simp append_assoc
+
+-- what stands in front of a field's value, and in front of what is behind the field
+pub value_front : (field inner comma more words : List ℕ) → field ≡ 91 ∷ inner → inner ≡ 34 ∷ (words ++ 34 ∷ comma) → comma ≡ 44 ∷ more → field ≡ (91 ∷ 34 ∷ (words ++ 34 ∷ 44 ∷ [])) ++ more
+value_front field inner comma more words a b c =
+    a ∙ ap (λ (l : List ℕ). 91 ∷ l) (b ∙ ap (λ (l : List ℕ). 34 ∷ l) (ap (λ (l : List ℕ). words ++ 34 ∷ l) c ∙ sym (append_assoc words (34 ∷ 44 ∷ []) more)))
+
+pub field_front : (field front value more end rest : List ℕ) → field ≡ front ++ more → more ≡ value ++ end → end ≡ 93 ∷ rest → field ≡ (front ++ value) ++ 93 ∷ rest
+field_front field front value more end rest is b e = is ∙ ap (λ (l : List ℕ). front ++ l) (b ∙ ap (λ (l : List ℕ). value ++ l) e) ∙ sym (append_assoc front value (93 ∷ rest))
 
 pub pair_begins : (deep : ℕ) (text inner comma more end rest name : List ℕ) (d : Data)
     → text ≡ 91 ∷ inner → inner ≡ quoted name ++ comma → comma ≡ 44 ∷ more → BeginsWithValue deep more d end → end ≡ 93 ∷ rest

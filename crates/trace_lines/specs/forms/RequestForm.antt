@@ -6,30 +6,30 @@ use Rattle.trace_base.specs.declared.field.Value.{Value}
 use Rattle.span_script.specs.declared.request.Request.{Request}
 use Rattle.span_script.specs.declared.request.Call.{Call}
 use Rattle.span_script.specs.declared.request.Call.TheVariants as call
-use Rattle.span_script.specs.declared.request.Place.{Place}
-use Rattle.span_script.specs.declared.request.Place.TheVariants as place
+use Rattle.span_script.specs.declared.request.RequestParent.{RequestParent}
+use Rattle.span_script.specs.declared.request.RequestParent.TheVariants as request_parent
 use Rattle.trace_lines.specs.forms.ExtensionForm.{follows_form, set_parent_form, add_link_form, set_attribute_form, set_status_form, add_event_form}
 use Rattle.trace_lines.specs.forms.FieldForm.{fields_of}
 use Rattle.trace_lines.specs.forms.Forms.{Form, ◌>>=◌, give, when, natural, text, member, optional, if_absent, as_whole}
 use Rattle.trace_lines.specs.text.Hex.{id_word, long_id_word}
 
 -- the word of no span
-abbrev pub root_word : List ℕ → Option Place
-root_word word = if bytes_eq word (codes "root") then Some place.Root else None
+abbrev pub root_word : List ℕ → Option RequestParent
+root_word word = if bytes_eq word (codes "root") then Some request_parent.Root else None
 
 -- the place that a value names: by a handle's number, or by the word of no span
-abbrev pub place_by : Option ℕ → Data → Option Place
-place_by (Some handle) d = Some (place.Under handle)
-place_by None d = option_and_then root_word (as_str d)
+abbrev pub parent_by : Option ℕ → Data → Option RequestParent
+parent_by (Some handle) d = Some (request_parent.Under handle)
+parent_by None d = option_and_then root_word (as_str d)
 
-abbrev pub place_spelled : Data → Option Place
-place_spelled d = place_by (as_whole d) d
+abbrev pub parent_spelled : Data → Option RequestParent
+parent_spelled d = parent_by (as_whole d) d
 
 -- where a new span or an event is put: under the current span where nothing is said
-abbrev pub place_form : Form Place
-place_form = do
+abbrev pub parent_form : Form RequestParent
+parent_form = do
   there ← optional (codes "parent")
-  when (if_absent place.Contextual place_spelled there)
+  when (if_absent request_parent.Contextual parent_spelled there)
 
 -- the fields that are given, which are none where nothing is said
 abbrev pub fields_form : Form (List (List ℕ × Value))
@@ -41,7 +41,7 @@ fields_form = do
 unfoldable pub new_form : Form Call
 new_form = do
   site ← natural (codes "site")
-  put ← place_form
+  put ← parent_form
   fields ← fields_form
   give (call.New site put fields)
 
@@ -118,7 +118,7 @@ has_field_form = do
 unfoldable pub event_form : Form Call
 event_form = do
   site ← natural (codes "site")
-  put ← place_form
+  put ← parent_form
   fields ← fields_form
   give (call.Event site put fields)
 
@@ -182,4 +182,4 @@ request_form = do
   at ← natural (codes "at")
   lane ← natural (codes "lane")
   call ← call_form
-  give (record { at = at; lane = lane; call = call })
+  give (record { at = at; lane_place = lane; call = call })

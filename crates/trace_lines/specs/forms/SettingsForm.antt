@@ -11,11 +11,11 @@ use Rattle.trace_lines.specs.forms.Forms.{Form, ◌>>=◌, give, when, unit_if, 
 use Rattle.trace_lines.specs.text.Words.{level_word, kind_word}
 
 -- a lane's id and name
-abbrev pub Lane : Type 0
-Lane = ℕ × Option (List ℕ)
+abbrev pub GivenLane : Type 0
+GivenLane = ℕ × Option (List ℕ)
 
 -- an id up to 2 ^ 63 - 1, and a name or none
-unfoldable pub lane_form : Form Lane
+unfoldable pub lane_form : Form GivenLane
 lane_form = do
   id ← whole_to (2 ^ 63 - 1) (codes "id")
   name ← optional_text (codes "name")
@@ -105,7 +105,7 @@ all_differ [] = true
 all_differ (n ∷ ns) = not (list_any (λ m. n == m) ns) && all_differ ns
 
 -- the ids of lanes
-abbrev pub lane_ids : List Lane → List ℕ
+abbrev pub lane_ids : List GivenLane → List ℕ
 lane_ids lanes = map (λ lane. lane.0) lanes
 
 -- the callsites
@@ -115,7 +115,7 @@ callsites_form = do
   when (each (object_of callsite_form) sites)
 
 -- the lanes, whose ids differ
-abbrev pub lanes_form : Form (List Lane)
+abbrev pub lanes_form : Form (List GivenLane)
 lanes_form = do
   lane_items ← array (codes "lanes")
   lanes ← when (each (object_of lane_form) lane_items)

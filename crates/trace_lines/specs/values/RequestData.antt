@@ -6,8 +6,8 @@ use Rattle.span_script.specs.declared.request.Request.{Request}
 use Rattle.span_script.specs.declared.request.TheConstants.{LAST_MOMENT}
 use Rattle.span_script.specs.declared.request.Call.{Call}
 use Rattle.span_script.specs.declared.request.Call.TheVariants as call
-use Rattle.span_script.specs.declared.request.Place.{Place}
-use Rattle.span_script.specs.declared.request.Place.TheVariants as place
+use Rattle.span_script.specs.declared.request.RequestParent.{RequestParent}
+use Rattle.span_script.specs.declared.request.RequestParent.TheVariants as request_parent
 use Rattle.trace_base.specs.declared.field.Value.{Value}
 use Rattle.trace_lines.specs.values.FieldData.{written_field, AreValuesInRange, IsOtelValueInRange, AreAttributesInRange}
 use Rattle.trace_lines.specs.text.Hex.{hex16, hex32}
@@ -16,7 +16,7 @@ use Rattle.trace_lines.specs.values.RecordData.{attribute_value, attributes_data
 
 -- a call at a moment on a lane
 abbrev pub request_of : ℕ → ℕ → Call → Request
-request_of at lane call = record { at = at; lane = lane; call = call }
+request_of at lane call = record { at = at; lane_place = lane; call = call }
 
 -- ids have 128 and 64 bits, numbers of fields and attributes those of their types, and a time is a moment
 abbrev pub IsInRange : Call → Type 0
@@ -75,10 +75,10 @@ abbrev pub number_member : List ℕ → ℕ → List (List ℕ × Data)
 number_member name n = (name, number (unsigned n)) ∷ []
 
 -- the member that says where a new span or an event is put
-abbrev pub parent_member : Place → List (List ℕ × Data)
-parent_member place.Contextual = []
-parent_member place.Root = (codes "parent", string (codes "root")) ∷ []
-parent_member (place.Under handle) = number_member (codes "parent") handle
+abbrev pub parent_member : RequestParent → List (List ℕ × Data)
+parent_member request_parent.Contextual = []
+parent_member request_parent.Root = (codes "parent", string (codes "root")) ∷ []
+parent_member (request_parent.Under handle) = number_member (codes "parent") handle
 
 -- the member that gives fields
 abbrev pub fields_member : List (List ℕ × Value) → List (List ℕ × Data)
@@ -132,5 +132,5 @@ put_all pairs = fold (λ ms pair. put pair.0 pair.1 ms) no_members pairs
 abbrev pub request_data : Request → Data
 request_data request = object (put_all (
     (codes "at", number (unsigned request.at)) ∷
-    (codes "lane", number (unsigned request.lane)) ∷
+    (codes "lane", number (unsigned request.lane_place)) ∷
     (codes "do", string (word_of request.call)) ∷ number_members_of request.call))

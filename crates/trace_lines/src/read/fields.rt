@@ -1,5 +1,5 @@
 //! Reading fields: their names and their values.
-ghost use Rattle.std.specs.Prelude.{◌≡◌, ◌≢◌, [], ◌∷◌, Some, None, IfSome, length};
+ghost use Rattle.std.specs.Prelude.{◌≡◌, ◌≢◌, ◌<◌, ◌^◌, [], ◌∷◌, ◌++◌, Some, None, IfSome, codes, decimal, length};
 ghost use Rattle.serde_json.specs.Data.{unsigned};
 ghost use Rattle.serde_json.specs.Data as json;
 ghost use Rattle.serde_json.specs.Find.{as_str, as_i64};
@@ -15,7 +15,9 @@ use crate::read::LineError;
 use crate::read::decimal::{i128_of, u128_of};
 use crate::read::plain::Plain;
 use crate::read::plain_fields::plain_fields;
+use crate::read::syntax::flat::closes;
 use crate::read::syntax::object::Object;
+use crate::read::syntax::scan::{number, word};
 use crate::read::syntax::value::Value;
 use otel_base::list::Items;
 use otel_base::text::Text;
@@ -121,8 +123,19 @@ fn typed_members(alloc: Global, object: &mut Object) -> Result<FieldValue, LineE
     error_members(alloc, object)
 }
 
+// The number of 64 bits that an object names as such, where that stands compactly. None says nothing.
+fn plain_u64(object: &[u8]) -> Option<u64>
+    ensures text { IfSome result (λ n. object.now ≡ codes "{\"u64\":" ++ (decimal n ++ 125 ∷ [])) }
+    ensures fits { IfSome result (λ n. n < 2 ^ 64) }
+{
+    let digits = word(object, b"{\"u64\":")?;
+    let (whole, rest) = number(digits)?;
+    closes(rest, b'}')?;
+    Some(whole)
+}
+
 /// The value of a field that a value of a text spells.
-#[tactic(auto, using(crate::proofs::texts::FieldsLemmas::typed_nested))]
+#[tactic(auto, using(crate::proofs::texts::FieldsLemmas::typed_nested, crate::proofs::texts::FieldsLemmas::u64_nested))]
 pub(crate) fn plain_value(alloc: Global, plain: Plain<'_>) -> Result<FieldValue, LineError>
     ensures { Gives (λ v. v) result (value_spelled (plain_data plain.entry)) }
 {
@@ -131,7 +144,10 @@ pub(crate) fn plain_value(alloc: Global, plain: Plain<'_>) -> Result<FieldValue,
         Plain::Below(number) => Ok(FieldValue::I64(number)),
         Plain::Text(words) => Ok(FieldValue::Str(Text::from(String::from_str(alloc, words)?))),
         Plain::Flag(flag) => Ok(FieldValue::Bool(flag)),
-        Plain::Nested(_) => typed_value(alloc, Object::of(alloc, Value::Plain(plain))?),
+        Plain::Nested(words) => match plain_u64(words.as_bytes()) {
+            Some(whole) => Ok(FieldValue::U64(whole)),
+            None => typed_value(alloc, Object::of(alloc, Value::Plain(plain))?),
+        },
     }
 }
 

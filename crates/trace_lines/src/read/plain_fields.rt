@@ -1,5 +1,6 @@
 //! Fields that stand plainly in a text, read in one pass. None says nothing of what the text is.
-ghost use Rattle.std.specs.Prelude.{◌≡◌, ◌+◌, ◌++◌, [], ◌∷◌, Some, IfSome, option_map, option_and_then};
+ghost use Rattle.std.specs.Prelude.{◌≡◌, ◌+◌, ◌<◌, ◌++◌, List, ℕ, [], ◌∷◌, Some, IfSome, option_map, option_and_then};
+ghost use Rattle.std.specs.Str.{IsUtf8};
 ghost use Rattle.serde_json.specs.Data.{Data};
 ghost use Rattle.trace_lines.specs.text.Compact.{plain_data, BeginsWithValue};
 ghost use Rattle.trace_lines.specs.forms.FieldForm.{value_spelled, field_data, fields_of};
@@ -8,7 +9,7 @@ ghost use Rattle.trace_lines.specs.reading.Spelled.{line_value};
 use crate::read::fields::plain_value;
 use crate::read::plain::Plain;
 use crate::read::syntax::flat::ends;
-use crate::read::syntax::scan::{DEEPEST, behind, text, value};
+use crate::read::syntax::scan::{DEEPEST, behind, plain_text, value};
 use otel_base::list::Items;
 use otel_base::text::Text;
 use std::alloc::Global;
@@ -20,32 +21,66 @@ const USUAL: usize = 4;
 // The most fields that are read so.
 const MOST_FIELDS: u32 = 65_536;
 
+// What stands between two quotes of a text, of which the second stands in front of `rest`. It isn't tested again.
+#[inline(always)]
+fn between<'a>(whole: &'a str, words: &[u8], rest: &[u8]) -> &'a str
+    requires { (front : List ℕ) × (whole.now ≡ front ++ 34 ∷ (words.now ++ 34 ∷ rest.now)) }
+    ensures { result.now ≡ words.now }
+{
+    let end = whole.len() - rest.len() - 1;
+    &whole[end - words.len()..end]
+}
+
+// What stands behind a byte of a text that is ASCII. It isn't tested again.
+#[inline(always)]
+fn behind_ascii<'a>(whole: &'a str, rest: &[u8]) -> &'a str
+    requires { (front : List ℕ) × (last : ℕ) × (last < 128) × (whole.now ≡ front ++ last ∷ rest.now) }
+    ensures { result.now ≡ rest.now }
+{
+    &whole[whole.len() - rest.len()..]
+}
+
+// A value at the end of a text, and what stands behind it.
+#[inline(always)]
+fn value_in<'a>(whole: &'a str, bytes: &'a [u8]) -> Option<(Plain<'a>, &'a [u8])>
+    requires { (front : List ℕ) × (whole.now ≡ front ++ bytes.now) }
+    ensures { IfSome result (λ r. BeginsWithValue DEEPEST bytes.now (plain_data r.0) r.1.now) }
+{
+    match plain_text(bytes) {
+        Some((words, rest)) => Some((Plain::Text(between(whole, words, rest)), rest)),
+        None => {
+            let (plain, rest) = value(bytes)?;
+            Some((plain, rest))
+        }
+    }
+}
+
 // A field's name and value as they stand in a text, and what stands behind the field.
 #[inline(always)]
-fn plain_field(bytes: &[u8]) -> Option<(&[u8], Plain<'_>, &[u8])>
+fn plain_field(field: &str) -> Option<(&str, Plain<'_>, &str)>
     ensures { IfSome result (λ r.
-        BeginsWithValue (DEEPEST + 1) bytes.now (field_data r.0.now (plain_data r.1)) r.2.now) }
+        BeginsWithValue (DEEPEST + 1) field.now (field_data r.0.now (plain_data r.1)) r.2.now) }
 {
-    let inner = behind(bytes, b'[')?;
-    let (name, comma) = text(inner)?;
+    let inner = behind(field.as_bytes(), b'[')?;
+    let (words, comma) = plain_text(inner)?;
     let more = behind(comma, b',')?;
-    let (plain, end) = value(more)?;
+    let (plain, end) = value_in(field, more)?;
     let rest = behind(end, b']')?;
-    Some((name, plain, rest))
+    let name = between(field, words, comma);
+    Some((name, plain, behind_ascii(field, rest)))
 }
 
 // Adds a field. It is made where it is kept, since a field is large. None where there is no memory, or none is spelled.
 fn keep(
     alloc: Global,
     fields: &mut Vec<(Text, FieldValue)>,
-    name: &[u8],
+    name: &str,
     plain: Plain<'_>,
 ) -> Option<()>
     ensures { IfSome result (λ _. option_map (λ value. fields.old.items ++ (name.now, value) ∷ [])
         (value_spelled (plain_data plain.entry)) ≡ Some fields.new.items) }
 {
-    let words = str::from_utf8(name).ok()?;
-    let name = Text::from(String::from_str(alloc, words).ok()?);
+    let name = Text::from(String::from_str(alloc, name).ok()?);
     let value = plain_value(alloc, plain).ok()?;
     fields.reserve(1).ok()?;
     fields.push_reserved((name, value));
@@ -57,21 +92,24 @@ pub fn leading_fields<'a>(
     alloc: Global,
     bytes: &'a [u8],
 ) -> Option<(Items<(Text, FieldValue)>, &'a [u8])>
-    ensures { IfSome result (λ r.
+    ensures fields { IfSome result (λ r.
         (d : Data) × BeginsWithValue (DEEPEST + 2) bytes.now d r.1.now × (fields_of d ≡ Some r.0)) }
+    ensures utf8 { IfSome result (λ _. IsUtf8 bytes.now) }
 {
-    let mut rest = behind(bytes, b'[')?;
-    if let Some(end) = behind(rest, b']') {
+    let whole = str::from_utf8(bytes).ok()?;
+    let first = behind(bytes, b'[')?;
+    if let Some(end) = behind(first, b']') {
         return Some((Items::new(alloc), end));
     }
     let mut fields = Vec::with_capacity(alloc, USUAL).ok()?;
+    let mut rest = behind_ascii(whole, first);
     for _ in 0..MOST_FIELDS {
         let (name, plain, after) = plain_field(rest)?;
         keep(alloc, &mut fields, name, plain)?;
-        match behind(after, b',') {
-            Some(more) => rest = more,
+        match behind(after.as_bytes(), b',') {
+            Some(more) => rest = behind_ascii(after, more),
             None => {
-                let end = behind(after, b']')?;
+                let end = behind(after.as_bytes(), b']')?;
                 return Some((Items::from(fields), end));
             }
         }

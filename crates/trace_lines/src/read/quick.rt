@@ -1,16 +1,15 @@
 //! Requests as they are mostly written: compact, with their moment and their word in front, and two numbers behind them.
 //! A new span or an event may have fields before these.
-//! None says nothing of what the line spells.
+//! None says nothing of what the line spells. The fields are tested for UTF-8; all else of such a line is ASCII.
 ghost use Rattle.std.specs.Prelude.{◌≡◌, ◌<◌, ◌^◌, Ok, IfSome};
-ghost use Rattle.std.specs.Str.{IsUtf8};
 ghost use Rattle.trace_lines.specs.text.QuickLines.{line_from, two_numbers};
 ghost use Rattle.trace_lines.specs.reading.Spelled.{request_spelled};
 
 use crate::read::plain_fields::leading_fields;
-use crate::read::syntax::flat::{closes, is_text};
+use crate::read::syntax::flat::closes;
 use crate::read::syntax::scan::{number, word};
 use otel_base::list::Items;
-use span_script::request::{Call, Place, Request};
+use span_script::request::{Call, Request, RequestParent};
 use std::alloc::Global;
 
 // Two numbers, each behind a front, and the bracket that closes an object.
@@ -38,14 +37,14 @@ fn drop_line(line: &[u8], at: u64, rest: &[u8]) -> Option<Request>
     match pair(rest, b"drop\",\"handle\":", b",\"lane\":") {
         Some((handle, lane)) => Some(Request {
             at,
-            lane,
+            lane_place: lane,
             call: Call::Drop { handle },
         }),
         None => {
             let (lane, handle) = pair(rest, b"drop\",\"lane\":", b",\"handle\":")?;
             Some(Request {
                 at,
-                lane,
+                lane_place: lane,
                 call: Call::Drop { handle },
             })
         }
@@ -61,14 +60,14 @@ fn enter_line(line: &[u8], at: u64, rest: &[u8]) -> Option<Request>
     match pair(rest, b"enter\",\"handle\":", b",\"lane\":") {
         Some((handle, lane)) => Some(Request {
             at,
-            lane,
+            lane_place: lane,
             call: Call::Enter { handle },
         }),
         None => {
             let (lane, handle) = pair(rest, b"enter\",\"lane\":", b",\"handle\":")?;
             Some(Request {
                 at,
-                lane,
+                lane_place: lane,
                 call: Call::Enter { handle },
             })
         }
@@ -84,14 +83,14 @@ fn exit_line(line: &[u8], at: u64, rest: &[u8]) -> Option<Request>
     match pair(rest, b"exit\",\"guard\":", b",\"lane\":") {
         Some((guard, lane)) => Some(Request {
             at,
-            lane,
+            lane_place: lane,
             call: Call::Exit { guard },
         }),
         None => {
             let (lane, guard) = pair(rest, b"exit\",\"lane\":", b",\"guard\":")?;
             Some(Request {
                 at,
-                lane,
+                lane_place: lane,
                 call: Call::Exit { guard },
             })
         }
@@ -108,10 +107,10 @@ fn new_line(alloc: Global, line: &[u8], at: u64, rest: &[u8]) -> Option<Request>
     match pair(rest, b"new\",\"lane\":", b",\"site\":") {
         Some((lane, site)) => Some(Request {
             at,
-            lane,
+            lane_place: lane,
             call: Call::New {
                 site,
-                parent: Place::Contextual,
+                parent: RequestParent::Contextual,
                 fields,
             },
         }),
@@ -119,10 +118,10 @@ fn new_line(alloc: Global, line: &[u8], at: u64, rest: &[u8]) -> Option<Request>
             let (lane, site) = pair(rest, b"new\",\"lane\":", b",\"parent\":\"root\",\"site\":")?;
             Some(Request {
                 at,
-                lane,
+                lane_place: lane,
                 call: Call::New {
                     site,
-                    parent: Place::Root,
+                    parent: RequestParent::Root,
                     fields,
                 },
             })
@@ -132,7 +131,6 @@ fn new_line(alloc: Global, line: &[u8], at: u64, rest: &[u8]) -> Option<Request>
 
 // A contextual span with fields.
 fn new_fields_line(alloc: Global, line: &[u8], at: u64, rest: &[u8]) -> Option<Request>
-    requires text { IsUtf8 line.now }
     requires fits { at < 2 ^ 64 }
     requires front { line.now ≡ line_from at rest.now }
     ensures { IfSome result (λ request. request_spelled line.now ≡ Ok request) }
@@ -142,10 +140,14 @@ fn new_fields_line(alloc: Global, line: &[u8], at: u64, rest: &[u8]) -> Option<R
     let (lane, site) = pair(tail, b",\"lane\":", b",\"site\":")?;
     let call = Call::New {
         site,
-        parent: Place::Contextual,
+        parent: RequestParent::Contextual,
         fields,
     };
-    Some(Request { at, lane, call })
+    Some(Request {
+        at,
+        lane_place: lane,
+        call,
+    })
 }
 
 // An event without fields, contextual or under no other.
@@ -158,10 +160,10 @@ fn event_line(alloc: Global, line: &[u8], at: u64, rest: &[u8]) -> Option<Reques
     match pair(rest, b"event\",\"lane\":", b",\"site\":") {
         Some((lane, site)) => Some(Request {
             at,
-            lane,
+            lane_place: lane,
             call: Call::Event {
                 site,
-                parent: Place::Contextual,
+                parent: RequestParent::Contextual,
                 fields,
             },
         }),
@@ -173,10 +175,10 @@ fn event_line(alloc: Global, line: &[u8], at: u64, rest: &[u8]) -> Option<Reques
             )?;
             Some(Request {
                 at,
-                lane,
+                lane_place: lane,
                 call: Call::Event {
                     site,
-                    parent: Place::Root,
+                    parent: RequestParent::Root,
                     fields,
                 },
             })
@@ -186,7 +188,6 @@ fn event_line(alloc: Global, line: &[u8], at: u64, rest: &[u8]) -> Option<Reques
 
 // A contextual event with fields.
 fn event_fields_line(alloc: Global, line: &[u8], at: u64, rest: &[u8]) -> Option<Request>
-    requires text { IsUtf8 line.now }
     requires fits { at < 2 ^ 64 }
     requires front { line.now ≡ line_from at rest.now }
     ensures { IfSome result (λ request. request_spelled line.now ≡ Ok request) }
@@ -196,25 +197,14 @@ fn event_fields_line(alloc: Global, line: &[u8], at: u64, rest: &[u8]) -> Option
     let (lane, site) = pair(tail, b",\"lane\":", b",\"site\":")?;
     let call = Call::Event {
         site,
-        parent: Place::Contextual,
+        parent: RequestParent::Contextual,
         fields,
     };
-    Some(Request { at, lane, call })
-}
-
-// A contextual span or event with fields. Its bytes are tested; those of the other lines are ASCII if they are read.
-fn fields_line(alloc: Global, line: &[u8], at: u64, rest: &[u8]) -> Option<Request>
-    requires fits { at < 2 ^ 64 }
-    requires front { line.now ≡ line_from at rest.now }
-    ensures { IfSome result (λ request. request_spelled line.now ≡ Ok request) }
-{
-    if !is_text(line) {
-        return None;
-    }
-    match new_fields_line(alloc, line, at, rest) {
-        Some(request) => Some(request),
-        None => event_fields_line(alloc, line, at, rest),
-    }
+    Some(Request {
+        at,
+        lane_place: lane,
+        call,
+    })
 }
 
 // The moment in front, and what stands behind the quote of the word.
@@ -240,13 +230,13 @@ pub(crate) fn quick_request(alloc: Global, line: &[u8]) -> Option<Request>
     match (rest[0], rest[1]) {
         (b'n', _) => match new_line(alloc, line, at, rest) {
             Some(request) => Some(request),
-            None => fields_line(alloc, line, at, rest),
+            None => new_fields_line(alloc, line, at, rest),
         },
         (b'd', _) => drop_line(line, at, rest),
         (b'e', b'n') => enter_line(line, at, rest),
         (b'e', b'v') => match event_line(alloc, line, at, rest) {
             Some(request) => Some(request),
-            None => fields_line(alloc, line, at, rest),
+            None => event_fields_line(alloc, line, at, rest),
         },
         (b'e', _) => exit_line(line, at, rest),
         _ => None,

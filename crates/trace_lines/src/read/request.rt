@@ -2,7 +2,7 @@
 ghost use Rattle.std.specs.Prelude.{◌≡◌};
 ghost use Rattle.trace_lines.specs.reading.Gives.{Gives};
 ghost use Rattle.trace_lines.specs.reading.Left.{value_data, members_left};
-ghost use Rattle.trace_lines.specs.forms.RequestForm.{root_word, place_spelled, place_form, fields_form, new_form, clone_form, or_current_form, drop_form, enter_form, entered_form, exit_form, record_form, has_field_form, event_form, remote_form, context_form, attach_form, detach_form, call_by, call_form, request_form, enabled_form, reload_form};
+ghost use Rattle.trace_lines.specs.forms.RequestForm.{root_word, parent_spelled, parent_form, fields_form, new_form, clone_form, or_current_form, drop_form, enter_form, entered_form, exit_form, record_form, has_field_form, event_form, remote_form, context_form, attach_form, detach_form, call_by, call_form, request_form, enabled_form, reload_form};
 
 use crate::read::LineError;
 use crate::read::extension::{
@@ -16,37 +16,37 @@ use crate::read::syntax::value::Value;
 use otel_base::context::SpanContext;
 use otel_base::list::Items;
 use otel_base::text::Text;
-use span_script::request::{Call, Place, Request};
+use span_script::request::{Call, Request, RequestParent};
 use std::alloc::Global;
 use trace_base::field::Value as FieldValue;
 
-fn root_of(word: &str) -> Option<Place>
+fn root_of(word: &str) -> Option<RequestParent>
     ensures { result ≡ root_word word.now }
 {
     match word {
-        "root" => Some(Place::Root),
+        "root" => Some(RequestParent::Root),
         _ => None,
     }
 }
 
 // The place that a value names: a handle's number, or no span.
-fn place_of(value: &Value<'_>) -> Result<Place, LineError>
-    ensures { Gives (λ place. place) result (place_spelled (value_data value.now)) }
+fn parent_of(value: &Value<'_>) -> Result<RequestParent, LineError>
+    ensures { Gives (λ place. place) result (parent_spelled (value_data value.now)) }
 {
     match value.whole() {
-        Ok(handle) => Ok(Place::Under { handle }),
+        Ok(handle) => Ok(RequestParent::Under { handle }),
         Err(LineError::BadLine) => root_of(value.word()?).ok_or(LineError::BadLine),
         Err(error) => Err(error),
     }
 }
 
 // Takes where a new span or an event is put: under the current span where nothing is said.
-fn parent(object: &mut Object) -> Result<Place, LineError>
-    ensures { Gives (λ place. (place, members_left object.new)) result (place_form (members_left object.old)) }
+fn parent(object: &mut Object) -> Result<RequestParent, LineError>
+    ensures { Gives (λ place. (place, members_left object.new)) result (parent_form (members_left object.old)) }
 {
     match object.optional("parent") {
-        Some(value) => place_of(&value),
-        None => Ok(Place::Contextual),
+        Some(value) => parent_of(&value),
+        None => Ok(RequestParent::Contextual),
     }
 }
 
@@ -252,5 +252,9 @@ pub(crate) fn request_members(alloc: Global, object: &mut Object) -> Result<Requ
     let at = object.whole("at")?;
     let lane = object.whole("lane")?;
     let call = call(alloc, object)?;
-    Ok(Request { at, lane, call })
+    Ok(Request {
+        at,
+        lane_place: lane,
+        call,
+    })
 }

@@ -194,7 +194,7 @@ fn layer_of(alloc: Global, value: Value<'_>) -> Result<LayerSettings, LineError>
 }
 
 // Makes sure that no two lanes have the same id.
-fn distinct(alloc: Global, lanes: &[(u64, Option<Text>)]) -> Result<(), LineError>
+fn require_distinct(alloc: Global, lanes: &[(u64, Option<Text>)]) -> Result<(), LineError>
     ensures { Gives (λ u. u) result (unit_if (all_differ (lane_ids lanes.now))) }
 {
     let mut seen = BTreeSet::new(alloc);
@@ -219,7 +219,7 @@ fn given_lanes(alloc: Global, object: &mut Object) -> Result<Items<(u64, Option<
     ensures differ { IfOk result (λ l. all_differ (lane_ids l) ≡ true) }
 {
     let lanes = lanes(alloc, object.array(alloc, "lanes")?)?;
-    distinct(alloc, lanes.as_slice())?;
+    require_distinct(alloc, lanes.as_slice())?;
     Ok(lanes)
 }
 

@@ -7,13 +7,14 @@ ghost use Rattle.trace_lines.specs.values.RecordData.{attribute_value, attribute
 ghost use Rattle.trace_lines.specs.text.Writes.{Writes};
 
 use super::pieces::{add, add_flag, add_integer, add_text, separator};
+use super::text_buffer::TextBuffer;
 use otel_base::text::Text;
 use otel_base::value::{KeyValue, OtelValue};
 use std::alloc::AllocError;
 
 /// Adds attributes.
 pub fn add_attributes(
-    out: &mut Vec<u8>,
+    out: &mut TextBuffer,
     front: &str,
     attributes: &[KeyValue],
 ) -> Result<(), AllocError>
@@ -30,7 +31,7 @@ pub fn add_attributes(
     Ok(())
 }
 
-fn add_attribute(out: &mut Vec<u8>, front: &str, attribute: &KeyValue) -> Result<(), AllocError>
+fn add_attribute(out: &mut TextBuffer, front: &str, attribute: &KeyValue) -> Result<(), AllocError>
     ensures { Writes result out.old out.new (front.now ++ compact_text (attribute_data attribute.now)) }
 {
     add(out, front)?;
@@ -41,7 +42,7 @@ fn add_attribute(out: &mut Vec<u8>, front: &str, attribute: &KeyValue) -> Result
 }
 
 #[tactic(auto, using(crate::proofs::texts::IntegersLemmas::integer_text))]
-fn add_value(out: &mut Vec<u8>, front: &str, value: &OtelValue) -> Result<(), AllocError>
+fn add_value(out: &mut TextBuffer, front: &str, value: &OtelValue) -> Result<(), AllocError>
     ensures { Writes result out.old out.new (front.now ++ compact_text (attribute_value value.now)) }
 {
     match value {
@@ -52,7 +53,7 @@ fn add_value(out: &mut Vec<u8>, front: &str, value: &OtelValue) -> Result<(), Al
     }
 }
 
-fn add_texts(out: &mut Vec<u8>, front: &str, texts: &[Text]) -> Result<(), AllocError>
+fn add_texts(out: &mut TextBuffer, front: &str, texts: &[Text]) -> Result<(), AllocError>
     ensures { Writes result out.old out.new (front.now ++ compact_text (array_of string texts.now)) }
 {
     add(out, front)?;

@@ -1,8 +1,9 @@
 //! Texts in JSON: which bytes stand for themselves, and what stands for the others.
-ghost use Rattle.std.specs.Prelude.{◌≡◌, ◌≤◌, ◌∷◌, ◌++◌, [], true, OnOk, length, take};
+ghost use Rattle.std.specs.Prelude.{◌≡◌, ◌+◌, ◌<◌, ◌≤◌, ◌∷◌, ◌++◌, [], true, OnOk, drop, length, take};
 ghost use Rattle.json.specs.Print.{escape, escape_byte, escape_letter};
 
 use super::hex::digit_of;
+use super::text_buffer::TextBuffer;
 use std::alloc::AllocError;
 
 // Whether a byte stands for itself in a text.
@@ -55,7 +56,7 @@ fn letter_of(byte: u8) -> u8
 
 // Adds what stands for a byte.
 #[tactic(auto, unfolding(json::specs::Print::escape_byte))]
-fn add_byte(out: &mut Vec<u8>, byte: u8) -> Result<(), AllocError>
+fn add_byte(out: &mut TextBuffer, byte: u8) -> Result<(), AllocError>
     ensures { OnOk result (out.new.items ≡ out.old.items ++ escape_byte byte) }
 {
     let letter = letter_of(byte);
@@ -73,8 +74,16 @@ fn add_byte(out: &mut Vec<u8>, byte: u8) -> Result<(), AllocError>
     Ok(())
 }
 
+// What stands behind a byte.
+fn behind(bytes: &[u8], at: usize) -> &[u8]
+    requires { at < length bytes.now }
+    ensures { result.now ≡ drop (at + 1) bytes.now }
+{
+    &bytes[at + 1..]
+}
+
 /// Adds what stands for a text's bytes.
-pub(crate) fn add_escaped(out: &mut Vec<u8>, bytes: &[u8]) -> Result<(), AllocError>
+pub(crate) fn add_escaped(out: &mut TextBuffer, bytes: &[u8]) -> Result<(), AllocError>
     ensures { OnOk result (out.new.items ≡ out.old.items ++ escape bytes.now) }
 {
     let mut rest = bytes;
@@ -82,7 +91,7 @@ pub(crate) fn add_escaped(out: &mut Vec<u8>, bytes: &[u8]) -> Result<(), AllocEr
     while run < rest.len() {
         out.extend_from_slice(&rest[..run])?;
         add_byte(out, rest[run])?;
-        rest = &rest[run + 1..];
+        rest = behind(rest, run);
         run = plain_run(rest);
     }
     out.extend_from_slice(rest)?;

@@ -7,10 +7,11 @@ ghost use Rattle.trace_lines.specs.text.Hex.{hex16, hex32};
 ghost use Rattle.trace_lines.specs.text.Writes.{Writes};
 
 use super::pieces::add_plain;
+use super::text_buffer::TextBuffer;
 use std::alloc::AllocError;
 
 /// Adds an id of 64 bits.
-pub fn add_id(out: &mut Vec<u8>, front: &str, id: u64) -> Result<(), AllocError>
+pub fn add_id(out: &mut TextBuffer, front: &str, id: u64) -> Result<(), AllocError>
     ensures { Writes result out.old out.new (front.now ++ quoted (hex16 id)) }
 {
     let digits = digits_of(id);
@@ -19,7 +20,7 @@ pub fn add_id(out: &mut Vec<u8>, front: &str, id: u64) -> Result<(), AllocError>
 }
 
 /// Adds an id of 128 bits.
-pub fn add_long_id(out: &mut Vec<u8>, front: &str, id: u128) -> Result<(), AllocError>
+pub fn add_long_id(out: &mut TextBuffer, front: &str, id: u128) -> Result<(), AllocError>
     ensures { Writes result out.old out.new (front.now ++ quoted (hex32 id)) }
 {
     let digits = digits_of_long(id);

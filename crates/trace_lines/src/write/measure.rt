@@ -6,11 +6,12 @@ ghost use Rattle.trace_lines.specs.text.Writes.{Writes};
 
 use super::attribute::add_attributes;
 use super::pieces::{add, add_long_integer, add_number, add_text};
+use super::text_buffer::TextBuffer;
 use otel_metrics::measure::{Measure, MetricKind};
 use std::alloc::AllocError;
 
 /// Adds a measure of the event on a line.
-pub fn add_measure(out: &mut Vec<u8>, line: u64, measure: &Measure) -> Result<(), AllocError>
+pub fn add_measure(out: &mut TextBuffer, line: u64, measure: &Measure) -> Result<(), AllocError>
     ensures { Writes result out.old out.new (compact_text (measure_data line measure.now)) }
 {
     add_attributes(out, "{\"attributes\":", measure.attributes.as_slice())?;

@@ -7,14 +7,15 @@ ghost use Rattle.serde_json.specs.Data.{boolean};
 ghost use Rattle.serde_json.specs.Written.{compact_text, comma_if};
 ghost use Rattle.trace_lines.specs.text.Writes.{Writes};
 
-use super::escape::add_escaped;
+use super::escape::{add_escaped, plain_run};
+use super::text_buffer::TextBuffer;
 use itoa::Buffer;
 use std::alloc::AllocError;
 
 /// Adds a text as it is.
 #[inline(always)]
 #[tactic(auto, using(crate::proofs::texts::AddsLemmas::none_added, crate::proofs::texts::AddsLemmas::byte_added))]
-pub fn add(out: &mut Vec<u8>, front: &str) -> Result<(), AllocError>
+pub fn add(out: &mut TextBuffer, front: &str) -> Result<(), AllocError>
     ensures { Writes result out.old out.new front.now }
 {
     let bytes = front.as_bytes();
@@ -32,7 +33,7 @@ pub fn add(out: &mut Vec<u8>, front: &str) -> Result<(), AllocError>
 
 /// Adds a whole number.
 #[inline(always)]
-pub fn add_number(out: &mut Vec<u8>, front: &str, number: u64) -> Result<(), AllocError>
+pub fn add_number(out: &mut TextBuffer, front: &str, number: u64) -> Result<(), AllocError>
     ensures { Writes result out.old out.new (front.now ++ decimal number) }
 {
     let mut buffer = Buffer::new();
@@ -43,7 +44,7 @@ pub fn add_number(out: &mut Vec<u8>, front: &str, number: u64) -> Result<(), All
 }
 
 /// Adds an integer.
-pub fn add_integer(out: &mut Vec<u8>, front: &str, number: i64) -> Result<(), AllocError>
+pub fn add_integer(out: &mut TextBuffer, front: &str, number: i64) -> Result<(), AllocError>
     ensures { Writes result out.old out.new (front.now ++ signed_decimal number) }
 {
     let mut buffer = Buffer::new();
@@ -54,7 +55,7 @@ pub fn add_integer(out: &mut Vec<u8>, front: &str, number: i64) -> Result<(), Al
 }
 
 /// Adds an integer of 128 bits.
-pub fn add_long_integer(out: &mut Vec<u8>, front: &str, number: i128) -> Result<(), AllocError>
+pub fn add_long_integer(out: &mut TextBuffer, front: &str, number: i128) -> Result<(), AllocError>
     ensures { Writes result out.old out.new (front.now ++ signed_decimal number) }
 {
     let mut buffer = Buffer::new();
@@ -73,7 +74,7 @@ fn flag_word(flag: bool) -> &'static str
 
 /// Adds true or false.
 #[inline(always)]
-pub fn add_flag(out: &mut Vec<u8>, front: &str, flag: bool) -> Result<(), AllocError>
+pub fn add_flag(out: &mut TextBuffer, front: &str, flag: bool) -> Result<(), AllocError>
     ensures { Writes result out.old out.new (front.now ++ compact_text (boolean flag)) }
 {
     add(out, front)?;
@@ -82,26 +83,30 @@ pub fn add_flag(out: &mut Vec<u8>, front: &str, flag: bool) -> Result<(), AllocE
 }
 
 /// Adds a text in quotes.
-pub fn add_text(out: &mut Vec<u8>, front: &str, text: &str) -> Result<(), AllocError>
+#[tactic(auto, using(crate::proofs::texts::EscapesLemmas::plain_whole))]
+pub fn add_text(out: &mut TextBuffer, front: &str, text: &str) -> Result<(), AllocError>
     ensures { Writes result out.old out.new (front.now ++ quoted text.now) }
 {
+    let bytes = text.as_bytes();
+    if plain_run(bytes) == bytes.len() {
+        return add_plain(out, front, bytes);
+    }
     add(out, front)?;
     out.push(b'"')?;
-    add_escaped(out, text.as_bytes())?;
+    add_escaped(out, bytes)?;
     out.push(b'"')?;
     Ok(())
 }
 
 /// Adds a text in quotes that needs no escape, by its bytes.
-pub fn add_plain(out: &mut Vec<u8>, front: &str, text: &[u8]) -> Result<(), AllocError>
+#[inline(always)]
+pub fn add_plain(out: &mut TextBuffer, front: &str, text: &[u8]) -> Result<(), AllocError>
     requires utf8 { IsUtf8 text.now }
     requires plain { escape text.now ≡ text.now }
     ensures { Writes result out.old out.new (front.now ++ quoted text.now) }
 {
     add(out, front)?;
-    out.push(b'"')?;
-    out.extend_from_slice(text)?;
-    out.push(b'"')?;
+    out.add_quoted(text)?;
     Ok(())
 }
 

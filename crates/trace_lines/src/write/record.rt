@@ -9,6 +9,7 @@ ghost use Rattle.trace_lines.specs.text.Writes.{Writes};
 use super::attribute::add_attributes;
 use super::hex::{add_id, add_long_id};
 use super::pieces::{add, add_number, add_text, separator};
+use super::text_buffer::TextBuffer;
 use otel_base::record::{Link, OtelEvent, Record, SpanKind};
 use otel_base::status::Status;
 use std::alloc::AllocError;
@@ -16,7 +17,7 @@ use std::alloc::AllocError;
 /// Adds the record with a number, and its lane, if that is told.
 #[tactic(auto, unfolding(crate::specs::values::RecordData::record_object))]
 pub fn add_record(
-    out: &mut Vec<u8>,
+    out: &mut TextBuffer,
     number: u64,
     lane: Option<u64>,
     finished: &Record,
@@ -40,7 +41,7 @@ pub fn add_record(
     Ok(())
 }
 
-fn add_lane(out: &mut Vec<u8>, lane: Option<u64>) -> Result<(), AllocError>
+fn add_lane(out: &mut TextBuffer, lane: Option<u64>) -> Result<(), AllocError>
     ensures { Writes result out.old out.new (lane_text lane) }
 {
     match lane {
@@ -76,14 +77,14 @@ fn kind_member(kind: SpanKind) -> &'static str
     }
 }
 
-fn add_kind(out: &mut Vec<u8>, kind: SpanKind) -> Result<(), AllocError>
+fn add_kind(out: &mut TextBuffer, kind: SpanKind) -> Result<(), AllocError>
     ensures { Writes result out.old out.new (codes ",\"kind\":" ++ quoted (kind_name kind)) }
 {
     add(out, kind_member(kind))?;
     Ok(())
 }
 
-fn add_error(out: &mut Vec<u8>, front: &str, description: &str) -> Result<(), AllocError>
+fn add_error(out: &mut TextBuffer, front: &str, description: &str) -> Result<(), AllocError>
     ensures { Writes result out.old out.new
         (front.now ++ compact_text (status_data (Status.Error description.now))) }
 {
@@ -94,7 +95,7 @@ fn add_error(out: &mut Vec<u8>, front: &str, description: &str) -> Result<(), Al
 }
 
 #[tactic(auto, unfolding(json::specs::Print::escape_byte))]
-fn add_status(out: &mut Vec<u8>, status: &Status) -> Result<(), AllocError>
+fn add_status(out: &mut TextBuffer, status: &Status) -> Result<(), AllocError>
     ensures { Writes result out.old out.new
         (codes ",\"status\":" ++ compact_text (status_data status.now)) }
 {
@@ -105,7 +106,7 @@ fn add_status(out: &mut Vec<u8>, status: &Status) -> Result<(), AllocError>
     }
 }
 
-fn add_events(out: &mut Vec<u8>, front: &str, events: &[OtelEvent]) -> Result<(), AllocError>
+fn add_events(out: &mut TextBuffer, front: &str, events: &[OtelEvent]) -> Result<(), AllocError>
     ensures { Writes result out.old out.new (front.now ++ compact_text (array_of event_data events.now)) }
 {
     add(out, front)?;
@@ -119,7 +120,7 @@ fn add_events(out: &mut Vec<u8>, front: &str, events: &[OtelEvent]) -> Result<()
     Ok(())
 }
 
-fn add_event(out: &mut Vec<u8>, front: &str, event: &OtelEvent) -> Result<(), AllocError>
+fn add_event(out: &mut TextBuffer, front: &str, event: &OtelEvent) -> Result<(), AllocError>
     ensures { Writes result out.old out.new (front.now ++ compact_text (event_data event.now)) }
 {
     add(out, front)?;
@@ -130,7 +131,7 @@ fn add_event(out: &mut Vec<u8>, front: &str, event: &OtelEvent) -> Result<(), Al
     Ok(())
 }
 
-fn add_links(out: &mut Vec<u8>, front: &str, links: &[Link]) -> Result<(), AllocError>
+fn add_links(out: &mut TextBuffer, front: &str, links: &[Link]) -> Result<(), AllocError>
     ensures { Writes result out.old out.new (front.now ++ compact_text (array_of link_data links.now)) }
 {
     add(out, front)?;
@@ -144,7 +145,7 @@ fn add_links(out: &mut Vec<u8>, front: &str, links: &[Link]) -> Result<(), Alloc
     Ok(())
 }
 
-fn add_link(out: &mut Vec<u8>, front: &str, link: &Link) -> Result<(), AllocError>
+fn add_link(out: &mut TextBuffer, front: &str, link: &Link) -> Result<(), AllocError>
     ensures { Writes result out.old out.new (front.now ++ compact_text (link_data link.now)) }
 {
     add(out, front)?;

@@ -5,12 +5,13 @@ ghost use Rattle.trace_lines.specs.text.Texts.{refusal_data, named_refusal, refu
 ghost use Rattle.trace_lines.specs.text.Writes.{Writes};
 
 use super::pieces::{add, add_number, add_text};
+use super::text_buffer::TextBuffer;
 use crate::told::Told;
 use span_script::reply::{Refusal, What};
 use std::alloc::AllocError;
 
 /// Adds why a line is refused.
-pub fn add_refusal(out: &mut Vec<u8>, line: u64, told: &Told) -> Result<(), AllocError>
+pub fn add_refusal(out: &mut TextBuffer, line: u64, told: &Told) -> Result<(), AllocError>
     ensures { Writes result out.old out.new (compact_text (refusal_data line told.now)) }
 {
     match told {
@@ -34,22 +35,22 @@ fn text_name(counting: bool) -> &'static str
 }
 
 // Adds which line's step is refused and why.
-fn add_step(out: &mut Vec<u8>, line: u64, refusal: Refusal) -> Result<(), AllocError>
+fn add_step(out: &mut TextBuffer, line: u64, refusal: Refusal) -> Result<(), AllocError>
     ensures { Writes result out.old out.new (compact_text (refusal_data line (Told.Step refusal))) }
 {
     match refusal {
         Refusal::BadMoment { before, given } => add_moment(out, line, before, given),
         Refusal::UnknownName { what } => add_unknown(out, line, what),
         Refusal::InUse => add_named(out, line, "InUse"),
-        Refusal::WrongLane { lane } => add_on_lane(out, line, lane, "WrongLane"),
-        Refusal::Full { lane } => add_on_lane(out, line, lane, "Full"),
+        Refusal::WrongLane { lane_place } => add_on_lane(out, line, lane_place, "WrongLane"),
+        Refusal::Full { lane_place } => add_on_lane(out, line, lane_place, "Full"),
         Refusal::Directive { piece } => add_directive(out, line, piece, "reload"),
         Refusal::Memory => add_named(out, line, "Memory"),
     }
 }
 
 // Adds which piece of a text of directives is none.
-fn add_directive(out: &mut Vec<u8>, line: u64, piece: u64, text: &str) -> Result<(), AllocError>
+fn add_directive(out: &mut TextBuffer, line: u64, piece: u64, text: &str) -> Result<(), AllocError>
     ensures { Writes result out.old out.new (compact_text (directive_refusal line text.now piece)) }
 {
     add_number(out, "{\"line\":", line)?;
@@ -59,7 +60,7 @@ fn add_directive(out: &mut Vec<u8>, line: u64, piece: u64, text: &str) -> Result
     Ok(())
 }
 
-fn add_moment(out: &mut Vec<u8>, line: u64, before: u64, given: u64) -> Result<(), AllocError>
+fn add_moment(out: &mut TextBuffer, line: u64, before: u64, given: u64) -> Result<(), AllocError>
     ensures { Writes result out.old out.new
         (compact_text (refusal_data line (Told.Step (Refusal.BadMoment before given)))) }
 {
@@ -70,7 +71,7 @@ fn add_moment(out: &mut Vec<u8>, line: u64, before: u64, given: u64) -> Result<(
     Ok(())
 }
 
-fn add_unknown(out: &mut Vec<u8>, line: u64, what: What) -> Result<(), AllocError>
+fn add_unknown(out: &mut TextBuffer, line: u64, what: What) -> Result<(), AllocError>
     ensures { Writes result out.old out.new
         (compact_text (refusal_data line (Told.Step (Refusal.UnknownName what)))) }
 {
@@ -94,7 +95,7 @@ fn name_of(what: What) -> &'static str
 }
 
 // Adds which line is refused and the refusal's name.
-fn add_named(out: &mut Vec<u8>, line: u64, name: &str) -> Result<(), AllocError>
+fn add_named(out: &mut TextBuffer, line: u64, name: &str) -> Result<(), AllocError>
     ensures { Writes result out.old out.new (compact_text (named_refusal line name.now)) }
 {
     add_number(out, "{\"line\":", line)?;
@@ -104,7 +105,7 @@ fn add_named(out: &mut Vec<u8>, line: u64, name: &str) -> Result<(), AllocError>
 }
 
 // Adds which line is refused on which lane, and the refusal's name.
-fn add_on_lane(out: &mut Vec<u8>, line: u64, lane: u64, name: &str) -> Result<(), AllocError>
+fn add_on_lane(out: &mut TextBuffer, line: u64, lane: u64, name: &str) -> Result<(), AllocError>
     ensures { Writes result out.old out.new (compact_text (refusal_on line lane name.now)) }
 {
     add_number(out, "{\"lane\":", lane)?;

@@ -7,13 +7,14 @@ ghost use Rattle.trace_lines.specs.text.Writes.{Writes};
 
 use super::hex::{add_id, add_long_id};
 use super::pieces::{add, add_flag, add_number, add_text};
+use super::text_buffer::TextBuffer;
 use otel_base::context::SpanContext;
 use otel_state::op::SetParentError;
 use span_script::reply::Reply;
 use std::alloc::AllocError;
 
 // What stands in front of the handle of a span that was made.
-fn made_front(enabled: bool) -> &'static str
+fn handle_front(enabled: bool) -> &'static str
     ensures { result.now ≡ codes "{\"enabled\":" ++ (compact_text (boolean enabled) ++ codes ",\"handle\":") }
 {
     if enabled {
@@ -23,16 +24,16 @@ fn made_front(enabled: bool) -> &'static str
     }
 }
 
-fn add_made(out: &mut Vec<u8>, line: u64, enabled: bool, handle: u64) -> Result<(), AllocError>
+fn add_handle(out: &mut TextBuffer, line: u64, enabled: bool, handle: u64) -> Result<(), AllocError>
     ensures { Writes result out.old out.new (compact_text (reply_data line (Reply.Made enabled handle))) }
 {
-    add_number(out, made_front(enabled), handle)?;
+    add_number(out, handle_front(enabled), handle)?;
     add_number(out, ",\"reply\":", line)?;
     add(out, "}")?;
     Ok(())
 }
 
-fn add_guard(out: &mut Vec<u8>, line: u64, guard: u64) -> Result<(), AllocError>
+fn add_guard(out: &mut TextBuffer, line: u64, guard: u64) -> Result<(), AllocError>
     ensures { Writes result out.old out.new (compact_text (reply_data line (Reply.Guard guard))) }
 {
     add_number(out, "{\"guard\":", guard)?;
@@ -42,7 +43,7 @@ fn add_guard(out: &mut Vec<u8>, line: u64, guard: u64) -> Result<(), AllocError>
 }
 
 fn add_context(
-    out: &mut Vec<u8>,
+    out: &mut TextBuffer,
     line: u64,
     context: u64,
     ids: SpanContext,
@@ -68,7 +69,7 @@ fn enabled_front(enabled: bool) -> &'static str
     }
 }
 
-fn add_enabled(out: &mut Vec<u8>, line: u64, enabled: bool) -> Result<(), AllocError>
+fn add_enabled(out: &mut TextBuffer, line: u64, enabled: bool) -> Result<(), AllocError>
     ensures { Writes result out.old out.new (compact_text (reply_data line (Reply.Enabled enabled))) }
 {
     add_number(out, enabled_front(enabled), line)?;
@@ -76,7 +77,7 @@ fn add_enabled(out: &mut Vec<u8>, line: u64, enabled: bool) -> Result<(), AllocE
     Ok(())
 }
 
-fn add_has(out: &mut Vec<u8>, line: u64, has: bool) -> Result<(), AllocError>
+fn add_has(out: &mut TextBuffer, line: u64, has: bool) -> Result<(), AllocError>
     ensures { Writes result out.old out.new (compact_text (reply_data line (Reply.Has has))) }
 {
     add_flag(out, "{\"has\":", has)?;
@@ -96,7 +97,11 @@ fn name_of(set: Result<(), SetParentError>) -> &'static str
     }
 }
 
-fn add_set(out: &mut Vec<u8>, line: u64, set: Result<(), SetParentError>) -> Result<(), AllocError>
+fn add_set(
+    out: &mut TextBuffer,
+    line: u64,
+    set: Result<(), SetParentError>,
+) -> Result<(), AllocError>
     ensures { Writes result out.old out.new (compact_text (reply_data line (Reply.Set set))) }
 {
     add_number(out, "{\"reply\":", line)?;
@@ -105,7 +110,7 @@ fn add_set(out: &mut Vec<u8>, line: u64, set: Result<(), SetParentError>) -> Res
     Ok(())
 }
 
-fn add_done(out: &mut Vec<u8>, line: u64) -> Result<(), AllocError>
+fn add_done(out: &mut TextBuffer, line: u64) -> Result<(), AllocError>
     ensures { Writes result out.old out.new (compact_text (reply_data line Reply.Done)) }
 {
     add_number(out, "{\"reply\":", line)?;
@@ -114,11 +119,11 @@ fn add_done(out: &mut Vec<u8>, line: u64) -> Result<(), AllocError>
 }
 
 /// Adds the reply to the request on a line.
-pub fn add_reply(out: &mut Vec<u8>, line: u64, reply: &Reply) -> Result<(), AllocError>
+pub fn add_reply(out: &mut TextBuffer, line: u64, reply: &Reply) -> Result<(), AllocError>
     ensures { Writes result out.old out.new (compact_text (reply_data line reply.now)) }
 {
     match reply {
-        Reply::Made { enabled, handle } => add_made(out, line, *enabled, *handle),
+        Reply::Made { enabled, handle } => add_handle(out, line, *enabled, *handle),
         Reply::Guard { guard } => add_guard(out, line, *guard),
         Reply::Context { context, ids } => add_context(out, line, *context, *ids),
         Reply::Done => add_done(out, line),

@@ -4,6 +4,7 @@ ghost use Rattle.trace_lines.specs.Replay.{summary_data};
 ghost use Rattle.trace_lines.specs.text.Writes.{Writes};
 
 use super::pieces::{add, add_number};
+use super::text_buffer::TextBuffer;
 use std::alloc::AllocError;
 
 /// What a run came to, in numbers.
@@ -24,7 +25,7 @@ pub struct Summary {
 }
 
 /// Adds the numbers, by their names.
-pub(crate) fn add_summary(out: &mut Vec<u8>, summary: &Summary) -> Result<(), AllocError>
+pub(crate) fn add_summary(out: &mut TextBuffer, summary: &Summary) -> Result<(), AllocError>
     ensures { Writes result out.old out.new (compact_text (summary_data summary.now)) }
 {
     add_number(out, "{\"busy\":", summary.busy)?;

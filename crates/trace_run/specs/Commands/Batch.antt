@@ -7,7 +7,7 @@ use Rattle.span_script.specs.Tables.{tables}
 use Rattle.trace_batch.specs.declared.relay.TheConstants.{MOST_LANES}
 use Rattle.trace_records.specs.Inputs.{TellsRun, accepts_within}
 use Rattle.trace_records.specs.Scripts.{ScriptRan, script_of}
-use Rattle.trace_stream.specs.reading.AllLines.{all_lines}
+use Rattle.trace_stream.specs.reading.AllLines.{meaning_of_all_lines}
 use Rattle.trace_stream.specs.Meaning.{Meaning}
 use Rattle.trace_run.specs.declared.batch.TheConstants.{MOST_ITEMS}
 
@@ -24,5 +24,5 @@ TellsAll n lines text = TellsRun (TellsBatchesOf n) (script_of (Some MOST_LANES)
 abbrev pub accepts_few : List (List ℕ) → Bool
 accepts_few lines = accepts_within (Some MOST_LANES) lines
 
-abbrev pub batches : ℕ → Meaning
-batches size = record (all_lines accepts_few (TellsAll size)) { IsPossible = (0 < size) × (size ≤ MOST_ITEMS) }
+abbrev pub meaning_of_batches : ℕ → Meaning
+meaning_of_batches size = record (meaning_of_all_lines accepts_few (TellsAll size)) { IsPossible = (0 < size) × (size ≤ MOST_ITEMS) }

@@ -3,7 +3,7 @@ use Rattle.std.specs.Prelude.{◌≡◌, ℕ, ◌≤◌, List, [], Option, Some,
 use Rattle.std.proofs.Common.{◌⊎◌}
 use Rattle.span_script.specs.Tables.{History}
 use Rattle.trace_lines.specs.declared.generated.TheConstants.{MOST_ROUNDS}
-use Rattle.trace_lines.specs.Generated.{made_setup, made_requests, made_script}
+use Rattle.trace_lines.specs.Generated.{generated_setup, generated_requests, generated_script}
 use Rattle.trace_lines.specs.Replay.{history_after, summary_of, summary_text}
 use Rattle.trace_lines.specs.Report.{IsValid}
 use Rattle.trace_stream.specs.Meaning.{Meaning}
@@ -14,19 +14,19 @@ use Rattle.trace_stream.specs.declared.status.Status.TheVariants as ends
 -- the line of what a history comes to, if it is there
 abbrev pub line_if : Option History → List ℕ
 line_if None = []
-line_if (Some h) = summary_text (summary_of made_setup h)
+line_if (Some h) = summary_text (summary_of generated_setup h)
 
 -- the summary of the script of so many rounds
-abbrev pub made_line : ℕ → List ℕ
-made_line rounds = line_if (history_after made_setup [] (made_requests rounds))
+abbrev pub generated_line : ℕ → List ℕ
+generated_line rounds = line_if (history_after generated_setup [] (generated_requests rounds))
 
 -- What is left in a sink at each status: the whole line, the script being valid, a front of it, or nothing.
 abbrev pub LeavesSum : Status → ℕ → Option (List ℕ) → Option (List ℕ) → Type 0
-LeavesSum ends.Ok rounds before now = IsValid (made_script rounds) × Puts before now (made_line rounds)
+LeavesSum ends.Ok rounds before now = IsValid (generated_script rounds) × Puts before now (generated_line rounds)
 LeavesSum ends.Usage rounds before now = ⊥
 LeavesSum ends.Refused rounds before now = ⊥
 LeavesSum ends.ReadFault rounds before now = ⊥
-LeavesSum ends.WriteFault rounds before now = PutsFront before now (made_line rounds)
+LeavesSum ends.WriteFault rounds before now = PutsFront before now (generated_line rounds)
 LeavesSum ends.Memory rounds before now = Puts before now []
 LeavesSum ends.TooLong rounds before now = ⊥
 
@@ -37,7 +37,7 @@ CompletesSum status writes writes' = IsQuiet writes writes' → (status ≡ ends
 -- A summary was made and written, and nothing was read.
 pub record MakesSum (rounds : ℕ) (status : Status) (before now : Streams) : Type 0 where
   pub leaves : LeavesSum status rounds before.held now.held
-  pub front : PutsFront before.held now.held (made_line rounds)
+  pub front : PutsFront before.held now.held (generated_line rounds)
   pub complete : CompletesSum status before.write_faults now.write_faults
 
 abbrev pub meaning_of_make : ℕ → Meaning

@@ -4,7 +4,7 @@ use Rattle.std.specs.Io.KnownBytes.{IsAtEnd}
 use Rattle.thread_run.specs.Inputs.{accepts_threads, TellsEnded, TellsThreads}
 use Rattle.thread_handles.specs.declared.gather.Ended.{Ended}
 use Rattle.trace_lines.specs.Lines.{lines_of}
-use Rattle.trace_stream.specs.reading.AllLines.{all_lines}
+use Rattle.trace_stream.specs.reading.AllLines.{meaning_of_all_lines}
 use Rattle.trace_stream.specs.Meaning.{Meaning}
 use Rattle.trace_stream.specs.Streams.{Streams, Takes, Puts}
 use Rattle.trace_stream.specs.declared.input.End.{End}
@@ -12,8 +12,8 @@ use Rattle.trace_stream.specs.declared.input.End.TheVariants as end
 use Rattle.trace_stream.specs.declared.status.Status.{Status}
 use Rattle.trace_stream.specs.declared.status.Status.TheVariants as ends
 
-abbrev pub works : Meaning
-works = all_lines accepts_threads TellsThreads
+abbrev pub meaning_of_threads : Meaning
+meaning_of_threads = meaning_of_all_lines accepts_threads TellsThreads
 
 -- The source was read to its end, this came of the shared spans of its lines, and the sink gained what tells of it.
 pub record AreWritten (ended : List Ended) (before now : Streams) : Type 0 where

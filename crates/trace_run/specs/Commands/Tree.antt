@@ -6,7 +6,7 @@ use Rattle.span_script.specs.Tables.{tables}
 use Rattle.trace_lines.specs.Report.{accepts}
 use Rattle.trace_records.specs.Inputs.{TellsRun}
 use Rattle.trace_records.specs.Scripts.{ScriptRan, script_of}
-use Rattle.trace_stream.specs.reading.AllLines.{all_lines}
+use Rattle.trace_stream.specs.reading.AllLines.{meaning_of_all_lines}
 use Rattle.trace_stream.specs.Meaning.{Meaning}
 use Rattle.trace_tree.specs.Busy.{tree_span}
 use Rattle.tree_lines.specs.Texts.{TellsTree}
@@ -20,5 +20,5 @@ TellsTreeOf script text =
 abbrev pub TellsTrees : List (List ℕ) → List ℕ → Type 0
 TellsTrees lines text = TellsRun TellsTreeOf (script_of None lines) text
 
-abbrev pub trees : Meaning
-trees = all_lines accepts TellsTrees
+abbrev pub meaning_of_trees : Meaning
+meaning_of_trees = meaning_of_all_lines accepts TellsTrees

@@ -22,8 +22,8 @@ writes_last accepts Whole = record {
 
 -- What such a command does, by the lines that it accepts and the texts that it may write for all lines of an input, which is
 -- the refusal line alone where one is refused.
-abbrev pub all_lines : (List (List ℕ) → Bool) → (List (List ℕ) → List ℕ → Type 0) → Meaning
-all_lines accepts Whole = meaning_of_reading (writes_last accepts Whole)
+abbrev pub meaning_of_all_lines : (List (List ℕ) → Bool) → (List (List ℕ) → List ℕ → Type 0) → Meaning
+meaning_of_all_lines accepts Whole = meaning_of_reading (writes_last accepts Whole)
 
 -- ---- inner
 

@@ -10,8 +10,8 @@ use Rattle.trace_records.specs.Following.{without_taken}
 use Rattle.trace_stream.specs.Streams.{IsFrontOf}
 use Rattle.trace_stream.specs.reading.Breaks.{AnswersAll}
 use Rattle.trace_stream.specs.declared.answers.Answers.{Answers}
-use Rattle.trace_stream.specs.declared.answers.Stage.{Stage}
-use Rattle.trace_stream.specs.declared.answers.Stage.TheVariants as stage
+use Rattle.trace_stream.specs.declared.answers.RunStage.{RunStage}
+use Rattle.trace_stream.specs.declared.answers.RunStage.TheVariants as stage
 use Rattle.trace_stream.specs.declared.written.Written.{Written}
 
 -- no record and no measure waits to be taken
@@ -51,7 +51,7 @@ pub record Stops (signal : Signal) (lines : List (List ℕ)) (text : List ℕ) :
   pub report_is : (more : List (List ℕ))
       → report_from signal 0 (lines ++ more) ≡ record { written = text; accepted = false }
 
-abbrev pub AnswersAt : Signal → Stage → List (List ℕ) → ℕ → List ℕ → ℕ → Type 0
+abbrev pub AnswersAt : Signal → RunStage → List (List ℕ) → ℕ → List ℕ → ℕ → Type 0
 AnswersAt signal stage.Opening lines count text tally = Opens signal lines count text tally
 AnswersAt signal (stage.Running pipeline) lines count text tally = Runs signal lines count pipeline text tally
 AnswersAt signal stage.Refused lines count text tally = Stops signal lines text
@@ -66,7 +66,7 @@ abbrev pub AnswersTo : Signal → List ℕ → List (List ℕ) → Answers → T
 AnswersTo signal put lines answers =
     AnswersAt signal answers.stage lines answers.lines (put ++ answers.written.text.items) answers.written.count
 
-abbrev pub is_refused : Stage → Bool
+abbrev pub is_refused : RunStage → Bool
 is_refused stage.Opening = false
 is_refused (stage.Running pipeline) = false
 is_refused stage.Refused = true

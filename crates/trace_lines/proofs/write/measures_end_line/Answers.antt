@@ -1,13 +1,9 @@
-use Rattle.std.proofs.Common.{◌≡◌, [], ◌∙◌, rules}
+use Rattle.std.proofs.Common.{◌∙◌}
 use Rattle.trace_lines.proofs.texts.AddsLemmas.{alone, alone_utf8}
 use Rattle.trace_lines.proofs.write.measures_end_line.Goals as goal
 
 pub text_of-requires : goal.text_of-requires
-text_of-requires c =
-    let none : c.in_ok-out.out.items ≡ [] = search rules in
-    alone_utf8 _ _ _ none c.in_ok-add_measures_end_line.ensures
+text_of-requires c = alone_utf8 _ _ _ c.new-out.ensures c.in_ok-add_measures_end_line.ensures
 
 pub returns : goal.returns
-returns c =
-    let none : c.in_ok-out.out.items ≡ [] = search rules in
-    c.text_of.ensures ∙ alone _ _ _ none c.in_ok-add_measures_end_line.ensures
+returns c = c.text_of.ensures ∙ alone _ _ _ c.new-out.ensures c.in_ok-add_measures_end_line.ensures

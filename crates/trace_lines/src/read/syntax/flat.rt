@@ -227,7 +227,7 @@ impl<'a> FlatMembers<'a> {
     }
 
     #[tactic(auto, using(std::proofs::lemmas::List::drop_min))]
-    fn left(&self) -> &[(&'a [u8], Plain<'a>)]
+    fn as_slice(&self) -> &[(&'a [u8], Plain<'a>)]
         ensures { result.now ≡ flat_left self.now }
     {
         let taken = self.taken.min(self.members.len());
@@ -238,7 +238,7 @@ impl<'a> FlatMembers<'a> {
     pub(crate) fn is_empty(&self) -> bool
         ensures { Decides result (length (flat_left self.now) ≡ 0) }
     {
-        self.left().is_empty()
+        self.as_slice().is_empty()
     }
 
     // Takes the first member that is left, with no move of the others.
@@ -274,7 +274,7 @@ impl<'a> FlatMembers<'a> {
         ensures found { option_map plain_data result ≡ get_member name.now (members_of (flat_left self.old)) }
         ensures left { members_of (flat_left self.new) ≡ without_member name.now (members_of (flat_left self.old)) }
     {
-        match place_of(self.left(), name) {
+        match place_of(self.as_slice(), name) {
             Some(at) => Some(self.take_at(at)),
             None => None,
         }

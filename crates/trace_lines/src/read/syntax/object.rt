@@ -38,7 +38,7 @@ pub(crate) fn within(greatest: u64, number: u64) -> Result<u64, LineError>
 }
 
 // A whole number of 32 bits.
-fn short(number: u64) -> Result<u32, LineError>
+fn u32_of(number: u64) -> Result<u32, LineError>
     ensures { Gives (λ n. n) result (at_most (2 ^ 32 - 1) number) }
 {
     u32::try_from(number).map_err(|_| LineError::BadLine)
@@ -168,7 +168,7 @@ impl<'a> Object<'a> {
         ensures { Gives (λ n. (n, members_left self.new)) result (optional_u32 name.now (members_left self.old)) }
     {
         match self.optional(name) {
-            Some(value) => Ok(Some(short(value.whole()?)?)),
+            Some(value) => Ok(Some(u32_of(value.whole()?)?)),
             None => Ok(None),
         }
     }

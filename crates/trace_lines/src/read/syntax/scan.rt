@@ -1,7 +1,7 @@
 //! One scan of compact JSON: numbers, texts with no escape, flags, and arrays and objects of these. None says nothing
 //! of what the text is.
 ghost use Rattle.std.specs.Prelude.{◌≡◌, ◌<◌, ◌-◌, ◌^◌, ◌∷◌, ◌++◌, negsuc, IfSome, decimal};
-ghost use Rattle.json.specs.Print.{quoted};
+ghost use Rattle.json.specs.Print.{escape, quoted};
 ghost use Rattle.serde_json.specs.Data.{Data};
 ghost use Rattle.trace_lines.specs.text.Compact.{plain_data, BeginsWithValue, BeginsItems, BeginsMembers, BeginsNested};
 
@@ -37,10 +37,18 @@ pub fn number(text: &[u8]) -> Option<(u64, &[u8])>
         return None;
     }
     let mut value = (text[0] - b'0') as u64;
+    if value == 0 {
+        return Some((0, &text[1..]));
+    }
     let mut at = 1usize;
-    while value > 0 && at < text.len() && text[at].is_ascii_digit() {
+    while at < text.len() && text[at].is_ascii_digit() {
         let digit = (text[at] - b'0') as u64;
-        value = value.checked_mul(10)?.checked_add(digit)?;
+        // Most numbers are far from the last, so they need no test for a sum that wraps.
+        value = if value < u64::MAX / 10 {
+            value * 10 + digit
+        } else {
+            value.checked_mul(10)?.checked_add(digit)?
+        };
         at += 1;
     }
     Some((value, &text[at..]))
@@ -51,6 +59,17 @@ pub fn number(text: &[u8]) -> Option<(u64, &[u8])>
 #[tactic(auto, using(crate::proofs::readings::CompactLemmas::quoted_text))]
 pub fn text(bytes: &[u8]) -> Option<(&[u8], &[u8])>
     ensures { IfSome result (λ r. bytes.now ≡ quoted r.0.now ++ r.1.now) }
+{
+    let (words, rest) = plain_text(bytes)?;
+    Some((words, rest))
+}
+
+/// The same, told by the bytes that stand there.
+#[inline(always)]
+#[tactic(auto, using(crate::proofs::readings::CompactLemmas::text_cut))]
+pub(crate) fn plain_text(bytes: &[u8]) -> Option<(&[u8], &[u8])>
+    ensures text { IfSome result (λ r. bytes.now ≡ 34 ∷ (r.0.now ++ 34 ∷ r.1.now)) }
+    ensures plain { IfSome result (λ r. escape r.0.now ≡ r.0.now) }
 {
     let body = behind(bytes, b'"')?;
     let at = plain_run(body);
@@ -115,7 +134,17 @@ fn flag_value(bytes: &[u8]) -> Option<(Plain<'_>, &[u8])>
 pub fn word<'a>(text: &'a [u8], word: &[u8]) -> Option<&'a [u8]>
     ensures { IfSome result (λ rest. text.now ≡ word.now ++ rest.now) }
 {
-    text.strip_prefix(word)
+    if text.len() < word.len() {
+        return None;
+    }
+    let mut at = 0usize;
+    while at < word.len() {
+        if text[at] != word[at] {
+            return None;
+        }
+        at += 1;
+    }
+    Some(&text[at..])
 }
 
 // A value that doesn't nest, and what stands behind it.

@@ -17,4 +17,4 @@ returns c =
     let lines = rw c.in_ok-lines.ensures.ok_part at c.checked_add.ensures in
     let all = rw c.in_ok-ok_or.ensures.ok_part at c.checked_add-2.ensures in
     summed c.args.rounds _ c.serve_rounds-served.new.totals _ c.open_spans-open_spans.result c.in_ok-ok_or.field-0 served
-    (λ h runs. c.valid.ensures c.args.rounds h c.requires read runs) c.open_spans-open_spans.ensures (all.1 ∙ ap (λ (n : ℕ). n + 1) lines.1) refl
+    (λ h runs. c.validity.ensures c.args.rounds h c.requires read runs) c.open_spans-open_spans.ensures (all.1 ∙ ap (λ (n : ℕ). n + 1) lines.1) refl

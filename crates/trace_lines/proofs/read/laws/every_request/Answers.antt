@@ -1,7 +1,7 @@
 use Rattle.std.proofs.Common.{◌≡◌, ℕ, Some, None, refl}
 use Rattle.trace_lines.proofs.Common.{Call, object_of, request_form, new_form, clone_form, or_current_form, drop_form, enter_form, entered_form, exit_form, record_form, has_field_form, event_form, remote_form, context_form, attach_form, detach_form, enabled_form, reload_form}
 use Rattle.span_script.specs.declared.request.Call.TheVariants as call
-use Rattle.span_script.specs.declared.request.Place.TheVariants as place
+use Rattle.span_script.specs.declared.request.RequestParent.TheVariants as request_parent
 use Rattle.trace_lines.specs.forms.ExtensionForm.{follows_form, set_parent_form, add_link_form, set_attribute_form, set_status_form, add_event_form}
 use Rattle.trace_lines.specs.values.RequestData.{IsInRange, request_of, request_data}
 use Rattle.trace_lines.proofs.readings.AttributesLemmas.{otel_read, attributes_read, status_read, time_read}
@@ -11,9 +11,9 @@ use Rattle.trace_lines.proofs.read.laws.every_request.Goals as goal
 
 is_read : (at lane : ℕ) (call : Call) → IsInRange call → object_of request_form (request_data (request_of at lane call)) ≡ Some (request_of at lane call)
 unfolding request_form new_form clone_form or_current_form drop_form enter_form entered_form exit_form record_form has_field_form event_form remote_form context_form attach_form detach_form follows_form set_parent_form add_link_form set_attribute_form set_status_form add_event_form enabled_form reload_form
-is_read at lane (call.New site place.Contextual fields) range = rw (fields_read fields range) refl
-is_read at lane (call.New site place.Root fields) range = rw (fields_read fields range) refl
-is_read at lane (call.New site (place.Under handle) fields) range = rw (fields_read fields range) refl
+is_read at lane (call.New site request_parent.Contextual fields) range = rw (fields_read fields range) refl
+is_read at lane (call.New site request_parent.Root fields) range = rw (fields_read fields range) refl
+is_read at lane (call.New site (request_parent.Under handle) fields) range = rw (fields_read fields range) refl
 is_read at lane call.Current range = refl
 is_read at lane (call.Clone handle) range = refl
 is_read at lane (call.OrCurrent handle) range = refl
@@ -23,9 +23,9 @@ is_read at lane (call.Entered handle) range = refl
 is_read at lane (call.Exit guard) range = refl
 is_read at lane (call.Record handle fields) range = rw (fields_read fields range) refl
 is_read at lane (call.HasField handle name) range = refl
-is_read at lane (call.Event site place.Contextual fields) range = rw (fields_read fields range) refl
-is_read at lane (call.Event site place.Root fields) range = rw (fields_read fields range) refl
-is_read at lane (call.Event site (place.Under handle) fields) range = rw (fields_read fields range) refl
+is_read at lane (call.Event site request_parent.Contextual fields) range = rw (fields_read fields range) refl
+is_read at lane (call.Event site request_parent.Root fields) range = rw (fields_read fields range) refl
+is_read at lane (call.Event site (request_parent.Under handle) fields) range = rw (fields_read fields range) refl
 is_read at lane (call.Remote ids) range = rw (long_id_read ids.trace range.0, id_read ids.span range.1) refl
 is_read at lane (call.Context handle) range = refl
 is_read at lane (call.Attach context) range = refl

@@ -32,6 +32,6 @@ returns-in-Ok-2 g c lines follows =
     c.args.self.now.finished c.take_records.new.self c.args.line.now c.in-Ok-2.answered r sum.1 (sym c.is_blank.ensures ∙ c.if-is_blank.false) a
     (c.take_records.ensures.state ∙ c.drop_measures.ensures.state) taken
     (spans ∙ ap (λ (f : List Record). c.args.self.now.finished.spans.items ++ map g.K.Kept.of_record f) left)
-    (lanes ∙ ap (λ (f : List Record). c.args.self.now.finished.lanes.items ++ map (λ (x : Record). c.in-Ok-2.answered.lane) f) left)
+    (lanes ∙ ap (λ (f : List Record). c.args.self.now.finished.lanes.items ++ map (λ (x : Record). c.in-Ok-2.answered.lane_place) f) left)
     c.take_records.ensures.count)
     c.take_records.ensures.spans c.take_records.ensures.lanes c.take_records.ensures.taken

@@ -12,4 +12,4 @@ returns c put front k =
     let lines : lines_of front ≡ whole_lines front ++ c.as_slice.result.now ∷ [] =
     lines_kept front c.args.self.now.kept.items k.parts k.rest some ∙ ap (λ (l : List ℕ). whole_lines front ++ l ∷ []) (sym c.as_slice.ensures.value) in
     subst (λ (ls : List (List ℕ)). IfOk c.end-2.result (λ accepted. report_from c.args.signal 0 ls ≡ record { written = put ++ c.end-2.new.self.written.text.items; accepted = accepted })) (sym lines)
-    (c.end-2.ensures put _ (c.in_ok-line.ensures put (whole_lines front) k.answered))
+    (c.end-2.ensures put _ (c.in_ok-answer_line.ensures put (whole_lines front) k.answered))

@@ -3,8 +3,8 @@ use Rattle.trace_stream.specs.reading.Breaks.{has_feed}
 use Rattle.trace_stream.proofs.ProgressLemmas.{left_front, front_of_piece, piece_on, midway_line, midway_kept}
 use Rattle.trace_stream.proofs.progress.Progress.feed.Goals as goal
 
-pub returns-in_default-line-clause-midway : goal.returns-in_default-line-clause-midway
-returns-in_default-line-clause-midway g c before front m =
+pub returns-in_default-answer_line-clause-midway : goal.returns-in_default-answer_line-clause-midway
+returns-in_default-answer_line-clause-midway g c before front m =
     let told = c.loop-line.invariant.told in
     front_of_piece c.args.signal before (g.W.Sink.holds c.loop-line.sink) front told.0 c.loop-line.rest.now c.args.piece.now told.1
     (left_front c.args.signal before (g.W.Sink.holds c.loop-line.sink) (front ++ told.0) c.loop-line.self (told.2 before front m))
@@ -19,7 +19,7 @@ returns-in_default-relieve-clause-midway g c before front m =
     front_of_piece c.args.signal before (g.W.Sink.holds c.relieve.new.sink) front done after c.args.piece.now
     (piece_on c.args.piece.now told.0 c.loop-line.rest.now line after told.1 parts)
     (c.in_default-relieve.ensures.midway c.args.signal before (front ++ done)
-    (midway_line c.args.signal before (g.W.Sink.holds c.loop-line.sink) front told.0 line c.loop-line.self c.line.new.self (told.2 before front m) c.in-Ok.ensures))
+    (midway_line c.args.signal before (g.W.Sink.holds c.loop-line.sink) front told.0 line c.loop-line.self c.answer_line.new.self (told.2 before front m) c.in-Ok.ensures))
 
 pub loop-line-preserved : goal.loop-line-preserved
 loop-line-preserved g c =
@@ -33,7 +33,7 @@ loop-line-preserved g c =
         done,
         piece_on c.args.piece.now told.0 c.loop-line.rest.now line after told.1 parts,
         λ before front m. c.in-Ok-relieve.ensures.midway c.args.signal before (front ++ done)
-            (midway_line c.args.signal before (g.W.Sink.holds c.loop-line.sink) front told.0 line c.loop-line.self c.line.new.self (told.2 before front m) c.in-Ok.ensures),
+            (midway_line c.args.signal before (g.W.Sink.holds c.loop-line.sink) front told.0 line c.loop-line.self c.answer_line.new.self (told.2 before front m) c.in-Ok.ensures),
       );
       sure = c.in-Ok-relieve.ensures.sure ∙ c.loop-line.invariant.sure;
     }

@@ -8,6 +8,6 @@ returns-in-Some-clause-found c =
     let at = c.in-Some.at in
     let e : Entry = (c.args.name, c.take_at.result) in
     ap (λ p. Some (plain_data p)) (c.take_at.ensures.plain e)
-    ∙ ap (λ (es : List Entry). Some (plain_data (get_or es at e).1)) (sym c.left.ensures)
+    ∙ ap (λ (es : List Entry). Some (plain_data (get_or es at e).1)) (sym c.as_slice.ensures)
     ∙ sym (c.in-Some.ensures.1 e)
-    ∙ ap (λ (es : List Entry). get_member c.args.name.now (members_of es)) c.left.ensures
+    ∙ ap (λ (es : List Entry). get_member c.args.name.now (members_of es)) c.as_slice.ensures

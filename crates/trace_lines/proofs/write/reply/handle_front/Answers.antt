@@ -1,5 +1,5 @@
 use Rattle.std.proofs.Common.{refl}
-use Rattle.trace_lines.proofs.write.reply.made_front.Goals as goal
+use Rattle.trace_lines.proofs.write.reply.handle_front.Goals as goal
 
 pub returns-then-enabled : goal.returns-then-enabled
 returns-then-enabled c = rw c.if-enabled.true refl

@@ -3,7 +3,7 @@ use Rattle.trace_lines.proofs.Common.{boolean, compact_text, escape_byte}
 use Rattle.trace_lines.proofs.texts.AddsLemmas.{then, retold}
 use Rattle.trace_lines.specs.text.Texts.{reply_data}
 use Rattle.span_script.specs.declared.reply.Reply.TheVariants as reply
-use Rattle.trace_lines.proofs.write.reply.add_made.Goals as goal
+use Rattle.trace_lines.proofs.write.reply.add_handle.Goals as goal
 
 whole : (enabled : Bool) (handle line : ℕ) → ((codes "{\"enabled\":" ++ (compact_text (boolean enabled) ++ codes ",\"handle\":")) ++ decimal handle) ++ ((codes ",\"reply\":" ++ decimal line) ++ codes "}")
     ≡ compact_text (reply_data line (reply.Made enabled handle))
@@ -14,4 +14,4 @@ whole false handle line = refl
 pub returns : goal.returns
 returns c =
     retold _ _ _ _ (then _ _ _ _ _ c.in_ok-add_number.ensures (then _ _ _ _ _ c.in_ok-add_number-2.ensures c.in_ok-add.ensures))
-    (rw c.made_front.ensures (whole c.args.enabled c.args.handle c.args.line))
+    (rw c.handle_front.ensures (whole c.args.enabled c.args.handle c.args.line))

@@ -1,5 +1,5 @@
 use Rattle.std.proofs.Common.{sym, ◌∙◌}
-use Rattle.trace_stream.proofs.answers.Answers.line.Goals as goal
+use Rattle.trace_stream.proofs.answers.Answers.answer_line.Goals as goal
 
 pub returns-in-Opening : goal.returns-in-Opening
 returns-in-Opening c put lines answers =

@@ -2,7 +2,7 @@
 use Rattle.std.proofs.Common.{nat_cmp, ap, ◌∙◌, sym, arith}
 use Rattle.trace_lines.proofs.Common.{contains, is_at, list_any, unit_if, lane_ids}
 use Rattle.trace_lines.proofs.ids.DistinctLemmas.{begins, next_lane, same_lane}
-use Rattle.trace_lines.proofs.read.settings.distinct.Goals as goal
+use Rattle.trace_lines.proofs.read.settings.require_distinct.Goals as goal
 
 pub loop-lane-init : goal.loop-lane-init
 loop-lane-init c = begins (contains nat_cmp c.new-seen.result) (lane_ids c.args.lanes.now) (λ q. ap (list_any (is_at (nat_cmp q))) c.new-seen.ensures.empty)
