@@ -1,5 +1,5 @@
 -- The rule of the gate for a new filter.
-use Rattle.std.proofs.Common.{◌≡◌, ℕ, List, Bool, true, false, Some, refl, ap, ◌∙◌}
+use Rattle.std.proofs.Common.{◌≡◌, List, Bool, true, false, Some, refl, ap, ◌∙◌}
 use Rattle.std.specs.Prelude.{◌||◌, ◌&&◌}
 use Rattle.trace_base.specs.declared.callsite.Callsite.{Callsite}
 use Rattle.trace_base.specs.declared.level.LevelFilter.{LevelFilter}

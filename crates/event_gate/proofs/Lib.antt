@@ -1,2 +1,4 @@
 pub mod Texts
 pub mod Filters
+pub mod PatternCrossing
+pub mod FilterCrossing

@@ -1,8 +1,8 @@
 -- What a text is read as by its grammar are its directives, and why it gives no filter.
-use Rattle.std.proofs.Common.{◌≡◌, ℕ, ◌+◌, List, [], ◌∷◌, ◌++◌, Bool, false, Ok, Err, refl, sym, ap, ◌∙◌}
+use Rattle.std.proofs.Common.{◌≡◌, ℕ, ◌+◌, List, [], ◌∷◌, ◌++◌, Bool, false, Result, Ok, Err, refl, sym, ap, subst, ◌∙◌}
 use Rattle.std.specs.Prelude.{flat_map}
+use Rattle.std.specs.Result.{IsErrAnd}
 use Rattle.std.specs.Str.{trim}
-use Rattle.env_directives.specs.reading.Reading.{DirectiveRead}
 use Rattle.env_directives.specs.reading.Separators.{comma_pieces}
 use Rattle.env_directives.specs.declared.directive.ParseError.{ParseError}
 use Rattle.env_directives.specs.declared.directive.ParseError.TheVariants as fault
@@ -10,10 +10,11 @@ use Rattle.env_directives.specs.declared.env.directive.Directive.{Directive}
 use Rattle.env_directives.proofs.forms.GrammarLemmas.{directive_reads}
 use Rattle.env_filter.specs.declared.pieces.Ignored.{Ignored}
 use Rattle.env_filter.specs.texts.Building.{filter_by, IsFilterOf, HasFilterFaultAt}
-use Rattle.env_filter.specs.Filtering.{FilterWithRoom, plain, IsNewFilter}
+use Rattle.env_filter.specs.Filtering.{FilterWithRoom, plain_filter, IsNewFilter}
 use Rattle.env_filter.specs.texts.Pieces.{ReadsPiece, ReadsAll, IsFirstFault}
 use Rattle.env_filter.specs.texts.Printing.{fixed_builder}
-use Rattle.event_gate.specs.Rules.{directive_read, directive_in, IsTextFilter}
+use Rattle.event_gate.specs.declared.error.GateError.{GateError}
+use Rattle.event_gate.specs.Rules.{directive_read, directive_in, IsTextFilter, GivesGate}
 
 -- one piece
 one_read : (n : ℕ) (piece : List ℕ) (ds : List Directive) → ReadsPiece false n piece ds [] → ds ≡ directive_in piece
@@ -34,11 +35,11 @@ all_read n (piece ∷ pieces) ds r = by_ignored (λ behind. all_read (n + 1) pie
     by_ignored later (i ∷ is) js e one behind = absurd (cc e)
 
 -- the filter that was made of a text
-pub read_of : (text : List ℕ) (f : FilterWithRoom) → IsFilterOf fixed_builder text [] (plain f) → IsNewFilter (plain f) → IsTextFilter text f
+pub read_of : (text : List ℕ) (f : FilterWithRoom) → IsFilterOf fixed_builder text [] (plain_filter f) → IsNewFilter (plain_filter f) → IsTextFilter text f
 read_of text f of new = record { is = of.is ∙ ap (λ (ds : List Directive). filter_by fixed_builder ds) (all_read 1 (comma_pieces text) of.directives of.reads); new = new }
 
 -- each piece was read
-pub told_by : (text : List ℕ) (f : FilterWithRoom) → IsFilterOf fixed_builder text [] (plain f) → (ds : List Directive) × ReadsAll false 1 (comma_pieces text) ds []
+pub told_by : (text : List ℕ) (f : FilterWithRoom) → IsFilterOf fixed_builder text [] (plain_filter f) → (ds : List Directive) × ReadsAll false 1 (comma_pieces text) ds []
 told_by text f of = (of.directives, of.reads)
 
 -- why a text gives none
@@ -50,3 +51,8 @@ first_fault patterns text number fault.Field other refused = (fault.Field, refus
 first_fault patterns text number fault.Pattern other refused = (fault.Pattern, refused)
 first_fault patterns text number fault.Equals other refused = (fault.Equals, refused)
 first_fault patterns text number (fault.Fields many) other refused = (fault.Fields many, refused)
+
+-- what gives no filter is handed on as it is
+pub handed_on : {A : Type 0} (text : List ℕ) (e : GateError) (r : Result A GateError) → IsErrAnd r (λ given. given ≡ e) → GivesGate {A = A} text (Err e) → GivesGate text r
+handed_on text e (Ok x) is refused = absurd is
+handed_on {A} text e (Err g) is refused = subst (λ (h : GateError). GivesGate {A = A} text (Err h)) (sym is) refused

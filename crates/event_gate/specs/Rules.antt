@@ -12,7 +12,7 @@ use Rattle.env_directives.specs.orders.Choice.{admits}
 use Rattle.env_directives.specs.reading.Reading.{DirectiveRead, reading}
 use Rattle.env_directives.specs.reading.Separators.{comma_pieces}
 use Rattle.env_filter.specs.texts.Building.{filter_by}
-use Rattle.env_filter.specs.Filtering.{FilterState, FilterWithRoom, plain, IsNewFilter, is_cared, hint_in}
+use Rattle.env_filter.specs.Filtering.{FilterState, FilterWithRoom, plain_filter, IsNewFilter, is_cared, hint_in}
 use Rattle.env_filter.specs.texts.Pieces.{ReadsText, IsFirstFault}
 use Rattle.env_filter.specs.texts.Printing.{fixed_builder}
 use Rattle.event_gate.specs.declared.error.GateError.{GateError}
@@ -34,13 +34,13 @@ abbrev pub directives_of : List ℕ → List Directive
 directives_of text = flat_map directive_in (comma_pieces text)
 
 -- the filter of a text, which takes no patterns and has no span and no level
-abbrev pub text_filter : List ℕ → FilterState
-text_filter text = filter_by fixed_builder (directives_of text)
+abbrev pub fixed_text_filter : List ℕ → FilterState
+fixed_text_filter text = filter_by fixed_builder (directives_of text)
 
 -- a new filter of this text
 pub record IsTextFilter (text : List ℕ) (f : FilterWithRoom) : Type 0 where
-  pub is : plain f ≡ text_filter text
-  pub new : IsNewFilter (plain f)
+  pub is : plain_filter f ≡ fixed_text_filter text
+  pub new : IsNewFilter (plain_filter f)
 
 -- A text gives a filter exactly where each of its pieces that isn't empty is a directive; else the first that is none is
 -- told. Want of memory aside.
@@ -62,5 +62,5 @@ abbrev pub gate_rule : FilterState → List LevelFilter → Callsite → Bool
 gate_rule f levels c = admits f.statics.directives c || ((is_cared f c && is_within c.level (hint_in f)) || is_within_some c.level levels)
 
 -- the levels that count under a number: the list where it has that number, else none
-abbrev pub levels_under : ℕ → Levels → List LevelFilter
-levels_under number levels = if levels.reload == number then levels.list else []
+abbrev pub levels_of_reload : ℕ → Levels → List LevelFilter
+levels_of_reload number levels = if levels.reload == number then levels.list else []

@@ -3,9 +3,9 @@ ghost use Rattle.std.specs.Prelude.{◌≡◌, ◌||◌, [], Some, IfOk, IfErr};
 ghost use Rattle.trace_base.specs.Gate.{gate};
 ghost use Rattle.env_filter.specs.texts.Building.{IsFilterOf, HasFilterFaultAt};
 ghost use Rattle.env_filter.specs.texts.Printing.{fixed_builder};
-ghost use Rattle.env_filter.specs.Filtering.{plain, IsNewFilter, interest_in, hint_in, enables_in};
+ghost use Rattle.env_filter.specs.Filtering.{plain_filter, IsNewFilter, interest_in, hint_in, enables_in};
 ghost use Rattle.trace_base.specs.words.Level.{is_within};
-ghost use Rattle.event_gate.specs.Rules.{text_filter, gate_rule, is_within_some, IsTextFilter, GivesGate};
+ghost use Rattle.event_gate.specs.Rules.{fixed_text_filter, gate_rule, is_within_some, IsTextFilter, GivesGate};
 
 use crate::error::GateError;
 use env_directives::directive::ParseError;
@@ -65,14 +65,14 @@ impl TextFilter {
 
     /// Whether a callsite is let through by the text, or by one of the levels. It takes no memory.
     pub fn admits(&self, c: &Callsite, levels: &[LevelFilter]) -> bool
-        ensures { result ≡ gate_rule (text_filter self.now) levels.now c.now }
+        ensures { result ≡ gate_rule (fixed_text_filter self.now) levels.now c.now }
     {
         lets_through(&self.filter, c, levels)
     }
 }
 
 // The filter of a text, without patterns.
-#[tactic(auto, using(crate::proofs::Texts::told_by, crate::proofs::Texts::read_of, crate::proofs::Texts::first_fault))]
+#[tactic(auto, using(crate::proofs::Texts::first_fault))]
 fn filter_of(alloc: Global, text: &str) -> Result<EnvFilter, GateError>
     ensures ok { IfOk result (λ f. IsTextFilter text.now f) }
     ensures refused { GivesGate text.now result }
@@ -85,8 +85,8 @@ fn filter_of(alloc: Global, text: &str) -> Result<EnvFilter, GateError>
 }
 
 fn read_pieces(alloc: Global, text: &str) -> Result<EnvFilter, (u64, ParseError)>
-    ensures ok { IfOk result (λ f. IsFilterOf fixed_builder text.now [] (plain f)) }
-    ensures new { IfOk result (λ f. IsNewFilter (plain f)) }
+    ensures ok { IfOk result (λ f. IsFilterOf fixed_builder text.now [] (plain_filter f)) }
+    ensures new { IfOk result (λ f. IsNewFilter (plain_filter f)) }
     ensures refused { IfErr result (λ e. HasFilterFaultAt fixed_builder.patterns text.now e.0 e.1) }
 {
     Builder::default(alloc).with_regex(false).parse_pieces(text)
@@ -95,15 +95,15 @@ fn read_pieces(alloc: Global, text: &str) -> Result<EnvFilter, (u64, ParseError)
 // Whether a callsite is let through by a filter on a lane without levels, or by levels.
 fn lets_through(filter: &EnvFilter, callsite: &Callsite, levels: &[LevelFilter]) -> bool
     ensures { result ≡ (is_within_some callsite.now.level levels.now
-        || gate (interest_in (plain filter.now) callsite.now) (Some (hint_in (plain filter.now)))
-        (enables_in (plain filter.now) 0 callsite.now) callsite.now.level) }
+        || gate (interest_in (plain_filter filter.now) callsite.now) (Some (hint_in (plain_filter filter.now)))
+        (enables_in (plain_filter filter.now) 0 callsite.now) callsite.now.level) }
 {
     is_within_some(callsite.level, levels) || takes(filter, callsite)
 }
 
 fn takes(filter: &EnvFilter, callsite: &Callsite) -> bool
-    ensures { result ≡ gate (interest_in (plain filter.now) callsite.now) (Some (hint_in (plain filter.now)))
-        (enables_in (plain filter.now) 0 callsite.now) callsite.now.level }
+    ensures { result ≡ gate (interest_in (plain_filter filter.now) callsite.now) (Some (hint_in (plain_filter filter.now)))
+        (enables_in (plain_filter filter.now) 0 callsite.now) callsite.now.level }
 {
     match filter.register_callsite(callsite) {
         Interest::Never => false,
@@ -113,7 +113,7 @@ fn takes(filter: &EnvFilter, callsite: &Callsite) -> bool
 }
 
 fn is_hinted(filter: &EnvFilter, level: Level) -> bool
-    ensures { result ≡ is_within level (hint_in (plain filter.now)) }
+    ensures { result ≡ is_within level (hint_in (plain_filter filter.now)) }
 {
     match filter.max_level_hint() {
         Some(hint) => hint.lets_through(level),

@@ -1,6 +1,6 @@
 //! The trait of gates.
 ghost use Rattle.std.specs.Prelude.{◌≡◌, ℕ, List};
-ghost use Rattle.event_gate.specs.Rules.{text_filter, gate_rule, levels_under};
+ghost use Rattle.event_gate.specs.Rules.{fixed_text_filter, gate_rule, levels_of_reload};
 
 use crate::levels::{Admission, Levels};
 use trace_base::callsite::Callsite;
@@ -15,5 +15,5 @@ pub trait EventGate {
     fn enabled(&mut self, c: &Callsite, levels: &Levels) -> Admission
         ensures kept { opening self.new ≡ opening self.old }
         ensures answers { result.reload ≡ 0
-            → result.yes ≡ gate_rule (text_filter (opening self.old)) (levels_under 0 levels.now) c.now };
+            → result.yes ≡ gate_rule (fixed_text_filter (opening self.old)) (levels_of_reload 0 levels.now) c.now };
 }

@@ -2,8 +2,8 @@
 //! its layer isn't retired, so no call ever finds it gone.
 #![tactic(auto)]
 
-ghost use Rattle.std.specs.Prelude.{◌≡◌, true, is_some, IsOk, IfOk};
-ghost use Rattle.std.specs.Fn.{FnOnceReturnsAt};
+ghost use Rattle.std.specs.Prelude.{◌≡◌, true, is_some, Some, IsOk, IfOk};
+ghost use Rattle.std.specs.Fn.{FnOnceReturnsAt, FnOnceReturnsAtMut};
 
 use env_filter::reload::{CloneLayer, Error, Layer};
 use otel_base::memory::Memory;
@@ -19,14 +19,16 @@ struct InUse<L> {
 
 impl<L: Drop> InUse<L> {
     fn reload(&mut self, layer: L) -> Result<(), Error>
-        ensures { IsOk result }
+        ensures ok { IsOk result }
+        ensures put { self.new.layer.inner ≡ Some layer }
     {
         self.layer.reload(layer)
     }
 
     fn modify<F: FnOnce(&mut L)>(&mut self, f: F) -> Result<(), Error>
         requires { F.IsAlwaysCallable f }
-        ensures { IsOk result }
+        ensures ok { IsOk result }
+        ensures changed { (l : L) × (m : L) × FnOnceReturnsAtMut F.FnOnce f l tt m }
     {
         self.layer.modify(f)
     }
@@ -42,7 +44,7 @@ impl<L: Drop> InUse<L> {
 
 impl<L: CloneLayer> InUse<L> {
     fn clone_current(&self) -> Result<Option<L>, Memory>
-        ensures { IfOk result (λ copy. is_some copy ≡ true) }
+        ensures { IfOk result (λ copy. (l : L) × (m : L) × (copy ≡ Some m) × L.is_copy l m) }
     {
         self.layer.clone_current()
     }
@@ -71,10 +73,11 @@ impl<L: Drop> Handle<L> {
         self.lock.lock(rt).reload(layer)
     }
 
-    /// Changes the layer in place; `reload::Handle::modify`. It waits for the lock.
+    /// Changes the layer in place; `reload::Handle::modify`. It waits for the lock, and the closure was lent some layer.
     pub fn modify<R: Wait, F: FnOnce(&mut L)>(&self, rt: &R, f: F) -> Result<(), Error>
         requires { F.IsAlwaysCallable f }
-        ensures { IsOk result }
+        ensures ok { IsOk result }
+        ensures changed { (l : L) × (m : L) × FnOnceReturnsAtMut F.FnOnce f l tt m }
     {
         self.lock.lock(rt).modify(f)
     }
@@ -91,9 +94,9 @@ impl<L: Drop> Handle<L> {
 }
 
 impl<L: CloneLayer> Handle<L> {
-    /// The layer in place once more; `reload::Handle::clone_current`. It waits for the lock.
+    /// The layer in place once more; `reload::Handle::clone_current`. It waits for the lock, and the copy is of some layer.
     pub fn clone_current<R: Wait>(&self, rt: &R) -> Result<Option<L>, Memory>
-        ensures { IfOk result (λ copy. is_some copy ≡ true) }
+        ensures { IfOk result (λ copy. (l : L) × (m : L) × (copy ≡ Some m) × L.is_copy l m) }
     {
         self.lock.lock(rt).clone_current()
     }

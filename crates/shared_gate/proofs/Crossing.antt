@@ -16,7 +16,7 @@ use Rattle.shared_gate.specs.contracts.note.GateNote as note
 use Rattle.shared_gate.specs.contracts.note.GateNote.TheInside as note_inside
 use Rattle.shared_gate.specs.contracts.writer.GateWriter as writer
 use Rattle.shared_gate.specs.contracts.writer.GateWriter.TheInside as writer_inside
-use Rattle.shared_gate.proofs.FilterCrossing.{text_filter_send, text_filter_sync}
+use Rattle.event_gate.proofs.FilterCrossing.{text_filter_send, text_filter_sync}
 
 pub gate_send : IsSend gate.the_row
 gate_send = view_send gate_inside.the_row _ _ _ _ (recorded_send gate_inside.the_field.row _ _ gate_inside.the_type.to_one (struct_send (shape gate_inside.the_type)

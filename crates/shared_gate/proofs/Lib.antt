@@ -1,4 +1,3 @@
 pub mod Openings
-pub mod PatternCrossing
-pub mod FilterCrossing
+pub mod Reloads
 pub mod Crossing

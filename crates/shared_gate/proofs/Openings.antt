@@ -5,7 +5,7 @@ use Rattle.value_reader.specs.Knowing.{Known, IsNew}
 use Rattle.trace_base.specs.declared.callsite.Callsite.{Callsite}
 use Rattle.event_gate.specs.declared.levels.Admission.{Admission}
 use Rattle.event_gate.specs.declared.levels.Levels.{Levels}
-use Rattle.event_gate.specs.Rules.{text_filter, gate_rule, levels_under}
+use Rattle.event_gate.specs.Rules.{fixed_text_filter, gate_rule, levels_of_reload}
 use Rattle.shared_gate.specs.Order.{Texts, opening_of}
 use Rattle.shared_gate.specs.Gates.{GateValue, IsOpening, AnswersByText}
 
@@ -20,11 +20,11 @@ first_is [] text h = absurd cc
 first_is (t ∷ ts) text h = cc h
 
 pub answers_opening : (texts : Texts) (opening : List ℕ) (answer : Admission) (c : Callsite) (levels : Levels)
-    → opening_of texts ≡ opening → AnswersByText texts answer c levels → answer.reload ≡ 0 → answer.yes ≡ gate_rule (text_filter opening) (levels_under 0 levels) c
+    → opening_of texts ≡ opening → AnswersByText texts answer c levels → answer.reload ≡ 0 → answer.yes ≡ gate_rule (fixed_text_filter opening) (levels_of_reload 0 levels) c
 answers_opening texts opening answer c levels same answers none =
     let first : answers.text ≡ opening = sym (first_is texts answers.text (subst (λ (n : ℕ). slice_get texts n ≡ Some answers.text) none answers.put)) ∙ same in
-    answers.is ∙ (ap (λ (t : List ℕ). gate_rule (text_filter t) (levels_under answer.reload levels) c) first
-    ∙ ap (λ (n : ℕ). gate_rule (text_filter opening) (levels_under n levels) c) none)
+    answers.is ∙ (ap (λ (t : List ℕ). gate_rule (fixed_text_filter t) (levels_of_reload answer.reload levels) c) first
+    ∙ ap (λ (n : ℕ). gate_rule (fixed_text_filter opening) (levels_of_reload n levels) c) none)
 
 -- gates of readers that were made with a filter of this text
 pub opened_by : (table : TableId) (text filter : List ℕ) (readers : List (Known (List ℕ))) (gates : List GateValue) → filter ≡ text → All (IsNew table filter) readers

@@ -4,7 +4,7 @@ use Rattle.atomic_table.specs.Seated.{TableId}
 use Rattle.trace_base.specs.declared.callsite.Callsite.{Callsite}
 use Rattle.event_gate.specs.declared.levels.Admission.{Admission}
 use Rattle.event_gate.specs.declared.levels.Levels.{Levels}
-use Rattle.event_gate.specs.Rules.{text_filter, gate_rule, levels_under}
+use Rattle.event_gate.specs.Rules.{fixed_text_filter, gate_rule, levels_of_reload}
 use Rattle.shared_gate.specs.Order.{Texts}
 
 -- A gate: whose it is, the texts that it has seen put in force, and the number of the one that it answers by.
@@ -23,7 +23,7 @@ pub record Written : Type 0 where
 pub record AnswersByText (texts : Texts) (answer : Admission) (c : Callsite) (levels : Levels) : Type 0 where
   pub text : List ℕ
   pub put : slice_get texts answer.reload ≡ Some text
-  pub is : answer.yes ≡ gate_rule (text_filter text) (levels_under answer.reload levels) c
+  pub is : answer.yes ≡ gate_rule (fixed_text_filter text) (levels_of_reload answer.reload levels) c
 
 -- a new gate of this writer, which has seen the opening text
 abbrev pub IsOpening : TableId → List ℕ → GateValue → Type 0
@@ -37,4 +37,4 @@ pub record IsFrom (number : ℕ) (text : List ℕ) (g : GateValue) : Type 0 wher
 -- an answer by a text from a number on, and under that number by this text
 pub record AnswersFrom (number : ℕ) (text : List ℕ) (answer : Admission) (c : Callsite) (levels : Levels) : Type 0 where
   pub later : number ≤ answer.reload
-  pub same : answer.reload ≡ number → answer.yes ≡ gate_rule (text_filter text) (levels_under number levels) c
+  pub same : answer.reload ≡ number → answer.yes ≡ gate_rule (fixed_text_filter text) (levels_of_reload number levels) c

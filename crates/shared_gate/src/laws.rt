@@ -1,6 +1,6 @@
 //! What a gate answers once it has learnt of a reload.
 ghost use Rattle.std.specs.Prelude.{◌≡◌, ℕ, List, IfOk};
-ghost use Rattle.shared_gate.specs.Gates.{IsFrom, AnswersFrom};
+ghost use Rattle.shared_gate.specs.Gates.{IsFrom, AnswersFrom, AnswersByText};
 
 use crate::gate::SharedGate;
 use crate::writer::GateWriter;
@@ -20,6 +20,7 @@ pub fn ask_after_reload<R: Wait>(
 ) -> Result<(u64, Admission), GateError>
     requires { gate.old.table ≡ writer.old.table }
     ensures answers { IfOk result (λ r. AnswersFrom r.0 text.now r.1 c.now levels.now) }
+    ensures by_text { IfOk result (λ r. AnswersByText gate.new.texts r.1 c.now levels.now) }
     ensures from { IfOk result (λ r. IsFrom r.0 text.now gate.new) }
 {
     let number = reload_and_learn(rt, writer, gate, text)?;
@@ -30,6 +31,7 @@ pub fn ask_after_reload<R: Wait>(
 pub fn ask_again(gate: &mut SharedGate, c: &Callsite, levels: &Levels) -> Admission
     ensures answers { (number : ℕ) (text : List ℕ) → IsFrom number text gate.old
         → AnswersFrom number text result c.now levels.now }
+    ensures by_text { AnswersByText gate.new.texts result c.now levels.now }
     ensures from { (number : ℕ) (text : List ℕ) → IsFrom number text gate.old
         → IsFrom number text gate.new }
 {

@@ -59,10 +59,8 @@ fn copies_of<T: Drop>(
     ensures count { IfOk result (λ c. vec_len c ≡ readers) }
     ensures copies { IfOk result (λ c. All (λ t. arc_value t ≡ arc_value last.now) c.items) }
 {
-    let mut copies = Vec::with_capacity(alloc, readers as usize)?;
-    for _ in 0..readers {
-        copies.push_reserved(Arc::try_clone(last)?);
-    }
+    let copy = Arc::try_clone(last)?;
+    let copies = vec![in alloc; copy; readers as usize]?;
     Ok(copies)
 }
 

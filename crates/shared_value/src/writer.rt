@@ -80,7 +80,7 @@ impl<T: Drop> ValueWriter<T> {
         ensures told { IfOk result (λ n. (n.table ≡ self.old.table) × (n.values ≡ self.old.values)) }
     {
         let last = Arc::try_clone(&self.writer.published().last)?;
-        let reader = told(&mut self.writer)?;
+        let reader = reader_told(&mut self.writer)?;
         Ok(ValueNote::new(&self.origin, reader, last))
     }
 
@@ -114,7 +114,7 @@ fn put_next<T: Drop, R: Wait>(
 }
 
 // A reader that has seen what the writer has.
-fn told<T: Drop>(writer: &mut OrderedWriter<T>) -> Result<OrderedReader<T>, AllocError>
+fn reader_told<T: Drop>(writer: &mut OrderedWriter<T>) -> Result<OrderedReader<T>, AllocError>
     ensures kept { (view writer.new.desk.place ≡ view writer.old.desk.place)
         × (writer.new.desk.shown ≡ writer.old.desk.shown) }
     ensures told { IfOk result (λ r. view r.place ≡ view writer.old.desk.place) }

@@ -1,7 +1,7 @@
 //! What the gates of the tests are asked, and how one learns what its writer tells.
 ghost use Rattle.std.specs.Prelude.{◌≡◌};
 
-use event_gate::{Admission, Levels};
+use event_gate::Levels;
 use otel_base::list::Items;
 use otel_base::memory::Memory;
 use otel_base::text::Text;
@@ -48,18 +48,25 @@ fn event(alloc: Global) -> Callsite {
     }
 }
 
-pub fn answer(yes: bool, reload: u64) -> Admission {
-    Admission { yes, reload }
+// Whether this is what a gate answers to a question.
+pub fn answers(gate: &mut SharedGate, question: &Question, yes: bool, reload: u64) -> bool
+    ensures { gate.new.table ≡ gate.old.table }
+{
+    let admission = gate.enabled(&question.event, &question.levels);
+    admission.yes == yes && admission.reload == reload
 }
 
-// Has a gate learn what its writer tells, and answers the number of the last text then.
-pub fn learn(writer: &mut GateWriter, gate: &mut SharedGate) -> Option<u64>
+// Has a gate learn what its writer tells, and says whether that is of the text of this number.
+pub fn learns(writer: &mut GateWriter, gate: &mut SharedGate, reload: u64) -> bool
     requires { gate.old.table ≡ writer.old.table }
     ensures same { writer.new ≡ writer.old }
     ensures table { gate.new.table ≡ gate.old.table }
 {
-    let note = writer.tell().ok()?;
-    let number = note.reload();
-    gate.learn(note).ok()?;
-    Some(number)
+    match writer.tell() {
+        Ok(note) => {
+            let is_last = note.reload() == reload;
+            gate.learn(note).is_ok() && is_last
+        }
+        Err(_) => false,
+    }
 }

@@ -85,7 +85,7 @@ pub struct Ran {
 }
 
 /// How often the gate of a worker was asked, if there is such a worker.
-pub fn asked(ran: &Ran, worker: usize) -> Option<u64> {
+pub fn times_asked(ran: &Ran, worker: usize) -> Option<u64> {
     let count = ran.counts.get(worker)?;
     Some(count.load(Ordering::SeqCst))
 }
@@ -110,7 +110,7 @@ fn workers_ask_gates(rt: HostRuntime) -> Result<(), Fail> {
     let lines =
         "{\"at\":0,\"shared\":0}\n{\"worker\":[{\"at\":1,\"do\":\"event\",\"site\":1,\"span\":0},{\"at\":1,\"do\":\"event\",\"site\":2,\"span\":0},{\"at\":1,\"do\":\"event\",\"site\":1,\"span\":0}]}\n{\"worker\":[{\"at\":2,\"do\":\"record\",\"fields\":[[\"a\",3]],\"span\":0}]}\n";
     let ran = run(&rt, rt.alloc(), lines, &OpenTurnstile)?;
-    assert!(rt; asked(&ran, 0) == Some(3) && asked(&ran, 1) == Some(0));
+    assert!(rt; times_asked(&ran, 0) == Some(3) && times_asked(&ran, 1) == Some(0));
     assert!(rt; ran.ended.len() == 1);
     for one in ran.ended.as_slice() {
         let history = one.history.as_slice();

@@ -23,42 +23,44 @@ impl CloneLayer for NumberLayer {
     }
 }
 
-// The number of the layer behind a lock, as a closure that is lent the layer sees it.
-fn number_of<R: Wait>(rt: &R, handle: &Handle<NumberLayer>) -> Option<u64> {
+// Whether the layer behind a lock has this number, as a closure that is lent the layer sees it.
+fn has_number<R: Wait>(rt: &R, handle: &Handle<NumberLayer>, number: u64) -> bool {
     match handle.with_current(rt, |layer| layer.number) {
-        Ok(number) => Some(number),
-        Err(_) => None,
+        Ok(seen) => seen == number,
+        Err(_) => false,
     }
 }
 
-// The number of a copy of it, if there is memory for one.
-fn number_of_copy<R: Wait>(rt: &R, handle: &Handle<NumberLayer>) -> Option<u64> {
+// Whether a copy of it has, if there is memory for one.
+fn copies_number<R: Wait>(rt: &R, handle: &Handle<NumberLayer>, number: u64) -> bool {
     match handle.clone_current(rt) {
-        Ok(Some(layer)) => Some(layer.number),
-        _ => None,
+        Ok(Some(layer)) => layer.number == number,
+        _ => false,
     }
 }
 
-// The numbers that one handle of a lock sees: at first, behind what the other puts in place and behind what that changes,
-// and in a copy then.
-fn numbers<R: Wait>(
+// Whether one handle of a lock sees what the other puts in place and what that changes, and copies it then.
+fn is_exchanged<R: Wait>(
     rt: &R,
     handle: &Handle<NumberLayer>,
     other: &Handle<NumberLayer>,
-) -> [Option<u64>; 4] {
-    let before = number_of(rt, other);
-    let _ = handle.reload(rt, NumberLayer { number: 2 });
-    let put = number_of(rt, other);
-    let _ = handle.modify(rt, |layer| layer.number = 3);
-    [before, put, number_of(rt, other), number_of_copy(rt, other)]
+) -> bool {
+    let mut is_seen = has_number(rt, other, 1);
+    is_seen &= handle.reload(rt, NumberLayer { number: 2 }).is_ok();
+    is_seen &= has_number(rt, other, 2);
+    is_seen &= handle.modify(rt, |layer| layer.number = 3).is_ok();
+    is_seen && has_number(rt, other, 3) && copies_number(rt, other, 3)
+}
+
+fn is_shared<R: Wait + AllocGlobal>(rt: &R) -> Result<bool, Memory> {
+    let handle = Handle::new(rt.alloc(), Layer::new(NumberLayer { number: 1 }))?;
+    let other = handle.clone()?;
+    Ok(is_exchanged(rt, &handle, &other))
 }
 
 // What is put in place or changed is what is seen then, through another handle of the lock too, and what is copied.
 #[test]
 fn handle_reload(rt: HostRuntime) -> Result<(), Fail> {
-    let handle = Handle::new(rt.alloc(), Layer::new(NumberLayer { number: 1 }))?;
-    let other = handle.clone()?;
-    let seen = numbers(&rt, &handle, &other);
-    assert_eq!(rt; seen, [Some(1), Some(2), Some(3), Some(3)]);
+    assert!(rt; is_shared(&rt)?);
     Ok(())
 }

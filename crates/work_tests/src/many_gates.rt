@@ -3,7 +3,7 @@ ghost use Rattle.std.specs.Prelude.{◌≡◌, ◌<◌, ◌≤◌, All, option_t
 ghost use Rattle.std.specs.Thread.{IsSync};
 ghost use Rattle.shared_gate.specs.declared.writer.TheConstants.{MOST_GATES};
 
-use crate::gate_questions::{Question, answer, learn, make_question};
+use crate::gate_questions::{Question, answers, learns, make_question};
 use otel_base::memory::Memory;
 use shared_gate::{GateNote, GateWriter, SharedGate};
 use std::alloc::Global;
@@ -46,9 +46,9 @@ fn ask_often(gate: &mut SharedGate, question: &Question, least: u64) -> bool
     let mut last = least;
     let mut is_right = true;
     for _ in 0..ASKS {
-        let asked = gate.enabled(&question.event, &question.levels);
-        is_right &= last <= asked.reload && asked.yes == is_through(asked.reload);
-        last = asked.reload;
+        let admission = gate.enabled(&question.event, &question.levels);
+        is_right &= last <= admission.reload && admission.yes == is_through(admission.reload);
+        last = admission.reload;
     }
     is_right
 }
@@ -80,10 +80,8 @@ fn ends_by_last(writer: &mut GateWriter, gate: &mut SharedGate, question: &Quest
     requires { gate.old.table ≡ writer.old.table }
     ensures { writer.new ≡ writer.old }
 {
-    let reload = END - 1;
-    let told = learn(writer, gate);
-    let asked = gate.enabled(&question.event, &question.levels);
-    told == Some(reload) && asked == answer(is_through(reload), reload)
+    let last = END - 1;
+    learns(writer, gate, last) && answers(gate, question, is_through(last), last)
 }
 
 // Asks each gate in a thread of its own, while texts are put in force for the next one and for all.
@@ -104,7 +102,7 @@ fn ask_all<R: Threads + Wait + Sync>(
     let to = from.saturating_add(STEP).min(END);
     let is_put = reload_to(rt, writer, from, to);
     let mut note = note_of(writer);
-    let (asked, rest) = join_mut(
+    let (is_asked, rest) = join_mut(
         rt,
         &mut || learn_and_ask(&mut gate, &mut note, question),
         &mut || -> bool
@@ -112,7 +110,7 @@ fn ask_all<R: Threads + Wait + Sync>(
             ensures { writer.exit.now.table ≡ writer.entry.now.table }
         { ask_all(rt, writer, gates, question, to) },
     );
-    is_put && asked && rest && ends_by_last(writer, &mut gate, question)
+    is_put && is_asked && rest && ends_by_last(writer, &mut gate, question)
 }
 
 // One writer and so many gates.

@@ -13,7 +13,7 @@ use trace_run::threads::run_threads;
 use trace_stream::sink::SureSink;
 use trace_stream::source::SureSource;
 use trace_stream::status::Status;
-use trace_threads::history::{Entry, What};
+use trace_threads::history::{Entry, HandleAct};
 use turnstile::Turnstile;
 
 /// Settings with nine lanes, a callsite of spans that declares the field `a`, and callsites of events of the levels INFO and
@@ -60,7 +60,7 @@ pub fn calls_of(history: &[Entry], caller: u64) -> u64 {
 
 fn is_call(entry: &Entry) -> bool {
     match &entry.what {
-        What::Call { op: _ } => true,
+        HandleAct::Call { op: _ } => true,
         _ => false,
     }
 }

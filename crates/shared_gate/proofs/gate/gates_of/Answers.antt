@@ -1,5 +1,5 @@
 -- A gate more, of the last reader.
-use Rattle.std.proofs.Common.{◌≡◌, ◌∙◌, All, IfSome, sym, subst, arith}
+use Rattle.std.proofs.Common.{◌∙◌, All, IfSome, sym, subst, arith}
 use Rattle.std.proofs.lemmas.List.Elements.{All-pop, All-push}
 use Rattle.value_reader.specs.Knowing.{IsNew}
 use Rattle.shared_gate.specs.Gates.{IsOpening}

@@ -7,8 +7,8 @@ use Rattle.shared_gate.proofs.Crossing.{gate_send, note_send, closure_send}
 use Rattle.work_tests.proofs.gate_questions.Question.TheSendSync as question
 use Rattle.work_tests.proofs.many_gates.+ask_all+fn-ask_all-join_mut+arg3.Goals as goal
 
-pub join_mut-asked-requires-send-F : goal.join_mut-asked-requires-send-F
-join_mut-asked-requires-send-F g t c κs within = param_send _ _ (arg_send _ no _ (closure_send _ _ _ _
+pub join_mut-is_asked-requires-send-F : goal.join_mut-is_asked-requires-send-F
+join_mut-is_asked-requires-send-F g t c κs within = param_send _ _ (arg_send _ no _ (closure_send _ _ _ _
     (mut_send _ _ _ gate_send)
     (mut_send _ _ _ (option.the_send note.the_row note_send))
     (shr_send _ _ _ question.the_sync)))

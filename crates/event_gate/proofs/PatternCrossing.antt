@@ -210,9 +210,6 @@ plan_send = recorded_send plan.the_field.row _ _ plan.the_type.to_one plan_field
 plans_field_send : IsSend plans.the_field.row
 plans_field_send = struct_send (structs.shape plans.the_type) (vec_send plan.the_row plan_send, tt)
 
-plans_send : IsSend plans.the_row
-plans_send = recorded_send plans.the_field.row _ _ plans.the_type.to_one plans_field_send
-
 program_field_send : IsSend program.the_field.row
 program_field_send = struct_send (structs.shape program.the_type) (
   tree_field_send,
@@ -228,9 +225,6 @@ program_field_send = struct_send (structs.shape program.the_type) (
   ),
 )
 
-program_send : IsSend program.the_row
-program_send = recorded_send program.the_field.row _ _ program.the_type.to_one program_field_send
-
 string_send : IsSend (string_row.the_row heap.the_row allocator.ghosts)
 string_send = search (sendable, string.the_send, global.the_send, frees.the_frees)
 
@@ -242,9 +236,6 @@ pattern_field_send = struct_send (structs.shape pattern.the_type) (
     (vec_send (option_row.the_row (string_row.the_row heap.the_row allocator.ghosts)) (option.the_send (string_row.the_row heap.the_row allocator.ghosts) string_send), (program_field_send, tt)),
   ),
 )
-
-pattern_send : IsSend pattern.the_row
-pattern_send = recorded_send pattern.the_field.row _ _ pattern.the_type.to_one pattern_field_send
 
 regex_field_send : IsSend regex.the_field.row
 regex_field_send = struct_send (structs.shape regex.the_type) (pattern_field_send, tt)
@@ -283,9 +274,6 @@ plan_sync = recorded_sync plan.the_field.row _ _ plan.the_type.to_one plan_field
 plans_field_sync : IsSync plans.the_field.row
 plans_field_sync = struct_sync (structs.shape plans.the_type) (vec_sync plan.the_row plan_sync, tt)
 
-plans_sync : IsSync plans.the_row
-plans_sync = recorded_sync plans.the_field.row _ _ plans.the_type.to_one plans_field_sync
-
 program_field_sync : IsSync program.the_field.row
 program_field_sync = struct_sync (structs.shape program.the_type) (
   tree_field_sync,
@@ -301,9 +289,6 @@ program_field_sync = struct_sync (structs.shape program.the_type) (
   ),
 )
 
-program_sync : IsSync program.the_row
-program_sync = recorded_sync program.the_field.row _ _ program.the_type.to_one program_field_sync
-
 string_sync : IsSync (string_row.the_row heap.the_row allocator.ghosts)
 string_sync = search (sendable, string.the_sync, global.the_sync)
 
@@ -315,9 +300,6 @@ pattern_field_sync = struct_sync (structs.shape pattern.the_type) (
     (vec_sync (option_row.the_row (string_row.the_row heap.the_row allocator.ghosts)) (option.the_sync (string_row.the_row heap.the_row allocator.ghosts) string_sync), (program_field_sync, tt)),
   ),
 )
-
-pattern_sync : IsSync pattern.the_row
-pattern_sync = recorded_sync pattern.the_field.row _ _ pattern.the_type.to_one pattern_field_sync
 
 regex_field_sync : IsSync regex.the_field.row
 regex_field_sync = struct_sync (structs.shape regex.the_type) (pattern_field_sync, tt)

@@ -42,7 +42,7 @@ use Rattle.env_filter.specs.contracts.filter.EnvFilter as filter
 use Rattle.env_filter.specs.contracts.filter.EnvFilter.TheInside as filter_inside
 use Rattle.event_gate.specs.contracts.filter.TextFilter as text_filter
 use Rattle.event_gate.specs.contracts.filter.TextFilter.TheInside as text_inside
-use Rattle.shared_gate.proofs.PatternCrossing.{regex_send, regex_sync}
+use Rattle.event_gate.proofs.PatternCrossing.{regex_send, regex_sync}
 
 pattern_send : IsSend pattern.the_row
 pattern_send = view_send pattern_inside.the_row _ _ _ _ (recorded_send pattern_inside.the_field.row _ _ pattern_inside.the_type.to_one (struct_send (structs.shape pattern_inside.the_type) (text.the_send, (search (sendable, arc.the_send, regex_send, regex_sync, global.the_send, global.the_sync, frees.the_frees), tt))))
