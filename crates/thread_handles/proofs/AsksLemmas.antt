@@ -2,7 +2,7 @@
 use Rattle.std.proofs.Common.{◌≡◌, ℕ, ◌==◌, Bool, true, false, max, List, [], ◌∷◌, ◌++◌, length, refl, ap, sym, ◌∙◌, subst, arith, length-append}
 use Rattle.std.proofs.lemmas.Bool.Decides.{nat_tests}
 use Rattle.trace_threads.specs.declared.history.Entry.{Entry}
-use Rattle.trace_threads.specs.declared.history.What.{What}
+use Rattle.trace_threads.specs.declared.history.HandleAct.{HandleAct}
 use Rattle.trace_threads.specs.declared.turns.View.{View}
 use Rattle.trace_threads.specs.History.{Sum, start, entry, sum_of, sum_after, written_entry, entries_by}
 use Rattle.trace_threads.specs.Turns.{entries}
@@ -80,14 +80,14 @@ follows_push k last asks a (e ∷ es) f = push_case k last asks a e es (e.caller
 -- ---- a turn of a handle
 
 -- nobody else makes its entries
-between_none : (v w : View) (k at : ℕ) (what : What) (m : MakesEntry v w k at what) → entries_by k (entries v.seen) ≡ v.mine → entries_by k (entries m.between) ≡ []
+between_none : (v w : View) (k at : ℕ) (what : HandleAct) (m : MakesEntry v w k at what) → entries_by k (entries v.seen) ≡ v.mine → entries_by k (entries m.between) ≡ []
 between_none v w k at what m own =
     let x : Entry = written_entry v.origin.made_at (entries (v.seen ++ m.between)) k at what in
     let whole : entries w.seen ≡ entries (v.seen ++ m.between) ++ x ∷ [] = ap entries m.ends ∙ entries_some (v.seen ++ m.between) x in
     let hit : (k == k) ≡ true = grind (arith, nat_tests) in
     let one : entries_by k (x ∷ []) ≡ x ∷ [] = rw hit refl in
     let parts : entries_by k (entries w.seen) ≡ (v.mine ++ entries_by k (entries m.between)) ++ x ∷ [] = ap (entries_by k) whole ∙ by_append k (entries (v.seen ++ m.between)) (x ∷ []) ∙ (λ i. (ap (entries_by k) (entries_append v.seen m.between) ∙ by_append k (entries v.seen) (entries m.between) ∙ ap (λ (l : List Entry). l ++ entries_by k (entries m.between)) own) i ++ one i) in
-    let all : (v.mine ++ entries_by k (entries m.between)) ++ x ∷ [] ≡ v.mine ++ x ∷ [] = sym parts ∙ m.own ∙ m.mine in
+    let all : (v.mine ++ entries_by k (entries m.between)) ++ x ∷ [] ≡ v.mine ++ x ∷ [] = sym parts ∙ m.own_entries ∙ m.mine in
     let lens = ap length all in
     let a = length-append (v.mine ++ entries_by k (entries m.between)) (x ∷ []) in
     let b = length-append v.mine (entries_by k (entries m.between)) in

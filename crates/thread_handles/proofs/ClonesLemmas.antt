@@ -7,10 +7,10 @@ use mathlib.Core.Logic.{dite}
 use native.Mathlib.Decide.{ℕ_discrete}
 use Rattle.trace_threads.specs.declared.making.Making.{Making}
 use Rattle.trace_threads.specs.declared.history.Entry.{Entry}
-use Rattle.trace_threads.specs.declared.history.What.TheVariants.{Clone, Release}
+use Rattle.trace_threads.specs.declared.history.HandleAct.TheVariants.{Clone, Release}
 use Rattle.trace_threads.specs.declared.turns.View.{View}
 use Rattle.trace_threads.specs.declared.handle.Released.{Released}
-use Rattle.trace_threads.specs.History.{IsLegal, has, entries_by, opens_entry}
+use Rattle.trace_threads.specs.History.{IsLegal, has, entries_by, open_count}
 use Rattle.trace_threads.specs.Turns.{Turn, entries}
 use Rattle.trace_threads.specs.Calls.{MakesEntry, IsCloneOf}
 use Rattle.trace_threads.specs.Handles.{SharedHandle, ReleasedHandle, open_of, LeavesHandle, ClosedAs, IsSameHandle}
@@ -39,9 +39,9 @@ cloned_first h at f = record {
   span = refl;
   number = f.0;
   origin = refl;
-  out = ap (λ (v : View). opens_entry v.mine) f.1;
+  out = ap (λ (v : View). open_count v.mine) f.1;
   follows = subst (λ (v : View). FollowsAsks 0 h.view.origin.made_at [] (entries v.seen)) (sym f.1) refl;
-  own = ap (λ (v : View). entries_by 0 (entries v.seen)) f.1 ∙ sym (ap (λ (v : View). v.mine) f.1);
+  own_entries = ap (λ (v : View). entries_by 0 (entries v.seen)) f.1 ∙ sym (ap (λ (v : View). v.mine) f.1);
   each = λ i d low. absurd (omega (arith, low));
 }
 
@@ -50,7 +50,7 @@ cloned_more at h g f x hs moment c same span clone made opn =
     let m : MakesEntry g.view f.view 0 h.view.origin.made_at (Clone x.number) = subst (λ (p : ℕ × ℕ). MakesEntry g.view f.view p.0 p.1 (Clone x.number)) (λ i. (c.number i, sym moment i)) made in
     let asked = clones_asked h.view.origin.made_at (numbers_of hs) in
     let before : FollowsAsks 0 g.view.origin.made_at asked (entries g.view.seen) = subst (λ (o : Making). FollowsAsks 0 o.made_at asked (entries g.view.seen)) (sym c.origin) c.follows in
-    let after : FollowsAsks 0 g.view.origin.made_at (asked ++ ask h.view.origin.made_at (Clone x.number) ∷ []) (entries f.view.seen) = follows_made g.view f.view 0 asked (ask h.view.origin.made_at (Clone x.number)) m c.own before in
+    let after : FollowsAsks 0 g.view.origin.made_at (asked ++ ask h.view.origin.made_at (Clone x.number) ∷ []) (entries f.view.seen) = follows_made g.view f.view 0 asked (ask h.view.origin.made_at (Clone x.number)) m c.own_entries before in
     let here : FollowsAsks 0 h.view.origin.made_at (asked ++ ask h.view.origin.made_at (Clone x.number) ∷ []) (entries f.view.seen) = subst (λ (o : Making). FollowsAsks 0 o.made_at (asked ++ ask h.view.origin.made_at (Clone x.number) ∷ []) (entries f.view.seen)) c.origin after in
     record {
       span = same.0 ∙ c.span;
@@ -58,13 +58,13 @@ cloned_more at h g f x hs moment c same span clone made opn =
       origin = made.same ∙ c.origin;
       out = opn ∙ c.out;
       follows = subst (λ (l : List Ask). FollowsAsks 0 h.view.origin.made_at l (entries f.view.seen)) (sym (asked_push h.view.origin.made_at hs x)) here;
-      own = m.own;
+      own_entries = m.own_entries;
       each = λ i d low. get_push (λ (y : SharedHandle). (y.span ≡ h.span) × (y.view.origin ≡ h.view.origin) × (y.view.mine ≡ [])) hs x i d (λ j l. c.each j d l) (span ∙ c.span, clone.2 ∙ made.same ∙ c.origin, clone.1) low;
     }
 
 -- a clone that made no entry has none open
 pub cloned_out : (h g : SharedHandle) (hs : List SharedHandle) → AreCloned h g hs → AreOut hs
-cloned_out h g hs c i d low = ap opens_entry (c.each i d low).2
+cloned_out h g hs c i d low = ap open_count (c.each i d low).2
 
 -- ---- the release of the first handle
 
@@ -116,7 +116,7 @@ module _ (at : ℕ) (h g : SharedHandle) (hs gs : List SharedHandle) (r : Releas
   follows : FollowsAsks 0 h.view.origin.made_at (clones_asked h.view.origin.made_at (numbers_of hs) ++ ask h.view.origin.made_at Release ∷ []) (entries r.pass.view.seen)
   follows =
       let before : FollowsAsks 0 g.view.origin.made_at asked (entries g.view.seen) = subst (λ (o : Making). FollowsAsks 0 o.made_at asked (entries g.view.seen)) (sym c.origin) c.follows in
-      let after : FollowsAsks 0 g.view.origin.made_at (asked ++ ask h.view.origin.made_at Release ∷ []) (entries r.pass.view.seen) = follows_made g.view r.pass.view 0 asked (ask h.view.origin.made_at Release) m c.own before in
+      let after : FollowsAsks 0 g.view.origin.made_at (asked ++ ask h.view.origin.made_at Release ∷ []) (entries r.pass.view.seen) = follows_made g.view r.pass.view 0 asked (ask h.view.origin.made_at Release) m c.own_entries before in
       subst (λ (o : Making). FollowsAsks 0 o.made_at (asked ++ ask h.view.origin.made_at Release ∷ []) (entries r.pass.view.seen)) c.origin after
 
   legal : IsLegal h.view.origin.made_at (entries r.pass.view.seen)
@@ -124,7 +124,7 @@ module _ (at : ℕ) (h g : SharedHandle) (hs gs : List SharedHandle) (r : Releas
 
   -- the clones have made no entry
   none_of : (i : ℕ) (x : SharedHandle) → i < length hs → entries_by (slice_index_or hs i x).number (entries (slice_index_or gs i x).view.seen) ≡ []
-  none_of i x low = let l = learnt i x low in l.own ∙ l.mine ∙ (c.each i x low).2
+  none_of i x low = let l = learnt i x low in l.own_entries ∙ l.mine ∙ (c.each i x low).2
 
   quiets : (n : ℕ) → has n (numbers_of hs) ≡ true → entries_by n (entries r.pass.view.seen) ≡ []
   quiets n at =
@@ -183,7 +183,7 @@ learnt_more p q olds hs i h f len low is seen same sees theirs learnt rest j d l
     let in_hs : i < length hs = omega (arith, len, low) in
     let at_i : slice_index_or olds j d ≡ h = ap (λ (k : ℕ). slice_index_or olds k d) here ∙ sym (rest i d (omega arith) low) ∙ same_get hs i d h in_hs ∙ sym is in
     let to_f : slice_index_or (set hs i f) j d ≡ f = ap (λ (k : ℕ). slice_index_or (set hs i f) k d) here ∙ get_or-set_same hs i f d in_hs in
-    let now : HasLearnt p h f = record { span = same.0; number = same.1; origin = sees.same; mine = sees.mine; seen = subst (λ (l : List Turn). IsPrefix l f.view.seen) seen theirs; own = sees.own } in
+    let now : HasLearnt p h f = record { span = same.0; number = same.1; origin = sees.same; mine = sees.mine; seen = subst (λ (l : List Turn). IsPrefix l f.view.seen) seen theirs; own_entries = sees.own_entries } in
     subst (λ (x : SharedHandle). HasLearnt p x (slice_index_or (set hs i f) j d)) (sym at_i) (subst (HasLearnt p h) (sym to_f) now))
     (λ (apart : j ≢ i).
     let before : j < i = grind (arith, less, apart) in

@@ -2,8 +2,8 @@
 use Rattle.std.proofs.Common.{◌≡◌, ◌⊎◌, inl, inr, ⊎_elim, ℕ, ◌+◌, ◌==◌, Bool, true, false, ◌||◌, max, List, [], ◌∷◌, ◌++◌, length, refl, ap, sym, ◌∙◌, subst, arith}
 use Rattle.std.proofs.lemmas.Bool.Decides.{nat_tests}
 use Rattle.trace_threads.specs.declared.history.Entry.{Entry}
-use Rattle.trace_threads.specs.declared.history.What.{What}
-use Rattle.trace_threads.specs.declared.history.What.TheVariants.{Clone, Release}
+use Rattle.trace_threads.specs.declared.history.HandleAct.{HandleAct}
+use Rattle.trace_threads.specs.declared.history.HandleAct.TheVariants.{Clone, Release}
 use Rattle.trace_threads.specs.History.{Sum, start, entry, has, sum_after, may_do, is_legal, IsLegal, entries_by}
 use Rattle.trace_threads.proofs.histories.HoldersLemmas.{both, has_back, in_without}
 use Rattle.trace_threads.proofs.histories.HistoriesLemmas.{tested}
@@ -55,7 +55,7 @@ abbrev later_asks : List Ask → List Ask
 later_asks [] = []
 later_asks (a ∷ asks) = asks
 
-entry_is : (e : Entry) (made : ℕ) (a : Ask) (what : What) → a ≡ ask made what → e.caller ≡ 0 → e.what ≡ a.what → e.at ≡ max a.at made → e ≡ entry 0 made what
+entry_is : (e : Entry) (made : ℕ) (a : Ask) (what : HandleAct) → a ≡ ask made what → e.caller ≡ 0 → e.what ≡ a.what → e.at ≡ max a.at made → e ≡ entry 0 made what
 entry_is e made a what is c w t =
     let same : e.at ≡ made = t ∙ ap (λ (x : Ask). max x.at made) is ∙ grind arith in
     let does : e.what ≡ what = w ∙ ap (λ (x : Ask). x.what) is in

@@ -10,8 +10,8 @@ use Rattle.atomic_table.specs.Seated.{TableId}
 use Rattle.otel_base.specs.declared.record.Record.{Record}
 use Rattle.trace_threads.specs.declared.making.Making.{Making}
 use Rattle.trace_threads.specs.declared.history.Entry.{Entry}
-use Rattle.trace_threads.specs.declared.history.What.{What}
-use Rattle.trace_threads.specs.declared.history.What.TheVariants.{Clone, Call, Join, Release}
+use Rattle.trace_threads.specs.declared.history.HandleAct.{HandleAct}
+use Rattle.trace_threads.specs.declared.history.HandleAct.TheVariants.{Clone, Call, Join, Release}
 use Rattle.trace_threads.specs.declared.handle.Released.{Released}
 use Rattle.trace_threads.specs.History.{Sum, start, entry, sum_after, may, is_legal, sum_of, sum, clones_after, IsLegal, is_closed, entries_by, ends_handle, has_end}
 use Rattle.trace_threads.specs.Shared.{content_of}
@@ -130,7 +130,7 @@ module _ (span : TableId) (making : Making) (count n : ℕ) (parts : ℕ → Lis
 -- ---- the whole history
 
 -- no entry makes a handle
-abbrev pub is_plain : What → Bool
+abbrev pub is_plain : HandleAct → Bool
 is_plain (Clone n) = false
 is_plain (Call op) = true
 is_plain (Join m) = true
@@ -170,7 +170,7 @@ plain_tail_case : (k : ℕ) (e : Entry) (es : List Entry) (b : Bool) → (e.call
 plain_tail_case k e es true is p = let q : (is_plain e.what && plain (entries_by k es)) ≡ true = rw is at p in (both _ _ q).1
 plain_tail_case k e es false is p = rw is at p
 
-no_clone : (n : ℕ) (w : What) → is_plain w ≡ true → clones_after n w ≡ n
+no_clone : (n : ℕ) (w : HandleAct) → is_plain w ≡ true → clones_after n w ≡ n
 no_clone n (Clone m) p = absurd cc
 no_clone n (Call op) p = refl
 no_clone n (Join m) p = refl

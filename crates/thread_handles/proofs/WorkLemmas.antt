@@ -9,9 +9,9 @@ use native.Mathlib.Decide.{ℕ_discrete}
 use Rattle.otel_state.specs.declared.op.Op.TheVariants.{Exit}
 use Rattle.trace_threads.specs.declared.making.Making.{Making}
 use Rattle.trace_threads.specs.declared.history.Entry.{Entry}
-use Rattle.trace_threads.specs.declared.history.What.TheVariants.{Call, Release}
+use Rattle.trace_threads.specs.declared.history.HandleAct.TheVariants.{Call, Release}
 use Rattle.trace_threads.specs.declared.handle.Released.{Released}
-use Rattle.trace_threads.specs.Moves.{Move, enters, exits, stays, move_of, opens_after}
+use Rattle.trace_threads.specs.Moves.{Move, enters, exits, stays, move_of, open_count_after}
 use Rattle.trace_threads.specs.History.{IsLegal, has_end, ends_handle, written_entry}
 use Rattle.trace_threads.specs.Shared.{some_making}
 use Rattle.trace_threads.specs.Turns.{entries, first_view}
@@ -27,7 +27,7 @@ use Rattle.thread_script.specs.Plans.{AreTimed, later_at, part_by, op_asked, ask
 use Rattle.thread_handles.specs.Works.{DidCall, DidAt, DidAll, MayDo, IsAtWork, AllAtWork, part_of, AreMade, AreLow, WasReleased, AllReleased, IsLeft, AllLeft}
 use Rattle.thread_handles.proofs.AsksLemmas.{follows_made}
 
-still_balanced : (n : ℕ) (m : Move) (left : List Ask) → balanced_by n m (is_balanced left) ≡ true → is_balanced left (opens_after n m) ≡ true
+still_balanced : (n : ℕ) (m : Move) (left : List Ask) → balanced_by n m (is_balanced left) ≡ true → is_balanced left (open_count_after n m) ≡ true
 still_balanced n enters left b = b
 still_balanced n exits left b = (both (nat_lt 0 n) (is_balanced left (n - 1)) b).1
 still_balanced n stays left b = b
@@ -36,7 +36,7 @@ did_call : (k at : ℕ) (all left : List Ask) (op : Op) (h g f : SharedHandle) �
 did_call k at all left op h g f w d =
     let m : MakesEntry g.view f.view k at (Call op) = subst (λ (n : ℕ). MakesEntry g.view f.view n at (Call op)) w.number d.1 in
     let before : FollowsAsks k g.view.origin.made_at w.asked (entries g.view.seen) = subst (λ (o : Making). FollowsAsks k o.made_at w.asked (entries g.view.seen)) (sym w.origin) w.follows in
-    let after = follows_made g.view f.view k w.asked (ask at (Call op)) m w.own before in
+    let after = follows_made g.view f.view k w.asked (ask at (Call op)) m w.own_entries before in
     record {
       span = d.0.0 ∙ w.span;
       number = d.0.1 ∙ w.number;
@@ -44,7 +44,7 @@ did_call k at all left op h g f w d =
       asked = w.asked ++ ask at (Call op) ∷ [];
       whole = append_assoc w.asked (ask at (Call op) ∷ []) left ∙ w.whole;
       follows = subst (λ (o : Making). FollowsAsks k o.made_at (w.asked ++ ask at (Call op) ∷ []) (entries f.view.seen)) w.origin after;
-      own = m.own;
+      own_entries = m.own_entries;
       balanced = ap (is_balanced left) d.2 ∙ still_balanced (open_of g) (move_of op) left w.balanced;
     }
 
@@ -89,7 +89,7 @@ pub is_left : (k at : ℕ) (all : List Ask) (h g : SharedHandle) (r : Released) 
 is_left k at all h g r w d =
     let m : MakesEntry g.view r.pass.view k at Release = subst (λ (n : ℕ). MakesEntry g.view r.pass.view n at Release) w.number d.made in
     let before : FollowsAsks k g.view.origin.made_at w.asked (entries g.view.seen) = subst (λ (o : Making). FollowsAsks k o.made_at w.asked (entries g.view.seen)) (sym w.origin) w.follows in
-    let after : FollowsAsks k g.view.origin.made_at (w.asked ++ ask at Release ∷ []) (entries r.pass.view.seen) = follows_made g.view r.pass.view k w.asked (ask at Release) m w.own before in
+    let after : FollowsAsks k g.view.origin.made_at (w.asked ++ ask at Release ∷ []) (entries r.pass.view.seen) = follows_made g.view r.pass.view k w.asked (ask at Release) m w.own_entries before in
     let whole : FollowsAsks k g.view.origin.made_at all (entries r.pass.view.seen) = subst (λ (l : List Ask). FollowsAsks k g.view.origin.made_at l (entries r.pass.view.seen)) w.whole after in
     let x : Entry = written_entry g.view.origin.made_at (entries (g.view.seen ++ m.between)) k at Release in
     let hit : (k == k) ≡ true = grind (arith, nat_tests) in

@@ -26,7 +26,7 @@ pub record AreCloned (h g : SharedHandle) (hs : List SharedHandle) : Type 0 wher
   pub origin : g.view.origin ≡ h.view.origin
   pub out : open_of g ≡ 0
   pub follows : FollowsAsks 0 h.view.origin.made_at (clones_asked h.view.origin.made_at (numbers_of hs)) (entries g.view.seen)
-  pub own : entries_by 0 (entries g.view.seen) ≡ g.view.mine
+  pub own_entries : entries_by 0 (entries g.view.seen) ≡ g.view.mine
   pub each : (i : ℕ) (d : SharedHandle) → i < length hs → ((slice_index_or hs i d).span ≡ h.span) × ((slice_index_or hs i d).view.origin ≡ h.view.origin) × ((slice_index_or hs i d).view.mine ≡ [])
 
 -- a handle has seen what a pass has
@@ -36,7 +36,7 @@ pub record HasLearnt (p : ReleasedHandle) (h g : SharedHandle) : Type 0 where
   pub origin : g.view.origin ≡ h.view.origin
   pub mine : g.view.mine ≡ h.view.mine
   pub seen : IsPrefix p.view.seen g.view.seen
-  pub own : entries_by h.number (entries g.view.seen) ≡ g.view.mine
+  pub own_entries : entries_by h.number (entries g.view.seen) ≡ g.view.mine
 
 abbrev pub HaveLearnt : ReleasedHandle → List SharedHandle → List SharedHandle → Type 0
 HaveLearnt p hs gs = (i : ℕ) (d : SharedHandle) → i < length hs → HasLearnt p (slice_index_or hs i d) (slice_index_or gs i d)

@@ -5,9 +5,9 @@ use Rattle.otel_state.specs.declared.op.Op.{Op}
 use Rattle.otel_state.specs.declared.op.Op.TheVariants.{Exit}
 use Rattle.otel_state.specs.declared.times.TheConstants.{GREATEST}
 use Rattle.trace_threads.specs.declared.making.Making.{Making}
-use Rattle.trace_threads.specs.declared.history.What.TheVariants.{Call, Release}
+use Rattle.trace_threads.specs.declared.history.HandleAct.TheVariants.{Call, Release}
 use Rattle.trace_threads.specs.declared.handle.Released.{Released}
-use Rattle.trace_threads.specs.Moves.{move_of, opens_after}
+use Rattle.trace_threads.specs.Moves.{move_of, open_count_after}
 use Rattle.trace_threads.specs.History.{IsLegal, entries_by, has_end}
 use Rattle.trace_threads.specs.Turns.{entries}
 use Rattle.trace_threads.specs.Calls.{MakesEntry}
@@ -24,7 +24,7 @@ use Rattle.thread_script.specs.Plans.{asked_on, part_on, last_at, release_at, Ar
 abbrev pub DidCall : SharedHandle → SharedHandle → ℕ → Option Op → Type 0
 DidCall h g at None = g ≡ h
 DidCall h g at (Some op) =
-    IsSameHandle h g × MakesEntry h.view g.view h.number at (Call op) × (open_of g ≡ opens_after (open_of h) (move_of op))
+    IsSameHandle h g × MakesEntry h.view g.view h.number at (Call op) × (open_of g ≡ open_count_after (open_of h) (move_of op))
 
 -- the handle at this place did this op, and the others nothing
 abbrev pub DidAt : ℕ → ℕ → Option Op → List SharedHandle → List SharedHandle → Type 0
@@ -48,7 +48,7 @@ pub record IsAtWork (k : ℕ) (all left : List Ask) (h g : SharedHandle) : Type 
   pub asked : List Ask
   pub whole : asked ++ left ≡ all
   pub follows : FollowsAsks k h.view.origin.made_at asked (entries g.view.seen)
-  pub own : entries_by k (entries g.view.seen) ≡ g.view.mine
+  pub own_entries : entries_by k (entries g.view.seen) ≡ g.view.mine
   pub balanced : is_balanced left (open_of g) ≡ true
 
 -- what a worker is asked on the span of a handle, by the calls of a list

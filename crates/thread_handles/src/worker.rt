@@ -113,7 +113,7 @@ fn close_entries<R: Wait>(rt: &R, handle: &mut Handle, at: Moment)
     requires moment { at ≤ GREATEST }
     ensures closed { open_of handle.new ≡ 0 }
 {
-    while handle.entries() > 0 {
+    while handle.open_entries() > 0 {
         let Ok(_) = handle.call(rt, at, Op::Exit) else {
             unreachable!()
         };
@@ -125,7 +125,7 @@ pub fn end_handle<R: Wait>(rt: &R, mut handle: Handle, at: Moment) -> Released
     requires moment { at ≤ GREATEST }
     ensures released { open_of handle ≡ 0 → WasReleased handle result at }
 {
-    if handle.entries() > 0 {
+    if handle.open_entries() > 0 {
         close_entries(rt, &mut handle, at);
     }
     handle.release(rt, at)

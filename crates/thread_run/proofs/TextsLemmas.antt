@@ -5,12 +5,13 @@ use Rattle.std.proofs.lemmas.List.{drop_more}
 use Rattle.thread_handles.specs.declared.gather.Ended.{Ended}
 use Rattle.trace_lines.specs.text.Texts.{record_text, end_text}
 use Rattle.trace_lines.specs.text.Writes.{AddsText}
+use Rattle.trace_lines.specs.text.WrittenText.{WrittenText}
 use Rattle.trace_threads.specs.declared.history.Entry.{Entry}
 use Rattle.thread_run.specs.declared.entry.EntryText.{EntryText}
 use Rattle.thread_run.specs.Texts.{entries_after, told_text, history_text, spans_text, all_text}
 
 -- the line of a span's history was added, and then other bytes
-pub span_added : {E : Type 0} (place : ℕ) (log shown : List Entry) (told slice : List EntryText) (out new behind : List ℕ) (r : Result (Vec ℕ Global) E) → shown ≡ log → told ≡ entries_after [] shown → slice ≡ told → AddsText out new (told_text place slice)
+pub span_added : {E : Type 0} (place : ℕ) (log shown : List Entry) (told slice : List EntryText) (out new behind : List ℕ) (r : Result WrittenText E) → shown ≡ log → told ≡ entries_after [] shown → slice ≡ told → AddsText out new (told_text place slice)
     → IfOk r (λ text. text.items ≡ new ++ behind) → IfOk r (λ text. text.items ≡ out ++ (history_text place log ++ behind))
 span_added place log shown told slice out new behind (Ok text) same telling shows adds last =
     last

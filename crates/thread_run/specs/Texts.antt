@@ -5,32 +5,32 @@ use Rattle.otel_base.specs.declared.record.Record.{Record}
 use Rattle.trace_lines.specs.reading.Object.{by_name, whole_number, line_of, array_of}
 use Rattle.trace_lines.specs.text.Texts.{record_text, end_text}
 use Rattle.trace_threads.specs.declared.history.Entry.{Entry}
-use Rattle.trace_threads.specs.declared.history.What.{What}
-use Rattle.trace_threads.specs.declared.history.What.TheVariants.{Clone, Call, Join, Release}
+use Rattle.trace_threads.specs.declared.history.HandleAct.{HandleAct}
+use Rattle.trace_threads.specs.declared.history.HandleAct.TheVariants.{Clone, Call, Join, Release}
 use Rattle.thread_run.specs.declared.entry.EntryText.{EntryText}
 use Rattle.thread_run.specs.declared.entry.Deed.{Deed}
 use Rattle.thread_run.specs.declared.entry.Deed.TheVariants as deed
 use Rattle.thread_handles.specs.declared.gather.Ended.{Ended}
 
 -- how many calls a handle made in a history
-abbrev pub is_call : What → ℕ
-is_call (Clone n) = 0
-is_call (Call op) = 1
-is_call (Join k) = 0
-is_call Release = 0
+abbrev pub one_if_call : HandleAct → ℕ
+one_if_call (Clone n) = 0
+one_if_call (Call op) = 1
+one_if_call (Join k) = 0
+one_if_call Release = 0
 
-abbrev pub calls_by : ℕ → List Entry → ℕ
-calls_by k [] = 0
-calls_by k (e ∷ log) = if e.caller == k then is_call e.what + calls_by k log else calls_by k log
+abbrev pub call_count : ℕ → List Entry → ℕ
+call_count k [] = 0
+call_count k (e ∷ log) = if e.caller == k then one_if_call e.what + call_count k log else call_count k log
 
 -- the calls of each handle in a history are counted at its number
 abbrev pub CallsAreCounted : List Entry → List ℕ → Type 0
-CallsAreCounted log counts = (k : ℕ) → slice_index_or counts k 0 ≡ calls_by k log
+CallsAreCounted log counts = (k : ℕ) → slice_index_or counts k 0 ≡ call_count k log
 
 -- what an entry tells: a call by its number among those that its handle made on the span, from 0
-abbrev pub deed_after : List Entry → ℕ → What → Deed
+abbrev pub deed_after : List Entry → ℕ → HandleAct → Deed
 deed_after before k (Clone n) = deed.Clone
-deed_after before k (Call op) = deed.Call (calls_by k before)
+deed_after before k (Call op) = deed.Call (call_count k before)
 deed_after before k (Join n) = deed.Join
 deed_after before k Release = deed.Release
 

@@ -5,7 +5,7 @@ ghost use Rattle.trace_threads.specs.declared.history.Entry.{Entry};
 
 use otel_base::memory::Memory;
 use std::alloc::Global;
-use trace_threads::history::{Entry, What};
+use trace_threads::history::{Entry, HandleAct};
 
 /// What an entry of a history tells.
 #[derive(Clone, Copy)]
@@ -63,13 +63,13 @@ fn deed_of(counts: &mut Vec<u64>, entry: &Entry) -> Result<Deed, Memory>
         → OnOk result (CallsAreCounted (before ++ entry.now ∷ []) counts.new.items) }
 {
     match &entry.what {
-        What::Clone { new: _ } => Ok(Deed::Clone),
-        What::Call { op: _ } => {
+        HandleAct::Clone { new: _ } => Ok(Deed::Clone),
+        HandleAct::Call { op: _ } => {
             let number = next_call(counts, entry.caller)?;
             Ok(Deed::Call { number })
         }
-        What::Join { ended: _ } => Ok(Deed::Join),
-        What::Release => Ok(Deed::Release),
+        HandleAct::Join { ended: _ } => Ok(Deed::Join),
+        HandleAct::Release => Ok(Deed::Release),
     }
 }
 

@@ -17,7 +17,7 @@ use turnstile::Turnstile;
 
 /// What comes of an input.
 #[derive(Drop)]
-pub struct Outcome {
+pub struct ThreadsOutcome {
     /// All that is written.
     pub answer: Answer,
     /// What came of each shared span, in order; of none where a line is refused.
@@ -32,7 +32,7 @@ pub fn threads_answer<R: Threads + Wait + Sync, T: Turnstile + Sync>(
     alloc: Global,
     turns: &T,
     bytes: &[u8],
-) -> Result<Outcome, Memory>
+) -> Result<ThreadsOutcome, Memory>
     ensures told { IfOk result (λ outcome.
         TellsEnded (lines_of bytes.now) outcome.ended.items outcome.answer.text.items) }
     ensures refused { IfOk result (λ outcome.
@@ -44,12 +44,12 @@ pub fn threads_answer<R: Threads + Wait + Sync, T: Turnstile + Sync>(
             let text = ended_text(alloc, ended.as_slice())?;
             let refused = false;
             let answer = Answer { text, refused };
-            Ok(Outcome { answer, ended })
+            Ok(ThreadsOutcome { answer, ended })
         }
         Err(line) => {
             let answer = refused_answer(alloc, line)?;
             let ended = Vec::new(alloc);
-            Ok(Outcome { answer, ended })
+            Ok(ThreadsOutcome { answer, ended })
         }
     }
 }

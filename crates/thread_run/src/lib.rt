@@ -10,6 +10,6 @@ pub mod run;
 mod spans;
 pub mod text;
 
-pub use input::{Outcome, threads_answer, threads_refusal};
+pub use input::{ThreadsOutcome, threads_answer, threads_refusal};
 pub use run::{run_gated, run_script};
 pub use text::ended_text;

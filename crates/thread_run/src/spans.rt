@@ -15,7 +15,6 @@ use thread_work::end_handles;
 use trace_base::field::ValueSet;
 use trace_base::lane::Lane;
 use trace_threads::handle::Handle;
-use trace_threads::span::SharedSpan;
 
 // The lane on which the spans are made, which is the first.
 fn first_lane(alloc: Global, lanes: &[(u64, Option<Text>)]) -> Result<Lane, Memory>
@@ -48,7 +47,7 @@ fn make_span(alloc: Global, script: &ThreadScript, place: usize) -> Result<Handl
     let values = ValueSet {
         pairs: Items::new(alloc),
     };
-    SharedSpan::make(
+    Handle::make(
         alloc,
         callsite,
         &lane,

@@ -11,10 +11,10 @@ use otel_base::memory::Memory;
 use std::alloc::{AllocError, Global};
 use thread_handles::Ended;
 use trace_lines::write::pieces::{add, add_number, add_text, separator};
-use trace_lines::{add_end_line, add_record_line};
+use trace_lines::{TextBuffer, add_end_line, add_record_line};
 
 // Adds what a handle did.
-fn add_deed(out: &mut Vec<u8>, front: &str, deed: Deed) -> Result<(), AllocError>
+fn add_deed(out: &mut TextBuffer, front: &str, deed: Deed) -> Result<(), AllocError>
     ensures { Writes result out.old out.new (front.now ++ compact_text (deed_data deed)) }
 {
     match deed {
@@ -26,7 +26,7 @@ fn add_deed(out: &mut Vec<u8>, front: &str, deed: Deed) -> Result<(), AllocError
 }
 
 // Adds an entry.
-fn add_entry(out: &mut Vec<u8>, front: &str, entry: &EntryText) -> Result<(), AllocError>
+fn add_entry(out: &mut TextBuffer, front: &str, entry: &EntryText) -> Result<(), AllocError>
     ensures { Writes result out.old out.new (front.now ++ compact_text (entry_data entry.now)) }
 {
     add(out, front)?;
@@ -37,7 +37,7 @@ fn add_entry(out: &mut Vec<u8>, front: &str, entry: &EntryText) -> Result<(), Al
 }
 
 // Adds the entries of a history.
-fn add_entries(out: &mut Vec<u8>, front: &str, entries: &[EntryText]) -> Result<(), AllocError>
+fn add_entries(out: &mut TextBuffer, front: &str, entries: &[EntryText]) -> Result<(), AllocError>
     ensures { Writes result out.old out.new (front.now ++ compact_text (array_of entry_data entries.now)) }
 {
     add(out, front)?;
@@ -52,7 +52,7 @@ fn add_entries(out: &mut Vec<u8>, front: &str, entries: &[EntryText]) -> Result<
 }
 
 // Adds the line of what the entries of a span tell.
-fn add_history(out: &mut Vec<u8>, place: u64, entries: &[EntryText]) -> Result<(), AllocError>
+fn add_history(out: &mut TextBuffer, place: u64, entries: &[EntryText]) -> Result<(), AllocError>
     ensures { Writes result out.old out.new (told_text place entries.now) }
 {
     add_entries(out, "{\"history\":", entries)?;
@@ -64,7 +64,7 @@ fn add_history(out: &mut Vec<u8>, place: u64, entries: &[EntryText]) -> Result<(
 
 // Adds the lines of the span at a place: its history and its record.
 #[tactic(auto, using(crate::proofs::TextsLemmas::span_added))]
-fn add_span(alloc: Global, out: Vec<u8>, place: u64, ended: &Ended) -> Result<Vec<u8>, Memory>
+fn add_span(alloc: Global, out: TextBuffer, place: u64, ended: &Ended) -> Result<TextBuffer, Memory>
     requires { place < 2 ^ 63 }
     ensures { IfOk result (λ text. text.items ≡ out.items ++ (history_text place ended.now.history ++ record_text (place + 1) ended.now.finished)) }
 {
@@ -80,10 +80,10 @@ fn add_span(alloc: Global, out: Vec<u8>, place: u64, ended: &Ended) -> Result<Ve
 pub fn ended_text(alloc: Global, ended: &[Ended]) -> Result<Vec<u8>, Memory>
     ensures { IfOk result (λ text. text.items ≡ all_text ended.now) }
 {
-    let mut out = Vec::new(alloc);
+    let mut out = TextBuffer::new(alloc);
     for place in 0..ended.len() {
         out = add_span(alloc, out, place as u64, &ended[place])?;
     }
     add_end_line(&mut out, 0, ended.len() as u64)?;
-    Ok(out)
+    Ok(out.into_vec())
 }

@@ -10,8 +10,8 @@ use Rattle.otel_state.specs.declared.times.TheConstants.{GREATEST}
 use Rattle.otel_state.specs.fields.EventFields.{event_of}
 use Rattle.otel_state.specs.fields.SpanFields.{span_update}
 use Rattle.event_gate.specs.declared.levels.Levels.{Levels}
-use Rattle.event_gate.specs.Rules.{gate_rule, text_filter}
-use Rattle.trace_threads.specs.declared.history.What.TheVariants.{Call, Release}
+use Rattle.event_gate.specs.Rules.{gate_rule, fixed_text_filter}
+use Rattle.trace_threads.specs.declared.history.HandleAct.TheVariants.{Call, Release}
 use Rattle.thread_script.specs.declared.plan.Plan.{Plan}
 use Rattle.thread_script.specs.declared.script.ThreadScript.{ThreadScript}
 use Rattle.thread_script.specs.declared.script.SharedLine.{SharedLine}
@@ -27,8 +27,8 @@ plan_of script = record { filter = script.filter; callsites = script.callsites; 
 -- ---- what a call of a worker is on its span
 
 -- whether the filter of a text lets a callsite through on a lane without levels
-abbrev pub admits : List ℕ → Callsite → Bool
-admits text c = gate_rule (text_filter text) [] c
+abbrev pub text_admits : List ℕ → Callsite → Bool
+text_admits text c = gate_rule (fixed_text_filter text) [] c
 
 abbrev pub AreNoLevels : Levels → Type 0
 AreNoLevels levels = (levels.reload ≡ 0) × (levels.list ≡ [])
@@ -56,7 +56,7 @@ record_asked plan fields (Some c) = Some (Update (span_update c (values_of c fie
 -- an event is told if the filter lets it through
 abbrev pub event_asked : Plan → ℕ → ValueSet → Option Callsite → Option Op
 event_asked plan at values None = None
-event_asked plan at values (Some c) = if admits plan.filter c then Some (event_of c values plan.layer at) else None
+event_asked plan at values (Some c) = if text_admits plan.filter c then Some (event_of c values plan.layer at) else None
 
 abbrev pub op_asked : Plan → ℕ → ℕ → WorkerCall → Option Op
 op_asked plan s at (calls.Record fields) = record_asked plan fields (site_of plan s)

@@ -1,6 +1,6 @@
 //! The ops that the calls of workers come to.
 ghost use Rattle.std.specs.Prelude.{◌≡◌, IfOk, option_map, slice_get};
-ghost use Rattle.thread_script.specs.Plans.{admits, AreNoLevels, site_of, record_asked, event_asked, op_asked};
+ghost use Rattle.thread_script.specs.Plans.{text_admits, AreNoLevels, site_of, record_asked, event_asked, op_asked};
 
 use crate::plan::Plan;
 use crate::script::WorkerCall;
@@ -29,7 +29,7 @@ fn is_admitted<G: EventGate>(
     requires opening { G.opening gate.old ≡ plan.now.filter }
     requires levels { AreNoLevels levels.now }
     ensures same { G.opening gate.new ≡ G.opening gate.old }
-    ensures yes { IfOk result (λ yes. yes ≡ admits plan.now.filter callsite.now) }
+    ensures yes { IfOk result (λ yes. yes ≡ text_admits plan.now.filter callsite.now) }
 {
     let admission = gate.enabled(callsite, levels);
     if admission.reload == 0 {
@@ -67,7 +67,7 @@ fn record_op(
 }
 
 // What an event tells a span, if its callsite is there and the filter lets it through.
-fn told_op<G: EventGate>(
+fn admitted_event<G: EventGate>(
     alloc: Global,
     plan: &Plan,
     gate: &mut G,
@@ -108,7 +108,9 @@ pub fn op_of<G: EventGate>(
 {
     match what {
         WorkerCall::Record { fields } => record_op(alloc, plan, span, fields),
-        WorkerCall::Event { site, values } => told_op(alloc, plan, gate, levels, at, site, values),
+        WorkerCall::Event { site, values } => admitted_event(
+            alloc, plan, gate, levels, at, site, values,
+        ),
         WorkerCall::Own { op } => Ok(Some(op)),
     }
 }

@@ -15,7 +15,7 @@ use std::sync::Wait;
 use std::test::{Fail, *};
 use std::thread::{Threads, join_mut};
 use trace_threads::handle::{Handle, Released};
-use trace_threads::history::{Entry, What};
+use trace_threads::history::{Entry, HandleAct};
 
 // How many calls each handle makes.
 const CALLS: u16 = 1000;
@@ -104,7 +104,7 @@ fn is_next(next: &mut [i64], caller: u64, op: &Op) -> bool {
 // Applies the op of an entry, if it has one, and tells whether that is the next one of its handle.
 fn apply_next(state: &mut SpanState, entry: &Entry, next: &mut [i64]) -> Result<bool, Memory> {
     match &entry.what {
-        What::Call { op } => {
+        HandleAct::Call { op } => {
             state.apply(entry.at, op.clone()?)?;
             Ok(is_next(next, entry.caller, op))
         }

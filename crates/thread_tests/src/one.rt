@@ -12,7 +12,7 @@ use std::alloc::Global;
 use std::sync::Wait;
 use std::test::{Fail, *};
 use trace_threads::handle::{Handle, Released};
-use trace_threads::history::{Entry, What};
+use trace_threads::history::{Entry, HandleAct};
 
 // Two handles of one span: the first, and a clone.
 fn two_handles<R: Wait>(rt: &R, alloc: Global) -> Result<(Handle, Handle), Memory>
@@ -48,7 +48,7 @@ fn enter_and_exit<R: Wait>(rt: &R, handle: &mut Handle) -> bool
     if handle.call(rt, 8, Op::Enter).is_err() {
         return false;
     }
-    handle.entries() == 1 && handle.call(rt, 9, Op::Exit).is_ok()
+    handle.open_entries() == 1 && handle.call(rt, 9, Op::Exit).is_ok()
 }
 
 // Sets the parent at a moment long past, and tells at which place, and whether it was set.
@@ -86,28 +86,28 @@ fn calls_by_turns<R: Wait>(rt: &R, first: &mut Handle, second: &mut Handle) -> b
 }
 
 // What an entry did, in a word.
-fn word_of(what: &What) -> &'static str {
+fn word_of(what: &HandleAct) -> &'static str {
     match what {
-        What::Clone { new: _ } => "clone",
-        What::Call { op: Op::Enter } => "enter",
-        What::Call { op: Op::Exit } => "exit",
-        What::Call {
+        HandleAct::Clone { new: _ } => "clone",
+        HandleAct::Call { op: Op::Enter } => "enter",
+        HandleAct::Call { op: Op::Exit } => "exit",
+        HandleAct::Call {
             op: Op::SetParent { context: _ },
         } => "set parent",
-        What::Call {
+        HandleAct::Call {
             op: Op::Start { own: _ },
         } => "start",
-        What::Call { op: _ } => "other",
-        What::Join { ended: _ } => "join",
-        What::Release => "release",
+        HandleAct::Call { op: _ } => "other",
+        HandleAct::Join { ended: _ } => "join",
+        HandleAct::Release => "release",
     }
 }
 
 // The handle that an entry made or ended.
-fn other_of(what: &What) -> Option<u64> {
+fn other_of(what: &HandleAct) -> Option<u64> {
     match what {
-        What::Clone { new } => Some(*new),
-        What::Join { ended } => Some(*ended),
+        HandleAct::Clone { new } => Some(*new),
+        HandleAct::Join { ended } => Some(*ended),
         _ => None,
     }
 }

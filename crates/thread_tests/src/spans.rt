@@ -15,7 +15,6 @@ use trace_base::field::{Value, ValueSet};
 use trace_base::lane::Lane;
 use trace_base::level::Level;
 use trace_threads::handle::Handle;
-use trace_threads::span::SharedSpan;
 
 /// The ids with which it starts.
 pub const OWN: SpanContext = SpanContext { trace: 7, span: 9 };
@@ -24,7 +23,7 @@ pub const OWN: SpanContext = SpanContext { trace: 7, span: 9 };
 pub fn span(alloc: Global) -> Result<Handle, Memory>
     ensures { IfOk result (λ h. open_of h ≡ 0) }
 {
-    SharedSpan::make(
+    Handle::make(
         alloc,
         &callsite(alloc)?,
         &lane(alloc),

@@ -7,7 +7,7 @@ use Rattle.atomic_table.specs.Seated.{TableId}
 use Rattle.otel_state.specs.declared.op.Op.{Op}
 use Rattle.trace_threads.specs.declared.making.Making.{Making}
 use Rattle.trace_threads.specs.declared.handle.Released.{Released}
-use Rattle.trace_threads.specs.History.{opens_entry}
+use Rattle.trace_threads.specs.History.{open_count}
 use Rattle.trace_threads.specs.Turns.{entries}
 use Rattle.trace_threads.specs.Handles.{SharedHandle}
 use Rattle.thread_script.specs.declared.plan.Plan.{Plan}
@@ -61,8 +61,8 @@ fresh_work plan s first h k last ops f b = record {
   asked = [];
   whole = refl;
   follows = follows_none k h.view.origin.made_at (entries h.view.seen) f.none;
-  own = f.none ∙ sym f.mine;
-  balanced = (λ i. is_balanced (part_on plan s (release_at (f.origin i).made_at last) ops) (ap opens_entry f.mine i)) ∙ b;
+  own_entries = f.none ∙ sym f.mine;
+  balanced = (λ i. is_balanced (part_on plan s (release_at (f.origin i).made_at last) ops) (ap open_count f.mine i)) ∙ b;
 }
 
 module _ {G : Type 0} (opening : G → List ℕ) (plan : Plan) (spans : List SharedHandle) (jobs given : List (Job G)) (rs : List Released) (f : AreFirsts plan spans) (p : ArePreparedFor opening plan spans jobs) (glen : length given ≡ length jobs) (rlen : length rs ≡ length spans) (sh : WereShared (length spans) spans jobs given rs) where

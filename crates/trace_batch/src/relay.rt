@@ -8,7 +8,7 @@ ghost use Rattle.trace_batch.specs.Serving.{Serving, Opens};
 
 use crate::item::{Finished, Item, Sent};
 use crate::queue::Queue;
-use crate::sender::Progress;
+use crate::sender::SendProgress;
 use crate::writer::{Writer, serve, take_all};
 use otel_base::list::Items;
 use otel_base::memory::Memory;
@@ -50,7 +50,7 @@ fn finish<R: Wait, F: Finished>(
     rt: &R,
     queue: &Queue,
     lists: &[Items<Item<F>>],
-    progress: &Progress,
+    progress: &SendProgress,
     writer: Writer,
 ) -> Result<Vec<Sent>, Memory>
     requires queue { IsPassOf queue.now writer.pass }
@@ -69,7 +69,7 @@ fn senders<H: Threads + Wait + Sync, F: Finished + Sync, T: Turnstile + Sync>(
     queue: &Queue,
     lists: &[Items<Item<F>>],
     stack_sizes: &[usize],
-    progress: &Progress,
+    progress: &SendProgress,
     turns: &T,
     writer: Writer,
 ) -> Writer
@@ -138,7 +138,7 @@ pub fn relay_on_stacks<H: Threads + Wait + Sync, F: Finished + Sync + Drop, T: T
     ensures { IfOk result (λ v. IsMerge F.text lists.items v.items) }
 {
     let (queue, pass) = Queue::ruled(alloc, PLACES)?;
-    let progress = Progress {
+    let progress = SendProgress {
         refused: AtomicU64::new(u64::MAX),
         ended: AtomicU64::new(0),
     };

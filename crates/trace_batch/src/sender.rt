@@ -25,7 +25,7 @@ pub struct SenderEnd {
 
 /// The words by which the senders and the writer tell one another how far they are. No proof rests on them.
 #[derive(Drop)]
-pub struct Progress {
+pub struct SendProgress {
     /// The lane whose thread could not be started last; above all lanes where there is none.
     pub refused: AtomicU64,
     /// How many senders have ended.
@@ -58,7 +58,7 @@ pub fn send<R: Wait, F: Finished, T: Turnstile>(
     queue: &Queue,
     list: &[Item<F>],
     lane: u64,
-    progress: &Progress,
+    progress: &SendProgress,
     turns: &T,
     pass: QueuePass,
 ) -> SenderEnd

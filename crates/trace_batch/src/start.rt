@@ -8,7 +8,7 @@ ghost use Rattle.trace_batch.specs.declared.sender.SenderEnd.{SenderEnd};
 
 use crate::item::{Finished, Item};
 use crate::queue::{Queue, QueuePass};
-use crate::sender::{Progress, SenderEnd, send};
+use crate::sender::{SendProgress, SenderEnd, send};
 use core::thread::{PromisedHandle, Stack};
 use std::alloc::Global;
 use std::sync::Wait;
@@ -58,7 +58,7 @@ pub(crate) fn start<'s, E, R: Threads + Wait + Sync, F: Finished + Sync, T: Turn
     list: &'s [Item<F>],
     lane: u64,
     stack: Stack,
-    progress: &'s Progress,
+    progress: &'s SendProgress,
     turns: &'s T,
     pass: QueuePass,
 ) -> Started<SenderPromise<'s, F>>

@@ -8,7 +8,7 @@ ghost use Rattle.trace_batch.specs.Serving.{Serving, Opens};
 
 use crate::item::{Finished, Item, Sent, sent_of};
 use crate::queue::{End, Next, Queue, QueuePass, Take};
-use crate::sender::{Progress, SenderEnd};
+use crate::sender::{SendProgress, SenderEnd};
 use crate::start::{end_of, stack_of, start};
 use otel_base::list::Items;
 use otel_base::memory::Memory;
@@ -69,7 +69,7 @@ pub(crate) fn take_all<R: Wait, F: Finished>(
     rt: &R,
     queue: &Queue,
     lists: &[Items<Item<F>>],
-    progress: &Progress,
+    progress: &SendProgress,
     writer: &mut Writer,
 )
     requires queue { IsPassOf queue.now writer.old.pass }
@@ -161,7 +161,7 @@ pub(crate) fn serve<'s, E, R: Threads + Wait + Sync, F: Finished + Sync, T: Turn
     lists: &'s [Items<Item<F>>],
     lane: usize,
     stack_sizes: &[usize],
-    progress: &'s Progress,
+    progress: &'s SendProgress,
     turns: &'s T,
     writer: &mut Writer,
 )

@@ -3,12 +3,12 @@ use Rattle.std.specs.Prelude.{◌≡◌, ℕ, List, [], ◌∷◌, ◌++◌, len
 use mathlib.Core.List.{IsPrefix}
 use Rattle.trace_threads.specs.declared.making.Making.{Making}
 use Rattle.trace_threads.specs.declared.history.Entry.{Entry}
-use Rattle.trace_threads.specs.declared.history.What.{What}
-use Rattle.trace_threads.specs.declared.history.What.TheVariants.{Call}
+use Rattle.trace_threads.specs.declared.history.HandleAct.{HandleAct}
+use Rattle.trace_threads.specs.declared.history.HandleAct.TheVariants.{Call}
 use Rattle.otel_state.specs.declared.op.Op.{Op}
 use Rattle.otel_state.specs.declared.op.OpReply.{OpReply}
 use Rattle.trace_threads.specs.declared.turns.View.{View}
-use Rattle.trace_threads.specs.declared.turns.Stage.TheVariants.{Idle, Waits, Holds}
+use Rattle.trace_threads.specs.declared.turns.TicketStage.TheVariants.{Idle, Waits, Holds}
 use Rattle.trace_threads.specs.History.{IsLegal, entries_by, written_entry, is_closed}
 use Rattle.trace_threads.specs.Shared.{Shared, shared_of, reply_at}
 use Rattle.trace_threads.specs.Turns.{Turn, Slot, SeatValue, entries, view, AllBegin, Known, home_of, view_after, after_turn, MayTurn}
@@ -42,18 +42,18 @@ pub record Begun (m w : SeatValue) (ticket : ℕ) (had : Shared) : Type 0 where
   pub begins : IsPrefix m.0.seen w.0.seen
   pub before : AllBegin m.0.origin m.0.earlier w.0.seen
   pub legal : IsLegal m.0.origin.made_at (entries w.0.seen)
-  pub own : Known m.0.origin (entries w.0.seen) m.0.mine m.0.number
+  pub own_entries : Known m.0.origin (entries w.0.seen) m.0.mine m.0.number
   pub other : Known m.0.origin (entries w.0.seen) m.0.theirs m.0.other
   pub apart : (k : ℕ) → m.0.number ≡ Some k → m.0.other ≡ Some k → ⊥
 
 -- What a turn with an entry leaves. What is seen afterwards begins with what was seen before and ends with this entry,
 -- which is the one more that the handle made, and the history has no others of it.
-pub record MakesEntry (v w : View) (k at : ℕ) (what : What) : Type 0 where
+pub record MakesEntry (v w : View) (k at : ℕ) (what : HandleAct) : Type 0 where
   pub between : List Turn
   pub ends : w.seen
       ≡ (v.seen ++ between) ++ Some (written_entry v.origin.made_at (entries (v.seen ++ between)) k at what) ∷ []
   pub mine : w.mine ≡ v.mine ++ written_entry v.origin.made_at (entries (v.seen ++ between)) k at what ∷ []
-  pub own : entries_by k (entries w.seen) ≡ w.mine
+  pub own_entries : entries_by k (entries w.seen) ≡ w.mine
   pub legal : IsLegal v.origin.made_at (entries w.seen)
   pub same : w.origin ≡ v.origin
 
@@ -67,7 +67,7 @@ pub record Called (v w : View) (k at : ℕ) (op : Op) (place : ℕ) (reply : OpR
 pub record LeftAsIs (v w : View) (k : ℕ) : Type 0 where
   pub begins : IsPrefix v.seen w.seen
   pub mine : w.mine ≡ v.mine
-  pub own : entries_by k (entries w.seen) ≡ w.mine
+  pub own_entries : entries_by k (entries w.seen) ≡ w.mine
   pub legal : IsLegal v.origin.made_at (entries w.seen)
   pub same : w.origin ≡ v.origin
 

@@ -5,11 +5,11 @@ use Rattle.atomic_table.specs.Seated.{TableId}
 use Rattle.otel_base.specs.declared.record.Record.{Record}
 use Rattle.trace_threads.specs.declared.making.Making.{Making}
 use Rattle.trace_threads.specs.declared.history.Entry.{Entry}
-use Rattle.trace_threads.specs.declared.history.What.{What}
+use Rattle.trace_threads.specs.declared.history.HandleAct.{HandleAct}
 use Rattle.otel_state.specs.declared.op.Op.{Op}
 use Rattle.otel_state.specs.declared.op.OpReply.{OpReply}
 use Rattle.trace_threads.specs.declared.turns.View.{View}
-use Rattle.trace_threads.specs.History.{IsLegal, is_closed, opens_entry}
+use Rattle.trace_threads.specs.History.{IsLegal, is_closed, open_count}
 use Rattle.trace_threads.specs.Shared.{content_of}
 use Rattle.trace_threads.specs.Turns.{Turn, SeatValue, IsSized, entries}
 use Rattle.trace_threads.specs.Calls.{IsIdle, IsBare, IsAtRest, MakesEntry, Called, LeftAsIs}
@@ -30,7 +30,7 @@ pub record IsHandle (table seat : TableId) (me : SeatValue) (number entered : �
   pub sized : IsSized table
   pub of_table : seat ≡ table
   pub rests : IsAtRest me number
-  pub counts : entered ≡ opens_entry me.0.mine
+  pub counts : entered ≡ open_count me.0.mine
   pub legal : IsLegal me.0.origin.made_at (entries me.0.seen)
 
 pub record IsPass (table seat : TableId) (me : SeatValue) : Type 0 where
@@ -41,10 +41,10 @@ pub record IsPass (table seat : TableId) (me : SeatValue) : Type 0 where
 
 -- how many entries of a handle are open
 abbrev pub open_of : SharedHandle → ℕ
-open_of h = opens_entry h.view.mine
+open_of h = open_count h.view.mine
 
 -- what a turn of a handle leaves: an entry more, a call's entry more, or none, after Memory or where the handle learns
-abbrev pub Enters : SharedHandle → SharedHandle → ℕ → What → Type 0
+abbrev pub Enters : SharedHandle → SharedHandle → ℕ → HandleAct → Type 0
 Enters h g at what = MakesEntry h.view g.view h.number at what
 
 abbrev pub Calls : SharedHandle → SharedHandle → ℕ → Op → ℕ → OpReply → Type 0

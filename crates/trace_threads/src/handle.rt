@@ -3,9 +3,9 @@ ghost use Rattle.std.specs.Prelude.{◌≡◌, ◌≢◌, ◌<◌, ◌≤◌, []
 ghost use mathlib.Core.List.{IsPrefix};
 ghost use Rattle.otel_state.specs.declared.op.Op.TheVariants.{Exit};
 ghost use Rattle.otel_state.specs.declared.times.TheConstants.{GREATEST};
-ghost use Rattle.trace_threads.specs.declared.history.What.TheVariants.{Clone, Join, Release};
-ghost use Rattle.trace_threads.specs.Moves.{move_of, opens_after};
-ghost use Rattle.trace_threads.specs.History.{entries_by, opens_entry};
+ghost use Rattle.trace_threads.specs.declared.history.HandleAct.TheVariants.{Clone, Join, Release};
+ghost use Rattle.trace_threads.specs.Moves.{move_of, open_count_after};
+ghost use Rattle.trace_threads.specs.History.{entries_by, open_count};
 ghost use Rattle.trace_threads.specs.Turns.{entries, first_view};
 ghost use Rattle.trace_threads.specs.Calls.{MakesEntry, IsBare, IsCloneOf, IsIdle};
 ghost use Rattle.trace_threads.specs.Handles.{open_of, Enters, Calls, LeavesHandle, IsSameHandle, IsSameSight, ClosedAs};
@@ -13,7 +13,7 @@ ghost use Rattle.trace_threads.specs.Handles.{open_of, Enters, Calls, LeavesHand
 use crate::cell::{call_once, clone_once, cut_off, join_once, release_once, see_all, take_in};
 use crate::history::History;
 use crate::making::Making;
-use crate::moves::{open_entries, shift};
+use crate::moves::{enters_or_exits, open_after};
 use crate::pass::Pass;
 use crate::shared::SharedState;
 use crate::turns::{TurnSeat, Turns};
@@ -94,9 +94,9 @@ impl Handle {
     }
 
     /// How many of its entries are open.
-    pub fn entries(&self) -> u64
-        ensures own { result ≡ open_of self.now }
-        ensures seen { result ≡ opens_entry (entries_by self.now.number (entries self.now.view.seen)) }
+    pub fn open_entries(&self) -> u64
+        ensures open { result ≡ open_of self.now }
+        ensures seen { result ≡ open_count (entries_by self.now.number (entries self.now.view.seen)) }
     {
         self.inside
     }
@@ -108,7 +108,7 @@ impl Handle {
         requires entered { op ≡ Exit → 0 < open_of self.old }
         ensures same { IsSameHandle self.old self.new }
         ensures called { IfOk result (λ r. Calls self.old self.new at op r.place r.reply) }
-        ensures entered { OnOk result (open_of self.new ≡ opens_after (open_of self.old) (move_of op)) }
+        ensures entered { OnOk result (open_of self.new ≡ open_count_after (open_of self.old) (move_of op)) }
         ensures memory_leaves { OnErr result (LeavesHandle self.old self.new) }
         ensures memory { OnErr result (op ≢ Exit) }
     {
@@ -118,9 +118,9 @@ impl Handle {
             number,
             inside,
         } = self;
-        let (enters, exits) = shift(&op);
+        let (enters, exits) = enters_or_exits(&op);
         let (place, reply) = call_once(rt, &turns.shared, seat, *number, at, op)?;
-        *inside = open_entries(*inside, enters, exits);
+        *inside = open_after(*inside, enters, exits);
         Ok(CallReply { place, reply })
     }
 

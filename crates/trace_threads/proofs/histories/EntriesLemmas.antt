@@ -1,6 +1,6 @@
 -- What one turn of a handle comes to.
 use Rattle.std.proofs.Common.{◌≡◌, ◌≢◌, ℕ, zero, suc, ◌+◌, ◌<◌, ◌^◌, Bool, true, false, List, [], ◌∷◌, ◌++◌, length, refl, ap, sym, ◌∙◌, subst, arith, Some, None, Option}
-use Rattle.trace_threads.proofs.Common.{IsPrefix, Making, Entry, What, Clone, Call, Join, Release, Op, View, Idle, move_of, count, opens_after, start, is_legal, IsLegal, may, may_do, may_move, has, entries_by, IsHeld, IsOut, written_entry, is_closed, opens_entry, move_in, Shared, shared_of, some_making, reply_at, Turn, Slot, SeatValue, entries, home_of, AllBegin, view_after, passed_by, MayTurn, MayEnd, left_of, right_of, both_of, IsIdle, IsBare, IsAtRest, Begun, MakesEntry, Called, LeftAsIs, FinishesState, Closes, IsCloneOf, ClosesWith}
+use Rattle.trace_threads.proofs.Common.{IsPrefix, Making, Entry, HandleAct, Clone, Call, Join, Release, Op, View, Idle, move_of, count, open_count_after, start, is_legal, IsLegal, may, may_do, may_move, has, entries_by, IsHeld, IsOut, written_entry, is_closed, open_count, move_in, Shared, shared_of, some_making, reply_at, Turn, Slot, SeatValue, entries, home_of, AllBegin, view_after, passed_by, MayTurn, MayEnd, left_of, right_of, both_of, IsIdle, IsBare, IsAtRest, Begun, MakesEntry, Called, LeftAsIs, FinishesState, Closes, IsCloneOf, ClosesWith}
 use Rattle.otel_state.specs.declared.op.Op.TheVariants as ops
 use Rattle.otel_state.specs.declared.op.OpReply.{OpReply}
 use Rattle.trace_threads.specs.History.{sum}
@@ -20,19 +20,19 @@ same_turn [] (Some a) (Some b) e = cc e
 same_turn (None ∷ ts) x y e = same_turn ts x y e
 same_turn (Some a ∷ ts) x y e = same_turn ts x y (cc e)
 
-by_seen : (v : View) (seen : List Turn) (e : Entry) (what : What) → (passed_by v seen e what).seen ≡ seen
+by_seen : (v : View) (seen : List Turn) (e : Entry) (what : HandleAct) → (passed_by v seen e what).seen ≡ seen
 by_seen v seen e (Clone n) = refl
 by_seen v seen e (Call op) = refl
 by_seen v seen e (Join n) = refl
 by_seen v seen e Release = refl
 
-by_mine : (v : View) (seen : List Turn) (e : Entry) (what : What) → (passed_by v seen e what).mine ≡ v.mine ++ e ∷ []
+by_mine : (v : View) (seen : List Turn) (e : Entry) (what : HandleAct) → (passed_by v seen e what).mine ≡ v.mine ++ e ∷ []
 by_mine v seen e (Clone n) = refl
 by_mine v seen e (Call op) = refl
 by_mine v seen e (Join n) = refl
 by_mine v seen e Release = refl
 
-by_idle : (v : View) (seen : List Turn) (e : Entry) (what : What) → ((passed_by v seen e what).stage ≡ Idle) × ((passed_by v seen e what).live ≡ true) × ((passed_by v seen e what).origin ≡ v.origin)
+by_idle : (v : View) (seen : List Turn) (e : Entry) (what : HandleAct) → ((passed_by v seen e what).stage ≡ Idle) × ((passed_by v seen e what).live ≡ true) × ((passed_by v seen e what).origin ≡ v.origin)
 by_idle v seen e (Clone n) = (refl, refl, refl)
 by_idle v seen e (Call op) = (refl, refl, refl)
 by_idle v seen e (Join n) = (refl, refl, refl)
@@ -40,28 +40,28 @@ by_idle v seen e Release = (refl, refl, refl)
 
 -- ---- what a handle's own entries tell of the whole history
 
-open_of : (made k n : ℕ) (log mine : List Entry) → entries_by k log ≡ mine → opens_entry mine ≡ n → count k (sum made log).inside ≡ n
-open_of made k n log mine own e = own_count made k log ∙ ap opens_entry own ∙ e
+open_of : (made k n : ℕ) (log mine : List Entry) → entries_by k log ≡ mine → open_count mine ≡ n → count k (sum made log).inside ≡ n
+open_of made k n log mine own e = own_count made k log ∙ ap open_count own ∙ e
 
-out_of : (made k : ℕ) (log mine : List Entry) → entries_by k log ≡ mine → opens_entry mine ≡ 0 → IsOut made k log
+out_of : (made k : ℕ) (log mine : List Entry) → entries_by k log ≡ mine → open_count mine ≡ 0 → IsOut made k log
 out_of made k log mine own e = counted_none k (sum made log).inside (open_of made k 0 log mine own e)
 
 inside_case : (n k : ℕ) (i : List ℕ) → count k i ≡ n → 0 < n → has k i ≡ true
 inside_case zero k i e l = absurd (omega (arith, l))
 inside_case (suc n) k i e l = counted k n i e
 
-may_own : (made k : ℕ) (log mine : List Entry) (op : Op) → entries_by k log ≡ mine → (op ≡ ops.Exit → 0 < opens_entry mine) → may_move (sum made log).inside k (move_of op) ≡ true
-may_own made k log mine ops.Exit own l = inside_case (opens_entry mine) k (sum made log).inside (open_of made k (opens_entry mine) log mine own refl) (l refl)
+may_own : (made k : ℕ) (log mine : List Entry) (op : Op) → entries_by k log ≡ mine → (op ≡ ops.Exit → 0 < open_count mine) → may_move (sum made log).inside k (move_of op) ≡ true
+may_own made k log mine ops.Exit own l = inside_case (open_count mine) k (sum made log).inside (open_of made k (open_count mine) log mine own refl) (l refl)
 may_own made k log mine _ own l = refl
 
-pub few_own : (made k : ℕ) (log mine : List Entry) → entries_by k log ≡ mine → length (sum made log).inside < 2 ^ 63 → opens_entry mine < 2 ^ 63
-few_own made k log mine own l = let a = open_of made k (opens_entry mine) log mine own refl in let b = few k (sum made log).inside in omega (arith, a, b, l)
+pub few_own : (made k : ℕ) (log mine : List Entry) → entries_by k log ≡ mine → length (sum made log).inside < 2 ^ 63 → open_count mine < 2 ^ 63
+few_own made k log mine own l = let a = open_of made k (open_count mine) log mine own refl in let b = few k (sum made log).inside in omega (arith, a, b, l)
 
 -- ---- an entry of any kind
 
 module _ (m w : SeatValue) (t : ℕ) (state : Shared) (k : ℕ) (num : m.0.number ≡ Some k) (b : Begun m w t state) where
   pub held : (entries_by k (entries w.0.seen) ≡ m.0.mine) × IsHeld m.0.origin.made_at k (entries w.0.seen)
-  held = known_at m.0.origin (entries w.0.seen) m.0.mine m.0.number k num b.own
+  held = known_at m.0.origin (entries w.0.seen) m.0.mine m.0.number k num b.own_entries
 
   pub held_in : IsHeld state.making.made_at k state.log
   held_in = subst (λ (s : Shared). IsHeld s.making.made_at k s.log) (sym b.state) held.1
@@ -75,7 +75,7 @@ module _ (m w : SeatValue) (t : ℕ) (state : Shared) (k : ℕ) (num : m.0.numbe
   pub is_live : w.0.live ≡ true
   is_live = ap (λ (x : View). x.live) b.view
 
-  module _ (at : ℕ) (what : What) where
+  module _ (at : ℕ) (what : HandleAct) where
     abbrev new : Entry
     new = written_entry m.0.origin.made_at (entries w.0.seen) k at what
 
@@ -141,7 +141,7 @@ module _ (m w : SeatValue) (t : ℕ) (state : Shared) (k : ℕ) (num : m.0.numbe
           between = begins.0;
           ends = seen_after ∙ (λ i. sym begins.1 i ++ Some (written_entry (origin i).made_at (entries (sym begins.1 i)) k at what) ∷ []);
           mine = mine_after ∙ (λ i. mine i ++ written_entry (origin i).made_at (entries (sym begins.1 i)) k at what ∷ []);
-          own = own_after;
+          own_entries = own_after;
           legal = subst (λ (p : Making × List Entry). IsLegal p.0.made_at p.1) (λ i. (origin i, sym log_after i)) (legal_push (start m.0.origin.made_at) (entries w.0.seen) (written_entry m.0.origin.made_at (entries w.0.seen) k at what) b.legal (may_now can));
           same = ap (λ (x : SeatValue). x.0.origin) after_entry ∙ idle_by.2 ∙ same_origin ∙ origin;
         }
@@ -183,14 +183,14 @@ module _ (m w : SeatValue) (t : ℕ) (state : Shared) (k : ℕ) (num : m.0.numbe
     refused = record {
       begins = subst (IsPrefix m.0.seen) (sym (ap (λ (x : SeatValue). x.0.seen) after_none)) (prefix_more m.0.seen w.0.seen (None ∷ []) b.begins);
       mine = ap (λ (x : SeatValue). x.0.mine) after_none ∙ ap (λ (x : View). x.mine) b.view;
-      own = own_still;
+      own_entries = own_still;
       legal = ap (is_legal (start m.0.origin.made_at)) log_still ∙ b.legal;
       same = ap (λ (x : SeatValue). x.0.origin) after_none ∙ same_origin;
     }
 
 -- ---- a call
 
-module _ (m w : SeatValue) (t : ℕ) (state : Shared) (k : ℕ) (r : IsAtRest m k) (b : Begun m w t state) (at : ℕ) (op : Op) (l : op ≡ ops.Exit → 0 < opens_entry m.0.mine) where
+module _ (m w : SeatValue) (t : ℕ) (state : Shared) (k : ℕ) (r : IsAtRest m k) (b : Begun m w t state) (at : ℕ) (op : Op) (l : op ≡ ops.Exit → 0 < open_count m.0.mine) where
   pub call_own : may_move (sum state.making.made_at state.log).inside k (move_of op) ≡ true
   call_own = may_own state.making.made_at k state.log m.0.mine op (own_in m w t state k r.1 b) l
 
@@ -221,7 +221,7 @@ module _ (m w : SeatValue) (t : ℕ) (state : Shared) (k : ℕ) (r : IsAtRest m 
         replied = told ∙ ap (λ (x : Shared). reply_at x.making x.log op) b.state ∙ ap (λ (x : List Turn). reply_at m.0.origin (entries x) op) (sym b.begins.1);
       }
 
-      pub call_few : length (sum s.making.made_at s.log).inside < 2 ^ 63 → opens_entry u.0.mine < 2 ^ 63
+      pub call_few : length (sum s.making.made_at s.log).inside < 2 ^ 63 → open_count u.0.mine < 2 ^ 63
       call_few f = few_own s.making.made_at k s.log u.0.mine (ap (λ (x : Shared). entries_by k x.log) (is ∙ ap (λ (x : Shared). shared_of x.making (x.log ++ written_entry x.making.made_at x.log k at (Call op) ∷ [])) b.state) ∙ ap (entries_by k) (sym (log_after m w t state k r.1 b at (Call op) s is u turn back after)) ∙ own_after m w t state k r.1 b at (Call op) s is u turn back after) f
 
 -- ---- a clone, and the seat that is cut off after it
@@ -278,12 +278,12 @@ module _ (m w : SeatValue) (t : ℕ) (state : Shared) (k : ℕ) (r : IsAtRest m 
         pub clone_made : MakesEntry m.0 p.0 k at (Clone n)
         clone_made =
             let e = made m w t state k r.1 b at (Clone n) s is u turn back after m.0 b.begins refl refl can_clone in
-            let e' : MakesEntry m.0 (left_of u.0) k at (Clone n) = record { between = e.between; ends = e.ends; mine = e.mine; own = e.own; legal = e.legal; same = e.same } in
+            let e' : MakesEntry m.0 (left_of u.0) k at (Clone n) = record { between = e.between; ends = e.ends; mine = e.mine; own_entries = e.own_entries; legal = e.legal; same = e.same } in
             subst (λ (x : View). MakesEntry m.0 x k at (Clone n)) (sym (ap (λ (x : SeatValue). x.0) left)) e'
 
 -- ---- a join, after the other's seat was taken in
 
-module _ (m o m' w : SeatValue) (t : ℕ) (state : Shared) (k j : ℕ) (r : IsAtRest m k) (r' : IsAtRest o j) (met : m' ≡ (both_of m.0 o.0, m.1)) (b : Begun m' w t state) (at : ℕ) (none_open : opens_entry o.0.mine ≡ 0) where
+module _ (m o m' w : SeatValue) (t : ℕ) (state : Shared) (k j : ℕ) (r : IsAtRest m k) (r' : IsAtRest o j) (met : m' ≡ (both_of m.0 o.0, m.1)) (b : Begun m' w t state) (at : ℕ) (none_open : open_count o.0.mine ≡ 0) where
   pub num_met : m'.0.number ≡ Some k
   num_met = ap (λ (x : SeatValue). x.0.number) met ∙ r.1
 
@@ -340,7 +340,7 @@ module _ (m o m' w : SeatValue) (t : ℕ) (state : Shared) (k j : ℕ) (r : IsAt
 
 -- ---- a release
 
-module _ (m w : SeatValue) (t : ℕ) (state : Shared) (k : ℕ) (r : IsAtRest m k) (b : Begun m w t state) (at : ℕ) (none_open : opens_entry m.0.mine ≡ 0) where
+module _ (m w : SeatValue) (t : ℕ) (state : Shared) (k : ℕ) (r : IsAtRest m k) (b : Begun m w t state) (at : ℕ) (none_open : open_count m.0.mine ≡ 0) where
   pub release_own : IsOut state.making.made_at k state.log
   release_own = out_of state.making.made_at k state.log m.0.mine (own_in m w t state k r.1 b) none_open
 
@@ -387,9 +387,9 @@ pub some_same : (a b : Shared) → Some a ≡ Some b → a ≡ b
 some_same a b e = ap in_some e
 
 -- how many entries a handle has open after an entry more
-pub made_opens : (v w : View) (k at : ℕ) (what : What) → MakesEntry v w k at what → opens_entry w.mine ≡ opens_after (opens_entry v.mine) (move_in what)
-made_opens v w k at what made = ap opens_entry made.mine ∙ opens_push v.mine (written_entry v.origin.made_at (entries (v.seen ++ made.between)) k at what)
+pub made_opens : (v w : View) (k at : ℕ) (what : HandleAct) → MakesEntry v w k at what → open_count w.mine ≡ open_count_after (open_count v.mine) (move_in what)
+made_opens v w k at what made = ap open_count made.mine ∙ opens_push v.mine (written_entry v.origin.made_at (entries (v.seen ++ made.between)) k at what)
 
 -- what was seen is legal by the making that is known now
-pub made_legal : (v w : View) (k at : ℕ) (what : What) → MakesEntry v w k at what → IsLegal w.origin.made_at (entries w.seen)
+pub made_legal : (v w : View) (k at : ℕ) (what : HandleAct) → MakesEntry v w k at what → IsLegal w.origin.made_at (entries w.seen)
 made_legal v w k at what made = ap (λ (o : Making). is_legal (start o.made_at) (entries w.seen)) made.same ∙ made.legal

@@ -1,6 +1,6 @@
 -- A history with one entry more.
 use Rattle.std.proofs.Common.{◌≡◌, ◌≢◌, ⊎_elim, ℕ, ◌+◌, ◌<◌, ◌≤◌, ◌==◌, Bool, true, false, ◌||◌, max, List, [], ◌∷◌, ◌++◌, length, refl, ap, sym, ◌∙◌, subst, arith, true≢false, nat_le}
-use Rattle.trace_threads.proofs.Common.{nat_tests, Entry, What, Clone, Call, Join, Release, Sum, start, entry, has, others_in, clones_after, held_after, sum_after, may, may_do, sum_of, is_legal, IsLegal, IsHeld, entries_by, EndedForGood, EndedIsDone, NothingFollows, ends_handle, has_end, WholeIsSeen}
+use Rattle.trace_threads.proofs.Common.{nat_tests, Entry, HandleAct, Clone, Call, Join, Release, Sum, start, entry, has, others_in, clones_after, held_after, sum_after, may, may_do, sum_of, is_legal, IsLegal, IsHeld, entries_by, EndedForGood, EndedIsDone, NothingFollows, ends_handle, has_end, WholeIsSeen}
 use Rattle.std.proofs.lemmas.List.{append-nil}
 use Rattle.trace_threads.specs.History.{is_none, sum}
 use Rattle.trace_threads.proofs.histories.HoldersLemmas.{both, has_more, has_new, has_back, has_without, in_without, Distinct, distinct_more, distinct_without}
@@ -16,7 +16,7 @@ legal_push s (x ∷ log) e l m = let p = both (may s x) _ l in rw p.0 (legal_pus
 in_order : (a l : ℕ) → nat_le l (max a l) ≡ true
 in_order a l = grind (arith, nat_tests)
 
-pub may_any : (s : Sum) (c a : ℕ) (w : What) → has c s.held ≡ true → may_do s c w ≡ true → may s (entry c (max a s.last) w) ≡ true
+pub may_any : (s : Sum) (c a : ℕ) (w : HandleAct) → has c s.held ≡ true → may_do s c w ≡ true → may s (entry c (max a s.last) w) ≡ true
 may_any s c a w h m = rw (h, in_order a s.last) m
 
 -- what a legal entry was tested for
@@ -50,13 +50,13 @@ by_own k log e c = let yes : (e.caller == k) ≡ true = grind (arith, nat_tests)
 -- ---- who is held after one entry more
 
 -- an entry ends no other handle than this
-abbrev pub Spares : ℕ → ℕ → What → Type 0
+abbrev pub Spares : ℕ → ℕ → HandleAct → Type 0
 Spares k c (Clone n) = Unit {0}
 Spares k c (Call op) = Unit {0}
 Spares k c (Join m) = k ≢ m
 Spares k c Release = k ≢ c
 
-held_still : (k c : ℕ) (h : List ℕ) (w : What) → Spares k c w → has k h ≡ true → has k (held_after h c w) ≡ true
+held_still : (k c : ℕ) (h : List ℕ) (w : HandleAct) → Spares k c w → has k h ≡ true → has k (held_after h c w) ≡ true
 held_still k c h (Clone n) s e = has_more k n h e
 held_still k c h (Call op) s e = e
 held_still k c h (Join m) s e = has_without k m h s e
@@ -82,7 +82,7 @@ not_held s n false is next i = refl
 next_of : (s : Sum) (n c : ℕ) → may_do s c (Clone n) ≡ true → n ≡ s.clones + 1
 next_of s n c m = grind (arith, nat_tests)
 
-pub numbered_step : (s : Sum) (c a : ℕ) (w : What) → Numbered s → may_do s c w ≡ true → Numbered (sum_after s (entry c a w))
+pub numbered_step : (s : Sum) (c a : ℕ) (w : HandleAct) → Numbered s → may_do s c w ≡ true → Numbered (sum_after s (entry c a w))
 numbered_step s c a (Clone n) i m =
     let is = next_of s n c m in record {
       within = λ k at. ⊎_elim (λ (h : has k s.held ≡ true). let le = i.within k h in omega (arith, le)) (λ (h : n ≡ k). omega (arith, is, h)) (has_back k n s.held at);
@@ -118,7 +118,7 @@ fresh made log c a n k l m h =
     let le = (numbered made log l).within k h in
     (λ e. omega (arith, is, le, e))
 
-clones_step : (n : ℕ) (w : What) → n ≤ clones_after n w
+clones_step : (n : ℕ) (w : HandleAct) → n ≤ clones_after n w
 clones_step n (Clone k) = omega arith
 clones_step n (Call op) = omega arith
 clones_step n (Join m) = omega arith
@@ -163,7 +163,7 @@ counts_none (x ∷ h) = grind (arith, nat_tests)
 -- ---- laws
 
 -- who isn't held, and has had a number, isn't held after one entry more
-still_gone : (s : Sum) (k c : ℕ) (w : What) → (has k s.held ≡ true → ⊥) → k ≤ s.clones → may_do s c w ≡ true → has k (held_after s.held c w) ≡ true → ⊥
+still_gone : (s : Sum) (k c : ℕ) (w : HandleAct) → (has k s.held ≡ true → ⊥) → k ≤ s.clones → may_do s c w ≡ true → has k (held_after s.held c w) ≡ true → ⊥
 still_gone s k c (Clone n) gone low m at = let is = next_of s n c m in ⊎_elim gone (λ (e : n ≡ k). omega (arith, is, e, low)) (has_back k n s.held at)
 still_gone s k c (Call op) gone low m at = gone at
 still_gone s k c (Join j) gone low m at = gone (in_without k j s.held at)
@@ -212,14 +212,14 @@ gone_by k m h is at =
     let same : m ≡ k = grind (arith, nat_tests) in
     true≢false (sym at ∙ subst (λ (j : ℕ). has j (others_in m h) ≡ false) same (gone_self m h))
 
-ended_at : (s : Sum) (k c : ℕ) (w : What) → ends_handle k c w ≡ true → has k (held_after s.held c w) ≡ true → ⊥
+ended_at : (s : Sum) (k c : ℕ) (w : HandleAct) → ends_handle k c w ≡ true → has k (held_after s.held c w) ≡ true → ⊥
 ended_at s k c (Clone n) e at = absurd cc
 ended_at s k c (Call op) e at = absurd cc
 ended_at s k c (Join m) e at = gone_by k m s.held e at
 ended_at s k c Release e at = gone_by k c s.held e at
 
 -- who is ended had a number
-ended_low : (s : Sum) (k c : ℕ) (w : What) → Numbered s → has c s.held ≡ true → may_do s c w ≡ true → ends_handle k c w ≡ true → k ≤ s.clones
+ended_low : (s : Sum) (k c : ℕ) (w : HandleAct) → Numbered s → has c s.held ≡ true → may_do s c w ≡ true → ends_handle k c w ≡ true → k ≤ s.clones
 ended_low s k c (Clone n) i h m e = absurd cc
 ended_low s k c (Call op) i h m e = absurd cc
 ended_low s k c (Join j) i h m e = let same : j ≡ k = grind (arith, nat_tests) in let low = i.within j (both (has j s.held) _ m).0 in omega (arith, same, low)

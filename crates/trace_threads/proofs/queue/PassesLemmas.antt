@@ -1,6 +1,6 @@
 -- Passing a turn on, with what its holder did in it.
 use Rattle.std.proofs.Common.{◌≡◌, ◌≢◌, inl, ℕ, ◌+◌, ◌%◌, ◌^◌, ◌<◌, ◌==◌, Bool, true, false, List, [], ◌∷◌, ◌++◌, length, set, refl, ap, sym, ◌∙◌, subst, arith, length-append, Some, None, Option, if◌then◌else◌}
-use Rattle.trace_threads.proofs.Common.{nat_tests, get_elem?, either, step, gives, Allows, Making, Entry, What, Clone, Call, Join, Release, View, Stage, Idle, Waits, Holds, LAST, start, IsLegal, is_legal, may, entries_by, IsHeld, entry, shared_of, Turn, Slot, SeatValue, entries, home_of, AllBegin, Staged, Known, Placed, ViewFitsRule, KeepsRule, KeepsWords, passed_by, view_after, PassedOn, MayEnd, MayTurn, Closed}
+use Rattle.trace_threads.proofs.Common.{nat_tests, get_elem?, either, step, gives, Allows, Making, Entry, HandleAct, Clone, Call, Join, Release, View, TicketStage, Idle, Waits, Holds, LAST, start, IsLegal, is_legal, may, entries_by, IsHeld, entry, shared_of, Turn, Slot, SeatValue, entries, home_of, AllBegin, Staged, Known, Placed, ViewFitsRule, KeepsRule, KeepsWords, passed_by, view_after, PassedOn, MayEnd, MayTurn, Closed}
 use mathlib.Core.Option as core
 use Rattle.std.proofs.Math.Nat.{mod-eq_of_lt}
 use Rattle.trace_threads.specs.History.{sum}
@@ -17,7 +17,7 @@ entries_some [] e = refl
 entries_some (None ∷ ts) e = entries_some ts e
 entries_some (Some x ∷ ts) e = ap (λ l. x ∷ l) (entries_some ts e)
 
-abbrev placed_by : (ℕ → ℕ × Bool) → ℕ → What → ℕ → ℕ × Bool
+abbrev placed_by : (ℕ → ℕ × Bool) → ℕ → HandleAct → ℕ → ℕ × Bool
 placed_by place id (Clone n) k = if k == n then (id, true) else place k
 placed_by place id (Call op) k = place k
 placed_by place id (Join m) k = place k
@@ -40,7 +40,7 @@ module _ (making : Making) where
   known_at log mine num k e h = subst (Known making log mine) e h
 
   -- an entry leaves the numbers at other places than its caller's and the ended one's alone
-  leaves_entry : (place : ℕ → ℕ × Bool) (id : ℕ) (log : List Entry) (e : Entry) (q : ℕ × Bool) (what : What) → e.what ≡ what → IsLegal making.made_at log → may (sum making.made_at log) (entry e.caller e.at what) ≡ true
+  leaves_entry : (place : ℕ → ℕ × Bool) (id : ℕ) (log : List Entry) (e : Entry) (q : ℕ × Bool) (what : HandleAct) → e.what ≡ what → IsLegal making.made_at log → may (sum making.made_at log) (entry e.caller e.at what) ≡ true
       → place e.caller ≢ q → ((m : ℕ) → what ≡ Join m → place m ≢ q) → Leaves place (placed_by place id what) log (log ++ e ∷ []) q
   leaves_entry place id log e q (Clone n) is legal m own joined k at held =
       let apart : e.caller ≢ k = λ same. own (ap place same ∙ at) in
@@ -66,7 +66,7 @@ leaves_turn place id v turns (Some e) q legal m own other a b =
     (leaves_entry v.origin place id (entries turns) e q e.what refl legal m.0 (λ h. a (sym (at_own place (id, false) v.number e.caller m.1 own) ∙ h))
     (λ j is h. b (sym (at_own place (id, true) v.other j (subst (MayEnd v.other) is m.2) other) ∙ h)))
 
-staged_passed : (turns : List Turn) (turn : Turn) (owner : ℕ → ℕ) (tickets id j : ℕ) (seen : List Turn) (stage : Stage) → j ≢ id → owner (length turns) ≡ id → Staged turns owner tickets j seen stage → Staged (turns ++ turn ∷ []) owner tickets j seen stage
+staged_passed : (turns : List Turn) (turn : Turn) (owner : ℕ → ℕ) (tickets id j : ℕ) (seen : List Turn) (stage : TicketStage) → j ≢ id → owner (length turns) ≡ id → Staged turns owner tickets j seen stage → Staged (turns ++ turn ∷ []) owner tickets j seen stage
 staged_passed turns turn owner tickets id j seen Idle apart own s = tt
 staged_passed turns turn owner tickets id j seen (Waits t) apart own s =
     let other : t ≢ length turns = λ e. apart (sym s.2 ∙ ap owner e ∙ own) in
@@ -80,12 +80,12 @@ fits_passed : (turns : List Turn) (turn : Turn) (owner : ℕ → ℕ) (place : �
     → Placed place (id, false) v.number → Placed place (id, true) v.other → ViewFitsRule v.origin turns owner place tickets j u → ViewFitsRule v.origin (turns ++ turn ∷ []) owner (placed_in place id turn) tickets j u
 fits_passed turns turn owner place tickets id j v u apart own legal m a b f =
     let l : (side : Bool) → Leaves v.origin place (placed_in place id turn) (entries turns) (entries (turns ++ turn ∷ [])) (j, side) = λ side. leaves_turn place id v turns turn (j, side) legal m a b (λ e. apart (sym (first_of _ _ e))) (λ e. apart (sym (first_of _ _ e))) in
-    let x = known_more v.origin place (placed_in place id turn) (entries turns) (entries (turns ++ turn ∷ [])) (j, false) u.mine u.number (l false) f.own f.own_place in
+    let x = known_more v.origin place (placed_in place id turn) (entries turns) (entries (turns ++ turn ∷ [])) (j, false) u.mine u.number (l false) f.own_entries f.own_place in
     let y = known_more v.origin place (placed_in place id turn) (entries turns) (entries (turns ++ turn ∷ [])) (j, true) u.theirs u.other (l true) f.other f.other_place in
-    record { same = f.same; begins = prefix_more u.seen turns (turn ∷ []) f.begins; before = all_more v.origin u.earlier turns (turn ∷ []) f.before; staged = staged_passed turns turn owner tickets id j u.seen u.stage apart own f.staged; own = x.0; own_place = x.1; other = y.0; other_place = y.1 }
+    record { same = f.same; begins = prefix_more u.seen turns (turn ∷ []) f.begins; before = all_more v.origin u.earlier turns (turn ∷ []) f.before; staged = staged_passed turns turn owner tickets id j u.seen u.stage apart own f.staged; own_entries = x.0; own_place = x.1; other = y.0; other_place = y.1 }
 
 -- the view that made the entry
-fits_entry : (v : View) (e : Entry) (owner : ℕ → ℕ) (place : ℕ → ℕ × Bool) (tickets id : ℕ) (what : What) → e.what ≡ what → IsLegal v.origin.made_at (entries v.seen) → may (sum v.origin.made_at (entries v.seen)) (entry e.caller e.at what) ≡ true
+fits_entry : (v : View) (e : Entry) (owner : ℕ → ℕ) (place : ℕ → ℕ × Bool) (tickets id : ℕ) (what : HandleAct) → e.what ≡ what → IsLegal v.origin.made_at (entries v.seen) → may (sum v.origin.made_at (entries v.seen)) (entry e.caller e.at what) ≡ true
     → v.number ≡ Some e.caller → MayEnd v.other what → ViewFitsRule v.origin v.seen owner place tickets id v → ViewFitsRule v.origin (v.seen ++ Some e ∷ []) owner (placed_by place id what) tickets id (passed_by v (v.seen ++ Some e ∷ []) e what)
 fits_entry v e owner place tickets id what is legal m num ends f = entry_by what is m ends
   where
@@ -93,7 +93,7 @@ fits_entry v e owner place tickets id what is legal m num ends f = entry_by what
     log = entries v.seen
 
     own : (entries_by e.caller (entries v.seen) ≡ v.mine) × IsHeld v.origin.made_at e.caller (entries v.seen)
-    own = known_at v.origin (entries v.seen) v.mine v.number e.caller num f.own
+    own = known_at v.origin (entries v.seen) v.mine v.number e.caller num f.own_entries
 
     place_own : place e.caller ≡ (id, false)
     place_own = at_own place (id, false) v.number e.caller num f.own_place
@@ -108,13 +108,13 @@ fits_entry v e owner place tickets id what is legal m num ends f = entry_by what
         (subst (Known v.origin (entries v.seen ++ e ∷ []) (v.mine ++ e ∷ [])) (sym num) (by_own e.caller (entries v.seen) e refl ∙ ap (λ (l : List Entry). l ++ e ∷ []) own.0, held_push v.origin.made_at e.caller (entries v.seen) e spares own.1))
 
     -- its other number is left alone
-    other_more : (w : What) → e.what ≡ w → may (sum v.origin.made_at (entries v.seen)) (entry e.caller e.at w) ≡ true → ((j : ℕ) → w ≡ Join j → ⊥) → Known v.origin (entries (v.seen ++ Some e ∷ [])) v.theirs v.other × Placed (placed_by place id w) (id, true) v.other
+    other_more : (w : HandleAct) → e.what ≡ w → may (sum v.origin.made_at (entries v.seen)) (entry e.caller e.at w) ≡ true → ((j : ℕ) → w ≡ Join j → ⊥) → Known v.origin (entries (v.seen ++ Some e ∷ [])) v.theirs v.other × Placed (placed_by place id w) (id, true) v.other
     other_more w is m none =
         let l = leaves_entry v.origin place id (entries v.seen) e (id, true) w is legal m (λ h. sides id (sym place_own ∙ h)) (λ j s h. none j s) in
         let y = known_more v.origin place (placed_by place id w) (entries v.seen) (entries v.seen ++ e ∷ []) (id, true) v.theirs v.other l f.other f.other_place in
         (subst (λ (ls : List Entry). Known v.origin ls v.theirs v.other) (sym (entries_some v.seen e)) y.0, y.1)
 
-    entry_by : (what : What) → e.what ≡ what → may (sum v.origin.made_at (entries v.seen)) (entry e.caller e.at what) ≡ true → MayEnd v.other what → ViewFitsRule v.origin (v.seen ++ Some e ∷ []) owner (placed_by place id what) tickets id (passed_by v (v.seen ++ Some e ∷ []) e what)
+    entry_by : (what : HandleAct) → e.what ≡ what → may (sum v.origin.made_at (entries v.seen)) (entry e.caller e.at what) ≡ true → MayEnd v.other what → ViewFitsRule v.origin (v.seen ++ Some e ∷ []) owner (placed_by place id what) tickets id (passed_by v (v.seen ++ Some e ∷ []) e what)
     entry_by (Call op) is m ends =
         let y = other_more (Call op) is m (λ j no. absurd cc) in
         record {
@@ -122,7 +122,7 @@ fits_entry v e owner place tickets id what is legal m num ends f = entry_by what
           begins = prefix_self (v.seen ++ Some e ∷ []);
           before = before;
           staged = tt;
-          own = own_more (subst (Spares e.caller e.caller) (sym is) tt);
+          own_entries = own_more (subst (Spares e.caller e.caller) (sym is) tt);
           own_place = f.own_place;
           other = y.0;
           other_place = y.1;
@@ -136,7 +136,7 @@ fits_entry v e owner place tickets id what is legal m num ends f = entry_by what
           begins = prefix_self (v.seen ++ Some e ∷ []);
           before = before;
           staged = tt;
-          own = own_more (subst (Spares e.caller e.caller) (sym is) tt);
+          own_entries = own_more (subst (Spares e.caller e.caller) (sym is) tt);
           own_place = subst (Placed (placed_by place id (Clone n)) (id, false)) (sym num) (rw miss place_own);
           other = subst (λ (ls : List Entry). Known v.origin ls [] (Some n)) (sym (entries_some v.seen e)) (by_other n (entries v.seen) e new ∙ fresh_entries v.origin.made_at (entries v.seen) e.caller e.at n legal m, subst (λ (x : Entry). IsHeld v.origin.made_at n (entries v.seen ++ x ∷ [])) (λ i. entry e.caller e.at (sym is i)) (held_new v.origin.made_at (entries v.seen) e.caller e.at n));
           other_place = rw hit refl;
@@ -148,7 +148,7 @@ fits_entry v e owner place tickets id what is legal m num ends f = entry_by what
           begins = prefix_self (v.seen ++ Some e ∷ []);
           before = before;
           staged = tt;
-          own = own_more (subst (Spares e.caller e.caller) (sym is) apart);
+          own_entries = own_more (subst (Spares e.caller e.caller) (sym is) apart);
           own_place = f.own_place;
           other = tt;
           other_place = tt;
@@ -160,7 +160,7 @@ fits_entry v e owner place tickets id what is legal m num ends f = entry_by what
           begins = prefix_self (v.seen ++ Some e ∷ []);
           before = before;
           staged = tt;
-          own = tt;
+          own_entries = tt;
           own_place = tt;
           other = y.0;
           other_place = y.1;
@@ -173,7 +173,7 @@ fits_own v None owner place tickets id legal m f = record {
   begins = prefix_self (v.seen ++ None ∷ []);
   before = all_more v.origin v.earlier v.seen (None ∷ []) f.before;
   staged = tt;
-  own = subst (λ (ls : List Entry). Known v.origin ls v.mine v.number) (sym (entries_none v.seen)) f.own;
+  own_entries = subst (λ (ls : List Entry). Known v.origin ls v.mine v.number) (sym (entries_none v.seen)) f.own_entries;
   own_place = f.own_place;
   other = subst (λ (ls : List Entry). Known v.origin ls v.theirs v.other) (sym (entries_none v.seen)) f.other;
   other_place = f.other_place;

@@ -30,7 +30,7 @@ rest_of [] = []
 rest_of (x ∷ xs) = xs
 
 there_is : (m : SeatValue) (t : ℕ) (w : SeatValue) → IsSome m.0.number → HasTurn m t w → w.1 ≡ (0, Some (shared_of m.0.origin (entries w.0.seen))) ∷ m.1
-there_is m t w s h = h.slot ∙ ap (λ (x : Slot). (0, x) ∷ m.1) (home_known m.0.origin (entries w.0.seen) m.0.mine m.0.number s h.own)
+there_is m t w s h = h.slot ∙ ap (λ (x : Slot). (0, x) ∷ m.1) (home_known m.0.origin (entries w.0.seen) m.0.mine m.0.number s h.own_entries)
 
 begun : (m : SeatValue) (t : ℕ) (w u : SeatValue) (state : Shared) → IsSome m.0.number → m.1 ≡ [] → HasTurn (at_stage (Waits t) m.0, m.1) t w → w.1 ≡ (0, Some state) ∷ rest w.1 → u ≡ (w.0, (0, None) ∷ rest w.1) → Begun m u t state
 begun m t w u state s empty h found after =
@@ -44,7 +44,7 @@ begun m t w u state s empty h found after =
       begins = h.begins;
       before = h.before;
       legal = h.legal;
-      own = h.own;
+      own_entries = h.own_entries;
       other = h.other;
       apart = h.apart;
     } in

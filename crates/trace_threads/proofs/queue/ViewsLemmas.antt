@@ -1,6 +1,6 @@
 -- A view is cut in two, two views are made one, and the first view opens the table.
 use Rattle.std.proofs.Common.{◌≡◌, ◌≢◌, ◌⊎◌, inl, inr, ⊎_elim, ℕ, zero, suc, ◌<◌, ◌==◌, Bool, true, false, List, [], ◌∷◌, ◌++◌, length, set, refl, ap, sym, ◌∙◌, subst, arith, Some, None, length-set, Option, if◌then◌else◌, nat_lt}
-use Rattle.trace_threads.proofs.Common.{nat_tests, IsPrefix, dite, ℕ_discrete, get_elem?, Splits, Joins, opening, at_set, set_here, set_else, at_longer, Making, View, Idle, shared_of, Turn, Earlier, Slot, AllBegin, Staged, Placed, ViewFitsRule, IsHolder, IsHome, KeepsRule, KeepsWords, first_view, left_of, right_of, longer, both_of, spent_view}
+use Rattle.trace_threads.proofs.Common.{nat_tests, IsPrefix, dite, ℕ_discrete, get_elem?, Splits, Joins, opening, at_set, set_here, set_else, at_longer, Making, View, Idle, shared_of, Turn, Earlier, Slot, AllBegin, Staged, Placed, ViewFitsRule, IsHolder, IsHome, KeepsRule, KeepsWords, first_view, left_of, right_of, longer_turns, both_of, spent_view}
 use mathlib.Core.Option as core
 use Rattle.trace_threads.proofs.queue.SeatsLemmas.{prefix_self, fits_set, there, same_view, home_else, no_holder, sides}
 
@@ -31,7 +31,7 @@ fst_apart a b x y n e = n (ap (λ (p : ℕ × Bool). p.0) e)
 fits_moved : (making : Making) (turns : List Turn) (owner : ℕ → ℕ) (place : ℕ → ℕ × Bool) (tickets j : ℕ) (u : View) (num : Option ℕ) (from to : ℕ × Bool) → Placed place from num → from ≢ (j, false) → from ≢ (j, true)
     → ViewFitsRule making turns owner place tickets j u → ViewFitsRule making turns owner (moved place num to) tickets j u
 fits_moved making turns owner place tickets j u num from to p a b f =
-    record { same = f.same; begins = f.begins; before = f.before; staged = f.staged; own = f.own; own_place = moved_else place num u.number from to (j, false) p f.own_place a; other = f.other; other_place = moved_else place num u.other from to (j, true) p f.other_place b }
+    record { same = f.same; begins = f.begins; before = f.before; staged = f.staged; own_entries = f.own_entries; own_place = moved_else place num u.number from to (j, false) p f.own_place a; other = f.other; other_place = moved_else place num u.other from to (j, true) p f.other_place b }
 
 at_end : (l : List View) (a b : View) (j : ℕ) → get_elem? (l ++ a ∷ []) j ≡ core.some b → ((j < length l) × (get_elem? l j ≡ core.some b)) ⊎ ((j ≡ length l) × (a ≡ b))
 at_end [] a b zero e = inr (refl, core.some-injective a b e)
@@ -46,10 +46,10 @@ module _ (making : Making) (turns : List Turn) (owner : ℕ → ℕ) (place : �
   fit = r.each id v at
 
   left_fits : ViewFitsRule making turns owner (moved place v.other (length views, false)) tickets id (left_of v)
-  left_fits = record { same = λ _. fit.same live; begins = fit.begins; before = fit.before; staged = fit.staged; own = fit.own; own_place = moved_else place v.other v.number (id, true) (length views, false) (id, false) fit.other_place fit.own_place (λ e. sides id (sym e)); other = tt; other_place = tt }
+  left_fits = record { same = λ _. fit.same live; begins = fit.begins; before = fit.before; staged = fit.staged; own_entries = fit.own_entries; own_place = moved_else place v.other v.number (id, true) (length views, false) (id, false) fit.other_place fit.own_place (λ e. sides id (sym e)); other = tt; other_place = tt }
 
   right_fits : ViewFitsRule making turns owner (moved place v.other (length views, false)) tickets (length views) (right_of v)
-  right_fits = record { same = λ _. fit.same live; begins = fit.begins; before = tt; staged = tt; own = fit.other; own_place = moved_here place v.other (length views, false); other = tt; other_place = tt }
+  right_fits = record { same = λ _. fit.same live; begins = fit.begins; before = tt; staged = tt; own_entries = fit.other; own_place = moved_here place v.other (length views, false); other = tt; other_place = tt }
 
   split_home : IsHome making turns home views → IsHome making turns home (set views id (left_of v) ++ right_of v ∷ [])
   split_home (inl e) = inl e
@@ -87,7 +87,7 @@ all_append making [] ys turns p q = q
 all_append making (x ∷ xs) ys turns p q = (p.0, p.1, all_append making xs ys turns p.2 q)
 
 spent_fits : (making : Making) (turns : List Turn) (owner : ℕ → ℕ) (place : ℕ → ℕ × Bool) (tickets j : ℕ) → ViewFitsRule making turns owner place tickets j spent_view
-spent_fits making turns owner place tickets j = record { same = λ e. absurd cc; begins = (turns, refl); before = tt; staged = tt; own = tt; own_place = tt; other = tt; other_place = tt }
+spent_fits making turns owner place tickets j = record { same = λ e. absurd cc; begins = (turns, refl); before = tt; staged = tt; own_entries = tt; own_place = tt; other = tt; other_place = tt }
 
 module _ (making : Making) (turns : List Turn) (owner : ℕ → ℕ) (place : ℕ → ℕ × Bool) (tickets : ℕ) (home : core.Option Slot) (views : List View) (id : ℕ) (v : View) (other : ℕ) (w : View) (live : v.live ≡ true) (live' : w.live ≡ true) (r : KeepsRule making turns owner place tickets home views)
     (at : get_elem? views id ≡ core.some v) (apart : other ≢ id) (at' : get_elem? views other ≡ core.some w) (idle : v.stage ≡ Idle) (idle' : w.stage ≡ Idle) where
@@ -102,10 +102,10 @@ module _ (making : Making) (turns : List Turn) (owner : ℕ → ℕ) (place : �
     same = λ _. f.same live;
     begins = longer_case v.seen w.seen turns (nat_lt (length v.seen) (length w.seen)) f.begins f'.begins;
     before = (f.same live, f.begins, (f'.same live', f'.begins, all_append making v.earlier w.earlier turns f.before f'.before));
-    staged = subst (Staged turns owner tickets id (longer v.seen w.seen)) (sym idle) tt;
-    own = f.own;
+    staged = subst (Staged turns owner tickets id (longer_turns v.seen w.seen)) (sym idle) tt;
+    own_entries = f.own_entries;
     own_place = moved_else place w.number v.number (other, false) (id, true) (id, false) f'.own_place f.own_place (fst_apart other id false false apart);
-    other = f'.own;
+    other = f'.own_entries;
     other_place = moved_here place w.number (id, true);
   }
 
@@ -134,7 +134,7 @@ joins making id v other w idle live idle' live' s k at apart there_it =
 -- ---- make
 
 fits_first : (making : Making) (j : ℕ) (v : View) → get_elem? (first_view making ∷ []) j ≡ core.some v → ViewFitsRule making [] (λ t. 0) (λ k. (0, false)) 0 j v
-fits_first making zero v e = subst (ViewFitsRule making [] (λ t. 0) (λ k. (0, false)) 0 0) (core.some-injective (first_view making) v e) (record { same = λ _. refl; begins = prefix_self []; before = tt; staged = tt; own = (refl, refl); own_place = refl; other = tt; other_place = tt })
+fits_first making zero v e = subst (ViewFitsRule making [] (λ t. 0) (λ k. (0, false)) 0 0) (core.some-injective (first_view making) v e) (record { same = λ _. refl; begins = prefix_self []; before = tt; staged = tt; own_entries = (refl, refl); own_place = refl; other = tt; other_place = tt })
 fits_first making (suc j) v e = absurd (core.some-ne-none v (sym e))
 
 pub opens : (making : Making) → KeepsWords making (opening (0 ∷ 0 ∷ []) (Some (shared_of making []) ∷ []) (first_view making))
