@@ -7,11 +7,11 @@ use Rattle.example_desk.specs.declared.given.Given.{Given}
 use Rattle.example_desk.specs.declared.payment.Payment.{Payment}
 
 -- its lanes, the one that is at work first
-abbrev pub on_front : {S : Type 0} → Desk S → List Lane
-on_front desk = desk.front ∷ desk.back ∷ []
+abbrev pub front_first : {S : Type 0} → Desk S → List Lane
+front_first desk = desk.front ∷ desk.back ∷ []
 
-abbrev pub on_back : {S : Type 0} → Desk S → List Lane
-on_back desk = desk.back ∷ desk.front ∷ []
+abbrev pub back_first : {S : Type 0} → Desk S → List Lane
+back_first desk = desk.back ∷ desk.front ∷ []
 
 module _ {S : Type 0} (sub : Ghosts S) (most : ℕ) (lanes : Desk S → List Lane) where
   -- calls of the one stack can be made on both, with at most so many spans, and holds of each
@@ -28,7 +28,7 @@ Leaves sub given after lanes old new result does = Ends sub (given.at + after) 5
 
 -- the same where a payment was asked for on the front lane: the other one is left alone
 abbrev pub KeepsPayment : {S T : Type 0} → Ghosts S → ℕ → Instrumented T → Desk S → Instrumented T → Desk S → Type 0
-KeepsPayment sub most payment old later new = KeepsFuture sub most 5 payment old.world (on_front old) later new.world (on_front new) × (new.back ≡ old.back)
+KeepsPayment sub most payment old later new = KeepsFuture sub most 5 payment old.world (front_first old) later new.world (front_first new) × (new.back ≡ old.back)
 
 -- a poll on the front lane at a moment, and whether the payment is made
 abbrev pub Asks : {S T : Type 0} → Ghosts S → ℕ → Bool → Instrumented T → Desk S → Instrumented T → Desk S → Type 0

@@ -2,7 +2,7 @@
 ghost use Rattle.std.specs.Prelude.{◌≡◌, ◌<◌, ◌^◌, ◌+◌, ◌⊎◌, IfOk, Ok, Err};
 ghost use Rattle.traced_futures.specs.Programs.{IsFull, IsUnused};
 ghost use Rattle.example_desk.specs.declared.fault.Fault.TheVariants as fault;
-ghost use Rattle.example_desk.specs.Orders.{on_front, on_back, Ready, ReadyWith, Leaves, KeepsPayment, Asks, Waits, Pays, Wraps, Packs, PaysAndPacks, Inside, ServesOrder};
+ghost use Rattle.example_desk.specs.Orders.{front_first, back_first, Ready, ReadyWith, Leaves, KeepsPayment, Asks, Waits, Pays, Wraps, Packs, PaysAndPacks, Inside, ServesOrder};
 
 use crate::fault::Fault;
 use crate::given::Given;
@@ -33,7 +33,7 @@ impl<S: OtelSubscriber + Discard> Desk<S> {
     /// A desk with a stack that knows no span and two lanes, 1 and 2, and the name of the stack.
     pub fn new(alloc: Global, stack: S) -> Result<(Desk<S>, Dispatch), Memory>
         requires { IsUnused S.Subscriber stack }
-        ensures { IfOk result (λ made. Ready S.Subscriber 0 on_front made.0 × (made.1 ≡ 0)
+        ensures { IfOk result (λ made. Ready S.Subscriber 0 front_first made.0 × (made.1 ≡ 0)
             × (made.0.front.id ≡ 1) × (made.0.back.id ≡ 2)) }
     {
         let mut world = World::new(alloc);
@@ -70,8 +70,8 @@ impl<S: OtelSubscriber> Desk<S> {
         remote: Context,
         cx: &mut task::Context<'_>,
     ) -> Result<(), Fault>
-        requires { Ready S.Subscriber given.now.at on_front self.old }
-        ensures ends { Leaves S.Subscriber given.now 100 on_front self.old self.new result (ServesOrder S.touches remote) }
+        requires { Ready S.Subscriber given.now.at front_first self.old }
+        ensures ends { Leaves S.Subscriber given.now 100 front_first self.old self.new result (ServesOrder S.touches remote) }
         ensures full { result ≡ Err fault.Full → IsFull self.old.front ⊎ IsFull self.old.back }
     {
         let (at, site) = (given.at, given.sites.order);
@@ -90,8 +90,8 @@ impl<S: OtelSubscriber> Desk<S> {
         given: &Given,
         cx: &mut task::Context<'_>,
     ) -> Result<(), Fault>
-        requires { ReadyWith S.Subscriber (given.now.at + 10) on_front order.now self.old }
-        ensures ends { Leaves S.Subscriber given.now 60 on_front self.old self.new result (Inside order.now) }
+        requires { ReadyWith S.Subscriber (given.now.at + 10) front_first order.now self.old }
+        ensures ends { Leaves S.Subscriber given.now 60 front_first self.old self.new result (Inside order.now) }
         ensures full { result ≡ Err fault.Full → IsFull self.old.front ⊎ IsFull self.old.back }
     {
         let at = given.at;
@@ -108,8 +108,8 @@ impl<S: OtelSubscriber> Desk<S> {
         given: &Given,
         cx: &mut task::Context<'_>,
     ) -> Result<(), Fault>
-        requires { ReadyWith S.Subscriber (given.now.at + 20) on_front order.now self.old }
-        ensures ends { Leaves S.Subscriber given.now 60 on_front self.old self.new result (PaysAndPacks order.now) }
+        requires { ReadyWith S.Subscriber (given.now.at + 20) front_first order.now self.old }
+        ensures ends { Leaves S.Subscriber given.now 60 front_first self.old self.new result (PaysAndPacks order.now) }
         ensures full { result ≡ Err fault.Full → IsFull self.old.back }
     {
         self.pay(given, cx)?;
@@ -118,8 +118,8 @@ impl<S: OtelSubscriber> Desk<S> {
 
     // A payment, by a future under a span of its own, and an event where it is made.
     fn pay(&mut self, given: &Given, cx: &mut task::Context<'_>) -> Result<(), Memory>
-        requires { Ready S.Subscriber (given.now.at + 20) on_front self.old }
-        ensures ends { Leaves S.Subscriber given.now 30 on_front self.old self.new result Pays }
+        requires { Ready S.Subscriber (given.now.at + 20) front_first self.old }
+        ensures ends { Leaves S.Subscriber given.now 30 front_first self.old self.new result Pays }
         ensures back { self.new.back ≡ self.old.back }
     {
         let (at, pay, paid) = (given.at, given.sites.pay, given.sites.paid);
@@ -142,7 +142,7 @@ impl<S: OtelSubscriber> Desk<S> {
         payment: &mut Instrumented<Plain<Payment>>,
         cx: &mut task::Context<'_>,
     ) -> bool
-        requires { ReadyWith S.Subscriber (given.now.at + 21) on_front payment.old.span self.old }
+        requires { ReadyWith S.Subscriber (given.now.at + 21) front_first payment.old.span self.old }
         ensures keeps { KeepsPayment S.Subscriber (given.now.at + 26) payment.old self.old payment.new self.new }
         ensures waits { Waits S.Subscriber given.now result payment.old self.old payment.new self.new }
     {
@@ -161,7 +161,7 @@ impl<S: OtelSubscriber> Desk<S> {
         payment: &mut Instrumented<Plain<Payment>>,
         cx: &mut task::Context<'_>,
     ) -> bool
-        requires ready { ReadyWith S.Subscriber at on_front payment.old.span self.old }
+        requires ready { ReadyWith S.Subscriber at front_first payment.old.span self.old }
         requires early { at < 2 ^ 63 }
         ensures keeps { KeepsPayment S.Subscriber (at + 1) payment.old self.old payment.new self.new }
         ensures asks { Asks S.Subscriber at result payment.old self.old payment.new self.new }
@@ -172,8 +172,8 @@ impl<S: OtelSubscriber> Desk<S> {
 
     // Packs on the back lane, in a child of the order.
     fn pack(&mut self, order: &Span, given: &Given) -> Result<(), Fault>
-        requires { ReadyWith S.Subscriber (given.now.at + 30) on_back order.now self.old }
-        ensures ends { Leaves S.Subscriber given.now 60 on_back self.old self.new result (Packs order.now) }
+        requires { ReadyWith S.Subscriber (given.now.at + 30) back_first order.now self.old }
+        ensures ends { Leaves S.Subscriber given.now 60 back_first self.old self.new result (Packs order.now) }
         ensures front { self.new.front ≡ self.old.front }
         ensures full { result ≡ Err fault.Full → IsFull self.old.back }
     {
@@ -192,8 +192,8 @@ impl<S: OtelSubscriber> Desk<S> {
 
     // What is told while an order is packed.
     fn wrap(&mut self, pack: &Span, given: &Given) -> Result<(), Fault>
-        requires { ReadyWith S.Subscriber (given.now.at + 35) on_back pack.now self.old }
-        ensures ends { Leaves S.Subscriber given.now 60 on_back self.old self.new result (Wraps pack.now) }
+        requires { ReadyWith S.Subscriber (given.now.at + 35) back_first pack.now self.old }
+        ensures ends { Leaves S.Subscriber given.now 60 back_first self.old self.new result (Wraps pack.now) }
         ensures front { self.new.front ≡ self.old.front }
         ensures full { result ≡ Err fault.Full → IsFull self.old.back }
     {

@@ -3,8 +3,8 @@
 #![tactic(auto)]
 
 ghost use Rattle.std.specs.Prelude.{◌≡◌, ◌<◌, ◌^◌, ◌+◌, length};
-ghost use Rattle.env_filter.specs.Filtering.{plain, IsNewFilter};
-ghost use Rattle.example_desk.specs.Orders.{on_front, Ready};
+ghost use Rattle.env_filter.specs.Filtering.{plain_filter, IsNewFilter};
+ghost use Rattle.example_desk.specs.Orders.{front_first, Ready};
 
 mod report;
 
@@ -56,7 +56,7 @@ fn serve(
     dispatch: Dispatch,
     cx: &mut task::Context<'_>,
 ) -> Result<(), Fault>
-    requires ready { Ready ⟦<Stack as Subscriber>⟧ 0 on_front desk.old }
+    requires ready { Ready ⟦<Stack as Subscriber>⟧ 0 front_first desk.old }
     requires first { dispatch ≡ 0 }
     ensures { dispatch < length desk.new.world.subscribers }
 {
@@ -79,9 +79,9 @@ fn take(
     remote: Context,
     cx: &mut task::Context<'_>,
 ) -> Result<(), Fault>
-    requires ready { Ready ⟦<Stack as Subscriber>⟧ at on_front desk.old }
+    requires ready { Ready ⟦<Stack as Subscriber>⟧ at front_first desk.old }
     requires early { at < 2 ^ 62 }
-    ensures { Ready ⟦<Stack as Subscriber>⟧ (at + 100) on_front desk.new }
+    ensures { Ready ⟦<Stack as Subscriber>⟧ (at + 100) front_first desk.new }
 {
     let given = Given::new(alloc, at, desk.sites, user)?;
     desk.order(&given, remote, cx)
@@ -89,10 +89,10 @@ fn take(
 
 // Puts another filter in force, if there is one.
 fn refilter(desk: &mut Desk<Stack>, dispatch: Dispatch, filter: EnvFilter) -> Result<(), Memory>
-    requires ready { Ready ⟦<Stack as Subscriber>⟧ 200 on_front desk.old }
+    requires ready { Ready ⟦<Stack as Subscriber>⟧ 200 front_first desk.old }
     requires first { dispatch ≡ 0 }
-    requires new { IsNewFilter (plain filter) }
-    ensures { Ready ⟦<Stack as Subscriber>⟧ 200 on_front desk.new }
+    requires new { IsNewFilter (plain_filter filter) }
+    ensures { Ready ⟦<Stack as Subscriber>⟧ 200 front_first desk.new }
 {
     let stack = desk.world.subscriber(dispatch);
     if stack.layer().with_current(|_| ()).is_err() {

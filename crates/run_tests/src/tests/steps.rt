@@ -3,7 +3,7 @@ use std::test::Fail;
 use trace_base::discard::Discard;
 use trace_lines::Signal;
 use trace_pipeline::Pipeline;
-use trace_stream::answers::{Stage, answer, open};
+use trace_stream::answers::{RunStage, answer, open};
 use trace_stream::written::Written;
 
 /// Scripts, each ended by `~`. The request `?` asks how many spans are open.
@@ -142,12 +142,12 @@ pub fn step_texts<R: AllocGlobal>(rt: &R, script: &str) -> Result<String, Fail> 
         1,
         settings.as_bytes(),
     )? {
-        Stage::Running { mut pipeline } => {
+        RunStage::Running { mut pipeline } => {
             let stepped = step_all(rt, &mut pipeline, &mut written, requests);
             pipeline.discard();
             stepped?;
-            Ok(String::from_utf8(written.text)?)
+            Ok(String::from_utf8(written.text.into_vec())?)
         }
-        Stage::Opening | Stage::Refused => Err(Fail::from("no pipeline")),
+        RunStage::Opening | RunStage::Refused => Err(Fail::from("no pipeline")),
     }
 }
