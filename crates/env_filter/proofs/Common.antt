@@ -49,7 +49,7 @@ pub use Rattle.env_filter.specs.declared.watch.Ask.{Ask}
 pub use Rattle.env_filter.specs.declared.watch.Care.{Care}
 pub use Rattle.env_filter.specs.spans.Histories.{AreInOrder, HasNoCalls, IsNext, NeverFalls, all_values_given, is_close_of, is_ended, is_met, level_by, level_by_calls, level_if, levels_after_call, levels_by_calls, levels_from, callsite_by_calls, callsite_if_made, most_from, values_given_by}
 pub use Rattle.env_filter.specs.spans.Levels.{LaneLevels, OpenLevel, is_of_span, open_levels}
-pub use Rattle.env_filter.specs.spans.Watching.{MatchState, all_asks, asks_of, cares_of, found_in, is_given, level_from, level_of_match, match_state_by, more_met, new_match_state, with_note, with_values}
+pub use Rattle.env_filter.specs.spans.Watching.{MatchState, all_asks, asks_of, cares_of, found_in, is_given, level_from, level_of_match, match_state_by, more_met, new_match_state, with_met_at, with_values}
 pub use Rattle.env_filter.specs.texts.Building.{HasFilterFault, HasFilterFaultAt, IsFilterOf}
 pub use Rattle.env_filter.specs.texts.Pieces.{AddsPiece, IsFirstFault, IsIgnored, ReadsAll, ReadsFirst, ReadsPiece, ReadsText, is_memory, texts_of}
 pub use Rattle.env_filter.specs.texts.Printing.{HasOwnGreatest, HaveNoMinusZero, IsReadBack, as_directive, bare_field, behind_commas, dynamics_text, fixed_builder, printed_directives, printed_of, text_of}

@@ -3,7 +3,7 @@ use Rattle.std.proofs.Common.{◌≡◌, ℕ, ◌≤◌, List, [], ◌∷◌, le
 use Rattle.std.specs.List.{filter}
 use Rattle.std.specs.declared.cmp.Ordering.{Ordering}
 use Rattle.std.specs.declared.cmp.Ordering.TheVariants.{Less, Equal, Greater}
-use Rattle.env_filter.proofs.Common.{match_ordering, cases_Bool, cond-true, cond-false, LevelFilter, OFF, greatest_verbosity, StaticDirective, Directive, directive_cmp, most_specific_first, Table, empty_table, with_item_in_order, with_added, with_all_added, more_verbose, Care, OpenLevel, is_of_span, MatchState, FilterState, AreWhole, IsNewFilter, Each, IsAtMostLevel, fresh_filter, first_below, second_below, is_static, is_dynamic, static_of, statics_of, dynamics_of, placed_in, fixed_directive, with_directive, with_tables, has_none, or_default, filter_of}
+use Rattle.env_filter.proofs.Common.{match_ordering, cases_Bool, cond-true, cond-false, LevelFilter, OFF, greatest_verbosity, StaticDirective, Directive, directive_cmp, most_specific_first, Table, empty_table, with_item_in_order, with_added, with_all_added, more_verbose, Care, OpenLevel, is_of_span, MatchState, FilterState, AreWhole, IsNewFilter, Each, IsAtMostLevel, fresh_filter, first_below, second_below, is_static, is_dynamic, static_of, statics_of, dynamics_of, placed_in, fixed_directive, with_tables, has_none, or_default}
 
 each_more : {X : Type 0} (level : X → LevelFilter) (most more : LevelFilter) → greatest_verbosity most ≤ greatest_verbosity more → (xs : List X) → Each (λ x. IsAtMostLevel most (level x)) xs → Each (λ x. IsAtMostLevel more (level x)) xs
 each_more level most more up [] all = tt

@@ -30,7 +30,6 @@ pub(crate) mod text;
 
 /// Which spans and events are let through: by directives, by what was given to spans, and by the spans that are entered
 /// on the lane that asks; `tracing_subscriber::filter::EnvFilter`.
-#[derive(Drop)]
 pub struct EnvFilter {
     alloc: Global,
     // Whether the texts of values are patterns.
@@ -39,6 +38,20 @@ pub struct EnvFilter {
     dynamics: DirectiveSet<Directive>,
     spans: HashMap<u64, Matches>,
     lanes: HashMap<u64, Levels>,
+}
+
+/// It lets its tables go part by part, which crates above then needn't prove anew.
+impl Drop for EnvFilter {
+    fn drop(self) {
+        let EnvFilter {
+            alloc: _,
+            patterns: _,
+            statics: _statics,
+            dynamics: _dynamics,
+            spans: _spans,
+            lanes: _lanes,
+        } = self;
+    }
 }
 
 impl Model for EnvFilter {

@@ -5,7 +5,7 @@ ghost use Rattle.trace_base.specs.declared.level.LevelFilter.TheVariants.{OFF};
 ghost use Rattle.env_directives.specs.Meeting.{meets};
 ghost use Rattle.env_directives.specs.orders.Table.{more_verbose};
 ghost use Rattle.env_filter.specs.declared.watch.Ask.{Ask};
-ghost use Rattle.env_filter.specs.spans.Watching.{MatchState, is_given, is_asked_later, ask_of, and_ask, asks_of, care_of, cares_of, all_asks, found_in, new_match_state, with_note, more_met, with_values, level_from, level_of_match};
+ghost use Rattle.env_filter.specs.spans.Watching.{MatchState, is_given, is_asked_later, ask_of, and_ask, asks_of, care_of, cares_of, all_asks, found_in, new_match_state, with_met_at, more_met, with_values, level_from, level_of_match};
 
 use env_directives::directive;
 use env_directives::env::directive::Directive;
@@ -273,7 +273,7 @@ fn note(met: &mut Vec<bool>, found: &[bool])
 }
 
 fn note_at(met: &mut Vec<bool>, at: usize, found: bool)
-    ensures { met.new.items ≡ with_note met.old.items at found }
+    ensures { met.new.items ≡ with_met_at met.old.items at found }
 {
     if found && at < met.len() {
         met[at] = true;

@@ -1,19 +1,18 @@
 //! The filter of a text.
 ghost use Rattle.std.specs.Prelude.{◌≡◌, ◌||◌, [], Some, IfOk, IfErr};
 ghost use Rattle.trace_base.specs.Gate.{gate};
-ghost use Rattle.env_filter.specs.texts.Building.{IsFilterOf, HasFilterFaultAt};
-ghost use Rattle.env_filter.specs.texts.Printing.{fixed_builder};
 ghost use Rattle.env_filter.specs.Filtering.{plain_filter, IsNewFilter, interest_in, hint_in, enables_in};
 ghost use Rattle.trace_base.specs.words.Level.{is_within};
 ghost use Rattle.event_gate.specs.Rules.{fixed_text_filter, gate_rule, is_within_some, IsTextFilter, GivesGate};
 
 use crate::error::GateError;
 use env_directives::directive::ParseError;
-use env_filter::{Builder, EnvFilter};
+use env_filter::EnvFilter;
 use otel_base::text::Text;
 use std::alloc::Global;
 use std::marker::Model;
 use trace_base::callsite::Callsite;
+use trace_base::discard::Discard;
 use trace_base::level::{Level, LevelFilter};
 use trace_base::subscriber::Interest;
 
@@ -23,13 +22,14 @@ pub struct TextFilter {
     filter: EnvFilter,
 }
 
-/// It lets the filter go part by part, which crates above then needn't prove anew.
+/// It gives the filter up, whose parts are let go where it is made, so that no crate above it proves that anew.
 impl Drop for TextFilter {
     fn drop(self) {
         let TextFilter {
             text: _text,
-            filter: _filter,
+            filter,
         } = self;
+        filter.discard();
     }
 }
 
@@ -77,19 +77,11 @@ fn filter_of(alloc: Global, text: &str) -> Result<EnvFilter, GateError>
     ensures ok { IfOk result (λ f. IsTextFilter text.now f) }
     ensures refused { GivesGate text.now result }
 {
-    match read_pieces(alloc, text) {
+    match EnvFilter::parse_fixed(alloc, text) {
         Ok(filter) => Ok(filter),
         Err((_, ParseError::Memory)) => Err(GateError::Memory),
         Err((piece, _)) => Err(GateError::Directive { piece }),
     }
-}
-
-fn read_pieces(alloc: Global, text: &str) -> Result<EnvFilter, (u64, ParseError)>
-    ensures ok { IfOk result (λ f. IsFilterOf fixed_builder text.now [] (plain_filter f)) }
-    ensures new { IfOk result (λ f. IsNewFilter (plain_filter f)) }
-    ensures refused { IfErr result (λ e. HasFilterFaultAt fixed_builder.patterns text.now e.0 e.1) }
-{
-    Builder::default(alloc).with_regex(false).parse_pieces(text)
 }
 
 // Whether a callsite is let through by a filter on a lane without levels, or by levels.

@@ -20,15 +20,15 @@ impl<T: Drop> Outcome<Shown<T>, View<T>> for Puts {
 }
 
 /// A note of what the writer has seen is cut off, and given to a reader that has seen nothing.
-pub(crate) struct Notes;
+pub(crate) struct GivesNote;
 
-impl<T> Split<View<T>> for Notes {
+impl<T> Split<View<T>> for GivesNote {
     ghost left = { λ v. v };
 
     ghost right = { λ v. v };
 }
 
-impl<T> Join<View<T>> for Notes {
+impl<T> Join<View<T>> for GivesNote {
     ghost use Rattle.value_reader.specs.Order.{newcomer};
 
     ghost both = { λ _ told. told };

@@ -5,7 +5,7 @@ ghost use Rattle.left_right.specs.Sides.{view};
 ghost use Rattle.value_reader.specs.Order.{in_place};
 ghost use Rattle.shared_value.specs.Puts.{KnowsAll, PutsOrLeaves};
 
-use crate::order::{Notes, OrderedWriter, Puts};
+use crate::order::{GivesNote, OrderedWriter, Puts};
 use core::mem::replace_with;
 use left_right::Absorb;
 use std::alloc::{AllocError, Global};
@@ -68,10 +68,7 @@ impl<T: Drop> ValueWriter<T> {
                 ensures { PutsOrLeaves (view writer.desk.place) writer.desk.shown.value (arc_value next).value result.1 (view result.0.desk.place) result.0.desk.shown.value }
             { put_next(rt, writer, next) },
         );
-        match put {
-            Ok(()) => Ok(number),
-            Err(error) => Err(error),
-        }
+        put.and(Ok(number))
     }
 
     /// A note of all that was put in place. An error too where `NOTES` notes are there.
@@ -120,6 +117,6 @@ fn reader_told<T: Drop>(writer: &mut OrderedWriter<T>) -> Result<OrderedReader<T
     ensures told { IfOk result (λ r. view r.place ≡ view writer.old.desk.place) }
 {
     let mut reader = writer.factory().reader()?;
-    reader.learn::<Notes>(writer.tell::<Notes>());
+    reader.learn::<GivesNote>(writer.tell::<GivesNote>());
     Ok(reader)
 }

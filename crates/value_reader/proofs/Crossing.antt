@@ -31,9 +31,6 @@ last_row F = arc_row.the_row (numbered_row.the_row F) heap.the_row allocator.gho
 pub last_send : (F : RattleType) → IsSend F → IsSync F → IsSend (last_row F)
 last_send F s y = arc.the_send (numbered_row.the_row F) heap.the_row allocator.ghosts (numbered.the_send F s) global.the_send (numbered.the_sync F y) global.the_sync frees.the_frees
 
-pub last_sync : (F : RattleType) → IsSend F → IsSync F → IsSync (last_row F)
-last_sync F s y = arc.the_sync (numbered_row.the_row F) heap.the_row allocator.ghosts (numbered.the_send F s) global.the_send (numbered.the_sync F y) global.the_sync frees.the_frees
-
 pub shown_sync : (F : RattleType) → IsSend F → IsSync F → IsSync (shown_row.the_row F)
 shown_sync F s y = search (shown.the_sync, s, y) depth 8
 

@@ -1,5 +1,5 @@
 -- One field more is fixed.
-use Rattle.std.proofs.Common.{◌≡◌, ℕ, zero, suc, ◌+◌, ◌<◌, List, [], ◌∷◌, ◌++◌, length, take, drop, map, get_or, set, refl, sym, ap, subst, ◌∙◌, arith}
+use Rattle.std.proofs.Common.{◌≡◌, ℕ, zero, suc, ◌+◌, ◌<◌, List, [], ◌∷◌, ◌++◌, length, take, drop, map, get_or, set, sym, ap, ◌∙◌, arith}
 use Rattle.env_filter.proofs.Common.{Match, fixed_field}
 
 fixed_at : (old : List Match) (at : ℕ) (w : Match) → at < length old → w ≡ get_or (map fixed_field (take at old) ++ drop at old) at w

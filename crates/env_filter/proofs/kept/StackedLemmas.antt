@@ -1,7 +1,7 @@
 -- A layer over a subscriber is told hooks in which each span is made once and first.
 use Rattle.std.proofs.Common.{◌≡◌, ℕ, ◌+◌, ◌<◌, ◌≤◌, List, [], ◌∷◌, ◌++◌, length, append_assoc, Bool, true, false, Option, Some, None, refl, sym, ap, subst, ◌∙◌, arith, inl, inr, ◌==◌, ◌||◌, if◌then◌else◌, is_some, fold}
 use Rattle.std.specs.Option.{unwrap_or, option_map}
-use Rattle.env_filter.proofs.Common.{cases_eq, cond-false, length_push, Callsite, Value, Spans, Span, span_at, entries_on, is_in, times_in, current_of, parent_on, with_hold, without_hold, less_hold, with_hold_of_child, CallLanes, Hook, OnNewSpan, OnRecord, OnFollows, OnEvent, OnEnter, OnExit, OnClose, DoesBoth, Directive, FilterState, FilterWithRoom, plain_filter, Each, fresh_filter, after_hook, span_level, DoesFilter, Both, callsite_if_made, values_given_by, is_close_of, callsite_by_calls, all_values_given, is_ended, HasNoCalls, IsNext, AreInOrder, level_by_calls, levels_by_calls}
+use Rattle.env_filter.proofs.Common.{cases_eq, cond-false, length_push, Callsite, Value, Spans, Span, span_at, entries_on, is_in, times_in, current_of, parent_on, with_hold, without_hold, less_hold, with_hold_of_child, CallLanes, Hook, OnNewSpan, OnRecord, OnFollows, OnEvent, OnEnter, OnExit, OnClose, DoesBoth, Directive, FilterState, FilterWithRoom, plain_filter, Each, fresh_filter, after_hook, DoesFilter, Both, callsite_if_made, values_given_by, is_close_of, callsite_by_calls, all_values_given, is_ended, HasNoCalls, IsNext, AreInOrder, level_by_calls, levels_by_calls}
 use Rattle.std.proofs.lemmas.Bool.{ne_eqb}
 use Rattle.std.proofs.lemmas.List.{length-set, append-nil}
 use Rattle.std.proofs.lemmas.List.Sums.{fold-append}
@@ -9,7 +9,7 @@ use Rattle.trace_base.specs.Calls.{SubscriberCall, NewSpan, Records, Follows, Ev
 use Rattle.trace_base.specs.Conditions.{Allowed}
 use Rattle.trace_base.proofs.EntryLemmas.{made_if_held, length_held}
 use Rattle.span_registry.specs.Layering.{both_allowed, both_shows}
-use Rattle.span_registry.specs.Hearing.{HearsCall, StaysTold, both_told}
+use Rattle.span_registry.specs.Hearing.{HearsCall, both_told}
 use Rattle.span_registry.specs.History.{Runs}
 use Rattle.env_filter.specs.Stacked.{Appends, AreHooksOf, HearsCalls}
 use Rattle.env_filter.proofs.kept.ToldLevelsLemmas.{level_is_by_calls, levels_are_told}

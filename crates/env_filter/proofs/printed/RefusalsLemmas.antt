@@ -1,6 +1,6 @@
 -- Why a text gives no filter.
 use Rattle.std.proofs.Common.{◌≡◌, ℕ, ◌+◌, List, [], ◌∷◌, ◌++◌, length, drop, Bool, true, false, Option, Some, None, refl, sym, ap, subst, ◌∙◌, arith, ◌==◌, slice_get}
-use Rattle.env_filter.proofs.Common.{trim, comma_pieces, IsDirective, Directive, Ignored, HasFilterFault, HasFilterFaultAt, Each, is_memory, IsIgnored, ReadsPiece, ReadsAll, ReadsText, IsFirstFault}
+use Rattle.env_filter.proofs.Common.{comma_pieces, Directive, Ignored, HasFilterFault, HasFilterFaultAt, Each, is_memory, IsIgnored, ReadsPiece, ReadsAll, ReadsText, IsFirstFault}
 use Rattle.std.proofs.lemmas.Bool.{true≢false, eqb-true}
 use Rattle.env_directives.specs.declared.directive.ParseError.{ParseError}
 use Rattle.env_directives.specs.declared.directive.ParseError.TheVariants as fault
@@ -9,10 +9,6 @@ use Rattle.env_directives.specs.declared.directive.ParseError.TheVariants as fau
 pub reads_empty : (patterns : Bool) (n : ℕ) (piece : List ℕ) → (length piece == 0) ≡ true → ReadsPiece patterns n piece [] []
 reads_empty patterns n [] empty = tt
 reads_empty patterns n (b ∷ bs) empty = absurd (let e = eqb-true (length (b ∷ bs)) 0 empty in omega (arith, e))
-
-pub reads_directive : (patterns : Bool) (n : ℕ) (piece : List ℕ) (d : Directive) → (length piece == 0) ≡ false → IsDirective patterns (trim piece) d → ReadsPiece patterns n piece (d ∷ []) []
-reads_directive patterns n [] d some is = absurd (true≢false some)
-reads_directive patterns n (b ∷ bs) d some is = is
 
 pub reads_ignored : (patterns : Bool) (n : ℕ) (piece : List ℕ) (i : Ignored) → (length piece == 0) ≡ false → IsIgnored patterns n piece i → ReadsPiece patterns n piece [] (i ∷ [])
 reads_ignored patterns n [] i some is = absurd (true≢false some)
@@ -48,15 +44,6 @@ refused_at patterns text number fault.Pattern other first = first
 refused_at patterns text number fault.Equals other first = first
 refused_at patterns text number (fault.Fields many) other first = first
 refused_at patterns text number fault.Memory other first = absurd (true≢false other)
-
-pub refused_any : (patterns : Bool) (text : List ℕ) (number : ℕ) (cause : ParseError) → HasFilterFaultAt patterns text number cause → HasFilterFault patterns text cause
-refused_any patterns text number fault.Shape r = (number, r)
-refused_any patterns text number fault.Level r = (number, r)
-refused_any patterns text number fault.Field r = (number, r)
-refused_any patterns text number fault.Pattern r = (number, r)
-refused_any patterns text number fault.Equals r = (number, r)
-refused_any patterns text number (fault.Fields many) r = (number, r)
-refused_any patterns text number fault.Memory r = tt
 
 first_of : (is : List Ignored) (i : Ignored) → ◌≡◌ {A = Option Ignored} (Some i) (slice_get is 0) → is ≡ i ∷ drop 1 is
 first_of [] i at = absurd (let none : ◌≡◌ {A = Option Ignored} (Some i) None = at in cc none)

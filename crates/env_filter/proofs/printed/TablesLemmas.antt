@@ -436,7 +436,7 @@ module _ (ds : List Directive) (own : HasOwnGreatest level_of_static (statics_of
       let less = all_below static_total level_of_static (statics ds) more (statics_in ds (dynamics ds) (each_dynamic ds)) in
       let parts = ap (λ (ss : List StaticDirective). greatest_of (heights level_of_static ss)) (to_statics ds)
       ∙ ap greatest_of (map-append (λ (s : StaticDirective). greatest_verbosity s.level) (statics ds) more) ∙ greatest_append (heights level_of_static (statics ds)) (heights level_of_static more) in
-      same_height (statics_of (printed_of ds)).greatest (statics_of ds).greatest (let e = made.most in omega (arith, e, parts, less, own))
+      same_height (statics_of (printed_of ds)).greatest (statics_of ds).greatest (let e = made.greatest in omega (arith, e, parts, less, own))
 
   same_dynamic_greatest : (dynamics_of (printed_of ds)).greatest ≡ (dynamics_of ds).greatest
   same_dynamic_greatest =
@@ -445,7 +445,7 @@ module _ (ds : List Directive) (own : HasOwnGreatest level_of_static (statics_of
       let less = all_below directive_total level_of_dynamic (dynamics ds) more (dynamics_in ds (statics ds) (each_static ds)) in
       let parts = ap (λ (xs : List Directive). greatest_of (heights level_of_dynamic xs)) (to_dynamics ds)
       ∙ ap greatest_of (map-append (λ (d : Directive). greatest_verbosity d.level) more (dynamics ds)) ∙ greatest_append (heights level_of_dynamic more) (heights level_of_dynamic (dynamics ds)) in
-      same_height (dynamics_of (printed_of ds)).greatest (dynamics_of ds).greatest (let e = made.most in omega (arith, e, parts, less, own_too))
+      same_height (dynamics_of (printed_of ds)).greatest (dynamics_of ds).greatest (let e = made.greatest in omega (arith, e, parts, less, own_too))
 
   same_filter : (patterns : Bool) → filter_of patterns None (printed_of ds) ≡ filter_of patterns None ds
   same_filter patterns = λ i. with_tables patterns

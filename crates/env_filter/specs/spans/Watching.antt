@@ -75,8 +75,8 @@ more_met [] found = []
 more_met (m ∷ met) [] = m ∷ met
 more_met (m ∷ met) (f ∷ found) = (m || f) ∷ more_met met found
 
-abbrev pub with_note : List Bool → ℕ → Bool → List Bool
-with_note met at found = if found && nat_lt at (length met) then slice_set met at true else met
+abbrev pub with_met_at : List Bool → ℕ → Bool → List Bool
+with_met_at met at found = if found && nat_lt at (length met) then slice_set met at true else met
 
 abbrev pub with_values : List (ℕ × Value) → MatchState → MatchState
 with_values given w = record w { met = more_met w.met (found_in given w.cares) }

@@ -68,7 +68,7 @@ IsParsed (Ok f) parsed = parsed ≡ Ok f
 IsParsed (Err fault) parsed = parsed ≡ Err (env_fault fault)
 
 -- what a fault prints: that of a piece what a directive's fault prints
-abbrev pub env_text : (ParseError → Option (List ℕ)) → FromEnvError → Option (List ℕ)
-env_text text (Parse fault) = text fault
-env_text text Env = Some (codes "environment variable not found")
-env_text text Memory = Some (codes "out of memory")
+abbrev pub env_fault_text : (ParseError → Option (List ℕ)) → FromEnvError → Option (List ℕ)
+env_fault_text text (Parse fault) = text fault
+env_fault_text text Env = Some (codes "environment variable not found")
+env_fault_text text Memory = Some (codes "out of memory")

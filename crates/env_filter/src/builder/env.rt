@@ -2,7 +2,7 @@
 ghost use Rattle.std.specs.Prelude.{◌≡◌, [], Some, None, IfOk, IfErr, option_map, string_bytes, codes};
 ghost use Rattle.env_filter.specs.texts.Building.{default_builder, errors_builder, with_variable};
 ghost use Rattle.env_filter.specs.Filtering.{plain_filter, IsNewFilter};
-ghost use Rattle.env_filter.specs.texts.FromVariables.{IsReadAs, IsSomeReadAs, IsOfVariable, IsRequiredAs, IsRefusedFrom, IsRefusedIn, IsRequiredFault, IsParsed, env_text};
+ghost use Rattle.env_filter.specs.texts.FromVariables.{IsReadAs, IsSomeReadAs, IsOfVariable, IsRequiredAs, IsRefusedFrom, IsRefusedIn, IsRequiredFault, IsParsed, env_fault_text};
 ghost use Rattle.env_filter.specs.declared.builder.env.FromEnvError.TheVariants as fault;
 
 use crate::builder::Builder;
@@ -143,7 +143,7 @@ pub enum FromEnvError {
 }
 
 impl fmt::Display for FromEnvError {
-    ghost output = { env_text ⟦<ParseError as fmt::Display>⟧.output };
+    ghost output = { env_fault_text ⟦<ParseError as fmt::Display>⟧.output };
 
     fn fmt<W: fmt::Write>(&self, f: &mut fmt::Formatter<W>) -> fmt::Result {
         match self {

@@ -3,9 +3,9 @@ ghost use Rattle.std.specs.Prelude.{◌≡◌, ◌++◌, [], Some, codes, IfOk, 
 ghost use Rattle.std.specs.Fmt.{WritesOnOk};
 ghost use Rattle.env_directives.specs.printed.Printed.{directive_text};
 ghost use Rattle.env_directives.specs.printed.StaticPrinted.{static_text};
-ghost use Rattle.env_filter.specs.texts.Building.{default_builder, errors_builder, IsFilterOf, IsSomeFilterOf, HasFilterFault};
+ghost use Rattle.env_filter.specs.texts.Building.{default_builder, errors_builder, IsFilterOf, IsSomeFilterOf, HasFilterFault, HasFilterFaultAt};
 ghost use Rattle.env_filter.specs.Filtering.{plain_filter, IsNewFilter};
-ghost use Rattle.env_filter.specs.texts.Printing.{behind_commas, dynamics_text, filter_text};
+ghost use Rattle.env_filter.specs.texts.Printing.{behind_commas, dynamics_text, filter_text, fixed_builder};
 
 use crate::builder::Builder;
 use crate::filter::EnvFilter;
@@ -44,6 +44,18 @@ impl EnvFilter {
         ensures refused { IfErr result (HasFilterFault default_builder.patterns dirs.now) }
     {
         EnvFilter::builder(alloc).parse(dirs)
+    }
+
+    /// The same of a text without patterns, as by a builder that takes none. The error has the number of that piece too, as
+    /// that of `Builder::parse_pieces`.
+    pub fn parse_fixed(alloc: Global, dirs: &str) -> Result<EnvFilter, (u64, ParseError)>
+        ensures ok { IfOk result (λ f. IsFilterOf fixed_builder dirs.now [] (plain_filter f)) }
+        ensures new { IfOk result (λ f. IsNewFilter (plain_filter f)) }
+        ensures refused { IfErr result (λ e. HasFilterFaultAt fixed_builder.patterns dirs.now e.0 e.1) }
+    {
+        EnvFilter::builder(alloc)
+            .with_regex(false)
+            .parse_pieces(dirs)
     }
 
     /// The same as `try_new`; `EnvFilter::from_str`.

@@ -1,7 +1,7 @@
 -- By the laws of the subscriber below.
-use Rattle.std.proofs.Common.{◌≡◌, Option, Some, List, ap, refl, ◌∙◌, false, fold}
+use Rattle.std.proofs.Common.{◌≡◌, Option, ap, refl, ◌∙◌, false, fold}
 use Rattle.std.specs.Option.{option_map}
-use Rattle.env_filter.proofs.Common.{Hook, LeavesLanes, FilterState, FilterWithRoom, plain_filter, after_hook, DoesFilter, Both, layer_or}
+use Rattle.env_filter.proofs.Common.{LeavesLanes, FilterState, FilterWithRoom, plain_filter, after_hook, DoesFilter, Both, layer_or}
 use Rattle.env_filter.proofs.kept.StackedLemmas.{over_all_calls, heard, step_in_place, does_in_place, same_in_place, fold_in_place}
 use Rattle.env_filter.proofs.laws.hears_in_place.Goals as goal
 

@@ -1,6 +1,6 @@
 -- One piece more.
 use Rattle.std.specs.Borrow.{Bor}
-use Rattle.std.proofs.Common.{lit<, sym, ◌∙◌, ap, append_assoc, append-nil, ◌≡◌, ◌∷◌, [], ◌++◌, List, ℕ}
+use Rattle.std.proofs.Common.{lit<, sym, ◌∙◌, ap, append_assoc, append-nil, ◌∷◌, [], ◌++◌, List, ℕ}
 use Rattle.std.proofs.lemmas.Iterator.Splits.{YieldsList-from_str_split}
 use Rattle.env_filter.proofs.Common.{map-append, comma_pieces, first_piece, no_piece, texts_of}
 use Rattle.env_filter.proofs.pieces.pieces.Goals as goal

@@ -1,5 +1,5 @@
 -- What is read of the pieces that are left completes what was read.
-use Rattle.std.proofs.Common.{ℕ, List, ◌+◌, ◌++◌, drop}
+use Rattle.std.proofs.Common.{List, ◌+◌, ◌++◌, drop}
 use Rattle.env_filter.proofs.Common.{Directive, Ignored, texts_of, ReadsAll, ReadsText}
 use Rattle.env_filter.proofs.pieces.read.Given as goal
 

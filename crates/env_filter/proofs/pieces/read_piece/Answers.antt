@@ -1,5 +1,5 @@
 -- One piece is read.
-use Rattle.std.proofs.Common.{◌≡◌, ◌∷◌, ◌++◌, [], ◌+◌, sym, ◌∙◌, append-nil, refl}
+use Rattle.std.proofs.Common.{◌∷◌, [], ◌+◌, sym, ◌∙◌, append-nil, refl}
 use Rattle.env_filter.proofs.Common.{Ignored}
 use Rattle.env_filter.proofs.printed.RefusalsLemmas.{reads_empty, reads_ignored}
 use Rattle.env_filter.proofs.pieces.read_piece.Goals as goal

@@ -1,5 +1,5 @@
 -- What is kept are the dynamic ones.
-use Rattle.std.proofs.Common.{◌≡◌, ◌∙◌, ap, List, rules}
+use Rattle.std.proofs.Common.{◌∙◌, ap, List, rules}
 use Rattle.std.proofs.lemmas.Fn.{filter_same}
 use Rattle.env_filter.proofs.Common.{Directive, directive_cmp, Table, empty_table, with_all_added, is_dynamic}
 use Rattle.env_filter.proofs.tables.dynamics.Goals as goal
