@@ -356,7 +356,7 @@ impl SpanState {
 
     /// Gives a state the parent and the moment of its making, where these weren't known when its room was taken. Its last
     /// moment, its busy time and its last exit start anew; all else stays.
-    pub fn begin(&mut self, parent: Context, made_at: Moment)
+    pub fn set_making(&mut self, parent: Context, made_at: Moment)
         ensures span_data { self.new.span_data ≡ with_making parent made_at self.old.span_data }
         ensures begins { BeginsAt parent made_at self.old.span_data self.new.span_data }
         ensures room { self.new.room ≡ self.old.room }

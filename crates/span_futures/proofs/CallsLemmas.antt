@@ -1,13 +1,7 @@
 -- What calls of moments up to one came to, put together.
 use Rattle.std.proofs.Common.{◌≡◌, ℕ, List, [], ◌∷◌, ◌++◌, Option, Some, None, sym, subst, ◌∙◌, arith, inl, inr, slice_get}
-use Rattle.std.proofs.lemmas.Bool.{cases_eq}
+use Rattle.span_futures.proofs.Common.{cases_eq, Lane, Worlds, SubscriberCall, Enter, Exit, Replaced, Held, ReplacedOn, now_there}
 use Rattle.std.proofs.lemmas.List.Elements.{All-nil, All-cons, All-append}
-use Rattle.trace_base.specs.declared.lane.Lane.{Lane}
-use Rattle.trace_base.specs.Gate.{Worlds}
-use Rattle.trace_base.specs.Calls.{SubscriberCall, Enter, Exit}
-use Rattle.span_handles.specs.Worlds.{Replaced}
-use Rattle.span_handles.specs.Handles.{Held, ReplacedOn}
-use Rattle.span_handles.proofs.ChangedSubscriberLemmas.{now_there}
 use Rattle.span_futures.specs.Calling.{WorldChange, Calls, IsCallBy, IsBy, DoesChange, DoesAll, IsCalledBy, CallsBy}
 use Rattle.span_futures.proofs.KeptLemmas.{others_same}
 

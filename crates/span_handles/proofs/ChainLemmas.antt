@@ -1,10 +1,6 @@
 -- What a chain keeps while it goes on.
-use Rattle.std.proofs.Common.{◌≡◌, ◌<◌, ℕ, Option, Some, None, subst, sym}
-use Rattle.std.specs.Prelude.{IfSome}
-use Rattle.trace_base.specs.Spans.{Spans, next_of}
-use Rattle.trace_base.specs.Calls.{SubscriberCall, TryClose}
-use Rattle.trace_base.specs.Conditions.{HasOwnHold}
-use Rattle.span_handles.specs.Worlds.{Chain, ended, closes}
+use Rattle.std.proofs.Common.{◌≡◌, ◌<◌, ℕ, Option, Some, None, subst, sym, IfSome}
+use Rattle.span_handles.proofs.Common.{Spans, next_of, SubscriberCall, TryClose, HasOwnHold, Chain, ended, closes}
 
 pub record Releases {S : Type 0} (spans : S → Spans) (does : S → SubscriberCall → S → Type 0) (is_whole : S → Type 0) (at first : ℕ) (before now : S) (next : Option ℕ) : Type 0 where
   pub whole : is_whole now

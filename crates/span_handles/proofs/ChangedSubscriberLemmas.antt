@@ -1,13 +1,7 @@
 -- What is read of the one subscriber that changed.
 use Rattle.std.proofs.Common.{◌≡◌, ℕ, zero, suc, Bool, false, List, [], ◌∷◌, length, Option, Some, subst, sym, ap, ◌∙◌, slice_get, slice_set, refl}
-use Rattle.std.specs.Option.{option_map_or}
+use Rattle.span_handles.proofs.Common.{option_map_or, Worlds, Spans, next_of, SubscriberCall, TryClose, spans_after_call, Allowed, CallLanes, Has, Replaced, member_of, Shown, Alike, Chain, ended, closes, ReleasesChain, all_released, releases, ChainShown, no_spans}
 use Rattle.std.proofs.lemmas.List.{length-set}
-use Rattle.trace_base.specs.Gate.{Worlds}
-use Rattle.trace_base.specs.Spans.{Spans, next_of}
-use Rattle.trace_base.specs.Calls.{SubscriberCall, TryClose, spans_after_call}
-use Rattle.trace_base.specs.Conditions.{Allowed}
-use Rattle.trace_base.specs.lanes.Contexts.{CallLanes}
-use Rattle.span_handles.specs.Worlds.{Has, Replaced, member_of, Shown, Alike, Chain, ended, closes, ReleasesChain, all_released, releases, ChainShown, no_spans}
 
 get_set : {X : Type 0} (xs : List X) (n : ℕ) (x y : X) → slice_get xs n ≡ Some x → slice_get (slice_set xs n y) n ≡ Some y
 get_set [] n x y there = absurd (cc there)

@@ -1,20 +1,7 @@
 -- Which handles a world goes on to know.
-use Rattle.std.proofs.Common.{◌≡◌, ℕ, zero, suc, ◌+◌, ◌<◌, List, [], ◌∷◌, length, Option, Some, None, Result, Ok, Err, refl, sym, ap, subst, ◌∙◌, arith, inl, inr, slice_get, slice_set}
-use Rattle.std.specs.Prelude.{OnOk, OnErr}
-use Rattle.std.proofs.lemmas.Bool.{cases_eq}
+use Rattle.std.proofs.Common.{◌≡◌, ℕ, zero, suc, ◌+◌, ◌<◌, List, [], ◌∷◌, length, Option, Some, None, Result, Ok, Err, refl, sym, ap, subst, ◌∙◌, arith, inl, inr, slice_get, slice_set, OnOk, OnErr}
+use Rattle.span_handles.proofs.Common.{cases_eq, ValueSet, Lane, Parent, Worlds, Spans, entries_on, parent_on, SubscriberCall, NewSpan, CloneSpan, spans_after_call, with_new_span, Allowed, HasOwnHold, IsSound, parent_live, new_own, clone_own, Has, Replaced, Chain, Held, IsKnown, IsKnownBeside, KeepsKnown, KeepsHandles, KeepsOthers, GainsOne, LosesOne, IsNoClose}
 use Rattle.trace_base.specs.declared.callsite.Callsite.{Callsite}
-use Rattle.trace_base.specs.declared.field.ValueSet.{ValueSet}
-use Rattle.trace_base.specs.declared.lane.Lane.{Lane}
-use Rattle.trace_base.specs.declared.span.Parent.{Parent}
-use Rattle.trace_base.specs.Gate.{Worlds}
-use Rattle.trace_base.specs.Spans.{Spans, entries_on, parent_on}
-use Rattle.trace_base.specs.Calls.{SubscriberCall, NewSpan, CloneSpan, spans_after_call, with_new_span}
-use Rattle.trace_base.specs.Conditions.{Allowed, HasOwnHold}
-use Rattle.trace_base.specs.Sound.{IsSound}
-use Rattle.trace_base.proofs.Sound.{parent_live, new_own, clone_own}
-use Rattle.span_handles.specs.Worlds.{Has, Replaced, Chain}
-use Rattle.span_handles.specs.Handles.{Held, IsKnown, IsKnownBeside}
-use Rattle.span_handles.specs.Knowing.{KeepsKnown, KeepsHandles, KeepsOthers, GainsOne, LosesOne, IsNoClose}
 use Rattle.span_handles.proofs.OwnHoldsLemmas.{OwnBeside, held_more, call_own, chain_own}
 use Rattle.span_handles.proofs.ChangedSubscriberLemmas.{as_many, now_there}
 

@@ -1,14 +1,7 @@
 -- Where there is no memory no span is made.
-use Rattle.std.proofs.Common.{◌≡◌, ℕ, Result, Ok, Err, Some, None, sym, subst}
+use Rattle.std.proofs.Common.{◌≡◌, ℕ, Result, Err, Some, sym, subst}
 use Rattle.otel_base.specs.declared.memory.Memory.{Memory}
-use Rattle.trace_base.specs.declared.field.ValueSet.{ValueSet}
-use Rattle.trace_base.specs.declared.lane.Lane.{Lane}
-use Rattle.trace_base.specs.declared.span.Parent.{Parent}
-use Rattle.trace_base.specs.Gate.{Worlds}
-use Rattle.trace_base.specs.Spans.{Spans}
-use Rattle.trace_base.specs.Calls.{SubscriberCall}
-use Rattle.span_handles.specs.Handles.{Handle, ReplacedIf}
-use Rattle.span_handles.specs.Knowing.{KeepsHandles}
+use Rattle.span_handles.proofs.Common.{ValueSet, Lane, Parent, Worlds, Spans, SubscriberCall, Handle, ReplacedIf, KeepsHandles}
 use Rattle.span_handles.specs.Makers.{MakesHandle}
 
 -- where nothing but room changed, a maker answers that there was no memory

@@ -1,18 +1,8 @@
 -- Which holds a span has beside those of its entries and its open children, after each call.
-use Rattle.std.proofs.Common.{◌≡◌, ℕ, ◌+◌, ◌<◌, List, [], ◌∷◌, ◌++◌, Bool, true, false, cond, Option, Some, None, refl, sym, ap, subst, ◌∙◌, arith, inl, inr}
-use Rattle.std.specs.Prelude.{◌==◌, IfSome}
-use Rattle.std.proofs.lemmas.Bool.{cases_Bool, cases_eq, cond-true, cond-false, eq-eqb, ne_eqb, eqb-true, eqb-false}
-use Rattle.std.proofs.lemmas.List.{get_or_append_left}
-use Rattle.trace_base.specs.Spans.{Span, Spans, no_span, span_at, entries_on, is_in, times_in, is_child_of, is_open_child, open_child_count, bound_holds, with_hold, less_hold, without_hold, with_hold_of_child, parent_on, next_of}
-use Rattle.trace_base.specs.Calls.{SubscriberCall, NewSpan, Records, Follows, Event, Enter, Exit, CloneSpan, TryClose, spans_after_call, with_new_span, with_span_entry, with_span_exit}
-use Rattle.trace_base.specs.Conditions.{Allowed, IsLive, HasOwnHold, MayExit}
-use Rattle.trace_base.specs.Sound.{IsSound}
-use Rattle.trace_base.proofs.Sound.{parent_live, exit_live}
-use Rattle.trace_base.proofs.EntryLemmas.{count_push, made_if_held}
-use Rattle.trace_base.proofs.HoldLemmas.{children_set, same_child, keeps_children, less_last, less_more, less_holds, holds_set, holds_other}
+use Rattle.std.proofs.Common.{◌≡◌, ℕ, ◌+◌, ◌<◌, List, [], ◌∷◌, ◌++◌, Bool, true, false, cond, Option, Some, None, refl, sym, ap, subst, ◌∙◌, arith, inl, inr, ◌==◌, IfSome}
+use Rattle.span_handles.proofs.Common.{cases_Bool, cases_eq, cond-true, cond-false, get_or_append_left, Span, Spans, no_span, span_at, entries_on, is_in, times_in, is_child_of, is_open_child, open_child_count, bound_holds, with_hold, less_hold, without_hold, parent_on, next_of, SubscriberCall, NewSpan, Records, Follows, Event, Enter, Exit, CloneSpan, TryClose, spans_after_call, with_new_span, with_span_entry, with_span_exit, Allowed, IsLive, HasOwnHold, MayExit, IsSound, parent_live, exit_live, count_push, made_if_held, children_set, keeps_children, less_last, less_more, less_holds, holds_set, holds_other, Chain, ended, closes, IsNoClose}
+use Rattle.std.proofs.lemmas.Bool.{eq-eqb, ne_eqb, eqb-true}
 use Rattle.trace_base.proofs.HoldMoveLemmas.{entry_moves, exit_moves}
-use Rattle.span_handles.specs.Worlds.{Chain, ended, closes}
-use Rattle.span_handles.specs.Knowing.{IsNoClose}
 
 -- the children of a span after an entry, and after an exit
 entered_children : (x : Spans) (id lane q : ℕ) → IsLive x.made id → open_child_count (with_span_entry x id lane).made q ≡ open_child_count x.made q

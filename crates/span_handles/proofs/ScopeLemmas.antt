@@ -1,17 +1,7 @@
 -- What is known inside a span, and what its exit needs.
-use Rattle.std.proofs.Common.{◌≡◌, ℕ, ◌+◌, ◌<◌, List, [], ◌∷◌, ◌++◌, Bool, Some, None, refl, sym, ap, subst, ◌∙◌, arith, inl, inr}
-use Rattle.std.specs.Prelude.{◌==◌}
-use Rattle.std.proofs.lemmas.Bool.{cases_Bool, cond-true, cond-false, eq-eqb}
-use Rattle.trace_base.specs.declared.lane.Lane.{Lane}
-use Rattle.trace_base.specs.Gate.{Worlds}
-use Rattle.trace_base.specs.Spans.{Span, Spans, span_at, entries_on, is_in, times_in, with_hold}
-use Rattle.trace_base.specs.Calls.{SubscriberCall, Enter, with_span_entry, spans_after_call}
-use Rattle.trace_base.specs.Conditions.{HasOwnHold, MayExit}
-use Rattle.trace_base.specs.lanes.Contexts.{AreAttached, KeepsAttached, CallLanes, attached_as}
-use Rattle.trace_base.proofs.EntryLemmas.{count_push, any_if_counted, with_same, made_if_held}
-use Rattle.trace_base.proofs.HoldLemmas.{first_if_in, first_with, in_push_same, keeps_children, holds_set}
-use Rattle.span_handles.specs.Worlds.{Has, Replaced}
-use Rattle.span_handles.specs.Handles.{Held, IsKnown, HasOn}
+use Rattle.std.proofs.Common.{◌≡◌, ℕ, ◌+◌, ◌<◌, List, [], ◌∷◌, ◌++◌, Bool, Some, None, refl, sym, ap, subst, ◌∙◌, arith, inl, inr, ◌==◌}
+use Rattle.span_handles.proofs.Common.{cases_Bool, cond-true, cond-false, Lane, Worlds, Span, Spans, span_at, entries_on, is_in, times_in, with_hold, SubscriberCall, Enter, with_span_entry, spans_after_call, HasOwnHold, MayExit, AreAttached, KeepsAttached, CallLanes, attached_as, count_push, any_if_counted, with_same, made_if_held, first_if_in, first_with, in_push_same, keeps_children, holds_set, Has, Replaced, Held, IsKnown, HasOn}
+use Rattle.std.proofs.lemmas.Bool.{eq-eqb}
 use Rattle.span_handles.specs.Entries.{IsThere, IsOpenOn, IsStillOn, BeginsInside, Keeps}
 use Rattle.span_handles.proofs.ChangedSubscriberLemmas.{now_there, as_many}
 

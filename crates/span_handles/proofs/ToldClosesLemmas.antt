@@ -1,12 +1,7 @@
 -- What a layer makes of a chain of closes: of each span that closes, in their order, and of no other.
-use Rattle.std.specs.Prelude.{◌==◌, fold}
-use Rattle.std.proofs.Common.{◌≡◌, ℕ, List, [], ◌∷◌, Option, Some, None, refl, sym, ap, subst, ◌∙◌, inl, inr}
-use Rattle.std.proofs.lemmas.Bool.{cases_eq, eq-eqb, ne_eqb, cond-true, cond-false}
-use Rattle.trace_base.specs.Gate.{Worlds}
-use Rattle.trace_base.specs.Spans.{Spans, next_of, span_at}
-use Rattle.trace_base.specs.Calls.{SubscriberCall, TryClose, spans_after_call}
-use Rattle.trace_base.specs.Conditions.{Allowed}
-use Rattle.span_handles.specs.Worlds.{Replaced, member_of, Chain, ended, closes, all_released, releases, closed_in, no_spans, ToldChain, ChangesByCloses}
+use Rattle.std.proofs.Common.{◌≡◌, ℕ, List, [], ◌∷◌, Option, Some, None, refl, sym, ap, subst, ◌∙◌, inl, inr, ◌==◌, fold}
+use Rattle.span_handles.proofs.Common.{cases_eq, cond-true, cond-false, Worlds, Spans, next_of, span_at, SubscriberCall, TryClose, spans_after_call, Allowed, Replaced, member_of, Chain, ended, closes, all_released, releases, closed_in, no_spans, ToldChain, ChangesByCloses}
+use Rattle.std.proofs.lemmas.Bool.{eq-eqb, ne_eqb}
 use Rattle.span_handles.proofs.ChangedSubscriberLemmas.{seen_before, seen_later}
 
 module _ {S A : Type 0} (spans : S → Spans) (does : S → SubscriberCall → S → Type 0)

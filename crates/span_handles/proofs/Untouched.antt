@@ -1,9 +1,6 @@
 -- A world in which nothing was called.
-use Rattle.std.proofs.Common.{◌≡◌, ℕ, zero, suc, ◌<◌, List, [], ◌∷◌, length, Some, None, Result, Ok, Err, refl, sym, ap, arith, slice_get, slice_set}
-use Rattle.std.specs.Prelude.{OnErr}
-use Rattle.trace_base.specs.Gate.{Worlds}
-use Rattle.trace_base.specs.Spans.{Spans}
-use Rattle.span_handles.specs.Handles.{Held, IsKnown, ReplacedOn}
+use Rattle.std.proofs.Common.{◌≡◌, ℕ, zero, suc, ◌<◌, List, [], ◌∷◌, length, Some, None, Result, Ok, Err, refl, sym, ap, arith, slice_get, slice_set, OnErr}
+use Rattle.span_handles.proofs.Common.{Worlds, Spans, Held, IsKnown, ReplacedOn}
 
 record Found {X : Type 0} (xs : List X) (n : ℕ) : Type 0 where
   item : X

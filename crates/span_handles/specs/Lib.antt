@@ -3,5 +3,4 @@ pub mod Events
 pub mod Handles
 pub mod Knowing
 pub mod Makers
-pub mod Single
 pub mod Worlds

@@ -1,13 +1,8 @@
 -- The spans that a lane is in, after an entry and an exit.
-use Rattle.std.proofs.Common.{◌≡◌, ℕ, ◌-◌, ◌<◌, List, [], ◌∷◌, ◌++◌, length, Bool, true, false, get_or, Option, Some, None, refl, sym, ap, ◌∙◌, arith, inl, inr}
-use Rattle.std.specs.Prelude.{if◌then◌else◌, ◌==◌, ◌||◌}
-use Rattle.std.specs.List.{last_or}
-use Rattle.std.proofs.lemmas.Bool.{eqb-true, eqb-false, eq-eqb, ne_eqb, cases_eq, cases_Bool, cond-true, cond-false, or_right, or_parts, true≢false}
+use Rattle.std.proofs.Common.{◌≡◌, ℕ, ◌-◌, ◌<◌, List, [], ◌∷◌, ◌++◌, length, Bool, true, false, get_or, Option, Some, None, refl, sym, ap, ◌∙◌, arith, inl, inr, if◌then◌else◌, ◌==◌, ◌||◌}
+use Rattle.span_registry.proofs.Common.{last_or, eqb-false, cases_eq, cases_Bool, cond-true, cond-false, or_right, or_parts, is_in, times_in, without_last, current_from, count_cons, counted_if_any, any_if_counted, in_push_same, in_push_other, firsts_from, firsts_of}
+use Rattle.std.proofs.lemmas.Bool.{eqb-true, eq-eqb, ne_eqb, true≢false}
 use Rattle.std.proofs.lemmas.List.{append_assoc, append-nil}
-use Rattle.trace_base.specs.Spans.{is_in, times_in, without_last, current_from}
-use Rattle.trace_base.proofs.EntryLemmas.{count_cons, counted_if_any, any_if_counted}
-use Rattle.trace_base.proofs.HoldLemmas.{in_push_same, in_push_other}
-use Rattle.span_registry.specs.Firsts.{firsts_from, firsts_of}
 
 -- the current span is the last of those
 pub current_last : (before : List ℕ) (now : Option ℕ) (ids : List ℕ) → current_from before now ids ≡ last_or now (firsts_from before ids)

@@ -1,11 +1,8 @@
 -- A lane's entries by the place where it stands.
-use Rattle.std.proofs.Common.{◌≡◌, ℕ, zero, suc, ◌<◌, List, [], ◌∷◌, ◌++◌, length, true, false, get_or, set, Result, Ok, Err, refl, sym, ap, ◌∙◌, arith, inl, inr}
-use Rattle.std.specs.Prelude.{◌==◌, ◌||◌, OnOk}
+use Rattle.std.proofs.Common.{◌≡◌, ℕ, zero, suc, ◌<◌, List, [], ◌∷◌, ◌++◌, length, true, false, get_or, set, Result, Ok, Err, refl, sym, ap, ◌∙◌, arith, inl, inr, ◌==◌, ◌||◌, OnOk}
 use Rattle.std.specs.List.{remove}
-use Rattle.std.proofs.lemmas.Bool.{eqb-true, eq-eqb, ne_eqb, cases_Bool, cond-true, cond-false, or_cases, true≢false}
-use Rattle.std.proofs.lemmas.List.{get_or_default}
-use Rattle.trace_base.specs.Spans.{Entries, entries_on, with_entries, is_in, without_last}
-use Rattle.span_registry.specs.Registering.{StandsAt, no_lane}
+use Rattle.span_registry.proofs.Common.{cases_Bool, cond-true, cond-false, or_cases, get_or_default, Entries, entries_on, with_entries, is_in, without_last, StandsAt, no_lane}
+use Rattle.std.proofs.lemmas.Bool.{eqb-true, eq-eqb, ne_eqb, true≢false}
 
 pub entries_at : (es : List Entries) (lane at : ℕ) → at < length es → (get_or es at no_lane).lane ≡ lane → ((k : ℕ) → k < at → (get_or es k no_lane).lane ≡ lane → ⊥) → entries_on lane es ≡ (get_or es at no_lane).ids
 entries_at [] lane at within is before = absurd (omega (arith, within))

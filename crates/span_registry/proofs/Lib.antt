@@ -1,3 +1,4 @@
+pub mod Common
 pub mod SpanCountLemmas
 pub mod Lanes
 pub mod LaneSpansLemmas

@@ -1,14 +1,9 @@
 -- The table of spans after one change.
-use Rattle.std.proofs.Common.{◌≡◌, ℕ, zero, suc, ◌+◌, ◌-◌, ◌<◌, ◌≤◌, List, [], ◌∷◌, ◌++◌, length, take, max, cond, get_or, set, Option, Some, None, refl, sym, ap, subst, ◌∙◌, arith, inl, inr, ◌⊎◌}
-use Rattle.std.specs.Prelude.{if◌then◌else◌, ◌==◌, IfSome}
-use Rattle.std.proofs.lemmas.Bool.{cases_eq, cases_lt, cond-true, cond-false, eq-eqb, ne_eqb, lt-ltb}
-use Rattle.std.proofs.lemmas.List.{length-set, length_push, length-take-le, get_or-set_same, get_or-set_other, get_or_past, get_or_push, get_or_append_left, get_or-take, set-append_left, ext_get_or}
+use Rattle.std.proofs.Common.{◌≡◌, ℕ, zero, suc, ◌+◌, ◌-◌, ◌<◌, ◌≤◌, List, [], ◌∷◌, ◌++◌, length, take, max, cond, get_or, set, Option, Some, None, refl, sym, ap, subst, ◌∙◌, arith, inl, inr, ◌⊎◌, if◌then◌else◌, ◌==◌, IfSome}
+use Rattle.span_registry.proofs.Common.{cases_eq, cases_lt, cond-true, cond-false, length_push, get_or_past, get_or_push, get_or_append_left, set-append_left, sum_by-set, get_or-le-sum_by, Span, no_span, span_at, with_hold_of_child, IsLive, HasFewHolds, count_push, made_if_held, SlotValue, no_slot, slot_value_at, span_of, span_in, spans_to, is_live, live_span_count, SlotTableValue, slot_table_value, IsTabled}
+use Rattle.std.proofs.lemmas.Bool.{eq-eqb, ne_eqb, lt-ltb}
+use Rattle.std.proofs.lemmas.List.{length-set, length-take-le, get_or-set_same, get_or-set_other, get_or-take, ext_get_or}
 use Rattle.std.proofs.Math.Nat.{max-eq_left, max-eq_right}
-use Rattle.std.proofs.lemmas.List.Sums.{sum_by-set, get_or-le-sum_by}
-use Rattle.trace_base.specs.Spans.{Span, no_span, span_at, with_hold_of_child}
-use Rattle.trace_base.specs.Conditions.{IsLive, HasFewHolds}
-use Rattle.trace_base.proofs.EntryLemmas.{count_push, made_if_held}
-use Rattle.span_registry.specs.Tabling.{SlotValue, no_slot, slot_value_at, span_of, span_in, spans_to, is_live, live_span_count, SlotTableValue, slot_table_value, IsTabled}
 
 -- the spans of a table, one by one
 pub length_to : (n : ℕ) (f : ℕ → Span) → length (spans_to n f) ≡ n
@@ -45,10 +40,6 @@ set_to n f g id x within here others =
 none_there : (slots : List SlotValue) (place : Option ℕ) → ((p : ℕ) → place ≡ Some p → ⊥) → span_of slots place ≡ no_span
 none_there slots None absent = refl
 none_there slots (Some p) absent = absurd (absent p refl)
-
-is_there : (slots : List SlotValue) (place : Option ℕ) → 0 < (span_of slots place).holds → (p : ℕ) × (place ≡ Some p)
-is_there slots None live = absurd (omega (arith, live))
-is_there slots (Some p) live = (p, refl)
 
 module _ (count : ℕ) (places : ℕ → Option ℕ) (slots : List SlotValue) (free : List ℕ) (room : ℕ) (t : IsTabled count places slots free room) where
   pub read : (id : ℕ) → span_at (spans_to count (span_in places slots)) id ≡ span_in places slots id
@@ -363,10 +354,6 @@ tabled_same count places now slots slots' free free' room bigger t same es ef mo
       enough = (let e = t.enough in omega (arith, e, more));
     }))
 
-pub shown_same : (count : ℕ) (places now : ℕ → Option ℕ) (slots slots' : List SlotValue) (v : SlotTableValue) → slot_table_value count places slots ≡ v → ((q : ℕ) → now q ≡ places q) → slots' ≡ slots → slot_table_value count now slots' ≡ v
-shown_same count places now slots slots' v is_view same es =
-    ap (λ (ss : List SlotValue). slot_table_value count now ss) es ∙ same_tabled (spans_to count (span_in now slots)) (spans_to count (span_in places slots)) (length slots) (length slots) (agree_to count (span_in places slots) (span_in now slots) (λ k below. ap (span_of slots) (same k))) refl ∙ is_view
-
 -- a span more, in the slot that was chosen and filled
 pub filled : (count : ℕ) (places : ℕ → Option ℕ) (slots now : List SlotValue) (free left : List ℕ) (room : ℕ) (p : ℕ) (x : SlotValue) → IsTabled count places slots free room
     → (0 < length free → p ≡ get_or free (length free - 1) 0) → (length free ≡ 0 → p ≡ length slots) → (0 < length free → now ≡ set slots (get_or free (length free - 1) 0) x) → (length free ≡ 0 → now ≡ slots ++ x ∷ []) → left ≡ take (length free - 1) free
@@ -396,17 +383,6 @@ live_push made new (Some p) live = (let e = ap (λ (s : Span). s.holds) (get_or_
 pub few_push : (made : List Span) (new : Span) (above : Option ℕ) → IfSome above (IsLive made) → IfSome above (HasFewHolds made) → IfSome above (HasFewHolds (made ++ new ∷ []))
 few_push made new None live few = tt
 few_push made new (Some p) live few = (let e = ap (λ (s : Span). s.holds) (get_or_append_left made (new ∷ []) no_span p (made_if_held made p live)) in omega (arith, e, few))
-
--- as many spans are live when a live one gets a hold more
-pub live_held : (made : List Span) (above : Option ℕ) → IfSome above (IsLive made) → live_span_count (with_hold_of_child made above) ≡ live_span_count made
-live_held made None live = refl
-live_held made (Some p) live =
-    let within = made_if_held made p live in
-    let now : Span = record (span_at made p) { holds = (span_at made p).holds + 1 } in
-    let write = sum_by-set (λ (s : Span). cond {A = ℕ} (is_live s) 1 0) made p now no_span within in
-    let a = cond-true {A = ℕ} (is_live (span_at made p)) 1 0 (lt-ltb 0 (span_at made p).holds live) in
-    let b = cond-true {A = ℕ} (is_live now) 1 0 (lt-ltb 0 now.holds (omega arith)) in
-    omega (arith, write, a, b)
 
 -- a span more in the slot that was chosen and filled: the table, its spans and its slots
 pub pushed : (count : ℕ) (places now : ℕ → Option ℕ) (slots now_slots : List SlotValue) (free left : List ℕ) (room r bigger p : ℕ) (x : SlotValue) (v : SlotTableValue) → IsTabled count places slots free room → slot_table_value count places slots ≡ v → Placed slots now_slots free left p x

@@ -1,16 +1,8 @@
 -- What a registry and a layer over it need of sound spans.
-use Rattle.std.proofs.Common.{◌≡◌, ℕ, ◌+◌, List, length, None, Result, Ok, Err, refl, sym, ap, subst, ◌∙◌, arith}
-use Rattle.std.specs.Prelude.{OnOk, OnErr}
-use Rattle.std.proofs.lemmas.List.{length-set, length_push, get_or_past, get_or_push}
-use Rattle.trace_base.specs.Spans.{Span, Spans, no_span, is_open_child, without_hold}
-use Rattle.trace_base.specs.Calls.{with_new_span}
-use Rattle.trace_base.specs.Conditions.{HasOwnHold}
-use Rattle.trace_base.specs.Sound.{IsSound}
-use Rattle.trace_base.proofs.EntryLemmas.{count_push, no_entries}
-use Rattle.trace_base.specs.layers.Hooks.{KnownSpans}
+use Rattle.std.proofs.Common.{◌≡◌, ℕ, ◌+◌, List, length, None, Result, Ok, Err, refl, sym, ap, subst, ◌∙◌, arith, OnOk, OnErr}
+use Rattle.span_registry.proofs.Common.{length_push, get_or_past, get_or_push, Span, Spans, no_span, is_open_child, without_hold, with_new_span, HasOwnHold, IsSound, count_push, no_entries, KnownSpans, in_step_start, SlotTableValue}
+use Rattle.std.proofs.lemmas.List.{length-set}
 use Rattle.span_registry.specs.Both.{InStep, KnowsNone}
-use Rattle.span_registry.specs.Stepping.{in_step_start}
-use Rattle.span_registry.specs.Tabling.{SlotTableValue}
 
 -- what holds after an Ok and after an Err
 pub either_way : {T E A : Type 0} (P : A → Type 0) (result : Result T E) (now x y : A) → OnOk result (now ≡ x) → OnErr result (now ≡ y) → P x → P y → P now

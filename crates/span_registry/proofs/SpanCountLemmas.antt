@@ -1,23 +1,13 @@
 -- What the calls so far say of the spans, one call more at a time.
-use Rattle.std.proofs.Common.{◌≡◌, ℕ, ◌+◌, ◌-◌, ◌<◌, List, [], ◌∷◌, ◌++◌, length, Bool, true, false, cond, count_by, get_or, set, Option, Some, None, refl, sym, ap, subst, ◌∙◌, arith, inl, inr}
-use Rattle.std.specs.Prelude.{if◌then◌else◌, ◌==◌, nat_lt, IfSome}
-use Rattle.std.proofs.lemmas.Bool.{eq-eqb, ne_eqb, cases_eq, cases_lt, cond-true, cond-false, lt-ltb, le-ltb}
-use Rattle.std.proofs.lemmas.List.{length-set, length_push, append_assoc, append-nil, get_or_past, get_or_push, get_or_append_left, get_or-set_same, get_or-set_other}
-use Rattle.std.proofs.lemmas.List.Sums.{fold-append}
+use Rattle.std.proofs.Common.{◌≡◌, ℕ, ◌+◌, ◌-◌, ◌<◌, List, [], ◌∷◌, ◌++◌, length, Bool, true, false, cond, count_by, get_or, set, Option, Some, None, refl, sym, ap, subst, ◌∙◌, arith, inl, inr, if◌then◌else◌, ◌==◌, nat_lt, IfSome}
+use Rattle.span_registry.proofs.Common.{cases_eq, cases_lt, cond-true, cond-false, length_push, get_or_past, get_or_push, get_or_append_left, fold-append, Span, Entries, Spans, no_span, span_at, entries_on, with_entries, is_in, times_in, entered_lane_count, is_child_of, without_last, with_hold, less_hold, without_hold, with_hold_of_child, parent_on, next_of, SubscriberCall, NewSpan, Records, Follows, Event, Enter, Exit, CloneSpan, TryClose, spans_after_call, with_new_span, with_span_entry, with_span_exit, Allowed, IsLive, one_if, count_push, made_if_held, length_held, with_same, with_other, less_last, less_more, less_holds, holds_set, holds_other, IsSound, OneEach, parent_live, exit_live, sound_entered, sound_exited, sound_call, no_spans}
+use Rattle.std.proofs.lemmas.Bool.{eq-eqb, ne_eqb, lt-ltb, le-ltb}
+use Rattle.std.proofs.lemmas.List.{length-set, append_assoc, append-nil, get_or-set_same, get_or-set_other}
 use Rattle.trace_base.specs.declared.lane.Lane.{Lane}
 use Rattle.trace_base.specs.declared.span.Parent.{Parent}
 use Rattle.trace_base.specs.declared.callsite.Callsite.{Callsite}
 use Rattle.trace_base.specs.declared.field.ValueSet.{ValueSet}
-use Rattle.trace_base.specs.Spans.{Span, Entries, Spans, no_span, span_at, entries_on, with_entries, is_in, times_in, entered_lane_count, is_child_of, without_last, with_hold, less_hold, without_hold, with_hold_of_child, parent_on, next_of}
-use Rattle.trace_base.specs.Calls.{SubscriberCall, NewSpan, Records, Follows, Event, Enter, Exit, CloneSpan, TryClose, spans_after_call, with_new_span, with_span_entry, with_span_exit}
-use Rattle.trace_base.specs.Conditions.{Allowed, IsLive}
-use Rattle.trace_base.specs.layers.Hooks.{one_if}
-use Rattle.trace_base.proofs.EntryLemmas.{count_push, made_if_held, length_held, with_same, with_other}
-use Rattle.trace_base.proofs.HoldLemmas.{less_last, less_more, less_holds, holds_set, holds_other}
 use Rattle.trace_base.proofs.HoldMoveLemmas.{entry_moves, exit_moves}
-use Rattle.trace_base.specs.Sound.{IsSound, OneEach}
-use Rattle.trace_base.proofs.Sound.{parent_live, exit_live, sound_entered, sound_exited, sound_call}
-use Rattle.span_registry.specs.Registering.{no_spans}
 use Rattle.span_registry.specs.History.{Runs, entries_after, entries_by_calls, ParentAndSite, no_parent_and_site, span_made_by, made_from, spans_made_by_calls, parent_and_site_of, is_clone, is_release, AreSpansOf}
 
 -- a span is what it was made with, or closed

@@ -61,10 +61,6 @@ in_step old new hook seen now step tracks sees = record {
   below = tracks.below;
 }
 
--- a hook that neither makes, closes, enters nor exits
-pub quiet_hook : Hook
-quiet_hook = OnFollows 0 0 0
-
 -- nothing of the entries changes
 pub tracks_quiet : (old new : Spans) (seen : KnownSpans) → InStep old seen → length new.made ≡ length old.made → new.lanes ≡ old.lanes → Tracks old (OnFollows 0 0 0) new
 tracks_quiet old new seen step as_many same = record {

@@ -28,9 +28,6 @@ the_item : {X : Type 0} (x y : X) → Some x ≡ Some y → x ≡ y
 the_item x y e = cc e
 
 module _ {S : Type 0} (same : S → S → Type 0) (reflexive : (s : S) → same s s) (trans : (s t u : S) → same s t → same t u → same s u) where
-  pub same_all : (ss : List S) → AreSame same ss ss
-  same_all ss = record { count = refl; each = λ d s t hs ht. subst (λ (z : S). same s z) (the_item s t (sym hs ∙ ht)) (reflexive s) }
-
   pub same_both : (old mid now : List S) → AreSame same old mid → AreSame same mid now → AreSame same old now
   same_both old mid now first second = record {
     count = second.count ∙ first.count;

@@ -291,10 +291,6 @@ parent_live spans lane parent.Root sound live = tt
 parent_live spans lane parent.Current sound live = if_some (current_of (entries_on lane spans.lanes)) (λ p. IsLive spans.made p) (λ p is. current_live spans lane p sound is)
 parent_live spans lane (parent.Of id) sound live = live
 
-pub place_made : (made : List Span) (o : Option ℕ) → IfSome o (λ p. IsLive made p) → IfSome o (λ p. p < length made)
-place_made made None live = tt
-place_made made (Some p) live = made_if_held made p live
-
 -- the next span to be released has a hold of its own
 pub next_own : (spans : Spans) (id : ℕ) → IsSound spans → HasOwnHold spans id → IfSome (next_of spans.made id) (λ p. (p < id) × HasOwnHold (record spans { made = without_hold spans.made id }) p)
 next_own spans id sound own =

@@ -3,7 +3,7 @@
 use Rattle.std.proofs.Common.{ℕ, ◌+◌, ◌≤◌, ◌<◌, List, ◌∷◌, Ok}
 use Rattle.traced.proofs.Common.{ValueSet, Lane, Parent, Ghosts, Worlds, Handle, EntryGuard, IsHeld, CanTell, CanAsk, CanClose, CanExit, StandsAlone, StandsWith, Keeps, MakesIfAnswered, Closes, Enters, Stays}
 use Rattle.traced.proofs.Rules.{can_tell, can_close}
-use Rattle.traced.proofs.KeptLemmas.{turned_ready, turned_ends, may_make, may_make_under, may_tell, may_enter, is_of_lane, may_close, may_ask, held_kept, ready_stays, keeps_late, keeps_both, keeps_quiet, held_stays, next_made, next_entered, keeps_unmade, keeps_refused, ready_late, ready_made, held_made, ready_entered, held_entered, may_exit_kept, ends_unmade, ends_refused, ends_first, ends_closed, ends_exited}
+use Rattle.traced.proofs.KeptLemmas.{turned_ready, may_make, may_make_under, may_tell, may_enter, is_of_lane, may_close, may_ask, held_kept, ready_stays, keeps_late, keeps_both, keeps_quiet, held_stays, next_made, next_entered, keeps_unmade, keeps_refused, ready_late, ready_made, held_made, ready_entered, held_entered, may_exit_kept, ends_unmade, ends_refused, ends_first, ends_closed, ends_exited}
 
 module _ {S : Type 0} {sub : Ghosts S} {sites n : ℕ} where
   -- behind a span that was made

@@ -36,15 +36,6 @@ alike_there {S} sub old new d same count = record {
   whole = λ has s there. has s (sym same ∙ there);
 }
 
--- lanes that are served stay so
-pub still_served : (global : Option ℕ) (kept now : ℕ → ℕ → ℕ) (dispatch : ℕ) (lanes : List Lane) → ((lane : Lane) → AreAttached kept lane → AreAttached now lane) → AreServed global kept dispatch lanes → AreServed global now dispatch lanes
-still_served global kept now dispatch [] keeps served = tt
-still_served global kept now dispatch (lane ∷ lanes) keeps served = (
-  record { serves = served.0.serves; attached = keeps lane served.0.attached },
-  served.1,
-  still_served global kept now dispatch lanes keeps served.2,
-)
-
 -- what one lane's entries attach is nothing of the others
 pub others_served : (global : Option ℕ) (kept now : ℕ → ℕ → ℕ) (dispatch : ℕ) (before left : Lane) (others : List Lane) → left.id ≡ before.id → KeepsAttached kept before left now → HasOwnId before others → AreServed global kept dispatch others → AreServed global now dispatch others
 others_served global kept now dispatch before left [] same keeps apart served = tt

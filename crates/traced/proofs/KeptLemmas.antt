@@ -1,7 +1,7 @@
 -- What functions of a program leave behind, call by call.
-use Rattle.std.proofs.Common.{◌≡◌, ℕ, ◌+◌, ◌≤◌, ◌<◌, ◌^◌, List, [], ◌∷◌, length, Result, Ok, Err, refl, sym, ap, ◌∙◌, subst, arith, IfSome}
+use Rattle.std.proofs.Common.{◌≡◌, ℕ, ◌+◌, ◌≤◌, ◌<◌, ◌^◌, List, [], ◌∷◌, length, Result, Ok, Err, refl, sym, ◌∙◌, subst, arith, IfSome}
 use Rattle.std.specs.Prelude.{IsErr, is_ok}
-use Rattle.traced.proofs.Common.{Memory, ValueSet, Lane, Parent, Ghosts, Worlds, dispatch_on, Handle, IsOf, place_under, Alike, EntryGuard, StandsReady, IsHeld, CanMake, CanTell, CanAsk, CanClose, CanEnter, CanExit, IsAsBefore, MakesAndCloses, EntersAndExits, TellsIfAnswered, StandsAlone, HaveSameIds, Keeps, Ends, MakesIfAnswered, Closes, Enters, Refuses, Exits, Stays, Tells}
+use Rattle.traced.proofs.Common.{Memory, ValueSet, Lane, Parent, Ghosts, Worlds, dispatch_on, Handle, IsOf, place_under, Alike, EntryGuard, IsHeld, CanMake, CanTell, CanAsk, CanClose, CanEnter, CanExit, MakesAndCloses, EntersAndExits, TellsIfAnswered, StandsAlone, HaveSameIds, Keeps, Ends, MakesIfAnswered, Closes, Enters, Refuses, Exits, Stays, Tells}
 use Rattle.trace_base.specs.declared.span.Parent.TheVariants as parent
 use Rattle.traced.proofs.changes.Between.{makes_and_closes, enters_and_exits, tells_if_answered}
 use Rattle.traced.proofs.Moves.{later, stays_stands, stays_as_before}

@@ -2,7 +2,6 @@ pub mod Common
 pub mod AsksLemmas
 pub mod Elsewhere
 pub mod Gated
-pub mod Inside
 pub mod KeptLemmas
 pub mod Moves
 pub mod Programs

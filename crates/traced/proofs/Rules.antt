@@ -1,6 +1,6 @@
 -- What calls ask for, of a world that stands.
-use Rattle.std.proofs.Common.{◌≡◌, ℕ, ◌+◌, ◌<◌, ◌^◌, List, ◌∷◌, length, Option, Some, None, sym, ap, ◌∙◌, subst, arith, slice_get, ◌==◌, IfSome}
-use Rattle.traced.proofs.Common.{option_map_or, Lane, Parent, Ghosts, HasFewHolds, HasFewHoldsAbove, AreFew, IsLiveParent, MayExit, AreAttached, Worlds, IsInWorld, dispatch_on, Spans, entries_on, times_in, parent_on, any_if_counted, first_if_in, Has, Alike, no_spans, spans_in, Held, Handle, IsKnown, HasOn, IsOf, MayMakeIf, HasIf, place_under, EntryGuard, IsThere, IsStillOn, AreAtMost, StandsReady, ServesLane, IsHeld, CanMake, CanTell, CanAsk, CanClose, CanEnter, CanExit, IsLiveOn, IsOpen, IsInside}
+use Rattle.std.proofs.Common.{◌≡◌, ℕ, ◌<◌, ◌^◌, List, ◌∷◌, length, Option, Some, None, sym, ap, subst, arith, slice_get, ◌==◌, IfSome}
+use Rattle.traced.proofs.Common.{option_map_or, Lane, Parent, Ghosts, HasFewHolds, HasFewHoldsAbove, AreFew, IsLiveParent, MayExit, AreAttached, Worlds, IsInWorld, dispatch_on, Spans, entries_on, times_in, parent_on, any_if_counted, first_if_in, Has, Alike, spans_in, Held, Handle, IsKnown, HasOn, IsOf, MayMakeIf, HasIf, place_under, EntryGuard, IsThere, AreAtMost, StandsReady, ServesLane, IsHeld, CanMake, CanTell, CanAsk, CanClose, CanEnter, CanExit, IsLiveOn, IsOpen, IsInside}
 use Rattle.trace_base.specs.declared.span.Parent.TheVariants as parent
 use Rattle.traced.proofs.Elsewhere.{stands_after}
 use Rattle.traced.proofs.Moves.{read_there, live_on}
@@ -106,16 +106,9 @@ module _ {S : Type 0} (sub : Ghosts S) (n dispatch sites : ℕ) (world : Worlds 
   pub can_make : (lane : Lane) (others : List Lane) (site : ℕ) → StandsReady sub n dispatch sites world (lane ∷ others) → n < 2 ^ 63 → site < sites → CanMake sub world lane parent.Current site
   can_make lane others site stands early within = make_at sub n dispatch sites world lane others parent.Current site early within tt stands
 
-  pub can_make_root : (lane : Lane) (others : List Lane) (site : ℕ) → StandsReady sub n dispatch sites world (lane ∷ others) → n < 2 ^ 63 → site < sites → CanMake sub world lane parent.Root site
-  can_make_root lane others site stands early within = make_at sub n dispatch sites world lane others parent.Root site early within tt stands
-
   pub can_make_under : (lane : Lane) (others : List Lane) (site : ℕ) (handle : Handle) → StandsReady sub n dispatch sites world (lane ∷ others) → n < 2 ^ 63 → site < sites → IsHeld sub dispatch world handle → CanMake sub world lane (place_under handle.held) site
   can_make_under lane others site handle stands early within held =
       make_at sub n dispatch sites world lane others (place_under handle.held) site early within (live_under handle.held (spans_in sub.spans world dispatch) (live_on sub dispatch world handle.held held.of_dispatch held.known)) stands
-
--- a handle that can be closed can be asked
-pub can_ask : {S : Type 0} (sub : Ghosts S) (world : Worlds S) (handle : Handle) → CanClose sub world handle → CanAsk world handle
-can_ask sub world handle can = record { there = there_on sub world handle.held can.known }
 
 pub can_ask_held : {S : Type 0} (sub : Ghosts S) (dispatch : ℕ) (world : Worlds S) (handle : Handle) → IsHeld sub dispatch world handle → CanAsk world handle
 can_ask_held sub dispatch world handle held = record { there = there_on sub world handle.held held.known }

@@ -14,7 +14,7 @@ use Rattle.span_futures.proofs.Inside.{begun, ended, keeps_nothing}
 use Rattle.traced.specs.Laws.{IsLawful}
 use Rattle.traced.proofs.Elsewhere.{count_on}
 use Rattle.traced.proofs.Moves.{later, refuses, entered_on, has_entered, exited_on, exited_again, lane_left}
-use Rattle.traced_futures.specs.Polling.{LeavesAll, PollsPlain, Polls}
+use Rattle.traced_futures.specs.Polling.{ChangesNothing, PollsPlain, Polls}
 
 -- an error isn't an answer
 no_error : {A : Type 0} (result : Polled A) → result ≡ Err Full → IsOk result → ⊥
@@ -32,7 +32,7 @@ module _ {T S A : Type 0} (sub : Ghosts S) (law : IsLawful sub) (future : Instru
         as_before = λ dispatch held. refused.as_before dispatch;
       }
 
-  of_inside : IsKnown sub.spans old future.span.held → IsInside sub.does sub.activates LeavesAll future old before at result next new left → Polls sub old new before left future.span
+  of_inside : IsKnown sub.spans old future.span.held → IsInside sub.does sub.activates ChangesNothing future old before at result next new left → Polls sub old new before left future.span
   of_inside known r =
       let handle = future.span in
       let guard : EntryGuard = record { span = handle; lane = before.id } in

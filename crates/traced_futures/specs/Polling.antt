@@ -24,14 +24,14 @@ pub record CanLend {S : Type 0} (sub : Ghosts S) (world : Worlds S) (lane : Lane
   pub still : AreAllAttached sub.kept world lane
 
 -- a poll that leaves world and lane alone
-abbrev pub LeavesAll : {T S A : Type 0} → T → Worlds S → Lane → ℕ → Polled A → T → Worlds S → Lane → Type 0
-LeavesAll future old before at result next new later = (new ≡ old) × (later ≡ before) × IsOk result
+abbrev pub ChangesNothing : {T S A : Type 0} → T → Worlds S → Lane → ℕ → Polled A → T → Worlds S → Lane → Type 0
+ChangesNothing future old before at result next new later = (new ≡ old) × (later ≡ before) × IsOk result
 
 -- such a future was polled inside its span, or that couldn't be entered and the future wasn't polled
 abbrev pub PollsPlain : {T S A : Type 0} → Ghosts S → Instrumented T → Worlds S → Lane → ℕ → Polled A → Instrumented T → Worlds S → Lane → Type 0
 PollsPlain sub future old before at result next new later =
     CannotEnter sub.same sub.activates future old before result next new later
-    ⊎ IsInside sub.does sub.activates LeavesAll future old before at result next new later
+    ⊎ IsInside sub.does sub.activates ChangesNothing future old before at result next new later
 
 -- whether a poll came to a value
 abbrev pub is_ready : {A : Type 0} → Polled A → Bool

@@ -4,7 +4,7 @@ ghost use Rattle.std.specs.Prelude.{◌≡◌, ◌<◌, length, [], IfOk, OnOk, 
 ghost use Rattle.trace_base.specs.declared.span.Parent.TheVariants as parent;
 ghost use Rattle.span_registry.specs.Registering.{no_spans};
 ghost use Rattle.span_handles.specs.Handles.{handle_of};
-ghost use Rattle.span_handles.specs.Single.{IsFirst, IsSingle, BecomesSpans, MayStand, spans_with_new, spans_of};
+ghost use Rattle.base_tests.specs.Single.{IsFirst, IsSingle, BecomesSpans, MayMakeSpan, spans_with_new, spans_of};
 
 use crate::worlds::callsites::callsite;
 use crate::worlds::lanes::lane;
@@ -101,7 +101,7 @@ fn record_answers(
 fn root(world: &mut World<Registry>, lane: &Lane, making: &Making) -> Result<Span, Memory>
     requires single { IsSingle world.old }
     requires site { making.now.site < length world.old.sites }
-    requires may { MayStand world.old lane.now parent.Root }
+    requires may { MayMakeSpan world.old lane.now parent.Root }
     ensures made { OnOk result
         (BecomesSpans world.old world.new (spans_with_new world.old lane.now.id parent.Root making.now.site)) }
     ensures is { IfOk result (λ span. span ≡ handle_of 0 (length (spans_of world.old).made) making.now.site) }
@@ -113,7 +113,7 @@ fn root(world: &mut World<Registry>, lane: &Lane, making: &Making) -> Result<Spa
 fn first(alloc: Global, world: &mut World<Registry>, lane: &Lane) -> Result<(Making, Span), Memory>
     requires world { world.old ≡ record { sites = []; subscribers = []; cached = []; global = None } }
     requires lane { lane.now.id ≡ 1 }
-    requires own { lane.now.default ≡ None }
+    requires no_default { lane.now.default ≡ None }
     ensures { IfOk result (λ it. IsFirst world.new lane.now it.0.site it.0.registry it.1) }
 {
     let making = prepare(alloc, world)?;

@@ -30,23 +30,6 @@ pub after_more : (fields : List Match) (field : Match) (read : FieldsRead) → a
 after_more fields field (Ok read) = ap (λ (fs : List Match). Ok (fs, read.1)) (sym (append_assoc fields (field ∷ []) read.0))
 after_more fields field (Err e) = refl
 
-pub after_none : (read : FieldsRead) → read ≡ after_fields [] read
-after_none (Ok read) = refl
-after_none (Err e) = refl
-
--- a piece of a text that isn't empty is a field, and the text goes on with what it was cut at
-pub field_piece : (text : List ℕ) (stop : ℕ) → (pieces_at (codes ",}") text).stop ≡ Some stop → (0 < length (pieces_at (codes ",}") text).front) →
-    IsFieldText (pieces_at (codes ",}") text).front × (text ≡ (pieces_at (codes ",}") text).front ++ stop ∷ (pieces_at (codes ",}") text).rest) × (is_among (codes ",}") stop ≡ true)
-field_piece text stop at some = (
-  is_field (pieces_at (codes ",}") text).front some (cut_front (codes ",}") text),
-  (rw at at (cut_joined (codes ",}") text)),
-  rw at at (cut_stop (codes ",}") text),
-)
-  where
-    is_field : (f : List ℕ) → 0 < length f → lacks (codes ",}") f ≡ true → IsFieldText f
-    is_field [] some lacking = absurd (omega arith)
-    is_field (b ∷ bs) some lacking = lacking
-
 -- One turn of a loop over the fields of a text: `fields` are read, and `text` is left of it, which is cut in pieces.
 module _ (patterns : Bool) (whole text front rest : List ℕ) (fields : List Match)
     (same : read_fields patterns [] whole ≡ after_fields fields (read_fields patterns [] text))

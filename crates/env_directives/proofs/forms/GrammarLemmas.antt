@@ -81,10 +81,6 @@ fielded_then patterns head span earlier last rest start parts part =
     opened_then patterns head span earlier (last ++ 125 ∷ 93 ∷ rest) start parts.0 parts.1
     ∙ ap (read_fielded (record (target_at head TRACE) { in_span = unless_empty span })) (fields_read patterns earlier last (93 ∷ rest) parts.2 part)
 
--- what is read of a front and of what follows it
-opened_more : (head span : List ℕ) (earlier : List (List ℕ)) (rest more : List ℕ) → text_up_to_fields head span earlier rest ++ more ≡ text_up_to_fields head span earlier (rest ++ more)
-opened_more head span earlier rest more = simp append_assoc refl
-
 -- how a front is read that `=` follows
 front_then : (patterns : Bool) (front : Front) (rest : List ℕ) → begins (front_text front ++ 61 ∷ rest) ≡ true → IsDirectiveFront front →
     reading patterns (front_text front ++ 61 ∷ rest) ≡ read_level (directive_at patterns front TRACE) rest

@@ -15,9 +15,6 @@ module _ {T : Type 0} (cmp : T → T → Ordering) (level : T → LevelFilter) w
     pub parts : all ≡ added ++ left
     pub table : now ≡ with_all_added cmp level added old
 
-  pub begun : (all : List T) (old : Table T) → Adding all old old all
-  begun all old = record { added = []; parts = refl; table = refl }
-
   pub more : (all : List T) (old now : Table T) (d : T) (left : List T) → Adding all old now (d ∷ left)
       → Adding all old (with_added cmp level d now) left
   more all old now d left a = record {

@@ -57,13 +57,13 @@ module _ {T : Type 0} {cmp : T → T → Ordering} (order : IsTotalOrder cmp) wh
 
   no_directives : (level : T → LevelFilter) → IsTableOf cmp level [] empty_table
   unfolding IsStrictlySortedBy
-  no_directives level = record { in_order = tt; lasts = λ x. refl; most = refl }
+  no_directives level = record { in_order = tt; lasts = λ x. refl; greatest = refl }
 
   one_more : (level : T → LevelFilter) (ds : List T) (d : T) (t : Table T) → IsTableOf cmp level ds t → IsTableOf cmp level (ds ++ d ∷ []) (with_added cmp level d t)
   one_more level ds d t h = record {
     in_order = sorted_placed order d t.directives h.in_order;
     lasts = λ x. find_placed x d t.directives ∙ ap (cond (like x d) (Some d)) (h.lasts x) ∙ sym (ap (find (like x)) (reverse-append ds (d ∷ [])));
-    most = more_verbose_max t.greatest (level d) ∙ ap (λ n. max n (greatest_verbosity (level d))) h.most
+    greatest = more_verbose_max t.greatest (level d) ∙ ap (λ n. max n (greatest_verbosity (level d))) h.greatest
         ∙ sym (greatest_push (map (λ e. greatest_verbosity (level e)) ds) (greatest_verbosity (level d)))
         ∙ sym (ap greatest_of (map-append (λ e. greatest_verbosity (level e)) ds (d ∷ [])));
   }

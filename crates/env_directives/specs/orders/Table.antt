@@ -56,4 +56,4 @@ greatest_of (n ∷ ns) = max n (greatest_of ns)
 pub record IsTableOf {T : Type 0} (cmp : T → T → Ordering) (level : T → LevelFilter) (ds : List T) (t : Table T) : Type 0 where
   pub in_order : IsStrictlySortedBy cmp t.directives
   pub lasts : (d : T) → find (λ e. is_eq (cmp e d)) t.directives ≡ find (λ e. is_eq (cmp e d)) (reverse ds)
-  pub most : greatest_verbosity t.greatest ≡ greatest_of (map (λ d. greatest_verbosity (level d)) ds)
+  pub greatest : greatest_verbosity t.greatest ≡ greatest_of (map (λ d. greatest_verbosity (level d)) ds)

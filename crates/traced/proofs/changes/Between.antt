@@ -1,5 +1,5 @@
 -- What is done between a making and a close, or an entry and an exit, put together from what the calls say.
-use Rattle.std.proofs.Common.{◌≡◌, ℕ, true, Result, Ok, OnOk, ap, ◌∙◌, subst}
+use Rattle.std.proofs.Common.{◌≡◌, ℕ, Result, Ok, OnOk, ap, ◌∙◌, subst}
 use Rattle.traced.proofs.Common.{Memory, ValueSet, Lane, Parent, Ghosts, Worlds, Exit, Handle, ReplacedOn, EntryGuard, TellsOne, TellsIfAnswered, MakesIfAnswered, Closes, Enters, Exits, MakesAndCloses, EntersAndExits, Tells}
 
 module _ {S : Type 0} {sub : Ghosts S} {old new : Worlds S} where

@@ -1,6 +1,6 @@
 -- What was released so far leads to what is released from here on.
 use Rattle.std.proofs.Common.{◌+◌}
-use Rattle.std.specs.Option.{option_map_or}
+use Rattle.span_handles.proofs.Common.{option_map_or}
 use Rattle.span_handles.proofs.ChainLemmas.{Releases}
 use Rattle.span_handles.proofs.calls.close_chain.Given as goal
 

@@ -1,7 +1,6 @@
 -- A copy is a hold of its own.
 use Rattle.std.proofs.Common.{refl, slice_set}
-use Rattle.trace_base.specs.Gate.{Worlds}
-use Rattle.trace_base.specs.Calls.{CloneSpan}
+use Rattle.span_handles.proofs.Common.{Worlds, CloneSpan}
 use Rattle.span_handles.proofs.KnownHandlesLemmas.{copy_known, handles_call, gains_call}
 use Rattle.span_handles.proofs.calls.hold.Goals as goal
 

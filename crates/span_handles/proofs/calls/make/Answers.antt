@@ -1,8 +1,7 @@
 -- A span just made has a hold of its own, and takes none.
 use Rattle.std.proofs.Common.{refl, slice_set}
 use Rattle.std.proofs.lemmas.Result.{err_from_is_err_and}
-use Rattle.trace_base.specs.Gate.{Worlds}
-use Rattle.span_handles.specs.Worlds.{Replaced}
+use Rattle.span_handles.proofs.Common.{Worlds, Replaced}
 use Rattle.span_handles.proofs.KnownHandlesLemmas.{made_known, handles_call, handles_same}
 use Rattle.span_handles.proofs.Makers.{makes_nothing}
 use Rattle.span_handles.proofs.calls.make.Goals as goal

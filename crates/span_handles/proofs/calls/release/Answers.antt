@@ -1,6 +1,6 @@
 -- A chain of closes takes one hold of the span that it begins with.
 use Rattle.std.proofs.Common.{refl, slice_set}
-use Rattle.trace_base.specs.Gate.{Worlds}
+use Rattle.span_handles.proofs.Common.{Worlds}
 use Rattle.span_handles.proofs.KnownHandlesLemmas.{others_chain, loses_chain}
 use Rattle.span_handles.proofs.calls.release.Goals as goal
 

@@ -1,6 +1,6 @@
 -- An exit takes no hold of a handle.
 use Rattle.std.proofs.Common.{refl, slice_set}
-use Rattle.trace_base.specs.Gate.{Worlds}
+use Rattle.span_handles.proofs.Common.{Worlds}
 use Rattle.span_handles.proofs.KnownHandlesLemmas.{handles_call}
 use Rattle.span_handles.proofs.entry.exit.Goals as goal
 

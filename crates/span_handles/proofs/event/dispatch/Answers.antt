@@ -1,8 +1,6 @@
 -- By the subscriber that serves the lane, if one does.
 use Rattle.std.proofs.Common.{ℕ, Option, sym, ◌∙◌, subst, refl, OnOk, OnErr}
-use Rattle.trace_base.specs.Spans.{Spans}
-use Rattle.trace_base.specs.Conditions.{IsLiveParent}
-use Rattle.span_handles.specs.Handles.{HasIf, ReplacedIf}
+use Rattle.span_handles.proofs.Common.{IsLiveParent, HasIf, ReplacedIf}
 use Rattle.span_handles.specs.Events.{TellsEventIf}
 use Rattle.span_handles.proofs.event.dispatch.Goals as goal
 

@@ -1,7 +1,6 @@
 -- An entry goes to the place of its lane, or to a new one.
-use Rattle.std.proofs.Common.{sym, ap, ◌∙◌, List, set, ◌≡◌, ◌++◌, ◌∷◌, [], ℕ, refl, subst}
-use Rattle.std.specs.Prelude.{IfOk}
-use Rattle.trace_base.specs.Spans.{Entries, entries_on, is_in}
+use Rattle.std.proofs.Common.{sym, ap, ◌∙◌, List, set, ◌≡◌, ◌++◌, ◌∷◌, [], ℕ, refl, subst, IfOk}
+use Rattle.span_registry.proofs.Common.{Entries, entries_on, is_in}
 use Rattle.span_registry.proofs.Lanes.{entries_none, with_none, set_entries, seen_entries, on_ok}
 use Rattle.span_registry.proofs.entries.add_entry.Goals as goal
 

@@ -1,8 +1,6 @@
 -- The entries of a lane stand at its place.
 use Rattle.std.proofs.Common.{sym, ap, ◌∙◌, get_or, ◌≡◌, refl}
-use Rattle.std.proofs.lemmas.List.{get_or_default}
-use Rattle.trace_base.specs.Spans.{Entries}
-use Rattle.span_registry.specs.Registering.{no_lane}
+use Rattle.span_registry.proofs.Common.{get_or_default, Entries, no_lane}
 use Rattle.span_registry.proofs.Lanes.{entries_at, entries_none}
 use Rattle.span_registry.proofs.entries.entries.Goals as goal
 

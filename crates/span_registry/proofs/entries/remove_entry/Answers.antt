@@ -1,7 +1,6 @@
 -- The entry is removed at the place of its lane; without one there is none.
-use Rattle.std.proofs.Common.{sym, ap, ◌∙◌, List, set, ℕ, ◌<◌, refl, arith, subst}
-use Rattle.std.specs.Prelude.{◌==◌}
-use Rattle.trace_base.specs.Spans.{times_in, without_last}
+use Rattle.std.proofs.Common.{sym, ap, ◌∙◌, List, set, ℕ, ◌<◌, refl, arith, subst, ◌==◌}
+use Rattle.span_registry.proofs.Common.{times_in, without_last}
 use Rattle.span_registry.proofs.Lanes.{entries_none, set_entries, seen_entries}
 use Rattle.span_registry.proofs.entries.remove_entry.Goals as goal
 

@@ -1,8 +1,7 @@
 -- Past the loop the span stands nowhere, and it has to.
-use Rattle.std.proofs.Common.{arith}
-use Rattle.std.specs.Prelude.{◌==◌}
+use Rattle.std.proofs.Common.{arith, ◌==◌}
 use Rattle.span_registry.proofs.Lanes.{none_in}
-use Rattle.trace_base.proofs.EntryLemmas.{any_if_counted}
+use Rattle.span_registry.proofs.Common.{any_if_counted}
 use Rattle.span_registry.proofs.lane_entries.last_place.Goals as goal
 
 pub returns-clause-passes : goal.returns-clause-passes

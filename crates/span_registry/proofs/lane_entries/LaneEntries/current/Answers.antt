@@ -1,7 +1,6 @@
 -- The last of the spans that the lane is in.
 use Rattle.std.proofs.Common.{sym, ap, ◌∙◌, None, []}
-use Rattle.std.specs.List.{last_or}
-use Rattle.trace_base.specs.Spans.{Entries, current_of}
+use Rattle.span_registry.proofs.Common.{last_or, Entries, current_of}
 use Rattle.span_registry.proofs.LaneSpansLemmas.{current_last}
 use Rattle.span_registry.proofs.lane_entries.LaneEntries.current.Goals as goal
 

@@ -1,8 +1,6 @@
 -- The spans that the lane is in, with an entry more.
-use Rattle.std.proofs.Common.{sym, ap, ◌∙◌, List, ℕ, [], ◌∷◌, ◌++◌, Bool}
-use Rattle.std.specs.Prelude.{if◌then◌else◌}
-use Rattle.trace_base.specs.Spans.{is_in}
-use Rattle.span_registry.specs.Firsts.{firsts_of}
+use Rattle.std.proofs.Common.{sym, ap, ◌∙◌, List, ℕ, [], ◌∷◌, ◌++◌, Bool, if◌then◌else◌}
+use Rattle.span_registry.proofs.Common.{is_in, firsts_of}
 use Rattle.span_registry.proofs.LaneSpansLemmas.{firsts_push}
 use Rattle.span_registry.proofs.lane_entries.LaneEntries.push.Goals as goal
 

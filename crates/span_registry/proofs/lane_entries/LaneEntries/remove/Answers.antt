@@ -1,9 +1,7 @@
 -- The spans that the lane is in, with an entry less.
-use Rattle.std.proofs.Common.{sym, ap, subst, ◌∙◌, List, ℕ, [], refl, arith, ◌<◌}
-use Rattle.std.specs.Prelude.{◌==◌}
+use Rattle.std.proofs.Common.{sym, ap, subst, ◌∙◌, List, ℕ, [], refl, arith, ◌<◌, ◌==◌}
 use Rattle.std.proofs.lemmas.Bool.{eqb-true}
-use Rattle.trace_base.specs.Spans.{Entries, times_in}
-use Rattle.trace_base.proofs.EntryLemmas.{any_if_counted, counted_if_any}
+use Rattle.span_registry.proofs.Common.{Entries, times_in, any_if_counted, counted_if_any}
 use Rattle.span_registry.proofs.LaneSpansLemmas.{kept_firsts, is_first}
 use Rattle.span_registry.proofs.lane_entries.LaneEntries.remove.Goals as goal
 

@@ -1,7 +1,7 @@
 -- A span that closes has no entries, so the layer has none.
 use Rattle.std.proofs.Common.{sym, ◌∙◌}
 use Rattle.std.proofs.lemmas.Bool.{eqb-true}
-use Rattle.span_registry.specs.Stepping.{left_at_close}
+use Rattle.span_registry.proofs.Common.{left_at_close}
 use Rattle.span_registry.proofs.layered.LayeredSubscriber.try_close.Goals as goal
 
 pub on_close-requires-clause-left : goal.on_close-requires-clause-left

@@ -1,8 +1,6 @@
 -- The spans stay sound, and the next one has a hold of its own.
 use Rattle.std.proofs.Common.{sym, subst}
-use Rattle.trace_base.specs.Conditions.{HasOwnHold}
-use Rattle.span_registry.specs.Registering.{RegistryValue}
-use Rattle.trace_base.proofs.Sound.{sound_released, next_own}
+use Rattle.span_registry.proofs.Common.{HasOwnHold, RegistryValue, sound_released, next_own}
 use Rattle.span_registry.proofs.registry.Registry.next_closed.Goals as goal
 
 pub invariant_of-self : goal.invariant_of-self

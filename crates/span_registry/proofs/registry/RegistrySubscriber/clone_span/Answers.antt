@@ -1,8 +1,6 @@
 -- The spans stay sound.
 use Rattle.std.proofs.Common.{sym, subst}
-use Rattle.trace_base.specs.Conditions.{IsLive}
-use Rattle.span_registry.specs.Registering.{RegistryValue}
-use Rattle.trace_base.proofs.Sound.{sound_held}
+use Rattle.span_registry.proofs.Common.{IsLive, RegistryValue, sound_held}
 use Rattle.span_registry.proofs.registry.RegistrySubscriber.clone_span.Goals as goal
 
 pub invariant_of-self : goal.invariant_of-self

@@ -1,8 +1,6 @@
 -- The current span is live.
 use Rattle.std.proofs.Common.{subst}
-use Rattle.trace_base.specs.Conditions.{IsLive}
-use Rattle.span_registry.specs.Registering.{RegistryValue}
-use Rattle.trace_base.proofs.Sound.{current_live}
+use Rattle.span_registry.proofs.Common.{IsLive, RegistryValue, current_live}
 use Rattle.span_registry.proofs.registry.RegistrySubscriber.current_span.Goals as goal
 
 pub site-requires : goal.site-requires

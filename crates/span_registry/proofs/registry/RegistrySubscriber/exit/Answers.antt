@@ -1,8 +1,6 @@
 -- The spans stay sound.
 use Rattle.std.proofs.Common.{sym, subst}
-use Rattle.trace_base.specs.Conditions.{MayExit}
-use Rattle.span_registry.specs.Registering.{RegistryValue}
-use Rattle.trace_base.proofs.Sound.{sound_exited, exit_live}
+use Rattle.span_registry.proofs.Common.{MayExit, RegistryValue, sound_exited, exit_live}
 use Rattle.span_registry.proofs.registry.RegistrySubscriber.exit.Goals as goal
 
 pub release_if-requires : goal.release_if-requires

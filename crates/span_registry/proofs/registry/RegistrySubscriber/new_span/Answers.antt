@@ -1,10 +1,6 @@
 -- The parent is live, and the spans stay sound.
 use Rattle.std.proofs.Common.{◌≡◌, sym, subst, List}
-use Rattle.trace_base.specs.Spans.{Span, Spans, current_of, entries_on}
-use Rattle.trace_base.specs.Conditions.{IsLiveParent}
-use Rattle.trace_base.specs.Sound.{IsSound}
-use Rattle.span_registry.specs.Registering.{RegistryValue}
-use Rattle.trace_base.proofs.Sound.{parent_live, sound_new}
+use Rattle.span_registry.proofs.Common.{Span, Spans, current_of, entries_on, IsLiveParent, IsSound, RegistryValue, parent_live, sound_new}
 use Rattle.span_registry.proofs.Sound.{either_way, err_made}
 use Rattle.span_registry.proofs.registry.RegistrySubscriber.new_span.Goals as goal
 

@@ -1,8 +1,6 @@
 -- The slot of the span has one hold more.
 use Rattle.std.proofs.Common.{◌+◌, ◌∙◌, sym, ap, arith}
-use Rattle.std.proofs.lemmas.List.{get_or_default}
-use Rattle.trace_base.specs.Spans.{Span}
-use Rattle.span_registry.specs.Tabling.{place_in, SlotValue, no_slot}
+use Rattle.span_registry.proofs.Common.{get_or_default, Span, place_in, SlotValue, no_slot}
 use Rattle.span_registry.proofs.SlotTableLemmas.{no_place, shown_some, shown_set, tabled_set}
 use Rattle.span_registry.proofs.table.Table.hold.Goals as goal
 

@@ -1,6 +1,6 @@
 -- One span more has a slot, or nothing but room changed.
 use Rattle.std.proofs.Common.{◌∙◌, sym, arith, refl}
-use Rattle.span_registry.specs.Tabling.{place_in}
+use Rattle.span_registry.proofs.Common.{place_in}
 use Rattle.span_registry.proofs.SlotTableLemmas.{shown_count, tabled_same, filled, pushed}
 use Rattle.span_registry.proofs.table.Table.push.Goals as goal
 

@@ -1,11 +1,7 @@
 -- The slot of the span has one hold less, or is free.
-use Rattle.std.proofs.Common.{◌≡◌, ◌-◌, ◌∙◌, sym, ap, arith, refl, ℕ, [], ◌∷◌, ◌++◌, Option, None}
-use Rattle.std.specs.Prelude.{◌==◌, is_ok}
-use Rattle.std.proofs.lemmas.Bool.{cond-true, cond-false, eq-eqb, ne_eqb}
-use Rattle.std.proofs.lemmas.List.{get_or_default}
-use Rattle.trace_base.specs.Spans.{Span, span_at}
-use Rattle.span_registry.specs.Tabling.{place_in, SlotValue, no_slot}
-use Rattle.trace_base.proofs.HoldLemmas.{less_last, less_more}
+use Rattle.std.proofs.Common.{◌≡◌, ◌-◌, ◌∙◌, sym, ap, arith, refl, ℕ, [], ◌∷◌, ◌++◌, Option, None, ◌==◌, is_ok}
+use Rattle.span_registry.proofs.Common.{cond-true, cond-false, get_or_default, Span, span_at, place_in, SlotValue, no_slot, less_last, less_more}
+use Rattle.std.proofs.lemmas.Bool.{eq-eqb, ne_eqb}
 use Rattle.span_registry.proofs.SlotTableLemmas.{no_place, shown_some, shown_set, shown_gone, tabled_set, tabled_gone, tabled_same, some_room}
 use Rattle.span_registry.proofs.table.Table.release.Goals as goal
 

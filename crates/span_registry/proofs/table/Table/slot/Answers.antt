@@ -1,7 +1,6 @@
 -- A span's slot is read at its place.
 use Rattle.std.proofs.Common.{◌∙◌, sym, ap, arith}
-use Rattle.std.proofs.lemmas.List.{get_or_default}
-use Rattle.span_registry.specs.Tabling.{place_in, SlotValue, no_slot}
+use Rattle.span_registry.proofs.Common.{get_or_default, place_in, SlotValue, no_slot}
 use Rattle.span_registry.proofs.SlotTableLemmas.{shown_some, shown_none}
 use Rattle.span_registry.proofs.table.Table.slot.Goals as goal
 

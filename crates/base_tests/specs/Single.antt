@@ -1,4 +1,4 @@
--- A world with one registry, which serves all lanes without their own subscriber. It is for tests alone: no contract
+-- A world with one registry, which serves all lanes without their own subscriber. No contract
 -- of a call on a handle names it, since those are over any subscriber.
 use Rattle.std.specs.Prelude.{◌≡◌, ℕ, [], ◌∷◌, length, Some, None}
 use Rattle.trace_base.specs.declared.lane.Lane.{Lane}
@@ -27,8 +27,8 @@ pub record BecomesSpans (old new : Worlds RegistryValue) (spans : Spans) : Type 
   pub spans_are : spans_of new ≡ spans
 
 -- a span may be made under a parent on a lane
-pub record MayStand (world : Worlds RegistryValue) (lane : Lane) (parent : Parent) : Type 0 where
-  pub own : lane.default ≡ None
+pub record MayMakeSpan (world : Worlds RegistryValue) (lane : Lane) (parent : Parent) : Type 0 where
+  pub no_default : lane.default ≡ None
   pub live : IsLiveParent (spans_of world).made parent
   pub few : AreFew (spans_of world)
   pub few_holds : HasFewHoldsAbove (spans_of world) lane.id parent
@@ -44,7 +44,7 @@ pub record IsFirst (world : Worlds RegistryValue) (lane : Lane) (site registry :
   pub sites : length world.sites ≡ 1
   pub spans_are : spans_of world ≡ record { made = record { holds = 1; parent = None; site = 0 } ∷ []; lanes = [] }
   pub lane_is : lane.id ≡ 1
-  pub own : lane.default ≡ None
+  pub no_default : lane.default ≡ None
   pub site_is : site ≡ 0
   pub registry_is : registry ≡ 0
   pub first_is : first ≡ handle_of 0 0 0
