@@ -97,9 +97,6 @@ told_at_next made spans known =
 
 -- ---- a close
 
-same_told : (span_data u : SpanData) → ◌≡◌ {A = Option SpanData} (Some span_data) (Some u) → span_data ≡ u
-same_told span_data u e = cc e
-
 own_start : (own : Option SpanContext) (id at : ℕ) (r : Recording) (span_data : SpanData) → span_data.own ≡ own → data_at id r.spans ≡ Some span_data
     → (data_at id (with_start id at r).spans ≡ Some (started_by own r.started at span_data)) × ((with_start id at r).started ≡ count_after own r.started)
 own_start (Some own) id at r span_data is found =

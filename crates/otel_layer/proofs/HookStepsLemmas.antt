@@ -1,6 +1,7 @@
 -- The steps of the hooks, put together.
 use Rattle.std.proofs.Common.{◌≡◌, ℕ, ◌+◌, ◌<◌, ◌^◌, List, length, Bool, true, cond, ◌-◌, Option, Some, None, refl, sym, ap, subst, ◌∙◌, arith, if◌then◌else◌, IfSome, ◌==◌, ◌&&◌, false, option_map}
-use Rattle.otel_layer.proofs.Common.{remove_entry, and_parts, and_from, cond-true, Context, ids_of, Lane, AreAttached, attached_as, Op, LayerSettings, first_attributes, last_passing, SpanData, Room, HasRoom, data_at_making, after_op, data_at, knows_span, update, with_op, waiting_context, ids_at, is_id, RoomFor, Core, context_at, is_token, is_number, keeps_as, kept_by, StartsIf, StartsSpan, StartsAny, parent_source, lane_context, context_from, new_span_data, MakesSpan, DetachesOwn, EntersLane, EntersSpan, ExitsSpan, ClosesSpan, IfKnown, with_moment, last_passes, last_counted}
+use Rattle.std.specs.Prelude.{min, max}
+use Rattle.otel_layer.proofs.Common.{empty_context, remove_entry, and_parts, and_from, cond-true, Context, ids_of, Lane, AreAttached, attached_as, Op, LayerSettings, last_passing, SpanData, Room, HasRoom, after_op, data_at, knows_span, update, with_op, waiting_context, ids_at, is_id, RoomFor, Core, context_at, is_token, is_number, keeps_as, kept_by, StartsIf, StartsSpan, StartsAny, parent_source, lane_context, context_from, new_span_data, MakesSpan, DetachesOwn, EntersLane, EntersSpan, ExitsSpan, ClosesSpan, IfKnown, with_moment, last_passes, last_counted}
 use Rattle.std.proofs.lemmas.Bool.{eq-eqb, true≢false}
 use Rattle.otel_base.specs.Tracer.{TracerCall}
 use Rattle.otel_base.specs.declared.stack.Attached.{Attached}
@@ -8,7 +9,8 @@ use Rattle.trace_base.specs.declared.callsite.Callsite.{Callsite}
 use Rattle.trace_base.specs.declared.field.ValueSet.{ValueSet}
 use Rattle.trace_base.specs.declared.span.Parent.{Parent}
 use Rattle.otel_state.specs.declared.op.Op.TheVariants as ops
-use Rattle.otel_state.specs.declared.update.Update.{Update}
+use Rattle.otel_state.specs.declared.times.TheConstants.{GREATEST}
+use Rattle.otel_state.specs.States.{with_making}
 use Rattle.otel_layer.specs.declared.layer.tokens.Token.{Token}
 use Rattle.otel_layer.specs.Core.{on_spans}
 use Rattle.otel_layer.specs.Starts.{StartsTo, StartsIn, EntersKnown, FinishesState}
@@ -40,12 +42,12 @@ makes {T} does c between d id lane at parent current callsite values source acti
       begins = subst (λ (s : LayerSettings). StartsAny does (if s.eager then Some id else None) at (with_added_span id span_data between) d) same begins;
     }
 
--- a span that was just made, by what its fields write
-abbrev pub told_by : Callsite → Lane → Context → ℕ → LayerSettings → Bool → Update → SpanData
-told_by callsite lane context at settings counting update = after_op
-    (data_at_making (record { name = callsite.name; parent = context; made_at = at; first = first_attributes callsite lane settings; counting = counting; inactivity = settings.inactivity }))
-    at
-    (ops.Update update)
+-- a new span that gets its parent and its moment after what its fields write
+pub begins_under : (callsite : Callsite) (lane : Lane) (values : ValueSet) (context : Context) (at : ℕ) (settings : LayerSettings) (counting : Bool)
+    → with_making context at (new_span_data callsite lane values empty_context 0 settings counting) ≡ new_span_data callsite lane values context at settings counting
+begins_under callsite lane values context at settings counting =
+    let same : min at GREATEST ≡ min (max at (min at GREATEST)) GREATEST = omega arith in
+    ap (λ (n : ℕ). let x : SpanData = record (new_span_data callsite lane values context at settings counting) { last = n } in x) same
 
 -- an entry with activation, and one without
 abbrev pub with_started : {T : Type 0} → T → List (ℕ × SpanData) → Core T → Core T

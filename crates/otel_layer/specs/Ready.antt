@@ -8,15 +8,14 @@ use Rattle.trace_base.specs.lanes.Contexts.{AreAttached, IsFull}
 use Rattle.trace_base.specs.layers.Hooks.{Preparation, ForNewSpan, ForRecord, ForFollows, ForEvent, ForEnter}
 use Rattle.otel_state.specs.declared.op.Op.{Op}
 use Rattle.otel_state.specs.declared.op.Op.TheVariants as ops
-use Rattle.otel_state.specs.declared.update.Update.{Update}
 use Rattle.otel_state.specs.fields.EventFields.{event_of}
-use Rattle.otel_state.specs.fields.FirstAttributes.{first_attributes}
 use Rattle.otel_state.specs.fields.SpanFields.{span_update}
-use Rattle.otel_state.specs.States.{SpanData, StateValue, data_at_making}
+use Rattle.otel_state.specs.States.{StateValue}
 use Rattle.otel_layer.specs.declared.ready.Ready.{Ready}
 use Rattle.otel_layer.specs.declared.ready.Ready.TheVariants as ready
 use Rattle.otel_layer.specs.Table.{knows_span, RoomFor, RoomForLink}
 use Rattle.otel_layer.specs.Core.{Core, CoreWithRoom, entries_by, kept_in}
+use Rattle.otel_layer.specs.Steps.{new_span_data}
 
 -- the room for a new span, with the layer and with its tracer
 pub record IsReadySpan {T : Type 0} (s : CoreWithRoom T) : Type 0 where
@@ -24,27 +23,15 @@ pub record IsReadySpan {T : Type 0} (s : CoreWithRoom T) : Type 0 where
   pub spare : length s.core.spans < s.core.reserved
   pub few : s.core.span_count + 1 < 2 ^ 62
 
--- what a new span has come to that doesn't know its parent and its moment yet
-abbrev pub fresh_data : {T : Type 0} → Core T → Lane → Callsite → SpanData
-fresh_data c lane callsite = data_at_making (record { name = callsite.name; parent = empty_context; made_at = 0; first = first_attributes callsite lane c.settings; counting = c.counting; inactivity = c.settings.inactivity })
-
--- its state, and what its fields write
-pub record IsReadyState {T : Type 0} (s : CoreWithRoom T) (lane : Lane) (callsite : Callsite) (values : ValueSet) (state : StateValue) (update : Update) : Type 0 where
+-- its state, which doesn't know its parent and its moment yet
+pub record IsReadyState {T : Type 0} (s : CoreWithRoom T) (lane : Lane) (callsite : Callsite) (values : ValueSet) (state : StateValue) : Type 0 where
   pub span : IsReadySpan s
-  pub span_data : state.span_data ≡ fresh_data s.core lane callsite
-  pub is : update ≡ span_update callsite values s.core.settings
-  pub room : length update.attributes ≤ state.room.attributes
+  pub span_data : state.span_data ≡ new_span_data callsite lane values empty_context 0 s.core.settings s.core.counting
 
 -- the op of an event at another moment
 abbrev pub with_moment : ℕ → Op → Op
 with_moment at (ops.Event is_error update event) = ops.Event is_error update (record event { time = at })
 with_moment at op = op
-
--- a state with room for what fields write
-abbrev pub HasRoomForUpdate : SpanData → Update → Ready → Type 0
-HasRoomForUpdate span_data update (ready.Made made) = (made.value.state.span_data ≡ span_data) × (made.value.update ≡ update)
-    × (length made.value.update.attributes ≤ made.value.state.room.attributes)
-HasRoomForUpdate span_data update _ = ⊥
 
 -- an op, with the room that it needs
 abbrev pub IsReadyOp : {T : Type 0} → CoreWithRoom T → ℕ → Op → Ready → Type 0
@@ -52,7 +39,7 @@ IsReadyOp s id wanted (ready.Happened op) = (op.value ≡ wanted) × RoomFor id 
 IsReadyOp s id wanted _ = ⊥
 
 abbrev pub IsReadyOtel : {T : Type 0} → CoreWithRoom T → Preparation → Ready → Type 0
-IsReadyOtel s (ForNewSpan lane callsite values) (ready.Made made) = IsReadyState s lane callsite values made.value.state made.value.update
+IsReadyOtel s (ForNewSpan lane callsite values) (ready.Made state) = IsReadyState s lane callsite values state.value
 IsReadyOtel s (ForNewSpan lane callsite values) _ = ⊥
 IsReadyOtel s (ForRecord id callsite values) r = IsReadyOp s id (ops.Update (span_update callsite values s.core.settings)) r
 IsReadyOtel s (ForFollows id from) r = RoomForLink id s.rooms

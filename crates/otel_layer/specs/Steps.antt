@@ -16,8 +16,6 @@ use Rattle.trace_base.specs.lanes.Contexts.{KeepsLane, attached_as}
 use Rattle.trace_base.specs.layers.Hooks.{Hook, OnNewSpan, OnRecord, OnFollows, OnEvent, OnEnter, OnExit, OnClose}
 use Rattle.otel_state.specs.declared.op.Op.TheVariants as ops
 use Rattle.otel_state.specs.declared.settings.LayerSettings.{LayerSettings}
-use Rattle.otel_state.specs.declared.update.Update.{Update}
-use Rattle.otel_state.specs.Content.{Making}
 use Rattle.otel_state.specs.fields.EventFields.{event_of}
 use Rattle.otel_state.specs.fields.FirstAttributes.{first_attributes}
 use Rattle.otel_state.specs.fields.SpanFields.{span_update}
@@ -74,10 +72,6 @@ lane_context lane parent.Current = last_context empty_context lane.contexts.live
 abbrev pub context_from : List (ℕ × SpanData) → Context → Option ℕ → Context
 context_from spans other None = other
 context_from spans other (Some id) = own_or other (data_at id spans)
-
--- a making whose context and moment come later, with what its fields write
-abbrev pub begun_under : Making → Context → ℕ → Update → SpanData
-begun_under making context at update = after_op (data_at_making (record making { parent = context; made_at = at })) at (ops.Update update)
 
 -- a span that was just made: its first attributes, then what its fields write
 abbrev pub new_span_data : Callsite → Lane → ValueSet → Context → ℕ → LayerSettings → Bool → SpanData

@@ -50,7 +50,7 @@ impl<T: Tracer> OpenTelemetryLayer<T> {
         ensures whole { StaysWhole T.spare T.started self.core result.inner.core }
     {
         FilteredOpenTelemetryLayer {
-            inner: self.counting(filter.is_some()),
+            inner: self.with_counting(filter.is_some()),
             filter,
         }
     }
@@ -69,7 +69,7 @@ impl<T: Tracer, F: Filter> FilteredOpenTelemetryLayer<T, F> {
     {
         let FilteredOpenTelemetryLayer { inner, filter } = self;
         FilteredOpenTelemetryLayer {
-            inner: map(inner).counting(filter.is_some()),
+            inner: map(inner).with_counting(filter.is_some()),
             filter,
         }
     }

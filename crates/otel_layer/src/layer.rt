@@ -130,7 +130,7 @@ impl<T: Tracer> OpenTelemetryLayer<T> {
 
 impl<T: Tracer> OpenTelemetryLayer<T> {
     // The same layer, which counts events or doesn't.
-    pub(crate) fn counting(mut self, counting: bool) -> OpenTelemetryLayer<T>
+    pub(crate) fn with_counting(mut self, counting: bool) -> OpenTelemetryLayer<T>
         ensures value { result ≡ record self { core = counting_core counting self.core } }
         ensures whole { StaysWhole T.spare T.started self.core result.core }
     {

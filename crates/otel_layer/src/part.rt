@@ -14,6 +14,7 @@ use env_filter::reload;
 use otel_base::context::Context;
 use otel_base::memory::Memory;
 use otel_base::tracer::Tracer;
+use otel_metrics::layer::MetricsLayer;
 use otel_state::op::{Op, OpReply};
 use span_registry::layered::Layered;
 use span_registry::registry::Registry;
@@ -122,6 +123,8 @@ impl WithoutOtel for Registry {}
 impl WithoutOtel for EnvFilter {}
 
 impl WithoutOtel for Targets {}
+
+impl WithoutOtel for MetricsLayer {}
 
 /// Whatever it is over.
 impl<L> WithoutOtel for reload::Layer<L> {}

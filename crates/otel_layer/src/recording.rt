@@ -76,8 +76,8 @@ pub fn asks()
         → RecordsPart (recording_in old dispatch) call (recording_in new dispatch) }
 {}
 
-/// It leaves the plain data of every subscriber.
-pub fn leaves<S: OtelSubscriber>()
+/// A call from outside leaves the plain data of every subscriber.
+pub fn asks_leave_spans<S: OtelSubscriber>()
     ensures { (old new : Worlds S) (dispatch : ℕ) (call : PartCall)
         → Replaced (λ s t. S.touches s call t) old new dispatch
         → Alike S.spans S.attaches S.kept S.is_whole old new dispatch }

@@ -1,5 +1,5 @@
 //! A layer that keeps the measures of events.
-ghost use Rattle.std.specs.Prelude.{◌≡◌, ◌<◌, ◌≤◌, [], ◌∷◌, ◌++◌, length, None, true, false, IfOk, OnOk, MatchOption};
+ghost use Rattle.std.specs.Prelude.{◌≡◌, ◌<◌, ◌≤◌, [], ◌∷◌, ◌++◌, length, drop, None, true, false, IfOk, OnOk, MatchOption};
 ghost use Rattle.std.proofs.Common.{refl, sym, ap, ◌∙◌};
 ghost use Rattle.trace_base.specs.declared.lane.Lane.{Lane};
 ghost use Rattle.trace_base.specs.declared.subscriber.Interest.TheVariants.{Always};
@@ -58,8 +58,9 @@ impl MetricsLayer {
 
     /// The oldest measure that isn't taken yet, and none exactly where there is none.
     pub fn take(&mut self) -> Option<Measure>
-        ensures oldest { MatchOption result ((self.old.measures ≡ []) × (self.new.measures ≡ []))
-            (λ measure. self.old.measures ≡ measure ∷ self.new.measures) }
+        ensures oldest { MatchOption result (self.old.measures ≡ [])
+            (λ measure. self.old.measures ≡ measure ∷ drop 1 self.old.measures) }
+        ensures rest { self.new.measures ≡ drop 1 self.old.measures }
     {
         self.waiting.pop_front()
     }

@@ -3,7 +3,7 @@ ghost use Rattle.std.specs.Prelude.{◌≡◌, ◌++◌, ◌∷◌, [], IfOk, On
 ghost use Rattle.otel_metrics.specs.Measures.{measures, measure_of, attributes, numbers};
 
 use crate::family::is_metrics_event;
-use crate::visitor::{Attribute, Number, attributes, numbers};
+use crate::visitor::{Number, attributes, numbers};
 use otel_base::list::Items;
 use otel_base::memory::Memory;
 use otel_base::text::Text;
@@ -61,7 +61,7 @@ pub fn measures(
 fn of_numbers(
     alloc: Global,
     numbers: &[Number],
-    attributes: &[Attribute],
+    attributes: &[KeyValue],
 ) -> Result<Vec<Measure>, Memory>
     ensures { IfOk result (λ told. told.items ≡ map (measure_of attributes.now) numbers.now) }
 {
@@ -72,7 +72,7 @@ fn of_numbers(
     Ok(told)
 }
 
-fn measure_of(alloc: Global, number: &Number, attributes: &[Attribute]) -> Result<Measure, Memory>
+fn measure_of(alloc: Global, number: &Number, attributes: &[KeyValue]) -> Result<Measure, Memory>
     ensures { IfOk result (λ m. m ≡ measure_of attributes.now number.now) }
 {
     Ok(Measure {
@@ -83,12 +83,18 @@ fn measure_of(alloc: Global, number: &Number, attributes: &[Attribute]) -> Resul
     })
 }
 
-fn copy_of(alloc: Global, attributes: &[Attribute]) -> Result<Items<KeyValue>, Memory>
+fn copy_of(alloc: Global, attributes: &[KeyValue]) -> Result<Items<KeyValue>, Memory>
     ensures { IfOk result (λ copy. copy ≡ attributes.now) }
 {
     let mut copy = Items::new(alloc);
     for attribute in attributes {
-        copy.push(attribute.copy()?)?;
+        copy.push(copy_of_one(attribute)?)?;
     }
     Ok(copy)
+}
+
+fn copy_of_one(attribute: &KeyValue) -> Result<KeyValue, Memory>
+    ensures { IfOk result (λ copy. copy ≡ attribute.now) }
+{
+    Ok(attribute.clone()?)
 }

@@ -6,68 +6,20 @@ ghost use Rattle.otel_metrics.specs.Measures.{number_measured, natural_measured,
 
 use crate::family::{Family, family_alone, family_of};
 use crate::measure::MetricKind;
+use otel_base::list::Items;
 use otel_base::memory::Memory;
 use otel_base::text::Text;
 use otel_base::value::{KeyValue, OtelValue};
-use smallvec::SmallVec;
 use std::alloc::Global;
-use std::default::MadeWith;
-use std::marker::Model;
 use trace_base::callsite::Callsite;
 use trace_base::field::{Value, ValueSet};
 
 // A number under a name, for an instrument of a kind.
-#[derive(Clone, Drop)]
+#[derive(Drop)]
 pub(crate) struct Number {
     pub kind: MetricKind,
     pub name: Text,
     pub value: i128,
-}
-
-impl MadeWith<Global> for Number {
-    fn made_with(alloc: Global) -> Number {
-        Number {
-            kind: MetricKind::CounterU64,
-            name: Text::from(String::new(alloc)),
-            value: 0,
-        }
-    }
-}
-
-// An attribute, as a small list can hold it.
-#[derive(Drop)]
-pub(crate) struct Attribute {
-    pub pair: KeyValue,
-}
-
-impl Model for Attribute {
-    ghost use Rattle.otel_base.specs.declared.value.KeyValue.{KeyValue};
-
-    ghost Value = { KeyValue };
-
-    ghost view = { λ a. a.pair };
-
-    ghost inverse = { λ pair. record { pair = pair } };
-}
-
-impl Attribute {
-    // The attribute once more.
-    pub(crate) fn copy(&self) -> Result<KeyValue, Memory>
-        ensures { IfOk result (λ pair. pair ≡ self.now) }
-    {
-        Ok(self.pair.clone()?)
-    }
-}
-
-impl MadeWith<Global> for Attribute {
-    fn made_with(alloc: Global) -> Attribute {
-        Attribute {
-            pair: KeyValue {
-                key: Text::from(String::new(alloc)),
-                value: OtelValue::Bool(false),
-            },
-        }
-    }
 }
 
 // The numbers of an event for instruments, in the order of its values.
@@ -75,10 +27,10 @@ pub(crate) fn numbers(
     alloc: Global,
     callsite: &Callsite,
     values: &ValueSet,
-) -> Result<SmallVec<Number, 2>, Memory>
-    ensures { IfOk result (λ found. found.items ≡ numbers callsite.now values.now) }
+) -> Result<Items<Number>, Memory>
+    ensures { IfOk result (λ found. found ≡ numbers callsite.now values.now) }
 {
-    let mut found = SmallVec::new(alloc);
+    let mut found = Items::new(alloc);
     let pairs = values.pairs.as_slice();
     for pair in pairs {
         add_number(alloc, &mut found, callsite, pair)?;
@@ -88,11 +40,11 @@ pub(crate) fn numbers(
 
 fn add_number(
     alloc: Global,
-    found: &mut SmallVec<Number, 2>,
+    found: &mut Items<Number>,
     callsite: &Callsite,
     pair: &(usize, Value),
 ) -> Result<(), Memory>
-    ensures { OnOk result (found.new.items ≡ found.old.items ++ number_at callsite.now pair.now) }
+    ensures { OnOk result (found.new ≡ found.old ++ number_at callsite.now pair.now) }
 {
     let Some(name) = field_name(callsite, pair.0) else {
         return Ok(());
@@ -133,7 +85,7 @@ fn number_told(family: Family, value: &Value) -> Option<(MetricKind, i128)>
 {
     match value {
         Value::U64(number) => natural_told(family, *number),
-        Value::I64(number) => signed_told(family, *number),
+        Value::I64(number) => signed_measure(family, *number),
         _ => None,
     }
 }
@@ -151,7 +103,7 @@ fn natural_told(family: Family, number: u64) -> Option<(MetricKind, i128)>
     }
 }
 
-fn signed_told(family: Family, number: i64) -> Option<(MetricKind, i128)>
+fn signed_measure(family: Family, number: i64) -> Option<(MetricKind, i128)>
     ensures { result ≡ signed_measured family number }
 {
     let value = i128::from(number);
@@ -169,10 +121,10 @@ pub(crate) fn attributes(
     alloc: Global,
     callsite: &Callsite,
     values: &ValueSet,
-) -> Result<SmallVec<Attribute, 8>, Memory>
-    ensures { IfOk result (λ found. found.items ≡ attributes callsite.now values.now) }
+) -> Result<Items<KeyValue>, Memory>
+    ensures { IfOk result (λ found. found ≡ attributes callsite.now values.now) }
 {
-    let mut found = SmallVec::new(alloc);
+    let mut found = Items::new(alloc);
     let pairs = values.pairs.as_slice();
     for pair in pairs {
         add_attribute(alloc, &mut found, callsite, pair)?;
@@ -182,17 +134,17 @@ pub(crate) fn attributes(
 
 fn add_attribute(
     alloc: Global,
-    found: &mut SmallVec<Attribute, 8>,
+    found: &mut Items<KeyValue>,
     callsite: &Callsite,
     pair: &(usize, Value),
 ) -> Result<(), Memory>
-    ensures { OnOk result (found.new.items ≡ found.old.items ++ attribute_at callsite.now pair.now) }
+    ensures { OnOk result (found.new ≡ found.old ++ attribute_at callsite.now pair.now) }
 {
     let Some(name) = field_name(callsite, pair.0) else {
         return Ok(());
     };
     if let Some(pair) = attribute_of(alloc, name, &pair.1)? {
-        found.push(Attribute { pair })?;
+        found.push(pair)?;
     }
     Ok(())
 }

@@ -6,12 +6,12 @@ use Rattle.span_registry.specs.declared.layered.Layered.{Layered}
 use Rattle.span_handles.specs.Worlds.{member_of}
 use Rattle.otel_metrics.specs.declared.measure.Measure.{Measure}
 use Rattle.otel_metrics.specs.Measures.{measures}
-use Rattle.span_stack.specs.declared.measuring.Measuring.{Measuring}
+use Rattle.otel_metrics.specs.Waiting.{MeasuresWithRoom}
 
-abbrev pub waiting_measures : {S : Type 0} → Layered Measuring S → List Measure
-waiting_measures s = s.layer.layer.measures
+abbrev pub waiting_measures : {S : Type 0} → Layered MeasuresWithRoom S → List Measure
+waiting_measures s = s.layer.measures
 
-abbrev pub measures_over : {S : Type 0} → Worlds (Layered Measuring S) → ℕ → List Measure
+abbrev pub measures_over : {S : Type 0} → Worlds (Layered MeasuresWithRoom S) → ℕ → List Measure
 measures_over world dispatch = member_of waiting_measures [] world dispatch
 
 -- what a call adds

@@ -16,13 +16,13 @@ use Rattle.env_filter.specs.declared.reload.Layer.{Layer}
 use Rattle.env_filter.specs.Filtering.{FilterState, FilterWithRoom, plain_filter, interest_in}
 use Rattle.env_filter.specs.Reloading.{layer_or, sometimes}
 use Rattle.otel_metrics.specs.declared.measure.Measure.{Measure}
+use Rattle.otel_metrics.specs.Waiting.{MeasuresWithRoom}
 use Rattle.otel_state.specs.declared.settings.LayerSettings.{LayerSettings}
-use Rattle.span_stack.specs.declared.measuring.Measuring.{Measuring}
 use Rattle.span_stack.specs.Measured.{waiting_measures}
 
 -- over any subscriber, the layer of metrics and the filter that is in place
 abbrev pub StackOver : Type 0 → Type 0
-StackOver S = Layered (Layer FilterWithRoom) (Layered Measuring S)
+StackOver S = Layered (Layer FilterWithRoom) (Layered MeasuresWithRoom S)
 
 -- a stack: these, over the OpenTelemetry layer that may count events, and the registry
 abbrev pub Stacks : Type 0

@@ -7,7 +7,6 @@ pub mod gate;
 pub mod interests;
 pub mod laws;
 pub mod measured;
-pub mod measuring;
 mod over;
 pub mod stack;
 pub mod through;

@@ -4,23 +4,23 @@ ghost use Rattle.trace_base.specs.Gate.{Worlds};
 ghost use Rattle.trace_base.specs.Calls.{SubscriberCall};
 ghost use Rattle.span_registry.specs.declared.layered.Layered.{Layered};
 ghost use Rattle.span_handles.specs.Worlds.{Replaced, Chain};
-ghost use Rattle.span_stack.specs.declared.measuring.Measuring.{Measuring as Measures};
+ghost use Rattle.otel_metrics.specs.Waiting.{MeasuresWithRoom};
 ghost use Rattle.span_stack.specs.Measured.{measured_by, measures_over};
 
-use crate::measuring::Measuring;
+use otel_metrics::layer::MetricsLayer;
 use span_registry::layered::Layered;
 use trace_base::subscriber::Subscriber;
 
 /// An event's measures stand behind those that wait, and no other call has any.
 pub fn calls<S: Subscriber>()
-    ensures call { (old new : Worlds (Layered Measures S)) (dispatch : ℕ) (call : SubscriberCall)
-        → Replaced (λ s t. ⟦<Layered<Measuring, S> as Subscriber>⟧.does s call t) old new dispatch
+    ensures call { (old new : Worlds (Layered MeasuresWithRoom S)) (dispatch : ℕ) (call : SubscriberCall)
+        → Replaced (λ s t. ⟦<Layered<MetricsLayer, S> as Subscriber>⟧.does s call t) old new dispatch
         → measures_over new dispatch ≡ measures_over old dispatch ++ measured_by call }
-    ensures same { (old new : Worlds (Layered Measures S)) (dispatch : ℕ)
-        → Replaced ⟦<Layered<Measuring, S> as Subscriber>⟧.same old new dispatch
+    ensures same { (old new : Worlds (Layered MeasuresWithRoom S)) (dispatch : ℕ)
+        → Replaced ⟦<Layered<MetricsLayer, S> as Subscriber>⟧.same old new dispatch
         → measures_over new dispatch ≡ measures_over old dispatch }
-    ensures chain { (old new : Worlds (Layered Measures S)) (dispatch at id : ℕ)
-        → Replaced (λ s t. Chain ⟦<Layered<Measuring, S> as Subscriber>⟧.spans
-        ⟦<Layered<Measuring, S> as Subscriber>⟧.does at (Some id) s t) old new dispatch
+    ensures chain { (old new : Worlds (Layered MeasuresWithRoom S)) (dispatch at id : ℕ)
+        → Replaced (λ s t. Chain ⟦<Layered<MetricsLayer, S> as Subscriber>⟧.spans
+        ⟦<Layered<MetricsLayer, S> as Subscriber>⟧.does at (Some id) s t) old new dispatch
         → measures_over new dispatch ≡ measures_over old dispatch }
 {}

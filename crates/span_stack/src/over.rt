@@ -11,16 +11,16 @@ ghost use Rattle.span_stack.specs.Over.{StepsWithOuter, AsksOuter};
 ghost use Rattle.span_stack.specs.Reading.{StackOver};
 
 use crate::interests::stay_fresh;
-use crate::measuring::Measuring;
 use crate::{filters, measured, through};
 use env_filter::filter::EnvFilter;
 use env_filter::reload;
 use otel_layer::part::{OtelPart, OtelSubscriber};
+use otel_metrics::layer::MetricsLayer;
 use span_registry::layered::Layered;
 use trace_base::subscriber::Subscriber;
 
 /// A filter that can be exchanged, over a layer of metrics, over a subscriber.
-pub type Over<S> = Layered<reload::Layer<EnvFilter>, Layered<Measuring, S>>;
+pub type Over<S> = Layered<reload::Layer<EnvFilter>, Layered<MetricsLayer, S>>;
 
 /// A call is the same call below the outer layers, and so is a chain of closes; spare room and a call from outside leave
 /// the outer layers as they are.
@@ -44,11 +44,11 @@ pub fn steps<S: OtelSubscriber>()
         → Replaced (λ s t. ⟦<Over<S> as OtelPart>⟧.touches s call t) old new dispatch
         → AsksOuter S.touches call old new dispatch }
 {
-    through::calls::<reload::Layer<EnvFilter>, Layered<Measuring, S>>();
-    through::calls::<Measuring, S>();
-    filters::calls::<Layered<Measuring, S>>();
+    through::calls::<reload::Layer<EnvFilter>, Layered<MetricsLayer, S>>();
+    through::calls::<MetricsLayer, S>();
+    filters::calls::<Layered<MetricsLayer, S>>();
     measured::calls::<S>();
     stay_fresh::<Over<S>>();
-    through::asks::<reload::Layer<EnvFilter>, Layered<Measuring, S>>();
-    through::asks::<Measuring, S>();
+    through::asks::<reload::Layer<EnvFilter>, Layered<MetricsLayer, S>>();
+    through::asks::<MetricsLayer, S>();
 }

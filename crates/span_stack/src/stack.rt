@@ -7,13 +7,13 @@ ghost use Rattle.env_filter.specs.Filtering.{plain_filter, IsNewFilter};
 ghost use Rattle.span_handles.specs.Worlds.{Replaced, spans_in};
 ghost use Rattle.span_stack.specs.Reading.{stack_recording, counting_filter, stack_measures, filter_in_place, recording_in, measures_in, new_recording, without_first, WithoutMeasure};
 
-use crate::measuring::Measuring;
 use env_filter::filter::EnvFilter;
 use env_filter::reload;
 use otel_base::record::Record;
 use otel_base::recorder::Recorder;
 use otel_layer::counting::FilteredOpenTelemetryLayer;
 use otel_layer::layer::OpenTelemetryLayer;
+use otel_metrics::layer::MetricsLayer;
 use otel_metrics::measure::Measure;
 use otel_state::settings::LayerSettings;
 use span_registry::layered::Layered;
@@ -28,7 +28,7 @@ use trace_base::world::World;
 pub type RecordedStack = Layered<FilteredOpenTelemetryLayer<Recorder, EnvFilter>, Registry>;
 
 /// The same under a layer of metrics.
-pub type MeasuredStack = Layered<Measuring, RecordedStack>;
+pub type MeasuredStack = Layered<MetricsLayer, RecordedStack>;
 
 /// The same, and a filter outside that can be exchanged.
 pub type Stack = Layered<reload::Layer<EnvFilter>, MeasuredStack>;
@@ -72,7 +72,7 @@ pub fn new_stack(
 {
     Registry::new(alloc)
         .with(new_layer(alloc, settings).counting_by(counting))
-        .with(Measuring::new(alloc))
+        .with(MetricsLayer::new(alloc))
         .with(reload::Layer::new(filter))
 }
 

@@ -133,9 +133,6 @@ pub record KeepsBudget {T : Type 0} (spare started : T → ℕ) (c d : Core T) :
   pub spares : spare c.tracer ≤ spare d.tracer
   pub budget : started d.tracer + waiting_in d.spans ≤ started c.tracer + waiting_in c.spans
 
-Counts : {T : Type 0} → (T → TracerCall → T → Type 0) → (spare started : T → ℕ) → Type 0
-Counts {T} does spare started = (s : T) (call : TracerCall) (t : T) → does s call t → CountsSpares (spare s) call (spare t) × CountsStarts (started s) call (started t)
-
 kin_same : {T : Type 0} (spare started : T → ℕ) (c d : Core T) → d ≡ c → KeepsBudget spare started c d
 kin_same spare started c d e = record {
   keys = ap (λ x. keys_of x.spans) e;

@@ -12,7 +12,7 @@ ghost use Rattle.otel_layer.specs.laws.LaneLemmas.{does_lanes, does_passive, doe
 ghost use Rattle.otel_layer.specs.Rooming.{same_core_refl, same_core_trans};
 
 use crate::counting::FilteredOpenTelemetryLayer;
-use crate::ready::{Ready, at_moment};
+use crate::ready::{Ready, set_moment};
 use otel_base::enter_error::EnterError;
 use otel_base::memory::Memory;
 use otel_base::tracer::Tracer;
@@ -172,7 +172,8 @@ impl<T: Tracer, F: Filter> Layer for FilteredOpenTelemetryLayer<T, F> {
             Some(id) => match prepared {
                 Ready::Happened { op } => {
                     let is_taken = filter.enabled(lane.id, callsite);
-                    let op = at_moment(Box::into_inner(op), at);
+                    let mut op = Box::into_inner(op);
+                    set_moment(&mut op, at);
                     self.inner.count_op(id, at, op, is_taken);
                 }
                 _ => unreachable!(),

@@ -2,16 +2,14 @@
 ghost use Rattle.std.specs.Prelude.{◌≡◌, ◌<◌, ◌≤◌, ◌^◌, ◌+◌, true, false, length, None, Some, if◌then◌else◌};
 ghost use Rattle.otel_base.specs.Stack.{IsReadyToAttach};
 ghost use Rattle.trace_base.specs.lanes.Contexts.{AreAttached};
-ghost use Rattle.otel_state.specs.Content.{Making};
 ghost use Rattle.otel_state.specs.Stack.{last_passing};
-ghost use Rattle.otel_state.specs.States.{data_at_making};
 ghost use Rattle.otel_layer.specs.declared.layer.tokens.Token.{Token};
 ghost use Rattle.otel_layer.specs.Table.{data_at, knows_span, update, with_op, RoomFor, RoomForLink};
 ghost use Rattle.otel_layer.specs.Counting.{after_counted};
 ghost use Rattle.otel_layer.specs.Core.{on_spans, with_tracer, entries_by, kept_in, is_token, IsWholeCore};
 ghost use Rattle.otel_layer.specs.Parts.{context_at};
 ghost use Rattle.otel_layer.specs.Starts.{StartsEarly, FinishesState};
-ghost use Rattle.otel_layer.specs.Steps.{StartsSpan, StartsAny, parent_source, lane_context, context_from, begun_under, with_added_span, MakesSpan};
+ghost use Rattle.otel_layer.specs.Steps.{StartsSpan, StartsAny, parent_source, lane_context, context_from, with_added_span, MakesSpan};
 ghost use Rattle.otel_layer.specs.Steps.{with_link, FollowsSpan, with_token, without_token, DetachesOwn, with_finish};
 ghost use Rattle.otel_layer.specs.Steps.{EntersIfKnown, ExitsIfKnown, ClosesIfKnown};
 ghost use Rattle.otel_layer.specs.Ready.{IsReadyState, IsReadyLane, HasOpenEntry, IsAttachedIfKnown};
@@ -26,7 +24,6 @@ use otel_base::stack::Attached;
 use otel_base::tracer::Tracer;
 use otel_state::op::Op;
 use otel_state::state::SpanState;
-use otel_state::update::Update;
 use trace_base::callsite::Callsite;
 use trace_base::field::ValueSet;
 use trace_base::lane::Lane;
@@ -69,8 +66,7 @@ impl<T: Tracer> OpenTelemetryLayer<T> {
     // Makes a span that isn't known yet.
     pub(crate) fn make(
         &mut self,
-        state: SpanState,
-        update: Update,
+        state: Box<SpanState>,
         id: Id,
         lane: &Lane,
         at: u64,
@@ -81,13 +77,14 @@ impl<T: Tracer> OpenTelemetryLayer<T> {
     )
         requires few { T.started self.old.core.tracer + 1 < 2 ^ 63 }
         requires unknown { knows_span id self.old.core.spans ≡ false }
-        requires ready { IsReadyState self.old lane.now callsite.now _values.now state update }
+        requires ready { IsReadyState self.old lane.now callsite.now _values.now state.value }
         ensures { MakesSpan T.does self.old.core id lane.now at parent current callsite.now _values.now
             self.new.core }
     {
         let source = parent_source(self.settings.activation, &parent, current);
         let context = self.context_from(source, lane_context(lane, &parent), at);
-        let mut state = begun_state(state, update, context, at);
+        let mut state = Box::into_inner(state);
+        state.set_making(context, at);
         self.start_early(&mut state, at);
         self.add(id, state);
     }
@@ -244,17 +241,6 @@ impl<T: Tracer> OpenTelemetryLayer<T> {
         self.tracer.finish(state.close(at));
         self.reserved -= 1;
     }
-}
-
-// The state of a span that is made, with what its fields write.
-fn begun_state(state: SpanState, update: Update, context: Context, at: u64) -> SpanState
-    requires { length update.attributes ≤ state.room.attributes }
-    ensures { (making : Making) → state.span_data ≡ data_at_making making → result.span_data ≡ begun_under making context at update }
-{
-    let mut state = state;
-    state.begin(context, at);
-    state.put(at, Op::Update { update });
-    state
 }
 
 // The span that a new one gets its parent's context from.

@@ -11,7 +11,7 @@ ghost use Rattle.otel_layer.specs.laws.LaneLemmas.{does_lanes, does_passive, doe
 ghost use Rattle.otel_layer.specs.Rooming.{same_core_refl, same_core_trans, same_core_does};
 
 use crate::layer::OpenTelemetryLayer;
-use crate::ready::{Made, Ready, at_moment};
+use crate::ready::{Ready, set_moment};
 use otel_base::enter_error::EnterError;
 use otel_base::memory::Memory;
 use otel_base::tracer::Tracer;
@@ -112,11 +112,8 @@ impl<T: Tracer> Layer for OpenTelemetryLayer<T> {
         values: &ValueSet,
     ) {
         match prepared {
-            Ready::Made { made } => {
-                let Made { state, update } = Box::into_inner(made);
-                self.make(
-                    state, update, id, lane, at, parent, current, callsite, values,
-                )
+            Ready::Made { state } => {
+                self.make(state, id, lane, at, parent, current, callsite, values)
             }
             _ => unreachable!(),
         }
@@ -177,7 +174,9 @@ impl<T: Tracer> Layer for OpenTelemetryLayer<T> {
         match reached {
             Some(id) => match prepared {
                 Ready::Happened { op } => {
-                    self.put_op(id, at, at_moment(Box::into_inner(op), at));
+                    let mut op = Box::into_inner(op);
+                    set_moment(&mut op, at);
+                    self.put_op(id, at, op);
                 }
                 _ => unreachable!(),
             },

@@ -3,11 +3,12 @@ ghost use Rattle.std.specs.Prelude.{◌≡◌, ◌<◌, length, OnOk, IfOk, Err}
 ghost use Rattle.otel_base.specs.declared.enter_error.EnterError.TheVariants.{Full};
 ghost use Rattle.trace_base.specs.lanes.Contexts.{KeepsLive};
 ghost use Rattle.trace_base.specs.layers.Hooks.{ForNewSpan, ForRecord, ForFollows, ForEvent, ForEnter};
-ghost use Rattle.otel_layer.specs.Steps.{SameCore};
-ghost use Rattle.otel_layer.specs.Ready.{IsReadySpan, IsReadyOtel, IsReadyOp, IsReadyLane, MeetsFull, fresh_data, HasRoomForUpdate};
+ghost use Rattle.otel_base.specs.Stack.{empty_context};
+ghost use Rattle.otel_layer.specs.Steps.{SameCore, new_span_data};
+ghost use Rattle.otel_layer.specs.Ready.{IsReadySpan, IsReadyOtel, IsReadyOp, IsReadyLane, MeetsFull};
 
 use crate::layer::OpenTelemetryLayer;
-use crate::ready::{Made, Ready};
+use crate::ready::Ready;
 use otel_base::context::Context;
 use otel_base::enter_error::EnterError;
 use otel_base::memory::Memory;
@@ -17,8 +18,6 @@ use otel_state::fields::first::first_attributes;
 use otel_state::fields::span::span_update;
 use otel_state::op::Op;
 use otel_state::state::SpanState;
-use otel_state::update::Update;
-use std::alloc::Global;
 use trace_base::callsite::Callsite;
 use trace_base::field::ValueSet;
 use trace_base::lane::Lane;
@@ -39,22 +38,22 @@ impl<T: Tracer> OpenTelemetryLayer<T> {
         ensures ready { IfOk result (IsReadyOtel self.new (ForNewSpan lane.now callsite.now values.now)) }
     {
         self.reserve_span()?;
-        let state = self.new_state(lane, callsite)?;
-        match span_update(self.alloc, callsite, values, &self.settings) {
-            Ok(update) => with_room(self.alloc, state, update),
-            Err(memory) => {
-                drop(state);
-                Err(memory)
-            }
-        }
+        let state = self.new_state(lane, callsite, values)?;
+        Ok(Ready::Made { state })
     }
 
-    // The state of a new span, which doesn't know its parent and its moment yet.
-    fn new_state(&self, lane: &Lane, callsite: &Callsite) -> Result<SpanState, Memory>
-        ensures { IfOk result (λ state. state.span_data ≡ fresh_data self.now.core lane.now callsite.now) }
+    // The state of a new span with what its fields write, which doesn't know its parent and its moment yet.
+    fn new_state(
+        &self,
+        lane: &Lane,
+        callsite: &Callsite,
+        values: &ValueSet,
+    ) -> Result<Box<SpanState>, Memory>
+        ensures { IfOk result (λ state. state.value.span_data
+            ≡ new_span_data callsite.now lane.now values.now empty_context 0 self.now.core.settings self.now.core.counting) }
     {
         let first = first_attributes(self.alloc, callsite, lane, &self.settings)?;
-        SpanState::new(
+        let state = SpanState::new(
             self.alloc,
             callsite.name.as_str(),
             Context::empty(),
@@ -62,7 +61,11 @@ impl<T: Tracer> OpenTelemetryLayer<T> {
             first,
             self.counting,
             self.settings.inactivity,
-        )
+        )?;
+        let mut state = Box::new(self.alloc, state)?;
+        let update = span_update(self.alloc, callsite, values, &self.settings)?;
+        state.apply(0, Op::Update { update })?;
+        Ok(state)
     }
 
     // What a record needs.
@@ -133,16 +136,25 @@ impl<T: Tracer> OpenTelemetryLayer<T> {
         Ok(Ready::Light)
     }
 
-    // Room on the lane for the span's own context, with activation, if the span is known.
+    // Room on the lane for the span's own context, with activation. Only where there is none it is asked whether the span is
+    // known.
     pub(crate) fn prepare_lane(&self, id: Id, lane: &mut Lane) -> Result<(), EnterError>
         ensures room { OnOk result (IsReadyLane self.now.core id lane.new) }
         ensures leaves { KeepsLive self.now.core.settings.activation lane.old lane.new }
         ensures full { result ≡ Err Full → MeetsFull self.now.core id lane.old }
     {
-        if self.settings.activation && self.table.knows(id) {
-            lane.contexts.reserve()
-        } else {
-            Ok(())
+        if !self.settings.activation {
+            return Ok(());
+        }
+        match lane.contexts.reserve() {
+            Ok(()) => Ok(()),
+            Err(error) => {
+                if self.table.knows(id) {
+                    Err(error)
+                } else {
+                    Ok(())
+                }
+            }
         }
     }
 
@@ -175,22 +187,5 @@ impl<T: Tracer> OpenTelemetryLayer<T> {
         self.tracer.reserve()?;
         self.reserved += 1;
         Ok(())
-    }
-}
-
-// The state of a new span, with room for what its fields write.
-fn with_room(alloc: Global, mut state: SpanState, update: Update) -> Result<Ready, Memory>
-    ensures { IfOk result (HasRoomForUpdate state.span_data update) }
-{
-    match state.reserve_room(update.attributes.as_slice().len(), 0, 0) {
-        Ok(()) => {
-            let made = Box::new(alloc, Made { state, update })?;
-            Ok(Ready::Made { made })
-        }
-        Err(memory) => {
-            drop(state);
-            drop(update);
-            Err(memory)
-        }
     }
 }

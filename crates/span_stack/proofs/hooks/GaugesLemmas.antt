@@ -1,21 +1,21 @@
 -- What a layer of metrics over a subscriber hears of calls.
 use Rattle.std.proofs.Common.{◌≡◌, ℕ, List, [], ◌++◌, Bool, false, Option, Some, refl, sym, ap, ◌∙◌, inl, inr}
-use Rattle.span_stack.proofs.Common.{cases_eq, Worlds, Spans, next_of, span_at, SubscriberCall, NewSpan, Records, Follows, Event, Enter, Exit, CloneSpan, TryClose, CallLanes, Hook, LeavesLanes, Layered, DoesBoth, HearsCall, Replaced, Chain, ended, closes, member_of, seen_before, seen_later, Measure, Steps, over_hears, Measuring, waiting_measures, measured_by}
+use Rattle.span_stack.proofs.Common.{cases_eq, Worlds, Spans, next_of, span_at, SubscriberCall, NewSpan, Records, Follows, Event, Enter, Exit, CloneSpan, TryClose, CallLanes, Hook, LeavesLanes, Layered, DoesBoth, HearsCall, Replaced, Chain, ended, closes, member_of, seen_before, seen_later, Measure, Steps, over_hears, MeasuresWithRoom, waiting_measures, measured_by}
 use Rattle.std.proofs.lemmas.List.{append-nil}
 use Rattle.otel_metrics.specs.Waiting.{AddsMeasuresOf, measures_of_hook}
 use Rattle.span_stack.proofs.worlds.ViewsLemmas.{kept_place}
 
-abbrev pub measures_at : Measuring → Hook → Measuring → Type 0
-measures_at l hook m = AddsMeasuresOf l.layer hook m.layer × LeavesLanes hook
+abbrev pub measures_at : MeasuresWithRoom → Hook → MeasuresWithRoom → Type 0
+measures_at l hook m = AddsMeasuresOf l hook m × LeavesLanes hook
 
-abbrev pub unchanged : Measuring → Measuring → Type 0
-unchanged l m = m.layer.measures ≡ l.layer.measures
+abbrev pub unchanged : MeasuresWithRoom → MeasuresWithRoom → Type 0
+unchanged l m = m.measures ≡ l.measures
 
-abbrev attaches_no : Measuring → Bool
+abbrev attaches_no : MeasuresWithRoom → Bool
 attaches_no l = false
 
-abbrev kept : Measuring → List Measure
-kept l = l.layer.measures
+abbrev kept : MeasuresWithRoom → List Measure
+kept l = l.measures
 
 abbrev behind : List Measure → Hook → List Measure
 behind ms hook = ms ++ measures_of_hook hook
@@ -31,7 +31,7 @@ from_heard spans (CloneSpan id) a b h = h ∙ sym (append-nil a)
 from_heard spans (TryClose id at) a b h = elim (cases_eq (span_at spans.made id).holds 1) [ inl last ↦ h.closed last | inr several ↦ h.open_still several ∙ sym (append-nil a) ]
 
 abbrev Whole : Type 0 → Type 0
-Whole S = Layered Measuring S
+Whole S = Layered MeasuresWithRoom S
 
 abbrev does_over : {S : Type 0} → (S → Spans) → (S → SubscriberCall → S → Type 0) → Whole S → SubscriberCall → Whole S → Type 0
 does_over spans inner = λ p call q. DoesBoth spans inner measures_at unchanged attaches_no p.inner p.layer call q.inner q.layer

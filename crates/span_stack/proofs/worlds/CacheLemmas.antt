@@ -1,6 +1,6 @@
 -- The cached interests of a stack whose parts took room.
 use Rattle.std.proofs.Common.{◌≡◌, List, Option, None, refl, sym, ap, ◌∙◌}
-use Rattle.span_stack.proofs.Common.{Callsite, LevelFilter, Interest, AreSame, interests_of_sites, registered_same, joint_interest, FilterState, FilterWithRoom, plain_filter, interest_in, sometimes, both_alike, Stacks, StackWorlds, stack_interest, HasCurrentInterests, Layered, Recording, Measuring, waiting_measures}
+use Rattle.span_stack.proofs.Common.{Callsite, LevelFilter, Interest, AreSame, interests_of_sites, registered_same, joint_interest, FilterState, FilterWithRoom, plain_filter, interest_in, sometimes, both_alike, Stacks, StackWorlds, stack_interest, HasCurrentInterests, Layered, Recording, MeasuresWithRoom, waiting_measures}
 use Rattle.trace_base.specs.declared.subscriber.Interest.TheVariants as interests
 use Rattle.span_stack.proofs.hooks.CountersLemmas.{Base, base_room, base_recorded, base_counter, base_same, counter_same}
 use Rattle.span_stack.proofs.hooks.GaugesLemmas.{unchanged}
@@ -8,7 +8,7 @@ use Rattle.span_stack.proofs.worlds.ExchangesLemmas.{room_over}
 
 -- what lies below the filter
 abbrev pub Middle : Type 0
-Middle = Layered Measuring Base
+Middle = Layered MeasuresWithRoom Base
 
 abbrev pub middle_room : Middle → Middle → Type 0
 middle_room s t = base_room s.inner t.inner × unchanged s.layer t.layer

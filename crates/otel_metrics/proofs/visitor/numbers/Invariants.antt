@@ -5,4 +5,4 @@ use Rattle.otel_metrics.specs.Measures.{number_at}
 use Rattle.otel_metrics.proofs.visitor.numbers.Given as goal
 
 abbrev pub invariant-loop-pair : goal.invariant-loop-pair
-invariant-loop-pair l = l.found.items ≡ flat_map (number_at l.callsite) (take l.pair-index l.pairs)
+invariant-loop-pair l = l.found ≡ flat_map (number_at l.callsite) (take l.pair-index l.pairs)

@@ -24,7 +24,7 @@ pub returns-in-Ok-clause-rest : goal.returns-in-Ok-clause-rest
 returns-in-Ok-clause-rest c = rest_put middle_room c.args.world.now c.exchange.new.world c.rebuild_interest.new.self c.args.dispatch c.args.filter c.exchange.new.filter c.exchange.ensures c.rebuild_interest.ensures.same
 
 -- all subscribers are as they were, but for room
-abbrev all_left : (c : goal.After-drop-other-inside-3) → AreSame (room_over middle_room) c.args.world.now.subscribers c.exchange-in-Err.new.world.subscribers
+abbrev all_left : (c : goal.After-drop-other-2) → AreSame (room_over middle_room) c.args.world.now.subscribers c.exchange-in-Err.new.world.subscribers
 all_left c = put_back middle_room c.args.world.now c.exchange.new.world c.rebuild_interest.new.self c.exchange-in-Err.new.world c.args.dispatch c.args.filter c.exchange.new.filter c.exchange-in-Err.new.filter c.exchange.ensures c.rebuild_interest.ensures.same c.exchange-in-Err.ensures
 
 pub returns-clause-recording : goal.returns-clause-recording

@@ -1,7 +1,7 @@
 -- The outer layers have no OpenTelemetry layer, and stay as they are.
 use Rattle.std.proofs.Common.{ap, sym, ◌∙◌, None, [], Option}
 use Rattle.std.specs.Option.{option_map}
-use Rattle.span_stack.proofs.Common.{RecordsPart, no_recording, Layer, FilterWithRoom, plain_filter, Measuring, waiting_measures, filter_in_place, stack_interest, interest_over, inner_worlds}
+use Rattle.span_stack.proofs.Common.{RecordsPart, no_recording, Layer, FilterWithRoom, plain_filter, MeasuresWithRoom, waiting_measures, filter_in_place, stack_interest, interest_over, inner_worlds}
 use Rattle.span_stack.proofs.hooks.CountersLemmas.{plain_counter, base_recorded, base_counter, base_part}
 use Rattle.span_stack.proofs.worlds.FreshInterestsLemmas.{fresh_later}
 use Rattle.span_stack.proofs.worlds.ViewsLemmas.{seen_below, seen_two, along_two, kept_place, read_two}
@@ -18,7 +18,7 @@ returns c = record {
       ∙ kept_place base_counter None (λ s t d. ap (λ (o : Option FilterWithRoom). plain_counter o) d.0.1) (inner_worlds (inner_worlds old)) (inner_worlds (inner_worlds new)) dispatch (c.of_stack.ensures.asks old new dispatch call r).inner
       ∙ seen_two base_counter None old dispatch;
   measures = λ old new dispatch call r. sym (seen_below waiting_measures [] new dispatch)
-      ∙ kept_place waiting_measures [] (λ s t e. ap (λ (l : Measuring). l.layer.measures) e) (inner_worlds old) (inner_worlds new) dispatch (c.of_stack.ensures.asks old new dispatch call r).measures
+      ∙ kept_place waiting_measures [] (λ s t e. ap (λ (l : MeasuresWithRoom). l.measures) e) (inner_worlds old) (inner_worlds new) dispatch (c.of_stack.ensures.asks old new dispatch call r).measures
       ∙ seen_below waiting_measures [] old dispatch;
   current = λ old new dispatch call r. fresh_later stack_interest _ (λ s t e. ap (λ (l : Layer FilterWithRoom). interest_over l) e) old new dispatch (c.of_stack.ensures.asks old new dispatch call r).filter;
 }

@@ -1,6 +1,6 @@
 -- By the trait's law.
 use Rattle.otel_layer.proofs.Common.{alike}
-use Rattle.otel_layer.proofs.recording.leaves.Goals as goal
+use Rattle.otel_layer.proofs.recording.asks_leave_spans.Goals as goal
 
 pub returns : goal.returns
 returns g c = λ old new dispatch call r.
