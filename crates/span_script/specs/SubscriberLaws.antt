@@ -35,7 +35,7 @@ pub record PlainLaws {S : Type 0} (spans : S → Spans) (attaches : S → Bool) 
   pub alike : (old new : Worlds S) (dispatch : ℕ) → Replaced same old new dispatch → Alike spans attaches kept is_whole old new dispatch
   pub chains : (old new : Worlds S) (dispatch at id : ℕ) → Replaced (λ s t. Chain spans does at (Some id) s t) old new dispatch
       → ChainShown spans attaches kept is_whole old new dispatch id
-  pub leaves : (old new : Worlds S) (dispatch : ℕ) (call : PartCall) → Replaced (λ s t. touches s call t) old new dispatch
+  pub asks : (old new : Worlds S) (dispatch : ℕ) (call : PartCall) → Replaced (λ s t. touches s call t) old new dispatch
       → Alike spans attaches kept is_whole old new dispatch
 
 -- one call is one step of the plain data, of what is recorded and of the filter in place, and adds its measures
@@ -43,7 +43,7 @@ pub record CallsLaw {S : Type 0} (spans : S → Spans) (views : Views S) (attach
     (is_whole : S → Type 0) (does : S → SubscriberCall → S → Type 0) : Type 0 where
   pub shown : (old new : Worlds S) (dispatch : ℕ) (call : SubscriberCall) → Replaced (λ s t. does s call t) old new dispatch
       → Shown spans attaches kept is_whole old new dispatch call
-  pub recalled : (old new : Worlds S) (dispatch : ℕ) (call : SubscriberCall) → Replaced (λ s t. does s call t) old new dispatch
+  pub viewed : (old new : Worlds S) (dispatch : ℕ) (call : SubscriberCall) → Replaced (λ s t. does s call t) old new dispatch
       → RecordsCallBy (member_of views.counter None old dispatch) (spans_in spans old dispatch)
       (member_of views.recorded no_recording old dispatch) call (member_of views.recorded no_recording new dispatch)
       × (member_of views.filtered None new dispatch
@@ -54,7 +54,7 @@ pub record CallsLaw {S : Type 0} (spans : S → Spans) (views : Views S) (attach
 pub record SameLaw {S : Type 0} (spans : S → Spans) (views : Views S) (attaches : S → Bool) (kept : S → ℕ → ℕ → ℕ)
     (is_whole : S → Type 0) (same : S → S → Type 0) : Type 0 where
   pub shown : (old new : Worlds S) (dispatch : ℕ) → Replaced same old new dispatch → Alike spans attaches kept is_whole old new dispatch
-  pub recalled : (old new : Worlds S) (dispatch : ℕ) → Replaced same old new dispatch
+  pub viewed : (old new : Worlds S) (dispatch : ℕ) → Replaced same old new dispatch
       → (member_of views.recorded no_recording new dispatch ≡ member_of views.recorded no_recording old dispatch)
       × (member_of views.filtered None new dispatch ≡ member_of views.filtered None old dispatch)
       × AddsMeasures (aside_in views old dispatch) (aside_in views new dispatch) []
@@ -64,7 +64,7 @@ pub record ChainsLaw {S : Type 0} (spans : S → Spans) (views : Views S) (attac
     (is_whole : S → Type 0) (does : S → SubscriberCall → S → Type 0) : Type 0 where
   pub shown : (old new : Worlds S) (dispatch at id : ℕ) → Replaced (λ s t. Chain spans does at (Some id) s t) old new dispatch
       → ChainShown spans attaches kept is_whole old new dispatch id
-  pub recalled : (old new : Worlds S) (dispatch at id : ℕ) → Replaced (λ s t. Chain spans does at (Some id) s t) old new dispatch
+  pub viewed : (old new : Worlds S) (dispatch at id : ℕ) → Replaced (λ s t. Chain spans does at (Some id) s t) old new dispatch
       → RecordsChain at (Some id) (spans_in spans old dispatch) (spans_in spans new dispatch)
       (member_of views.recorded no_recording old dispatch) (member_of views.recorded no_recording new dispatch)
       × FiltersChain (Some id) (spans_in spans old dispatch) (spans_in spans new dispatch)
@@ -76,7 +76,7 @@ pub record AsksLaw {S : Type 0} (spans : S → Spans) (views : Views S) (attache
     (is_whole : S → Type 0) (touches : S → PartCall → S → Type 0) : Type 0 where
   pub shown : (old new : Worlds S) (dispatch : ℕ) (call : PartCall) → Replaced (λ s t. touches s call t) old new dispatch
       → Alike spans attaches kept is_whole old new dispatch
-  pub recalled : (old new : Worlds S) (dispatch : ℕ) (call : PartCall) → Replaced (λ s t. touches s call t) old new dispatch
+  pub viewed : (old new : Worlds S) (dispatch : ℕ) (call : PartCall) → Replaced (λ s t. touches s call t) old new dispatch
       → RecordsPart
       (member_of views.recorded no_recording old dispatch) call (member_of views.recorded no_recording new dispatch)
       × (member_of views.filtered None new dispatch ≡ member_of views.filtered None old dispatch)

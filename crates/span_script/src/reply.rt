@@ -1,6 +1,6 @@
 //! What requests are answered, and why they are refused.
 ghost use Rattle.std.specs.Prelude.{◌≡◌};
-ghost use Rattle.span_script.specs.calls.Refusals.{refused_entry, refused_text};
+ghost use Rattle.span_script.specs.calls.Refusals.{refused_entry, reload_refusal};
 ghost use Rattle.span_script.specs.declared.reply.Refusal.TheVariants.{Memory as NoMemory};
 
 use crate::open_error::OpenError;
@@ -11,7 +11,7 @@ use otel_state::op::SetParentError;
 use std::alloc::{AllocError, AllocFailed};
 
 /// The answer to a request: what the calls of tracing give back.
-#[derive(Clone, Copy, PartialEq, Eq)]
+#[derive(Clone, Copy)]
 pub enum Reply {
     /// A handle was made, which is enabled where it has a span; `tracing::Span`, `is_disabled`.
     Made { enabled: bool, handle: u64 },
@@ -30,7 +30,7 @@ pub enum Reply {
 }
 
 /// What a request names that isn't there.
-#[derive(Clone, Copy, PartialEq, Eq)]
+#[derive(Clone, Copy)]
 pub enum What {
     /// A lane, by its place.
     Lane,
@@ -47,7 +47,7 @@ pub enum What {
 }
 
 /// Why a request is refused.
-#[derive(Clone, Copy, PartialEq, Eq)]
+#[derive(Clone, Copy)]
 pub enum Refusal {
     /// The moment is below that of the request before (0 before the first), or above 2^63 - 1; both in nanoseconds.
     BadMoment { before: u64, given: u64 },
@@ -78,7 +78,7 @@ impl Refusal {
 
     /// What a reload is refused by.
     pub fn of_text(error: OpenError) -> Refusal
-        ensures { result ≡ refused_text error }
+        ensures { result ≡ reload_refusal error }
     {
         match error {
             OpenError::Directive { counting: _, piece } => Refusal::Directive { piece },

@@ -5,7 +5,7 @@ use otel_state::settings::LayerSettings;
 use trace_base::callsite::Callsite;
 
 /// The settings of a script. Lanes and callsites are named by their places, from 0.
-#[derive(Clone, Drop)]
+#[derive(Drop)]
 pub struct Settings {
     /// The text of the filter at first, without patterns; `tracing_subscriber::EnvFilter`.
     pub filter: Text,

@@ -1,6 +1,6 @@
 -- Ops on spans that leave all else as it is, served; and events.
-use Rattle.span_script.proofs.Common.{length-map, Measure, Token, Recording, no_recording, with_start, with_applied, Lane, Callsite, Kind, ValueSet, Parent, Worlds, FilterState, IsNewFilter, enables_in, Spans, span_at, entries_on, parent_on, SubscriberCall, OneEach, member_of, spans_in, kept_in, Has, Reply, RequestParent, id_at, if_event, event_site, Scope, SpanOp, FilterHook, Effect, Tables, own_span, recorded_by, quiet_effect, Fields, all_values, text_filter, here_at, Resolved, ◌>>=◌, need, ops_on, effect_of_call, if_enabled, event_ops, event_effect, after_filter_hook, scope_at, parent_for, TellsOnly, LetsThrough, Balanced, named_by, opened_by, Views, shown_of, State, state_of, lane_value, held_by, StandsFor, MadeFit, LanesFit, IsKept, Served, Parts, with_counted, with_event_by, AddsMeasures, CallsLaw, aside_in}
-use Rattle.std.proofs.Common.{◌≡◌, ℕ, ◌<◌, List, [], ◌∷◌, length, Bool, true, false, fold, get_or, Option, Some, None, Ok, option_map, map, refl, sym, ap, subst, ◌∙◌, arith, slice_get, option_and_then, is_some, IfSome}
+use Rattle.span_script.proofs.Common.{length-map, Measure, Token, Recording, no_recording, with_start, with_applied, Lane, Callsite, Kind, ValueSet, Parent, Worlds, FilterState, IsNewFilter, enables_in, Spans, span_at, entries_on, parent_on, SubscriberCall, member_of, spans_in, kept_in, Has, Reply, RequestParent, id_at, if_event, event_site, Scope, SpanOp, FilterHook, Effect, Tables, own_span, recorded_by, quiet_effect, Fields, all_values, text_filter, here_at, Resolved, ◌>>=◌, need, ops_on, effect_of_call, if_enabled, event_ops, event_effect, after_filter_hook, scope_at, parent_for, TellsOnly, LetsThrough, Views, shown_of, State, state_of, lane_value, held_by, StandsFor, LanesFit, IsKept, Served, Parts, with_counted, with_event_by, AddsMeasures, CallsLaw, aside_in}
+use Rattle.std.proofs.Common.{◌≡◌, ℕ, ◌<◌, List, [], ◌∷◌, length, Bool, true, false, fold, get_or, Option, Some, None, Ok, option_map, map, refl, sym, ap, subst, ◌∙◌, arith, slice_get, option_and_then, IfSome}
 use Rattle.otel_state.specs.fields.EventFields.{event_of}
 use Rattle.otel_state.specs.declared.op.Op.TheVariants as ops
 use Rattle.otel_metrics.specs.Measures.{measures}
@@ -11,7 +11,7 @@ use Rattle.span_script.specs.declared.reply.Reply.TheVariants as reply
 use Rattle.span_script.specs.declared.request.Call.TheVariants as call
 use Rattle.span_script.specs.declared.reply.What.TheVariants as what
 use Rattle.span_script.proofs.filter.CounterLemmas.{adds_same}
-use Rattle.span_script.proofs.steps.StepLemmas.{fits_step}
+use Rattle.span_script.proofs.steps.StepLemmas.{fits_step, quiet_step}
 use Rattle.span_script.proofs.filter.FilterLemmas.{AreKnown, heard_none, agree_by, enables_alike}
 use Rattle.span_script.proofs.filter.GateLemmas.{answered}
 use Rattle.span_script.proofs.steps.LanesLemmas.{id_seen}
@@ -144,25 +144,7 @@ module _ {S : Type 0} (spans : S → Spans) (views : Views S) (attaches : S → 
         let settings = ap (λ (x : Recording). x.settings) rec_is ∙ recorded_settings (length t.spans) e r in
         let setup : then.setup ≡ now.setup = ap (λ x. record now.setup { sites = x; layer = (member_of views.recorded no_recording new parts.dispatch).settings }) did.sites_same ∙ ap (λ x. record now.setup { layer = x }) settings in
         serve now then t e resolved answer stands is refl setup r.tokens rec_is
-        (fits_step now t fits then e (record {
-          setup_is = setup;
-          dispatch_is = refl;
-          handles_are = refl;
-          sites_are = refl;
-          guards_are = refl;
-          attaches_are = refl;
-          named_are = refl;
-          moment_is = refl;
-          balanced = subst (λ (x : Spans). Balanced x (map named_by t.handles) (map (opened_by ids) t.guards) t.entries) (sym step) fits.balanced;
-          made_fit = subst (λ (x : Spans). MadeFit x.made t.spans) (sym step) fits.made;
-          new_made = tt;
-          new_site = tt;
-          new_scope = λ l e. absurd (cc e);
-          still = fits.still;
-          few = fits.few;
-          few_holds = λ s. (let f = fits.few_holds s in let e = ap (λ (x : Spans). (span_at x.made s).holds) step in omega (arith, f, e));
-          one = subst (λ (x : Spans). OneEach x.lanes) (sym step) fits.one_lane;
-        }))
+        (fits_step now t fits then e (quiet_step now then t e fits setup refl refl refl refl refl refl refl step))
         (λ s some. known_still now then t e r.tokens rec_is stands.recording s refl (subst (λ (x : Spans). 0 < (span_at x.made s).holds) step some))
         (all_same now then t.contexts setup refl refl (ap (λ (x : Recording). x.tokens) rec_is) stands.recording.attached)
         (record { quiet = refl; before = member_of views.filtered None parts.world parts.dispatch; later = member_of views.filtered None new parts.dispatch; shown_before = refl; shown_later = refl; told = did.filter_is; known = known; cached = did.cached_same; aside = record { before = aside_in views parts.world parts.dispatch; later = aside_in views new parts.dispatch; shown_before = refl; shown_later = refl; waits_before = refl; waits_later = refl; adds = did.aside_is } })
@@ -207,16 +189,16 @@ module _ {S : Type 0} (spans : S → Spans) (views : Views S) (attaches : S → 
           let rec = r in
           let shown = law.shown parts.world new parts.dispatch _ told.told in
           let counter = member_of views.counter None parts.world parts.dispatch in
-          let recalled = law.recalled parts.world new parts.dispatch _ told.told in
+          let viewed = law.viewed parts.world new parts.dispatch _ told.told in
           record {
             spans_same = shown.spans_after;
             kept_same = shown.lanes;
             sites_same = ap (λ (w : Worlds S). w.sites) told.told.others;
-            recorded_is = recalled.0 ∙ ap (λ (o : Option ℕ). with_event_by counter o before.id at told.callsite values rec) reaches
+            recorded_is = viewed.0 ∙ ap (λ (o : Option ℕ). with_event_by counter o before.id at told.callsite values rec) reaches
                 ∙ ap (λ (c : Callsite). with_event_by counter (own_span reached) before.id at c values rec) (same_site told.callsite told.is)
                 ∙ told_is decides (map (λ (l : Lane). l.id) parts.lanes) parts.opening.counting counter stands.filtering.counter stands.filtering.new reached before.id place (id_seen parts.lanes place before within here) (let l = length-map parts.lanes (λ (x : Lane). x.id) in omega (arith, within, l)) at given (event_kind parts.world.sites site given evented) values rec;
-            filter_is = recalled.1;
-            aside_is = subst (λ (c : Callsite). AddsMeasures (aside_in views parts.world parts.dispatch) (aside_in views new parts.dispatch) (measures c values)) (same_site told.callsite told.is) recalled.2;
+            filter_is = viewed.1;
+            aside_is = subst (λ (c : Callsite). AddsMeasures (aside_in views parts.world parts.dispatch) (aside_in views new parts.dispatch) (measures c values)) (same_site told.callsite told.is) viewed.2;
             cached_same = ap (λ (w : Worlds S). w.cached) told.told.others;
             count = shown.count;
             whole = shown.whole;

@@ -1,6 +1,5 @@
 -- Fields that are declared or not, recorded on spans, and asked for.
 use Rattle.span_script.proofs.Common.{list_all, cons_option, cond-true, cond-false, Recording, no_recording, Callsite, ValueSet, Parent, Worlds, Spans, SubscriberCall, member_of, Handle, Held, IsSite, RecordsAt, RecordsOn, callsite_in, field_at, field_in, place_under, RequestParent, id_at, span_site, event_site, Scope, Tables, slot_at, site_of, Fields, declared_value, declares, declared_by, all_values, values_of, values_by, here_at, ◌>>=◌, need, ops_effect, effect_of_call, event_effect, scope_at, new_effect, parent_for, Views, State, state_of, StandsFor, IsScope, IsKept, Served, held_by, held_of, Parts, get_or-map, CallsLaw}
-use Rattle.std.proofs.lemmas.Bool.{true≢false}
 use Rattle.std.proofs.Common.{◌≡◌, ℕ, suc, ◌<◌, ◌≤◌, List, [], ◌∷◌, length, Bool, true, false, Option, Some, None, Ok, Err, option_map, map, refl, sym, ap, subst, ◌∙◌, arith, ◌&&◌, is_some, slice_get, filter_map, option_and_then}
 use Rattle.trace_base.specs.declared.field.Field.{Field}
 use Rattle.trace_base.specs.Field.{place_of, named_field}
@@ -12,10 +11,9 @@ use Rattle.span_script.specs.calls.Fields.{update_ops, hooks_of_values, record_e
 use Rattle.span_script.specs.Fits.{Fits}
 use Rattle.span_script.proofs.steps.SlotsLemmas.{Found, find, held_slot}
 use Rattle.span_script.proofs.spans.MoreHandlesLemmas.{find_up}
-use Rattle.span_script.proofs.spans.SitesLemmas.{site_found, the_callsite}
+use Rattle.span_script.proofs.spans.SitesLemmas.{site_found}
 use Rattle.span_script.proofs.filter.FilterLemmas.{AreKnown}
-use Rattle.span_script.proofs.events.EventsLemmas.{Does, does_none, serves_ops, keeps_ops, site_is as event_is}
-use Rattle.span_script.proofs.spans.MakingsLemmas.{site_is}
+use Rattle.span_script.proofs.events.EventsLemmas.{Does, does_none, serves_ops, keeps_ops}
 use Rattle.span_script.specs.declared.request.RequestParent.TheVariants as request_parent
 
 -- ---- places that aren't there
@@ -177,9 +175,9 @@ module _ {S : Type 0} (spans : S → Spans) (views : Views S) (attaches : S → 
               spans_same = shown.spans_after;
               kept_same = shown.lanes;
               sites_same = ap (λ (w : Worlds S). w.sites) step.others;
-              recorded_is = (law.recalled parts.world new parts.dispatch _ step).0;
-              filter_is = (law.recalled parts.world new parts.dispatch _ step).1;
-              aside_is = (law.recalled parts.world new parts.dispatch _ step).2;
+              recorded_is = (law.viewed parts.world new parts.dispatch _ step).0;
+              filter_is = (law.viewed parts.world new parts.dispatch _ step).1;
+              aside_is = (law.viewed parts.world new parts.dispatch _ step).2;
               cached_same = ap (λ (w : Worlds S). w.cached) step.others;
               count = shown.count;
               whole = shown.whole;

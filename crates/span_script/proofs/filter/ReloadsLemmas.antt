@@ -1,6 +1,6 @@
 -- Asking the gate, and another filter in force, served.
 use Rattle.std.proofs.Common.{◌≡◌, ℕ, ◌<◌, List, [], length, Bool, get_or, Some, None, Ok, option_map, map, refl, sym, ap, subst, ◌∙◌, arith, slice_get}
-use Rattle.span_script.proofs.Common.{Callsite, Lane, Interest, Worlds, IsFresh, Spans, span_at, OneEach, FilterState, interest_in, Recording, no_recording, Alike, member_of, spans_in, text_filter, filter_if, IsTextFilter, id_at, Effect, Tables, after_effect, quiet_effect, here_at, ◌>>=◌, need, effect_of_call, enabled_effect, reload_effect, reload_by, Balanced, named_by, opened_by, LetsThrough, Views, shown_of, State, state_of, lane_value, StandsFor, FilteringFits, MadeFit, LanesFit, IsKept, Served, Parts, AddsMeasures, aside_in}
+use Rattle.span_script.proofs.Common.{Callsite, Lane, Interest, Worlds, IsFresh, Spans, span_at, FilterState, interest_in, Recording, no_recording, Alike, member_of, spans_in, text_filter, filter_if, IsTextFilter, id_at, Effect, Tables, after_effect, quiet_effect, here_at, ◌>>=◌, need, effect_of_call, enabled_effect, reload_effect, reload_by, LetsThrough, Views, shown_of, State, state_of, lane_value, StandsFor, FilteringFits, LanesFit, IsKept, Served, Parts, AddsMeasures, aside_in}
 use Rattle.span_script.specs.declared.reply.Reply.TheVariants as reply
 use Rattle.span_script.specs.declared.reply.What.TheVariants as what
 use Rattle.span_script.specs.declared.request.Call.TheVariants as call
@@ -8,7 +8,7 @@ use Rattle.span_script.proofs.filter.FilterLemmas.{cached_rows, rows_of}
 use Rattle.span_script.proofs.filter.GateLemmas.{answered}
 use Rattle.span_script.proofs.runs.RefusalsLemmas.{within_get}
 use Rattle.span_script.proofs.steps.ServesLemmas.{serve_with, known_still, all_same, kept_served}
-use Rattle.span_script.proofs.steps.StepLemmas.{fits_step}
+use Rattle.span_script.proofs.steps.StepLemmas.{fits_step, quiet_step}
 use Rattle.span_script.proofs.events.EventsLemmas.{does_none, serves_ops, keeps_ops}
 
 module _ {S : Type 0} (spans : S → Spans) (views : Views S) (attaches : S → Bool) (kept : S → ℕ → ℕ → ℕ) (is_whole : S → Type 0) (parts : Parts S) (at place : ℕ) where
@@ -71,25 +71,7 @@ module _ {S : Type 0} (spans : S → Spans) (views : Views S) (attaches : S → 
           let step = alike.spans_same in
           let e : Effect = reload_effect (here_at now.setup t at place) text in
           serve_with now then t e _ reply.Done stands (ap (reload_by (here_at now.setup t at place) text) read.read) refl setup r.tokens records
-          (fits_step now t fits then e (record {
-            setup_is = setup;
-            dispatch_is = refl;
-            handles_are = refl;
-            sites_are = refl;
-            guards_are = refl;
-            attaches_are = refl;
-            named_are = refl;
-            moment_is = refl;
-            balanced = subst (λ (x : Spans). Balanced x (map named_by t.handles) (map (opened_by ids) t.guards) t.entries) (sym step) fits.balanced;
-            made_fit = subst (λ (x : Spans). MadeFit x.made t.spans) (sym step) fits.made;
-            new_made = tt;
-            new_site = tt;
-            new_scope = λ l e. absurd (cc e);
-            still = fits.still;
-            few = fits.few;
-            few_holds = λ s. (let f = fits.few_holds s in let e = ap (λ (x : Spans). (span_at x.made s).holds) step in omega (arith, f, e));
-            one = subst (λ (x : Spans). OneEach x.lanes) (sym step) fits.one_lane;
-          }))
+          (fits_step now t fits then e (quiet_step now then t e fits setup refl refl refl refl refl refl refl step))
           (λ s some. known_still now then t e r.tokens records stands.recording s refl (subst (λ (x : Spans). 0 < (span_at x.made s).holds) step some))
           (all_same now then t.contexts setup refl refl (ap (λ (x : Recording). x.tokens) records) stands.recording.attached)
           (filter_is t (ap (λ (x : Spans). length x.made) step ∙ fits.made.count)) aside.measures

@@ -1,12 +1,12 @@
 -- Contexts that are made, served.
-use Rattle.std.proofs.Common.{◌≡◌, ℕ, ◌<◌, List, [], ◌∷◌, ◌++◌, length, Bool, Option, Some, None, Ok, option_map, map, refl, sym, ap, subst, ◌∙◌, arith}
-use Rattle.span_script.proofs.Common.{Context, SpanContext, ids_of, empty_context, SpanData, Worlds, Spans, span_at, OneEach, Token, data_at, own_or, PartCall, Shows, context_at, AsksContext, ShowsOn, context_or_empty, Recording, no_recording, with_starts, Has, member_of, spans_in, kept_in, Handle, Held, Scope, Effect, Tables, recorded_by, slot_at, own_span, open_part, here_at, Resolved, ◌>>=◌, need, effect_of_call, context_effect, own_context, Balanced, named_by, opened_by, Views, ContextSlots, State, state_of, lane_value, lane_of, held_by, held_of, StandsFor, MadeFit, LanesFit, IsKept, Served, Parts, AddsMeasures, AsksLaw, aside_in}
+use Rattle.std.proofs.Common.{◌≡◌, ℕ, ◌<◌, List, [], ◌∷◌, ◌++◌, length, Bool, Option, Some, None, Ok, option_map, map, refl, sym, ap, subst, ◌∙◌}
+use Rattle.span_script.proofs.Common.{Context, SpanContext, ids_of, empty_context, SpanData, Worlds, Spans, span_at, Token, data_at, own_or, PartCall, Shows, context_at, AsksContext, ShowsOn, context_or_empty, Recording, no_recording, with_starts, Has, member_of, spans_in, kept_in, Handle, Held, Scope, Effect, Tables, recorded_by, slot_at, own_span, open_part, here_at, Resolved, ◌>>=◌, need, effect_of_call, context_effect, own_context, Views, ContextSlots, State, state_of, lane_value, lane_of, held_by, held_of, StandsFor, LanesFit, IsKept, Served, Parts, AddsMeasures, AsksLaw, aside_in}
 use Rattle.span_script.specs.declared.reply.Reply.TheVariants as reply
 use Rattle.span_script.specs.declared.reply.What.TheVariants as what
 use Rattle.span_script.specs.declared.request.Call.TheVariants as call
 use Rattle.span_script.proofs.filter.CounterLemmas.{adds_same}
 use Rattle.span_script.proofs.steps.SlotsLemmas.{find, held_slot}
-use Rattle.span_script.proofs.steps.StepLemmas.{fits_step}
+use Rattle.span_script.proofs.steps.StepLemmas.{fits_step, quiet_step}
 use Rattle.span_script.proofs.steps.RecordingLemmas.{recorded_settings, recorded_tokens, starts_fold, start_open}
 use Rattle.span_script.proofs.filter.FilterLemmas.{heard_none}
 use Rattle.span_script.proofs.steps.ServesLemmas.{serve, known_still, all_same, kept_served}
@@ -75,25 +75,7 @@ module _ {S : Type 0} (spans : S → Spans) (views : Views S) (attaches : S → 
       let settings = ap (λ (x : Recording). x.settings) rec_is ∙ recorded_settings (length t.spans) e r in
       let setup : then.setup ≡ now.setup = ap (λ x. record now.setup { sites = x; layer = r'.settings }) did.sites ∙ ap (λ x. record now.setup { layer = x }) settings in
       serve now then t e resolved (reply.Context number (ids_of context)) stands is (ap (λ n. reply.Context n (ids_of context)) (many ∙ ap length fits.named_contexts)) setup r.tokens rec_is
-      (fits_step now t fits then e (record {
-        setup_is = setup;
-        dispatch_is = refl;
-        handles_are = refl;
-        sites_are = refl;
-        guards_are = refl;
-        attaches_are = ap (map (option_map lane_of)) attaches_are;
-        named_are = made_is;
-        moment_is = refl;
-        balanced = subst (λ (x : Spans). Balanced x (map named_by t.handles) (map (opened_by ids) t.guards) t.entries) (sym did.spans_same) fits.balanced;
-        made_fit = subst (λ (x : Spans). MadeFit x.made t.spans) (sym did.spans_same) fits.made;
-        new_made = tt;
-        new_site = tt;
-        new_scope = λ l e. absurd (cc e);
-        still = fits.still;
-        few = fits.few;
-        few_holds = λ s. (let f = fits.few_holds s in let e = ap (λ (x : Spans). (span_at x.made s).holds) did.spans_same in omega (arith, f, e));
-        one = subst (λ (x : Spans). OneEach x.lanes) (sym did.spans_same) fits.one_lane;
-      }))
+      (fits_step now t fits then e (quiet_step now then t e fits setup refl refl refl refl (ap (map (option_map lane_of)) attaches_are) made_is refl did.spans_same))
       (λ s some. known_still now then t e r.tokens rec_is stands.recording s refl (subst (λ (x : Spans). 0 < (span_at x.made s).holds) did.spans_same some))
       (all_same now then t.contexts setup attaches_are refl (ap (λ (x : Recording). x.tokens) rec_is) stands.recording.attached)
       (record { quiet = refl; before = member_of views.filtered None parts.world parts.dispatch; later = member_of views.filtered None new parts.dispatch; shown_before = refl; shown_later = refl; told = did.filter_same ∙ heard_none (member_of views.filtered None parts.world parts.dispatch); known = refl; cached = did.cached_same; aside = record { before = aside_in views parts.world parts.dispatch; later = aside_in views new parts.dispatch; shown_before = refl; shown_later = refl; waits_before = refl; waits_later = refl; adds = did.aside } })
@@ -120,7 +102,7 @@ module _ {S : Type 0} (spans : S → Spans) (views : Views S) (attaches : S → 
     asked (s ∷ up) held is asks_it =
         let replaced = subst (λ (x : Held). ShowsOn touches parts.world new at x asks_it.answer) is asks_it.did in
         let alike = law.shown parts.world new parts.dispatch (Shows s at asks_it.answer) replaced in
-        let told = law.recalled parts.world new parts.dispatch (Shows s at asks_it.answer) replaced in
+        let told = law.viewed parts.world new parts.dispatch (Shows s at asks_it.answer) replaced in
         let records = told.0 in (
           record { spans_same = alike.spans_same; sites = ap (λ (w : Worlds S). w.sites) replaced.others; records = records.0; kept_same = alike.kept_same; count = alike.count; whole = alike.whole; filter_same = told.1; cached_same = ap (λ (w : Worlds S). w.cached) replaced.others; aside = told.2 },
           asks_it.is ∙ ap context_or_empty records.1 ∙ shown_is (data_at s r'.spans) ∙ ap (λ (x : Recording). own_or empty_context (data_at s x.spans)) records.0,

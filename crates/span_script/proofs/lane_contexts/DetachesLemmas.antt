@@ -15,7 +15,7 @@ use Rattle.span_script.proofs.lane_contexts.NumbersLemmas.{guard_keeps, guard_al
 use Rattle.span_script.proofs.runs.RefusalsLemmas.{within_get}
 use Rattle.span_script.proofs.filter.FilterLemmas.{heard_none}
 use Rattle.span_script.proofs.steps.ServesLemmas.{serve, known_still, kept_served}
-use Rattle.span_script.proofs.steps.StepLemmas.{fits_step}
+use Rattle.span_script.proofs.steps.StepLemmas.{fits_step, quiet_step}
 use Rattle.span_script.proofs.runs.TakeLemmas.{seen_there}
 
 -- a guard of an attach, as its table tells it
@@ -92,25 +92,7 @@ module _ {S : Type 0} (spans : S → Spans) (views : Views S) (kept : S → ℕ 
         serve now then t e _ reply.Done stands
         (ap (detached now t at place guard) (attach_told now t fits guard ∙ ap (option_map lane_of) found) ∙ cond-false {A = Resolved} (not (a.place == place)) _ _ (ap not (eq-eqb a.place place on)))
         refl setup_same r.tokens refl
-        (fits_step now t fits then e (record {
-          setup_is = setup_same;
-          dispatch_is = refl;
-          handles_are = refl;
-          sites_are = refl;
-          guards_are = refl;
-          attaches_are = ap (map (option_map lane_of)) one ∙ map-set (option_map lane_of) parts.contexts.attaches guard None;
-          named_are = made_same;
-          moment_is = refl;
-          balanced = fits.balanced;
-          made_fit = fits.made;
-          new_made = tt;
-          new_site = tt;
-          new_scope = λ l e. absurd (cc e);
-          still = fits.still;
-          few = fits.few;
-          few_holds = fits.few_holds;
-          one = fits.one_lane;
-        }))
+        (fits_step now t fits then e (quiet_step now then t e fits setup_same refl refl refl refl (ap (map (option_map lane_of)) one ∙ map-set (option_map lane_of) parts.contexts.attaches guard None) made_same refl refl))
         (λ s some. known_still now then t e r.tokens refl stands.recording s refl some)
         (all_fit t stands)
         (record { quiet = refl; before = member_of views.filtered None parts.world parts.dispatch; later = member_of views.filtered None parts.world parts.dispatch; shown_before = refl; shown_later = refl; told = heard_none (member_of views.filtered None parts.world parts.dispatch); known = refl; cached = refl; aside = record { before = aside_in views parts.world parts.dispatch; later = aside_in views parts.world parts.dispatch; shown_before = refl; shown_later = refl; waits_before = refl; waits_later = refl; adds = adds_same views parts.world parts.world parts.dispatch refl } })

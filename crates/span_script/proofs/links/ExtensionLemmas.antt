@@ -89,7 +89,7 @@ module _ {S : Type 0} (spans : S → Spans) (views : Views S) (attaches : S → 
   did_op [] is_known op answer did done = does_none spans views attaches kept is_whole parts new at did.1
   did_op (s ∷ up) is_known op answer did done =
       let alike = law.shown parts.world new parts.dispatch (Applies s at op answer) did in
-      let told = law.recalled parts.world new parts.dispatch (Applies s at op answer) did in
+      let told = law.viewed parts.world new parts.dispatch (Applies s at op answer) did in
       let records = told.0 in
       record {
         spans_same = alike.spans_same;
@@ -106,12 +106,12 @@ module _ {S : Type 0} (spans : S → Spans) (views : Views S) (attaches : S → 
   -- one that doesn't grow always is
   still_done : (line : Scope) (op : Op) (answer : Option (Result OpReply Memory)) → is_growing op ≡ false → AppliesOn touches parts.world new at op (held_of parts.dispatch line) answer → done_answer answer ≡ Ok tt
   still_done [] op answer still did = ap done_answer did.0
-  still_done (s ∷ up) op answer still did = unwanted (data_at s r.spans) r.spans _ s at op answer still (law.recalled parts.world new parts.dispatch (Applies s at op answer) did).0.0
+  still_done (s ∷ up) op answer still did = unwanted (data_at s r.spans) r.spans _ s at op answer still (law.viewed parts.world new parts.dispatch (Applies s at op answer) did).0.0
 
   -- whether a parent was set
   was_set : (line : Scope) → Known line → (context : Context) (answer : Option (Result OpReply Memory)) → AppliesOn touches parts.world new at (ops.SetParent context) (held_of parts.dispatch line) answer → parent_answer (held_of parts.dispatch line) answer ≡ set_parent_result r line
   was_set [] is_known context answer did = refl
-  was_set (s ∷ up) is_known context answer did = set_by (data_at s r.spans) (is_known s up refl) (parts.dispatch, s) r.spans _ s at context answer (law.recalled parts.world new parts.dispatch (Applies s at (ops.SetParent context) answer) did).0.0
+  was_set (s ∷ up) is_known context answer did = set_by (data_at s r.spans) (is_known s up refl) (parts.dispatch, s) r.spans _ s at context answer (law.viewed parts.world new parts.dispatch (Applies s at (ops.SetParent context) answer) did).0.0
 
   -- nothing of what is kept changed
   abbrev Rest : Type 0
@@ -122,7 +122,7 @@ module _ {S : Type 0} (spans : S → Spans) (views : Views S) (attaches : S → 
       → Rest
   left [] op answer memory did wanted = absurd (let e = sym (ap done_answer did.0) ∙ wanted in cc e)
   left (s ∷ up) op answer memory did wanted =
-      let told = law.recalled parts.world new parts.dispatch (Applies s at op answer) did in
+      let told = law.viewed parts.world new parts.dispatch (Applies s at op answer) did in
       let records = told.0 in (
         law.shown parts.world new parts.dispatch (Applies s at op answer) did,
         ap (λ (w : Worlds S). w.sites) did.others,

@@ -81,9 +81,9 @@ module _ {S : Type 0} (spans : S → Spans) (views : Views S) (attaches : S → 
               spans_same = shown.spans_after;
               kept_same = shown.lanes;
               sites_same = ap (λ (w : Worlds S). w.sites) step.others;
-              recorded_is = (law.recalled parts.world new parts.dispatch _ step).0 ∙ ap (λ (xs : List (ℕ × SpanData)). record r1 { spans = xs }) (linked_is (data_at q r1.spans) known s at r1.spans);
-              filter_is = (law.recalled parts.world new parts.dispatch _ step).1;
-              aside_is = (law.recalled parts.world new parts.dispatch _ step).2;
+              recorded_is = (law.viewed parts.world new parts.dispatch _ step).0 ∙ ap (λ (xs : List (ℕ × SpanData)). record r1 { spans = xs }) (linked_is (data_at q r1.spans) known s at r1.spans);
+              filter_is = (law.viewed parts.world new parts.dispatch _ step).1;
+              aside_is = (law.viewed parts.world new parts.dispatch _ step).2;
               cached_same = ap (λ (w : Worlds S). w.cached) step.others;
               count = shown.count;
               whole = shown.whole;

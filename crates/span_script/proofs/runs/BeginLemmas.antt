@@ -77,9 +77,9 @@ module _ {S : Type 0} (same : S → S → Type 0) (spans : S → Spans) (views :
         there = (let k = ap (λ (ys : List S). length ys) is in omega (arith, k));
         spans_are = alike.spans_same;
         kept_is = alike.kept_same;
-        recorded_is = (law.recalled old world 0 r).0;
-        filter_is = (law.recalled old world 0 r).1;
-        aside_is = (law.recalled old world 0 r).2;
+        recorded_is = (law.viewed old world 0 r).0;
+        filter_is = (law.viewed old world 0 r).1;
+        aside_is = (law.viewed old world 0 r).2;
         alone = ap (λ (ys : List S). length ys) is;
         whole = λ was. alike.whole (λ s there. (let e : first ≡ s = some_is first s there in subst is_whole e was));
       }

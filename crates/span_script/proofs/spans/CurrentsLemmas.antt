@@ -1,6 +1,6 @@
 -- Handles of a lane's current span, and handles that are exchanged for one of these, served.
 use Rattle.std.proofs.Common.{◌≡◌, ℕ, ◌+◌, ◌<◌, ◌≤◌, List, [], ◌∷◌, ◌++◌, length, Bool, true, false, cond, set, slice_set, get_or, Option, Some, None, Ok, Err, option_map, map, refl, sym, ap, subst, ◌∙◌, arith, is_some, IfSome}
-use Rattle.span_script.proofs.Common.{option_map_or, cond-true, cond-false, length-map, length_push, map_push, map-set, set-append_left, get_or_append_left, sum_by-set, get_or-map, Lane, Worlds, Spans, span_at, with_hold, current_of, entries_on, SubscriberCall, CloneSpan, IsLive, OneEach, count_push, Has, member_of, spans_in, kept_in, no_spans, Handle, Held, id_of, ReplacedOn, Copies, IsCurrent, Guard, id_at, Recording, no_recording, Scope, MadeSpan, ScopeGuard, Effect, Tables, slot_at, slots_after, own_span, site_of, Here, here_at, Resolved, refuse_if, ◌>>=◌, need, effect_of_call, clone_effect, current_scope, scope_or_current, exchange_effect, is_borrowed, is_named, Balanced, names_span, named_by, opened_by, Views, State, state_of, LaneValue, lane_value, StandsFor, MadeFit, LanesFit, IsKept, Served, IsScope, held_of, held_by, site_by, Parts, AddsMeasures, CallsLaw, aside_in}
+use Rattle.span_script.proofs.Common.{option_map_or, cond-true, cond-false, length-map, length_push, map_push, map-set, set-append_left, get_or_append_left, sum_by-set, get_or-map, Lane, Worlds, Spans, span_at, with_hold, current_of, entries_on, SubscriberCall, CloneSpan, IsLive, OneEach, count_push, Has, member_of, spans_in, kept_in, no_spans, Handle, Held, id_of, ReplacedOn, Copies, IsCurrent, Guard, id_at, Recording, no_recording, Scope, MadeSpan, ScopeGuard, Effect, Tables, slot_at, slots_after, own_span, site_of, Here, here_at, Resolved, refuse_if, ◌>>=◌, need, effect_of_call, clone_effect, current_scope, scope_or_current, exchange_effect, is_borrowed, is_named, Balanced, names_span, named_by, opened_by, Views, State, state_of, lane_value, StandsFor, MadeFit, LanesFit, IsKept, Served, IsScope, held_of, held_by, site_by, Parts, AddsMeasures, CallsLaw, aside_in}
 use Rattle.std.proofs.lemmas.List.{length-set, get_or-set_other}
 use Rattle.trace_base.specs.declared.span.Parent.TheVariants as parent
 use Rattle.span_script.specs.declared.reply.Reply.TheVariants as reply

@@ -50,7 +50,7 @@ module _ {S : Type 0} (spans : S → Spans) (views : Views S) (attaches : S → 
   chain_on at law [] held is did = subst (λ (h : Held). ReplacedOn (λ id s t. Chain spans does at (Some id) s t) parts.world new h) is did
   chain_on at law (s ∷ up) held is did =
       let r = subst (λ (h : Held). ReplacedOn (λ id s t. Chain spans does at (Some id) s t) parts.world new h) is did in
-      let told = law.recalled parts.world new parts.dispatch at s r in
+      let told = law.viewed parts.world new parts.dispatch at s r in
       (law.shown parts.world new parts.dispatch at s r, ap (λ (w : Worlds S). w.sites) r.others, told.0, told.1, ap (λ (w : Worlds S). w.cached) r.others, told.2)
 
   chain_spans : (at : ℕ) (line : Scope) → ChainOn at line → ReleasedOn (spans_in spans parts.world parts.dispatch) (spans_in spans new parts.dispatch) line

@@ -1,6 +1,6 @@
 -- Makings, served.
-use Rattle.std.proofs.Common.{◌≡◌, ℕ, ◌+◌, ◌<◌, ◌≤◌, ◌^◌, List, [], ◌∷◌, ◌++◌, length, Bool, true, false, fold, get_or, Option, Some, None, Ok, option_map, map, refl, sym, ap, subst, ◌∙◌, arith, inl, inr, IfSome, slice_get, is_some, ◌≢◌, option_and_then}
-use Rattle.span_script.proofs.Common.{cases_eq, cases_lt, cond-true, cond-false, length-map, length_push, map_push, get_or_past, get_or_push, get_or_append_left, Lane, Parent, Callsite, ValueSet, Worlds, FilterState, Span, Spans, no_span, span_at, with_hold_of_child, entries_on, parent_on, current_of, SubscriberCall, NewSpan, with_new_span, IsLiveParent, HasFewHolds, AreFew, HasFewHoldsAbove, OneEach, Shown, Replaced, member_of, spans_in, kept_in, no_spans, Has, Handle, Makes, MayMake, no_handle, RequestParent, Setup, id_at, name_at, if_span, span_site, Context, KeyValue, empty_context, LayerSettings, SpanData, data_at_making, after_op, Token, parent_source, lane_context, context_from, new_span_data, data_at, with_span_data, Recording, source_of, no_recording, with_start, with_starts, Kind, length_held, holds_other, Scope, MadeSpan, Attached, no_made_span, HookNew, Effect, Tables, recorded_by, open_part, slot_at, own_span, made_of, here_at, ◌>>=◌, need, effect_of_call, after_filter_hook, admits_at, lane_in, new_span_data_at, context_around, parent_at, new_effect, span_effect, disabled_effect, scope_at, Fields, all_values, parent_for, MakesOnly, LetsThrough, Balanced, named_by, opened_by, Views, State, state_of, lane_value, StandsFor, MadeFit, LanesFit, IsKept, Served, IsScope, held_of, guard_of, held_by, site_by, Parts, parent_in, CallsLaw, SameLaw, aside_in}
+use Rattle.std.proofs.Common.{◌≡◌, ℕ, ◌+◌, ◌<◌, ◌≤◌, ◌^◌, List, [], ◌∷◌, ◌++◌, length, Bool, true, false, fold, get_or, Option, Some, None, Ok, option_map, map, refl, sym, ap, subst, ◌∙◌, arith, inl, inr, IfSome, slice_get, ◌≢◌, option_and_then}
+use Rattle.span_script.proofs.Common.{cases_eq, cases_lt, cond-true, cond-false, length-map, length_push, map_push, get_or_past, get_or_push, get_or_append_left, Lane, Parent, Callsite, ValueSet, Worlds, FilterState, Span, Spans, no_span, span_at, with_hold_of_child, entries_on, parent_on, current_of, SubscriberCall, NewSpan, with_new_span, IsLiveParent, HasFewHolds, AreFew, HasFewHoldsAbove, OneEach, Shown, Replaced, member_of, spans_in, kept_in, no_spans, Has, Handle, Makes, MayMake, no_handle, RequestParent, Setup, id_at, name_at, if_span, span_site, Context, KeyValue, empty_context, LayerSettings, SpanData, data_at_making, after_op, Token, parent_source, lane_context, context_from, new_span_data, data_at, with_span_data, Recording, source_of, no_recording, with_start, with_starts, Kind, length_held, holds_other, Scope, MadeSpan, Attached, no_made_span, HookNew, Effect, Tables, recorded_by, open_part, own_span, made_of, here_at, ◌>>=◌, need, effect_of_call, after_filter_hook, admits_at, lane_in, new_span_data_at, context_around, parent_at, new_effect, span_effect, disabled_effect, scope_at, Fields, all_values, parent_for, MakesOnly, LetsThrough, Balanced, named_by, opened_by, Views, State, state_of, lane_value, StandsFor, MadeFit, LanesFit, IsKept, Served, IsScope, held_of, guard_of, held_by, site_by, Parts, parent_in, CallsLaw, SameLaw, aside_in}
 use Rattle.span_handles.proofs.ChangedSubscriberLemmas.{seen_before}
 use Rattle.span_script.specs.declared.reply.Reply.TheVariants as reply
 use Rattle.span_script.specs.declared.request.Call.TheVariants as call
@@ -202,9 +202,9 @@ module _ {S : Type 0} (spans : S → Spans) (views : Views S) (attaches : S → 
             let e : Effect = span_effect (here_at now.setup t at place) site callsite values under up.up in
             let source = parent_source r.settings.activation p current in
             let source_is : source ≡ parent_source r.settings.activation q (current_of (t.entries place_id)) = ap (λ (x : Parent). parent_source r.settings.activation x current) up.parent_is ∙ ap (λ (o : Option ℕ). parent_source r.settings.activation q o) current_is in
-            let recalled = law.recalled parts.world new parts.dispatch _ made_call in
+            let viewed = law.viewed parts.world new parts.dispatch _ made_call in
             let rec_is : member_of views.recorded no_recording new parts.dispatch ≡ record (recorded_by (length t.spans) e r) { tokens = r.tokens } =
-            recalled.0 ∙ ap (λ (n : ℕ). with_starts (source_of r.settings.eager n) at (made_record n raw (with_starts source at r))) fits.made.count
+            viewed.0 ∙ ap (λ (n : ℕ). with_starts (source_of r.settings.eager n) at (made_record n raw (with_starts source at r))) fits.made.count
             ∙ ap (λ (x : SpanData). with_starts (source_of r.settings.eager (length t.spans)) at (made_record (length t.spans) x (with_starts source at r))) told_is
             ∙ ap (λ (x : Recording). with_starts (source_of r.settings.eager (length t.spans)) at (made_record (length t.spans) told x)) (sym (starts_fold source at r) ∙ ap (λ (o : Option ℕ). fold (λ r s. with_start s at r) r (option_to_list o)) source_is)
             ∙ ap (λ (ts : List Token). record (recorded_by (length t.spans) e r) { tokens = ts }) (recorded_tokens (length t.spans) e r) in
@@ -250,10 +250,10 @@ module _ {S : Type 0} (spans : S → Spans) (views : Views S) (attaches : S → 
               shown_before = refl;
               shown_later = refl;
               known = (refl, sym (length_push t.spans new_made));
-              told = recalled.1 ∙ ap (λ (n : ℕ). option_map (λ (f : FilterState). after_filter_hook f (HookNew n did.callsite values)) (member_of views.filtered None parts.world parts.dispatch)) fits.made.count
+              told = viewed.1 ∙ ap (λ (n : ℕ). option_map (λ (f : FilterState). after_filter_hook f (HookNew n did.callsite values)) (member_of views.filtered None parts.world parts.dispatch)) fits.made.count
                   ∙ ap (λ (c : Callsite). option_map (λ (f : FilterState). after_filter_hook f (HookNew (length t.spans) c values)) (member_of views.filtered None parts.world parts.dispatch)) callsite_is;
               cached = ap (λ (w : Worlds S). w.cached) did.made.others;
-              aside = record { before = aside_in views parts.world parts.dispatch; later = aside_in views new parts.dispatch; shown_before = refl; shown_later = refl; waits_before = refl; waits_later = refl; adds = recalled.2 };
+              aside = record { before = aside_in views parts.world parts.dispatch; later = aside_in views new parts.dispatch; shown_before = refl; shown_later = refl; waits_before = refl; waits_later = refl; adds = viewed.2 };
             })
 
         pub keeps_made : IsKept spans views kept is_whole then_parts
@@ -371,7 +371,7 @@ pub made_alike : {S : Type 0} (spans : S → Spans) (views : Views S) (attaches 
 made_alike {S} spans views attaches kept is_whole same law parts new hs' handles did =
     let alike = law.shown parts.world new parts.dispatch did in
     let sites = ap (λ (w : Worlds S). w.sites) did.others in
-    let told = law.recalled parts.world new parts.dispatch did in
+    let told = law.viewed parts.world new parts.dispatch did in
     let cached = ap (λ (w : Worlds S). w.cached) did.others in
     let next : Parts S = record parts { world = new; handles = hs' } in
     let still = adds_nothing (aside_in views parts.world parts.dispatch) (aside_in views new parts.dispatch) told.2 in

@@ -1,8 +1,7 @@
 -- The callsites of handles are those of their spans.
-use Rattle.std.proofs.Common.{◌≡◌, ℕ, ◌<◌, zero, suc, List, [], ◌∷◌, length, Option, Some, None, option_map, map, sym, ap, ◌∙◌, arith, slice_get, refl, true, is_some}
+use Rattle.std.proofs.Common.{◌≡◌, ℕ, ◌<◌, zero, suc, List, [], ◌∷◌, length, Option, Some, None, option_map, map, sym, ap, ◌∙◌, arith, slice_get, refl}
 use Rattle.span_script.proofs.Common.{get_or-map, Worlds, SubscriberCall, Handle, Copies, Scope, MadeSpan, Tables, slot_at, own_span, site_of, made_of, State, site_by, Callsite}
 use Rattle.span_script.specs.Fits.{Fits}
-use Rattle.std.proofs.lemmas.Bool.{true≢false}
 
 pub site_slot : (hs : List (Option Handle)) (n : ℕ) (handle : Handle) → slot_at hs n ≡ Some handle → slot_at (map site_by hs) n ≡ Some handle.site
 site_slot hs n handle there = get_or-map site_by hs n None ∙ ap site_by there

@@ -20,7 +20,7 @@ module _ {S : Type 0} (spans : S → Spans) (views : Views S) (attaches : S → 
   shown_on does law old new dispatch [] held is call did = subst (λ (h : Held). ReplacedOn (λ id s t. does s (call id) t) old new h) is did
   shown_on does law old new dispatch (s ∷ up) held is call did =
       let r = subst (λ (h : Held). ReplacedOn (λ id s t. does s (call id) t) old new h) is did in
-      let told = law.recalled old new dispatch (call s) r in
+      let told = law.viewed old new dispatch (call s) r in
       (law.shown old new dispatch (call s) r, ap (λ (w : Worlds S). w.sites) r.others, told.0, told.1, ap (λ (w : Worlds S). w.cached) r.others, told.2)
 
 -- what a call on a line's own span requires

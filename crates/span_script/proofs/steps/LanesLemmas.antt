@@ -142,7 +142,7 @@ module _ {S : Type 0} (spans : S → Spans) (views : Views S) (attaches : S → 
   alike_on same law old new dispatch [] held is did = subst (λ (h : Held). ReplacedOn (λ id s t. same s t) old new h) is did
   alike_on same law old new dispatch (s ∷ up) held is did =
       let r = subst (λ (h : Held). ReplacedOn (λ id s t. same s t) old new h) is did in
-      let told = law.recalled old new dispatch r in
+      let told = law.viewed old new dispatch r in
       (law.shown old new dispatch r, ap (λ (w : Worlds S). w.sites) r.others, told.0, told.1, ap (λ (w : Worlds S). w.cached) r.others, told.2)
 
   pub alike_line : (old new : Worlds S) (dispatch : ℕ) (line : Scope) → AlikeOn old new dispatch line → Alike spans attaches kept is_whole old new dispatch × (new.sites ≡ old.sites) × (member_of views.recorded no_recording new dispatch ≡ member_of views.recorded no_recording old dispatch) × (member_of views.filtered None new dispatch ≡ member_of views.filtered None old dispatch) × (new.cached ≡ old.cached) × AddsMeasures (aside_in views old dispatch) (aside_in views new dispatch) []

@@ -1,8 +1,8 @@
 -- What was recorded after one effect more, and the contexts of lanes.
 use Rattle.std.specs.Option.{option_to_list}
-use Rattle.std.proofs.Common.{◌≡◌, ℕ, List, [], ◌∷◌, ◌++◌, length, fold, Option, Some, None, refl, sym, ap, ◌∙◌}
+use Rattle.std.proofs.Common.{◌≡◌, ℕ, Bool, List, [], ◌∷◌, ◌++◌, length, fold, Option, Some, None, refl, sym, ap, ◌∙◌}
 use Rattle.std.proofs.lemmas.List.{append-nil, append_assoc}
-use Rattle.span_script.proofs.Common.{Context, Record, SpanData, Token, data_at, waiting_context, Recording, started_under, with_start, with_starts, with_applied, with_close, without_closed, closed_started, MadeSpan, SpanOp, Effect, Tables, after_effect, with_span_made, recorded_by, open_part, records_of}
+use Rattle.span_script.proofs.Common.{LayerSettings, Context, Record, SpanData, Token, data_at, waiting_context, Recording, started_under, with_start, with_starts, with_applied, with_close, without_closed, closed_started, MadeSpan, SpanOp, Effect, Tables, after_effect, with_span_made, recorded_by, open_part, records_of}
 
 -- a recording with other entries, and records before its own
 abbrev shifted : List Token → List Record → Recording → Recording
@@ -79,89 +79,56 @@ pub starts_fold : (o : Option ℕ) (at : ℕ) (r : Recording) → fold (λ r s. 
 starts_fold None at r = refl
 starts_fold (Some s) at r = refl
 
--- settings stay
-start_settings : (s at : ℕ) (r : Recording) → (with_start s at r).settings ≡ r.settings
-start_settings s at r = by_context (waiting_context (data_at s r.spans))
+-- settings, open entries and whether events are counted stay
+abbrev stays : Recording → LayerSettings × List Token × Bool
+stays r = (r.settings, r.tokens, r.counting)
+
+start_stays : (s at : ℕ) (r : Recording) → stays (with_start s at r) ≡ stays r
+start_stays s at r = by_context (waiting_context (data_at s r.spans))
   where
-    by_context : (o : Option Context) → (started_under o s at r).settings ≡ r.settings
+    by_context : (o : Option Context) → stays (started_under o s at r) ≡ stays r
     by_context None = refl
     by_context (Some under) = refl
 
-close_settings : (s at : ℕ) (r : Recording) → (with_close s at r).settings ≡ r.settings
-close_settings s at r = by_told (data_at s (with_start s at r).spans) ∙ start_settings s at r
+close_stays : (s at : ℕ) (r : Recording) → stays (with_close s at r) ≡ stays r
+close_stays s at r = by_told (data_at s (with_start s at r).spans) ∙ start_stays s at r
   where
-    by_told : (o : Option SpanData) → (without_closed o s at (with_start s at r)).settings ≡ (with_start s at r).settings
+    by_told : (o : Option SpanData) → stays (without_closed o s at (with_start s at r)) ≡ stays (with_start s at r)
     by_told None = refl
     by_told (Some told) = refl
 
-starts_settings : (at : ℕ) (ss : List ℕ) (r : Recording) → (fold (λ r s. with_start s at r) r ss).settings ≡ r.settings
-starts_settings at [] r = refl
-starts_settings at (s ∷ ss) r = starts_settings at ss (with_start s at r) ∙ start_settings s at r
+starts_stay : (at : ℕ) (ss : List ℕ) (r : Recording) → stays (fold (λ r s. with_start s at r) r ss) ≡ stays r
+starts_stay at [] r = refl
+starts_stay at (s ∷ ss) r = starts_stay at ss (with_start s at r) ∙ start_stays s at r
 
-ops_settings : (at : ℕ) (ds : List SpanOp) (r : Recording) → (fold (λ r d. with_applied d.span at d.op r) r ds).settings ≡ r.settings
-ops_settings at [] r = refl
-ops_settings at (d ∷ ds) r = ops_settings at ds (with_applied d.span at d.op r)
+ops_stay : (at : ℕ) (ds : List SpanOp) (r : Recording) → stays (fold (λ r d. with_applied d.span at d.op r) r ds) ≡ stays r
+ops_stay at [] r = refl
+ops_stay at (d ∷ ds) r = ops_stay at ds (with_applied d.span at d.op r)
 
-closes_settings : (at : ℕ) (ss : List ℕ) (r : Recording) → (fold (λ r s. with_close s at r) r ss).settings ≡ r.settings
-closes_settings at [] r = refl
-closes_settings at (s ∷ ss) r = closes_settings at ss (with_close s at r) ∙ close_settings s at r
+closes_stay : (at : ℕ) (ss : List ℕ) (r : Recording) → stays (fold (λ r s. with_close s at r) r ss) ≡ stays r
+closes_stay at [] r = refl
+closes_stay at (s ∷ ss) r = closes_stay at ss (with_close s at r) ∙ close_stays s at r
 
-made_settings : (n : ℕ) (o : Option MadeSpan) (r : Recording) → (with_span_made n o r).settings ≡ r.settings
-made_settings n None r = refl
-made_settings n (Some m) r = refl
+made_stays : (n : ℕ) (o : Option MadeSpan) (r : Recording) → stays (with_span_made n o r) ≡ stays r
+made_stays n None r = refl
+made_stays n (Some m) r = refl
 
-begins_settings : (o : Option ℕ) (at : ℕ) (r : Recording) → (with_starts o at r).settings ≡ r.settings
-begins_settings None at r = refl
-begins_settings (Some s) at r = start_settings s at r
+begins_stay : (o : Option ℕ) (at : ℕ) (r : Recording) → stays (with_starts o at r) ≡ stays r
+begins_stay None at r = refl
+begins_stay (Some s) at r = start_stays s at r
+
+recorded_stays : (n : ℕ) (e : Effect) (r : Recording) → stays (recorded_by n e r) ≡ stays r
+recorded_stays n e r =
+    let started = fold (λ r s. with_start s e.at r) r e.starts in
+    let made = with_span_made n e.new_span started in
+    let begun = with_starts e.begins e.at made in
+    closes_stay e.at e.closes (fold (λ r d. with_applied d.span e.at d.op r) begun e.ops) ∙ ops_stay e.at e.ops begun ∙ begins_stay e.begins e.at made ∙ made_stays n e.new_span started ∙ starts_stay e.at e.starts r
 
 pub recorded_settings : (n : ℕ) (e : Effect) (r : Recording) → (recorded_by n e r).settings ≡ r.settings
-recorded_settings n e r =
-    let started = fold (λ r s. with_start s e.at r) r e.starts in
-    let made = with_span_made n e.new_span started in
-    let begun = with_starts e.begins e.at made in
-    closes_settings e.at e.closes (fold (λ r d. with_applied d.span e.at d.op r) begun e.ops) ∙ ops_settings e.at e.ops begun ∙ begins_settings e.begins e.at made ∙ made_settings n e.new_span started ∙ starts_settings e.at e.starts r
-
--- so do open entries
-start_tokens : (s at : ℕ) (r : Recording) → (with_start s at r).tokens ≡ r.tokens
-start_tokens s at r = by_context (waiting_context (data_at s r.spans))
-  where
-    by_context : (o : Option Context) → (started_under o s at r).tokens ≡ r.tokens
-    by_context None = refl
-    by_context (Some under) = refl
-
-close_tokens : (s at : ℕ) (r : Recording) → (with_close s at r).tokens ≡ r.tokens
-close_tokens s at r = by_told (data_at s (with_start s at r).spans) ∙ start_tokens s at r
-  where
-    by_told : (o : Option SpanData) → (without_closed o s at (with_start s at r)).tokens ≡ (with_start s at r).tokens
-    by_told None = refl
-    by_told (Some told) = refl
-
-starts_tokens : (at : ℕ) (ss : List ℕ) (r : Recording) → (fold (λ r s. with_start s at r) r ss).tokens ≡ r.tokens
-starts_tokens at [] r = refl
-starts_tokens at (s ∷ ss) r = starts_tokens at ss (with_start s at r) ∙ start_tokens s at r
-
-ops_tokens : (at : ℕ) (ds : List SpanOp) (r : Recording) → (fold (λ r d. with_applied d.span at d.op r) r ds).tokens ≡ r.tokens
-ops_tokens at [] r = refl
-ops_tokens at (d ∷ ds) r = ops_tokens at ds (with_applied d.span at d.op r)
-
-closes_tokens : (at : ℕ) (ss : List ℕ) (r : Recording) → (fold (λ r s. with_close s at r) r ss).tokens ≡ r.tokens
-closes_tokens at [] r = refl
-closes_tokens at (s ∷ ss) r = closes_tokens at ss (with_close s at r) ∙ close_tokens s at r
-
-made_tokens : (n : ℕ) (o : Option MadeSpan) (r : Recording) → (with_span_made n o r).tokens ≡ r.tokens
-made_tokens n None r = refl
-made_tokens n (Some m) r = refl
-
-begins_tokens : (o : Option ℕ) (at : ℕ) (r : Recording) → (with_starts o at r).tokens ≡ r.tokens
-begins_tokens None at r = refl
-begins_tokens (Some s) at r = start_tokens s at r
+recorded_settings n e r = ap (λ (x : LayerSettings × List Token × Bool). x.0) (recorded_stays n e r)
 
 pub recorded_tokens : (n : ℕ) (e : Effect) (r : Recording) → (recorded_by n e r).tokens ≡ r.tokens
-recorded_tokens n e r =
-    let started = fold (λ r s. with_start s e.at r) r e.starts in
-    let made = with_span_made n e.new_span started in
-    let begun = with_starts e.begins e.at made in
-    closes_tokens e.at e.closes (fold (λ r d. with_applied d.span e.at d.op r) begun e.ops) ∙ ops_tokens e.at e.ops begun ∙ begins_tokens e.begins e.at made ∙ made_tokens n e.new_span started ∙ starts_tokens e.at e.starts r
+recorded_tokens n e r = ap (λ (x : LayerSettings × List Token × Bool). x.1) (recorded_stays n e r)
 
 -- a start of the open part
 pub start_open : (s at : ℕ) (r x : Recording) → open_part r ≡ x → (with_start s at r).spans ≡ (with_start s at x).spans
@@ -177,17 +144,10 @@ starts_open (Some s) at r x is = start_open s at r x is
 
 -- an entry leaves the others open
 pub entry_tokens : (o : Option ℕ) (at : ℕ) (r : Recording) → (with_starts o at r).tokens ≡ r.tokens
-entry_tokens None at r = refl
-entry_tokens (Some s) at r = start_tokens s at r
+entry_tokens o at r = ap (λ (x : LayerSettings × List Token × Bool). x.1) (begins_stay o at r)
 
 pub entry_settings : (o : Option ℕ) (at : ℕ) (r : Recording) → (with_starts o at r).settings ≡ r.settings
-entry_settings None at r = refl
-entry_settings (Some s) at r = start_settings s at r
+entry_settings o at r = ap (λ (x : LayerSettings × List Token × Bool). x.0) (begins_stay o at r)
 
 pub entry_counting : (o : Option ℕ) (at : ℕ) (r : Recording) → (with_starts o at r).counting ≡ r.counting
-entry_counting None at r = refl
-entry_counting (Some s) at r = by_context (waiting_context (data_at s r.spans))
-  where
-    by_context : (o : Option Context) → (started_under o s at r).counting ≡ r.counting
-    by_context None = refl
-    by_context (Some under) = refl
+entry_counting o at r = ap (λ (x : LayerSettings × List Token × Bool). x.2) (begins_stay o at r)

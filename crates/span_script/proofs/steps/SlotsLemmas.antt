@@ -1,6 +1,6 @@
 -- Lists of slots, of which some are spent.
 use Rattle.std.proofs.Common.{◌≡◌, ℕ, zero, suc, ◌+◌, ◌<◌, List, [], ◌∷◌, ◌++◌, length, Option, Some, None, option_map, map, refl, sym, ap, ◌∙◌, arith, slice_set}
-use Rattle.span_script.proofs.Common.{map_push, map-set, length_push, get_or-map, Handle, Held, Parent, RequestParent, parent_for, held_by, slot_at, with_item, spend, slots_after, with_either, either_after}
+use Rattle.span_script.proofs.Common.{map_push, map-set, length_push, get_or-map, Handle, Parent, RequestParent, parent_for, held_by, slot_at, with_item, spend, slots_after, with_either, either_after}
 use Rattle.std.proofs.lemmas.List.{length-set}
 
 -- what holds of each name that isn't spent holds after one more, if it holds of that

@@ -1,6 +1,6 @@
 -- One effect more: what fits the tables fits them with the effect, whatever its kind.
 use Rattle.std.proofs.Common.{◌≡◌, ℕ, ◌+◌, ◌≤◌, List, length, Option, Some, None, option_map, map, sym, ap, subst, ◌∙◌, arith}
-use Rattle.span_script.proofs.Common.{span_at, OneEach, Balanced, named_by, opened_by, Setup, Scope, ScopeGuard, Effect, Tables, after_effect, site_of, slot_at, slots_after, either_after, with_item, lanes_with_entry, lanes_with_exit, State, MadeFit, IsScope, held_of, guard_of, lane_of}
+use Rattle.span_script.proofs.Common.{Spans, span_at, OneEach, Balanced, named_by, opened_by, Setup, Scope, ScopeGuard, Effect, Tables, after_effect, site_of, slot_at, slots_after, either_after, with_item, lanes_with_entry, lanes_with_exit, State, MadeFit, IsScope, held_of, guard_of, lane_of}
 use Rattle.span_script.specs.Fits.{Fits}
 use Rattle.span_script.proofs.steps.SlotsLemmas.{named_push, slots_map, either_map, either_count, still_named}
 use Rattle.span_script.proofs.spans.ScopesLemmas.{NewMade, NewSite, lines_with, lines_after, sites_left, sited_after}
@@ -58,3 +58,30 @@ module _ (k : State) (t : Tables) (fits : Fits k t) (next : State) (e : Effect) 
     few = s.few;
     few_holds = s.few_holds;
   }
+
+-- an effect that makes and spends no handle, guard or span, and leaves the lane's entries
+abbrev pub quiet_of : Effect → Effect
+quiet_of e = record e { new_handle = None; spent_handle = None; new_guard = None; spent_guard = None; new_attach = None; new_span = None; entry = None; exit = None }
+
+pub quiet_step : (k next : State) (t : Tables) (e : Effect) → Fits k t → next.setup ≡ k.setup → next.dispatch ≡ k.dispatch → next.handles ≡ k.handles → next.handle_sites ≡ k.handle_sites → next.guards ≡ k.guards
+    → map (option_map lane_of) next.contexts.attaches ≡ either_after {B = ScopeGuard} (map (option_map lane_of) k.contexts.attaches) None None e.spent_attach
+    → next.contexts.contexts ≡ with_item k.contexts.contexts e.new_context → next.moment ≡ e.at → next.spans ≡ k.spans → Step k t (quiet_of e) next
+quiet_step k next t e fits setup dispatch handles sites guards attaches named moment spans = record {
+  setup_is = setup;
+  dispatch_is = dispatch;
+  handles_are = handles;
+  sites_are = sites;
+  guards_are = guards;
+  attaches_are = attaches;
+  named_are = named;
+  moment_is = moment;
+  balanced = subst (λ (x : Spans). Balanced x (map named_by t.handles) (map (opened_by k.setup.ids) t.guards) t.entries) (sym spans) fits.balanced;
+  made_fit = subst (λ (x : Spans). MadeFit x.made t.spans) (sym spans) fits.made;
+  new_made = tt;
+  new_site = tt;
+  new_scope = λ l e. absurd (cc e);
+  still = fits.still;
+  few = fits.few;
+  few_holds = λ s. (let f = fits.few_holds s in let e = ap (λ (x : Spans). (span_at x.made s).holds) spans in omega (arith, f, e));
+  one = subst (λ (x : Spans). OneEach x.lanes) (sym spans) fits.one_lane;
+}

@@ -15,9 +15,9 @@ refused_entry place errors.Full = refusals.Full place
 refused_entry place errors.Memory = refusals.Memory
 
 -- what a reload is refused by
-abbrev pub refused_text : OpenError → Refusal
-refused_text (opening.Directive counting piece) = refusals.Directive piece
-refused_text opening.Memory = refusals.Memory
+abbrev pub reload_refusal : OpenError → Refusal
+reload_refusal (opening.Directive counting piece) = refusals.Directive piece
+reload_refusal opening.Memory = refusals.Memory
 
 -- What was opened or made is given back without memory; a parent and a status are set, and the gate and a callsite's fields
 -- are asked, without memory too.
