@@ -15,7 +15,7 @@ fn of_any<S: OtelSubscriber>()
     span_handles::laws::calls::<S>();
     span_handles::laws::same::<S>();
     span_handles::laws::chains::<S>();
-    recording::leaves::<S>();
+    recording::asks_leave_spans::<S>();
 }
 
 // The same of the stack.

@@ -1,15 +1,14 @@
 //! Recording events.
-ghost use Rattle.std.specs.Prelude.{◌≡◌, ◌<◌, length, option_map, IfSome, OnOk, OnErr};
+ghost use Rattle.std.specs.Prelude.{◌<◌, length, OnOk, OnErr};
 ghost use Rattle.trace_base.specs.Conditions.{IsLiveParent};
 ghost use Rattle.trace_base.specs.Gate.{IsInWorld, dispatch_on};
 ghost use Rattle.span_handles.specs.Handles.{HasIf, ReplacedIf};
 ghost use Rattle.span_script.specs.declared.request.Call.{Call};
-ghost use Rattle.span_script.specs.Setups.{event_site};
 ghost use Rattle.span_script.specs.Slots.{TellsOnly};
 
 use crate::fields::all_values;
 use crate::laws;
-use crate::names::{parent_for, site_at};
+use crate::names::{parent_for, site_of};
 use crate::pipeline::Pipeline;
 use otel_base::list::Items;
 use otel_base::memory::Memory;
@@ -18,27 +17,13 @@ use otel_base::text::Text;
 use span_handles::event;
 use span_script::reply::{Refusal, Reply, What};
 use span_script::request::RequestParent;
-use span_stack::{Stack, admits};
-use trace_base::callsite::{Callsite, Kind, SiteId};
+use span_stack::admits;
+use trace_base::callsite::{Kind, SiteId};
 use trace_base::field::{Value, ValueSet};
 use trace_base::lane::Lane;
 use trace_base::span::Parent;
 use trace_base::subscriber::Subscriber;
 use trace_base::world::World;
-
-// The callsite of a number, if it makes events.
-fn event_site(world: &World<Stack>, number: u64) -> Option<(SiteId, &Callsite)>
-    ensures callsite { option_map (λ found. found.1.now) result ≡ event_site world.now.sites number }
-    ensures id { IfSome result (λ found. (found.0 ≡ number) × (number < length world.now.sites)) }
-{
-    let Some((site, callsite)) = site_at(world, number) else {
-        return None;
-    };
-    match callsite.kind {
-        Kind::Event => Some((site, callsite)),
-        Kind::Span => None,
-    }
-}
 
 // An event under a parent if it is let through.
 fn tell_if<S: Subscriber>(
@@ -84,7 +69,7 @@ impl Pipeline {
         laws::calls();
         laws::same();
         span_stack::laws::statics();
-        let Some(found) = event_site(&self.world, site) else {
+        let Some(found) = site_of(&self.world, Kind::Event, site) else {
             return Err(Refusal::UnknownName { what: What::Site });
         };
         let (id, callsite) = found;

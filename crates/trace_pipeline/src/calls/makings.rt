@@ -1,14 +1,13 @@
 //! Making spans.
-ghost use Rattle.std.specs.Prelude.{◌≡◌, ◌<◌, length, option_map, IfSome, IfOk, OnErr};
+ghost use Rattle.std.specs.Prelude.{◌<◌, length, IfOk, OnErr};
 ghost use Rattle.trace_base.specs.Gate.{IsInWorld, dispatch_on};
 ghost use Rattle.span_handles.specs.Handles.{MayMakeIf, ReplacedIf};
 ghost use Rattle.span_script.specs.declared.request.Call.{Call};
-ghost use Rattle.span_script.specs.Setups.{span_site};
 ghost use Rattle.span_script.specs.Slots.{MakesOnly};
 
 use crate::fields::all_values;
 use crate::laws;
-use crate::names::{check_few_names, parent_for, site_at};
+use crate::names::{check_few_names, parent_for, site_of};
 use crate::pipeline::Pipeline;
 use otel_base::list::Items;
 use otel_base::memory::Memory;
@@ -17,27 +16,13 @@ use otel_base::text::Text;
 use span_handles::span::Span;
 use span_script::reply::{Refusal, Reply, What};
 use span_script::request::RequestParent;
-use span_stack::{Stack, admits};
-use trace_base::callsite::{Callsite, Kind, SiteId};
+use span_stack::admits;
+use trace_base::callsite::{Kind, SiteId};
 use trace_base::field::{Value, ValueSet};
 use trace_base::lane::Lane;
 use trace_base::span::Parent;
 use trace_base::subscriber::Subscriber;
 use trace_base::world::World;
-
-// The callsite of a number, if it makes spans.
-fn span_site(world: &World<Stack>, number: u64) -> Option<(SiteId, &Callsite)>
-    ensures callsite { option_map (λ found. found.1.now) result ≡ span_site world.now.sites number }
-    ensures id { IfSome result (λ found. (found.0 ≡ number) × (number < length world.now.sites)) }
-{
-    let Some((site, callsite)) = site_at(world, number) else {
-        return None;
-    };
-    match callsite.kind {
-        Kind::Span => Some((site, callsite)),
-        Kind::Event => None,
-    }
-}
 
 // A new span under a parent if it is let through, else a disabled handle.
 fn make_if<S: Subscriber>(
@@ -83,7 +68,7 @@ impl Pipeline {
         laws::same();
         check_few_names(&self.handles, &self.guards)?;
         let number = self.handles.len() as u64;
-        let Some(found) = span_site(&self.world, site) else {
+        let Some(found) = site_of(&self.world, Kind::Span, site) else {
             return Err(Refusal::UnknownName { what: What::Site });
         };
         let (id, callsite) = found;

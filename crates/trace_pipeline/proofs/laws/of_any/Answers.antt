@@ -2,4 +2,4 @@
 use Rattle.trace_pipeline.proofs.laws.of_any.Goals as goal
 
 pub returns : goal.returns
-returns g c = record { calls = c.calls.ensures; alike = c.same.ensures; chains = c.chains.ensures; leaves = c.leaves.ensures }
+returns g c = record { calls = c.calls.ensures; alike = c.same.ensures; chains = c.chains.ensures; asks = c.asks_leave_spans.ensures }
