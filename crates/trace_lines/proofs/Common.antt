@@ -60,7 +60,7 @@ unfoldable pub use Rattle.trace_lines.specs.forms.SettingsForm.{callsite_form, e
 pub use Rattle.trace_lines.specs.reading.Left.{members_left, value_data}
 pub use Rattle.trace_lines.specs.reading.Object.{array_of, by_name, items}
 unfoldable pub use Rattle.trace_lines.specs.reading.Object.{line_of}
-pub use Rattle.trace_lines.specs.reading.Placed.{Before, FindsMember, FitsIn, GoesLast, MembersInOrder}
+pub use Rattle.trace_lines.specs.reading.Placed.{Before, FindsMember, FitsIn}
 pub use Rattle.trace_lines.specs.reading.Spelled.{line_members, line_value}
 unfoldable pub use Rattle.trace_lines.specs.reading.Spelled.{request_spelled, settings_spelled}
 pub use Rattle.trace_lines.specs.text.Compact.{BeginsItems, BeginsMembers, BeginsNested, BeginsWithValue, ReadsValue, members_of, nested_value, onto, plain_data}

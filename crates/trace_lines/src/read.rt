@@ -34,7 +34,7 @@ use serde_json::Value as Json;
 use span_script::request::Request;
 use span_script::settings::Settings;
 use std::alloc::{AllocError, AllocFailed, Global};
-pub use syntax::flat::{closes, is_text};
+pub use syntax::flat::{closes, is_utf8};
 pub use syntax::object::Object;
 pub use syntax::value::Value;
 

@@ -2,7 +2,7 @@
 use span_script::reply::Refusal;
 
 /// Why a line is refused, as its refusal line tells it.
-#[derive(Clone, Copy, PartialEq, Eq)]
+#[derive(Clone, Copy)]
 pub enum Told {
     /// The line is no JSON, or no object, or one of no form; or no settings line came.
     BadLine,

@@ -7,6 +7,7 @@ ghost use Rattle.trace_lines.specs.Replay.{summary_text};
 ghost use Rattle.trace_lines.specs.text.Texts.{reply_text, record_text, measure_text, refusal_text, end_text, measures_end_text};
 ghost use Rattle.span_script.specs.declared.reply.Refusal.{Refusal};
 
+mod array;
 mod attribute;
 mod end;
 pub(crate) mod escape;

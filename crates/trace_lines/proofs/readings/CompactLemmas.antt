@@ -259,12 +259,6 @@ pub quoted_text : (bytes words rest : List ℕ) → bytes ≡ 34 ∷ (words ++ 3
 quoted_text bytes words rest is plain =
     is ∙ ap (λ (l : List ℕ). 34 ∷ l) (sym (append_assoc words (34 ∷ []) rest) ∙ ap (λ (l : List ℕ). (l ++ 34 ∷ []) ++ rest) (sym plain))
 
-pub word_is : (text front : List ℕ) (r : Option (Bor (List ℕ)))
-    → MatchOption r (pointwise nat_eq (take (length front) text) front ≡ false) (λ x. (pointwise nat_eq (take (length front) text) front ≡ true) × (x.now ≡ drop (length front) text) × (length x.now + length front ≡ length text))
-    → IfSome r (λ x. text ≡ front ++ x.now)
-word_is text front None m = tt
-word_is text front (Some x) m = strip_prefix_is Decides-eqb text front (Some x) m
-
 -- the front of a text, where what is behind it is known
 pub cut_front : (text front rest : List ℕ) → text ≡ front ++ rest → take (length text - length rest) text ≡ front
 cut_front text front rest is =

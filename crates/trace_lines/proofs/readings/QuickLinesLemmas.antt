@@ -1,176 +1,179 @@
 -- What common request lines spell.
-use Rattle.std.proofs.Common.{◌≡◌, ◌<◌, ◌≤◌, ◌^◌, ℕ, List, ◌++◌, [], ◌∷◌, true, Some, Ok, option_and_then, codes, decimal, refl, sym, ap, subst, ◌∙◌, arith, ok_or}
+use Rattle.std.proofs.Common.{◌≡◌, ℕ, zero, suc, ◌<◌, ◌≤◌, ◌^◌, List, [], ◌∷◌, ◌++◌, length, true, Option, Some, None, Ok, IfSome, Bor, option_map, option_and_then, Less, Equal, Greater, nat_cmp, codes, decimal, refl, sym, ap, subst, ◌∙◌, arith, append_assoc, ok_or}
+use Rattle.std.specs.Prelude.{⊤, unwrap_or}
 use Rattle.std.specs.Str.{IsUtf8}
-use Rattle.trace_lines.proofs.Common.{IsAscii-decimal, IsUtf8-append, IsUtf8-from_ascii, IsUtf8-are_ascii, are_ascii, escape_byte, HasNumbers, depth, IsNumber-decimal, Data, Members, unsigned, number, string, object, member, no_members, as_object, of_json, max_depth, read, outline, compact_text, number_of-decimal, Request, BadLine, Value, ReadsValue, fields_of, all_of, request_form, new_form, drop_form, enter_form, exit_form, event_form, request_spelled}
+use Rattle.trace_lines.proofs.Common.{nat_list_cmp_total, tied_itself, slice_cmp, match_ordering, ordering_reverse, IsAscii-decimal, IsUtf8-append, IsUtf8-from_ascii, IsUtf8-are_ascii, are_ascii, quoted, escape, escape_byte, compact_text, IsNumber-decimal, Data, Members, unsigned, number, string, member, no_members, put, Before, number_of-decimal, BeginsWithValue, request_form, new_form, drop_form, enter_form, exit_form, event_form, fields_of, all_of, Value, Request, BadLine, request_spelled}
 use Rattle.span_script.specs.declared.request.Call.TheVariants as call
-use Rattle.span_script.specs.declared.request.RequestParent.TheVariants as request_parent
-use Rattle.trace_lines.specs.text.QuickLines.{line_from, two_numbers}
-use Rattle.trace_lines.proofs.readings.LinesLemmas.{read_value}
-use Rattle.trace_lines.proofs.readings.CompactLemmas.{read_compact}
+use Rattle.span_script.specs.declared.request.RequestParent.{RequestParent}
+use Rattle.span_script.specs.declared.request.RequestParent.TheVariants.{Contextual, Root, Under}
+use Rattle.trace_lines.specs.declared.read.quick.CallKind.{CallKind}
+use Rattle.trace_lines.specs.declared.read.quick.CallKind.TheVariants as kind
+use Rattle.trace_lines.specs.declared.read.quick.RequestMembers.{RequestMembers}
+use Rattle.trace_lines.specs.reading.Object.{whole_number}
+use Rattle.trace_lines.specs.text.QuickLines.{there, filled, named_values, kind_value, parent_value, AreSpelled, HasValue, ReadsMember, HasMembers, AreOf}
+use Rattle.trace_lines.proofs.readings.CompactLemmas.{leaf_begins, text_begins, whole_begins}
 
-number_utf8 : (n : ℕ) → n < 2 ^ 64 → IsUtf8 (decimal n)
-number_utf8 n fits = IsUtf8-from_ascii (decimal n) (IsAscii-decimal n fits)
+-- ---- members in the order of their names
 
--- a line is UTF-8 if what stands behind its moment is
-line_utf8 : (line rest : List ℕ) (at : ℕ) → at < 2 ^ 64 → line ≡ line_from at rest → IsUtf8 rest → IsUtf8 line
-line_utf8 line rest at a is utf8 =
-    let behind_moment = IsUtf8-append (codes ",\"do\":\"") _ (IsUtf8-are_ascii (codes ",\"do\":\"") refl) utf8 in
-    subst IsUtf8 (sym is)
-    (IsUtf8-append (codes "{\"at\":") _ (IsUtf8-are_ascii (codes "{\"at\":") refl) (IsUtf8-append (decimal at) _ (number_utf8 at a) behind_moment))
+abbrev Slot : Type 0
+Slot = List ℕ × Option Data
 
--- a line of words that are ASCII and of numbers is UTF-8
-two_numbers_utf8 : (line rest first second : List ℕ) (at one other : ℕ) → at < 2 ^ 64 → one < 2 ^ 64 → other < 2 ^ 64 → are_ascii first ≡ true → are_ascii second ≡ true
-    → line ≡ line_from at rest → rest ≡ two_numbers first one second other → IsUtf8 line
-two_numbers_utf8 line rest first second at one other a l h first_ascii second_ascii is behind =
-    let last = IsUtf8-append (decimal other) (125 ∷ []) (number_utf8 other h) (IsUtf8-are_ascii (125 ∷ []) refl) in
-    let middle = IsUtf8-append second _ (IsUtf8-are_ascii second second_ascii) last in
-    let numbers = IsUtf8-append first _ (IsUtf8-are_ascii first first_ascii) (IsUtf8-append (decimal one) _ (number_utf8 one l) middle) in
-    line_utf8 line rest at a is (subst IsUtf8 (sym behind) numbers)
+-- the name comes before the first
+abbrev IsBelow : List ℕ → List Slot → Type 0
+IsBelow k [] = ⊤
+IsBelow k (e ∷ es) = slice_cmp nat_cmp k e.0 ≡ Less
 
--- a line of a word that is ASCII and of a text that is UTF-8
-filled_utf8 : (line rest word array : List ℕ) (at : ℕ) → at < 2 ^ 64 → are_ascii word ≡ true → line ≡ line_from at rest → rest ≡ word ++ array → IsUtf8 array → IsUtf8 line
-filled_utf8 line rest word array at a ascii is front utf8 =
-    line_utf8 line rest at a is (subst IsUtf8 (sym front) (IsUtf8-append word array (IsUtf8-are_ascii word ascii) utf8))
+abbrev AreInOrder : List Slot → Type 0
+AreInOrder [] = ⊤
+AreInOrder (e ∷ es) = IsBelow e.0 es × AreInOrder es
 
--- what an object's compact text spells, whose members stand in another order
-spells : (raw ms : Members) (request : Request) (line : List ℕ) → IsUtf8 line → line ≡ compact_text (object raw) → HasNumbers (outline (object raw)) → depth (outline (object raw)) ≤ max_depth
-    → of_json (outline (object raw)) ≡ Some (object ms) → all_of request_form ms ≡ Some request → request_spelled line ≡ Ok request
+abbrev name_at : ℕ → List Slot → List ℕ
+name_at i [] = []
+name_at zero (e ∷ es) = e.0
+name_at (suc i) (e ∷ es) = name_at i es
+
+abbrev with_value : ℕ → Data → List Slot → List Slot
+with_value i d [] = []
+with_value zero d (e ∷ es) = (e.0, Some d) ∷ es
+with_value (suc i) d (e ∷ es) = e ∷ with_value i d es
+
+below_more : (k l : List ℕ) (es : List Slot) → slice_cmp nat_cmp k l ≡ Less → IsBelow l es → IsBelow k es
+below_more k l [] is next = tt
+below_more k l (e ∷ es) is next = nat_list_cmp_total.trans k l e.0 is next
+
+below_name : (k : List ℕ) (i : ℕ) (es : List Slot) → i < length es → IsBelow k es → AreInOrder es → slice_cmp nat_cmp k (name_at i es) ≡ Less
+below_name k i [] within next order = absurd (omega (arith, within))
+below_name k zero (e ∷ es) within next order = next
+below_name k (suc i) (e ∷ es) within next order = nat_list_cmp_total.trans k e.0 (name_at i es) next (below_name e.0 i es (omega (arith, within)) order.0 order.1)
+
+before_there : (k l : List ℕ) (o : Option Data) (ms : Members) → slice_cmp nat_cmp k l ≡ Less → Before k ms → Before k (there l o ms)
+before_there k l None ms is before = before
+before_there k l (Some d) ms is before = is
+
+before_all : (k : List ℕ) (es : List Slot) → IsBelow k es → AreInOrder es → Before k (filled es)
+before_all k [] next order = tt
+before_all k (e ∷ es) next order = before_there k e.0 e.1 (filled es) next (before_all k es (below_more k e.0 es next order.0) order.1)
+
+put_first : (k : List ℕ) (d : Data) (ms : Members) → Before k ms → put k d ms ≡ member k d ms
+put_first k d no_members before = refl
+put_first k d (member l e ms) before = rw before refl
+
+put_here : (k : List ℕ) (o : Option Data) (d : Data) (ms : Members) → Before k ms → put k d (there k o ms) ≡ member k d ms
+put_here k None d ms before = put_first k d ms before
+put_here k (Some e) d ms before = rw (tied_itself nat_list_cmp_total k) refl
+
+put_behind : (k l : List ℕ) (o : Option Data) (d : Data) (ms : Members) → slice_cmp nat_cmp k l ≡ Greater → put k d (there l o ms) ≡ there l o (put k d ms)
+put_behind k l None d ms is = refl
+put_behind k l (Some e) d ms is = rw is refl
+
+put_value : (i : ℕ) (d : Data) (es : List Slot) → i < length es → AreInOrder es → filled (with_value i d es) ≡ put (name_at i es) d (filled es)
+put_value i d [] within order = absurd (omega (arith, within))
+put_value zero d (e ∷ es) within order = sym (put_here e.0 e.1 d (filled es) (before_all e.0 es order.0 order.1))
+put_value (suc i) d (e ∷ es) within order =
+    let less : i < length es = omega (arith, within) in
+    let above = nat_list_cmp_total.antisymm (name_at i es) e.0 ∙ ap ordering_reverse (below_name e.0 i es less order.0 order.1) in
+    ap (there e.0 e.1) (put_value i d es less order.1) ∙ sym (put_behind (name_at i es) e.0 e.1 d (filled es) above)
+
+-- ---- values behind their names
+
+pub number_behind : (text front digits rest : List ℕ) (n : ℕ) → text ≡ front ++ digits → digits ≡ decimal n ++ rest → n < 2 ^ 64 → HasValue text front (whole_number n) rest
+number_behind text front digits rest n is begins fits = (
+  digits,
+  is,
+  λ utf8. subst IsUtf8 (sym begins) (IsUtf8-append (decimal n) rest (IsUtf8-from_ascii (decimal n) (IsAscii-decimal n fits)) utf8),
+  leaf_begins 18 digits rest (whole_number n) (whole_begins digits rest n begins fits),
+)
+
+pub word_behind : (text front value words rest : List ℕ) → text ≡ front ++ value → value ≡ quoted words ++ rest → are_ascii (quoted words) ≡ true → HasValue text front (string words) rest
+word_behind text front value words rest is begins ascii = (
+  value,
+  is,
+  λ utf8. subst IsUtf8 (sym begins) (IsUtf8-append (quoted words) rest (IsUtf8-are_ascii (quoted words) ascii) utf8),
+  leaf_begins 18 value rest (string words) (text_begins value rest words begins),
+)
+
+pub kind_behind : (text front value rest : List ℕ) (k : CallKind) → text ≡ front ++ value → value ≡ compact_text (kind_value k) ++ rest → HasValue text front (kind_value k) rest
+unfolding escape_byte
+kind_behind text front value rest kind.New is begins = word_behind text front value (codes "new") rest is begins refl
+kind_behind text front value rest kind.Event is begins = word_behind text front value (codes "event") rest is begins refl
+kind_behind text front value rest kind.Enter is begins = word_behind text front value (codes "enter") rest is begins refl
+kind_behind text front value rest kind.Exit is begins = word_behind text front value (codes "exit") rest is begins refl
+kind_behind text front value rest kind.Drop is begins = word_behind text front value (codes "drop") rest is begins refl
+
+-- the member of the name at a place
+pub member_read : (i : ℕ) (old new : RequestMembers) (text rest name : List ℕ) (d : Data) → i < 8 → are_ascii (quoted name ++ 58 ∷ []) ≡ true
+    → ((before : Option Data) → name_at i (named_values old before) ≡ name) → HasValue text (quoted name ++ 58 ∷ []) d rest
+    → ((before : Option Data) → AreSpelled old.fields before → (after : Option Data) × AreSpelled new.fields after × (named_values new after ≡ with_value i d (named_values old before)))
+    → ReadsMember old new text rest
+member_read i old new text rest name d within ascii named has values = (
+  name,
+  d,
+  has,
+  λ utf8. subst IsUtf8 (sym has.1) (IsUtf8-append (quoted name ++ 58 ∷ []) has.0 (IsUtf8-are_ascii (quoted name ++ 58 ∷ []) ascii) (has.2 utf8)),
+  λ before spelled.
+      let v = values before spelled in (
+        v.0,
+        v.1,
+        ap filled v.2 ∙ put_value i d (named_values old before) within (refl, (refl, (refl, (refl, (refl, (refl, (refl, (tt, tt))))))))
+            ∙ ap (λ k. put k d (filled (named_values old before))) (named before),
+      ),
+)
+
+-- the same, where there may be none
+pub slot_read : (i : ℕ) (old new : RequestMembers) (text name : List ℕ) (P : Data → Type 0) (r : Option (Bor (List ℕ))) → i < 8 → are_ascii (quoted name ++ 58 ∷ []) ≡ true
+    → ((before : Option Data) → name_at i (named_values old before) ≡ name)
+    → ((d : Data) → P d → (before : Option Data) → AreSpelled old.fields before → (after : Option Data) × AreSpelled new.fields after × (named_values new after ≡ with_value i d (named_values old before)))
+    → IfSome r (λ rest. (d : Data) × P d × HasValue text (quoted name ++ 58 ∷ []) d rest.now) → IfSome r (λ rest. ReadsMember old new text rest.now)
+slot_read i old new text name P None within ascii named values has = tt
+slot_read i old new text name P (Some rest) within ascii named values has = member_read i old new text rest.now name has.0 within ascii named has.2 (values has.0 has.1)
+
+-- ---- requests of their members
+
+pub new_read : (at lane site : ℕ) (parent : RequestParent) (fields : Option (List (List ℕ × Value)))
+    → AreOf (record { at = Some at; kind = Some kind.New; fields = fields; guard = None; handle = None; lane = Some lane; parent = parent; site = Some site })
+    (record { at = at; lane_place = lane; call = call.New site parent (unwrap_or fields []) })
+unfolding request_form new_form
+new_read at lane site parent None (Some d) spelled = absurd spelled
+new_read at lane site parent (Some fields) None spelled = absurd spelled
+new_read at lane site Contextual None None spelled = refl
+new_read at lane site Root None None spelled = refl
+new_read at lane site (Under handle) None None spelled = refl
+new_read at lane site Contextual (Some fields) (Some d) spelled = rw spelled refl
+new_read at lane site Root (Some fields) (Some d) spelled = rw spelled refl
+new_read at lane site (Under handle) (Some fields) (Some d) spelled = rw spelled refl
+
+pub event_read : (at lane site : ℕ) (parent : RequestParent) (fields : Option (List (List ℕ × Value)))
+    → AreOf (record { at = Some at; kind = Some kind.Event; fields = fields; guard = None; handle = None; lane = Some lane; parent = parent; site = Some site })
+    (record { at = at; lane_place = lane; call = call.Event site parent (unwrap_or fields []) })
+unfolding request_form event_form
+event_read at lane site parent None (Some d) spelled = absurd spelled
+event_read at lane site parent (Some fields) None spelled = absurd spelled
+event_read at lane site Contextual None None spelled = refl
+event_read at lane site Root None None spelled = refl
+event_read at lane site (Under handle) None None spelled = refl
+event_read at lane site Contextual (Some fields) (Some d) spelled = rw spelled refl
+event_read at lane site Root (Some fields) (Some d) spelled = rw spelled refl
+event_read at lane site (Under handle) (Some fields) (Some d) spelled = rw spelled refl
+
+pub enter_read : (at lane handle : ℕ) → AreOf (record { at = Some at; kind = Some kind.Enter; fields = None; guard = None; handle = Some handle; lane = Some lane; parent = Contextual; site = None })
+    (record { at = at; lane_place = lane; call = call.Enter handle })
+unfolding request_form enter_form
+enter_read at lane handle None spelled = refl
+enter_read at lane handle (Some d) spelled = absurd spelled
+
+pub exit_read : (at lane guard : ℕ) → AreOf (record { at = Some at; kind = Some kind.Exit; fields = None; guard = Some guard; handle = None; lane = Some lane; parent = Contextual; site = None })
+    (record { at = at; lane_place = lane; call = call.Exit guard })
+unfolding request_form exit_form
+exit_read at lane guard None spelled = refl
+exit_read at lane guard (Some d) spelled = absurd spelled
+
+pub drop_read : (at lane handle : ℕ) → AreOf (record { at = Some at; kind = Some kind.Drop; fields = None; guard = None; handle = Some handle; lane = Some lane; parent = Contextual; site = None })
+    (record { at = at; lane_place = lane; call = call.Drop handle })
+unfolding request_form drop_form
+drop_read at lane handle None spelled = refl
+drop_read at lane handle (Some d) spelled = absurd spelled
+
+pub members_spell : (line : List ℕ) (m : RequestMembers) (r : Option Request) → HasMembers line m → IfSome r (λ request. AreOf m request) → IfSome r (λ request. request_spelled line ≡ Ok request)
 unfolding request_spelled
-spells raw ms request line text is numbers shallow same formed =
-    let value = read_value line (object ms) text (ap read is ∙ read_compact (object raw) (object ms) numbers shallow same) in
-    ap (λ v. ok_or (option_and_then (all_of request_form) (option_and_then as_object v)) BadLine) value ∙ ap (λ v. ok_or v BadLine) formed
-
--- the members of a request with a number of a name
-abbrev numbered : List ℕ → List ℕ → ℕ → ℕ → ℕ → Members
-numbered word name at n lane = member (codes "at") (number (unsigned at)) (member (codes "do") (string word) (member name (number (unsigned n)) (member (codes "lane") (number (unsigned lane)) no_members)))
-
--- the members of a new span or an event that is under no other
-abbrev rooted : List ℕ → ℕ → ℕ → ℕ → Members
-rooted word at lane site =
-    member (codes "at") (number (unsigned at)) (member (codes "do") (string word)
-    (member (codes "lane") (number (unsigned lane)) (member (codes "parent") (string (codes "root")) (member (codes "site") (number (unsigned site)) no_members))))
-
--- the members of a contextual one with fields
-abbrev filled : List ℕ → Data → ℕ → ℕ → ℕ → Members
-filled word fields at lane site =
-    member (codes "at") (number (unsigned at)) (member (codes "do") (string word)
-    (member (codes "fields") fields (member (codes "lane") (number (unsigned lane)) (member (codes "site") (number (unsigned site)) no_members))))
-
--- the same with the lane in front of the name
-abbrev numbered_late : List ℕ → List ℕ → ℕ → ℕ → ℕ → Members
-numbered_late word name at lane n = member (codes "at") (number (unsigned at)) (member (codes "do") (string word) (member (codes "lane") (number (unsigned lane)) (member name (number (unsigned n)) no_members)))
-
-pub drop_read : (line rest : List ℕ) (at handle lane : ℕ) → at < 2 ^ 64 → handle < 2 ^ 64 → lane < 2 ^ 64 → line ≡ line_from at rest
-    → rest ≡ two_numbers (codes "drop\",\"handle\":") handle (codes ",\"lane\":") lane → request_spelled line ≡ Ok (record { at = at; lane_place = lane; call = call.Drop handle })
-unfolding request_form drop_form escape_byte
-drop_read line rest at handle lane a h l is behind =
-    let ms = numbered (codes "drop") (codes "handle") at handle lane in
-    spells ms ms (record { at = at; lane_place = lane; call = call.Drop handle }) line (two_numbers_utf8 line rest (codes "drop\",\"handle\":") (codes ",\"lane\":") at handle lane a h l refl refl is behind) (is ∙ ap (line_from at) behind)
-    (IsNumber-decimal at a, (tt, (IsNumber-decimal handle h, (IsNumber-decimal lane l, tt)))) (omega arith)
-    (rw (number_of-decimal at a, number_of-decimal handle h, number_of-decimal lane l) refl) refl
-
-pub drop_read_late : (line rest : List ℕ) (at lane handle : ℕ) → at < 2 ^ 64 → lane < 2 ^ 64 → handle < 2 ^ 64 → line ≡ line_from at rest
-    → rest ≡ two_numbers (codes "drop\",\"lane\":") lane (codes ",\"handle\":") handle → request_spelled line ≡ Ok (record { at = at; lane_place = lane; call = call.Drop handle })
-unfolding request_form drop_form escape_byte
-drop_read_late line rest at lane handle a l h is behind =
-    let raw = numbered_late (codes "drop") (codes "handle") at lane handle in
-    let ms = numbered (codes "drop") (codes "handle") at handle lane in
-    spells raw ms (record { at = at; lane_place = lane; call = call.Drop handle }) line (two_numbers_utf8 line rest (codes "drop\",\"lane\":") (codes ",\"handle\":") at lane handle a l h refl refl is behind) (is ∙ ap (line_from at) behind)
-    (IsNumber-decimal at a, (tt, (IsNumber-decimal lane l, (IsNumber-decimal handle h, tt)))) (omega arith)
-    (rw (number_of-decimal at a, number_of-decimal lane l, number_of-decimal handle h) refl) refl
-
-pub enter_read : (line rest : List ℕ) (at handle lane : ℕ) → at < 2 ^ 64 → handle < 2 ^ 64 → lane < 2 ^ 64 → line ≡ line_from at rest
-    → rest ≡ two_numbers (codes "enter\",\"handle\":") handle (codes ",\"lane\":") lane → request_spelled line ≡ Ok (record { at = at; lane_place = lane; call = call.Enter handle })
-unfolding request_form enter_form escape_byte
-enter_read line rest at handle lane a h l is behind =
-    let ms = numbered (codes "enter") (codes "handle") at handle lane in
-    spells ms ms (record { at = at; lane_place = lane; call = call.Enter handle }) line (two_numbers_utf8 line rest (codes "enter\",\"handle\":") (codes ",\"lane\":") at handle lane a h l refl refl is behind) (is ∙ ap (line_from at) behind)
-    (IsNumber-decimal at a, (tt, (IsNumber-decimal handle h, (IsNumber-decimal lane l, tt)))) (omega arith)
-    (rw (number_of-decimal at a, number_of-decimal handle h, number_of-decimal lane l) refl) refl
-
-pub enter_read_late : (line rest : List ℕ) (at lane handle : ℕ) → at < 2 ^ 64 → lane < 2 ^ 64 → handle < 2 ^ 64 → line ≡ line_from at rest
-    → rest ≡ two_numbers (codes "enter\",\"lane\":") lane (codes ",\"handle\":") handle → request_spelled line ≡ Ok (record { at = at; lane_place = lane; call = call.Enter handle })
-unfolding request_form enter_form escape_byte
-enter_read_late line rest at lane handle a l h is behind =
-    let raw = numbered_late (codes "enter") (codes "handle") at lane handle in
-    let ms = numbered (codes "enter") (codes "handle") at handle lane in
-    spells raw ms (record { at = at; lane_place = lane; call = call.Enter handle }) line (two_numbers_utf8 line rest (codes "enter\",\"lane\":") (codes ",\"handle\":") at lane handle a l h refl refl is behind) (is ∙ ap (line_from at) behind)
-    (IsNumber-decimal at a, (tt, (IsNumber-decimal lane l, (IsNumber-decimal handle h, tt)))) (omega arith)
-    (rw (number_of-decimal at a, number_of-decimal lane l, number_of-decimal handle h) refl) refl
-
-pub exit_read : (line rest : List ℕ) (at guard lane : ℕ) → at < 2 ^ 64 → guard < 2 ^ 64 → lane < 2 ^ 64 → line ≡ line_from at rest
-    → rest ≡ two_numbers (codes "exit\",\"guard\":") guard (codes ",\"lane\":") lane → request_spelled line ≡ Ok (record { at = at; lane_place = lane; call = call.Exit guard })
-unfolding request_form exit_form escape_byte
-exit_read line rest at guard lane a h l is behind =
-    let ms = numbered (codes "exit") (codes "guard") at guard lane in
-    spells ms ms (record { at = at; lane_place = lane; call = call.Exit guard }) line (two_numbers_utf8 line rest (codes "exit\",\"guard\":") (codes ",\"lane\":") at guard lane a h l refl refl is behind) (is ∙ ap (line_from at) behind)
-    (IsNumber-decimal at a, (tt, (IsNumber-decimal guard h, (IsNumber-decimal lane l, tt)))) (omega arith)
-    (rw (number_of-decimal at a, number_of-decimal guard h, number_of-decimal lane l) refl) refl
-
-pub exit_read_late : (line rest : List ℕ) (at lane guard : ℕ) → at < 2 ^ 64 → lane < 2 ^ 64 → guard < 2 ^ 64 → line ≡ line_from at rest
-    → rest ≡ two_numbers (codes "exit\",\"lane\":") lane (codes ",\"guard\":") guard → request_spelled line ≡ Ok (record { at = at; lane_place = lane; call = call.Exit guard })
-unfolding request_form exit_form escape_byte
-exit_read_late line rest at lane guard a l h is behind =
-    let raw = numbered_late (codes "exit") (codes "guard") at lane guard in
-    let ms = numbered (codes "exit") (codes "guard") at guard lane in
-    spells raw ms (record { at = at; lane_place = lane; call = call.Exit guard }) line (two_numbers_utf8 line rest (codes "exit\",\"lane\":") (codes ",\"guard\":") at lane guard a l h refl refl is behind) (is ∙ ap (line_from at) behind)
-    (IsNumber-decimal at a, (tt, (IsNumber-decimal lane l, (IsNumber-decimal guard h, tt)))) (omega arith)
-    (rw (number_of-decimal at a, number_of-decimal lane l, number_of-decimal guard h) refl) refl
-
-pub new_read : (line rest : List ℕ) (at lane site : ℕ) → at < 2 ^ 64 → lane < 2 ^ 64 → site < 2 ^ 64 → line ≡ line_from at rest
-    → rest ≡ two_numbers (codes "new\",\"lane\":") lane (codes ",\"site\":") site → request_spelled line ≡ Ok (record { at = at; lane_place = lane; call = call.New site request_parent.Contextual [] })
-unfolding request_form new_form escape_byte
-new_read line rest at lane site a l h is behind =
-    let ms = numbered_late (codes "new") (codes "site") at lane site in
-    spells ms ms (record { at = at; lane_place = lane; call = call.New site request_parent.Contextual [] }) line (two_numbers_utf8 line rest (codes "new\",\"lane\":") (codes ",\"site\":") at lane site a l h refl refl is behind) (is ∙ ap (line_from at) behind)
-    (IsNumber-decimal at a, (tt, (IsNumber-decimal lane l, (IsNumber-decimal site h, tt)))) (omega arith)
-    (rw (number_of-decimal at a, number_of-decimal lane l, number_of-decimal site h) refl) refl
-
-pub event_read : (line rest : List ℕ) (at lane site : ℕ) → at < 2 ^ 64 → lane < 2 ^ 64 → site < 2 ^ 64 → line ≡ line_from at rest
-    → rest ≡ two_numbers (codes "event\",\"lane\":") lane (codes ",\"site\":") site → request_spelled line ≡ Ok (record { at = at; lane_place = lane; call = call.Event site request_parent.Contextual [] })
-unfolding request_form event_form escape_byte
-event_read line rest at lane site a l h is behind =
-    let ms = numbered_late (codes "event") (codes "site") at lane site in
-    spells ms ms (record { at = at; lane_place = lane; call = call.Event site request_parent.Contextual [] }) line (two_numbers_utf8 line rest (codes "event\",\"lane\":") (codes ",\"site\":") at lane site a l h refl refl is behind) (is ∙ ap (line_from at) behind)
-    (IsNumber-decimal at a, (tt, (IsNumber-decimal lane l, (IsNumber-decimal site h, tt)))) (omega arith)
-    (rw (number_of-decimal at a, number_of-decimal lane l, number_of-decimal site h) refl) refl
-
-pub new_root_read : (line rest : List ℕ) (at lane site : ℕ) → at < 2 ^ 64 → lane < 2 ^ 64 → site < 2 ^ 64 → line ≡ line_from at rest
-    → rest ≡ two_numbers (codes "new\",\"lane\":") lane (codes ",\"parent\":\"root\",\"site\":") site → request_spelled line ≡ Ok (record { at = at; lane_place = lane; call = call.New site request_parent.Root [] })
-unfolding request_form new_form escape_byte
-new_root_read line rest at lane site a l h is behind =
-    let ms = rooted (codes "new") at lane site in
-    spells ms ms (record { at = at; lane_place = lane; call = call.New site request_parent.Root [] }) line (two_numbers_utf8 line rest (codes "new\",\"lane\":") (codes ",\"parent\":\"root\",\"site\":") at lane site a l h refl refl is behind) (is ∙ ap (line_from at) behind)
-    (IsNumber-decimal at a, (tt, (IsNumber-decimal lane l, (tt, (IsNumber-decimal site h, tt))))) (omega arith)
-    (rw (number_of-decimal at a, number_of-decimal lane l, number_of-decimal site h) refl) refl
-
-pub new_fields_read : (line rest array tail : List ℕ) (at lane site : ℕ) (raw d : Data) (fields : List (List ℕ × Value)) → IsUtf8 array → at < 2 ^ 64 → lane < 2 ^ 64 → site < 2 ^ 64 → line ≡ line_from at rest
-    → rest ≡ codes "new\",\"fields\":" ++ array → array ≡ compact_text raw ++ tail → ReadsValue 18 raw d → fields_of d ≡ Some fields → tail ≡ two_numbers (codes ",\"lane\":") lane (codes ",\"site\":") site
-    → request_spelled line ≡ Ok (record { at = at; lane_place = lane; call = call.New site request_parent.Contextual fields })
-unfolding request_form new_form escape_byte
-new_fields_read line rest array tail at lane site raw d fields text a l h is front begins reads given behind =
-    spells (filled (codes "new") raw at lane site) (filled (codes "new") d at lane site) (record { at = at; lane_place = lane; call = call.New site request_parent.Contextual fields }) line
-    (filled_utf8 line rest (codes "new\",\"fields\":") array at a refl is front text)
-    (is ∙ ap (line_from at) (front ∙ ap (λ (t : List ℕ). codes "new\",\"fields\":" ++ t) (begins ∙ ap (λ (t : List ℕ). compact_text raw ++ t) behind)))
-    (IsNumber-decimal at a, (tt, (reads.0, (IsNumber-decimal lane l, (IsNumber-decimal site h, tt))))) (omega (arith, reads.1))
-    (rw (number_of-decimal at a, reads.2, number_of-decimal lane l, number_of-decimal site h) refl) (rw given refl)
-
-pub event_root_read : (line rest : List ℕ) (at lane site : ℕ) → at < 2 ^ 64 → lane < 2 ^ 64 → site < 2 ^ 64 → line ≡ line_from at rest
-    → rest ≡ two_numbers (codes "event\",\"lane\":") lane (codes ",\"parent\":\"root\",\"site\":") site → request_spelled line ≡ Ok (record { at = at; lane_place = lane; call = call.Event site request_parent.Root [] })
-unfolding request_form event_form escape_byte
-event_root_read line rest at lane site a l h is behind =
-    let ms = rooted (codes "event") at lane site in
-    spells ms ms (record { at = at; lane_place = lane; call = call.Event site request_parent.Root [] }) line (two_numbers_utf8 line rest (codes "event\",\"lane\":") (codes ",\"parent\":\"root\",\"site\":") at lane site a l h refl refl is behind) (is ∙ ap (line_from at) behind)
-    (IsNumber-decimal at a, (tt, (IsNumber-decimal lane l, (tt, (IsNumber-decimal site h, tt))))) (omega arith)
-    (rw (number_of-decimal at a, number_of-decimal lane l, number_of-decimal site h) refl) refl
-
-pub event_fields_read : (line rest array tail : List ℕ) (at lane site : ℕ) (raw d : Data) (fields : List (List ℕ × Value)) → IsUtf8 array → at < 2 ^ 64 → lane < 2 ^ 64 → site < 2 ^ 64 → line ≡ line_from at rest
-    → rest ≡ codes "event\",\"fields\":" ++ array → array ≡ compact_text raw ++ tail → ReadsValue 18 raw d → fields_of d ≡ Some fields → tail ≡ two_numbers (codes ",\"lane\":") lane (codes ",\"site\":") site
-    → request_spelled line ≡ Ok (record { at = at; lane_place = lane; call = call.Event site request_parent.Contextual fields })
-unfolding request_form event_form escape_byte
-event_fields_read line rest array tail at lane site raw d fields text a l h is front begins reads given behind =
-    spells (filled (codes "event") raw at lane site) (filled (codes "event") d at lane site) (record { at = at; lane_place = lane; call = call.Event site request_parent.Contextual fields }) line
-    (filled_utf8 line rest (codes "event\",\"fields\":") array at a refl is front text)
-    (is ∙ ap (line_from at) (front ∙ ap (λ (t : List ℕ). codes "event\",\"fields\":" ++ t) (begins ∙ ap (λ (t : List ℕ). compact_text raw ++ t) behind)))
-    (IsNumber-decimal at a, (tt, (reads.0, (IsNumber-decimal lane l, (IsNumber-decimal site h, tt))))) (omega (arith, reads.1))
-    (rw (number_of-decimal at a, reads.2, number_of-decimal lane l, number_of-decimal site h) refl) (rw given refl)
+members_spell line m None has of = tt
+members_spell line m (Some request) has of = ap (λ ms. ok_or (option_and_then (all_of request_form) ms) BadLine) has.2 ∙ ap (λ v. ok_or v BadLine) (of has.0 has.1)

@@ -13,17 +13,16 @@ then old mid new s t x y = (y.0 ∙ ap (λ (l : List ℕ). l ++ t) x.0 ∙ appen
 pub retold : (old new s t : List ℕ) → AddsText old new s → s ≡ t → AddsText old new t
 retold old new s t x same = (x.0 ∙ ap (λ (l : List ℕ). old ++ l) same, subst IsUtf8 same x.1)
 
-pub quoted_added : (old a b d new front s : List ℕ) → AddsText old a front → b ≡ a ++ 34 ∷ [] → d ≡ b ++ escape s → new ≡ d ++ 34 ∷ [] → IsUtf8 s → AddsText old new (front ++ quoted s)
-quoted_added old a b d new front s x begin body close utf8 =
-    (close ∙ ap (λ (l : List ℕ). l ++ 34 ∷ []) (body ∙ ap (λ (l : List ℕ). l ++ escape s) (begin ∙ ap (λ (l : List ℕ). l ++ 34 ∷ []) x.0)) ∙ parts old front (escape s), IsUtf8-append front (quoted s) x.1 (IsUtf8-quoted s utf8))
+-- a front, a quote, a text and a quote, put down one after another
+pub quoted_put : (old first begin body new front text : List ℕ) → first ≡ old ++ front → begin ≡ first ++ 34 ∷ [] → body ≡ begin ++ text → new ≡ body ++ 34 ∷ [] → new ≡ old ++ (front ++ 34 ∷ (text ++ 34 ∷ []))
+quoted_put old first begin body new front text a b c d =
+    d ∙ ap (λ (l : List ℕ). l ++ 34 ∷ []) (c ∙ ap (λ (l : List ℕ). l ++ text) (b ∙ ap (λ (l : List ℕ). l ++ 34 ∷ []) a)) ∙ parts old front text
   where
     parts : (old front body : List ℕ) → (((old ++ front) ++ 34 ∷ []) ++ body) ++ 34 ∷ [] ≡ old ++ (front ++ 34 ∷ (body ++ 34 ∷ []))
     parts old front body = simp append_assoc
 
--- a quote, a text and a quote, put down one after another
-pub quoted_put : (old begin body new text : List ℕ) → begin ≡ old ++ 34 ∷ [] → body ≡ begin ++ text → new ≡ body ++ 34 ∷ [] → new ≡ old ++ 34 ∷ (text ++ 34 ∷ [])
-quoted_put old begin body new text a b c =
-    c ∙ ap (λ (l : List ℕ). l ++ 34 ∷ []) (b ∙ ap (λ (l : List ℕ). l ++ text) a ∙ append_assoc old (34 ∷ []) text) ∙ append_assoc old (34 ∷ text) (34 ∷ [])
+pub quoted_added : (old a b d new front s : List ℕ) → AddsText old a front → b ≡ a ++ 34 ∷ [] → d ≡ b ++ escape s → new ≡ d ++ 34 ∷ [] → IsUtf8 s → AddsText old new (front ++ quoted s)
+quoted_added old a b d new front s x begin body close utf8 = (quoted_put old a b d new front (escape s) x.0 begin body close, IsUtf8-append front (quoted s) x.1 (IsUtf8-quoted s utf8))
 
 -- a text of no byte
 pub none_added : (old text : List ℕ) → length text ≡ 0 → AddsText old old text

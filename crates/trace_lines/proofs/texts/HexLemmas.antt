@@ -159,10 +159,6 @@ pub zeros_left : (start at rest : ℕ) (digits : List ℕ) → rest ≡ 0 → dr
 zeros_left start at rest digits none are =
     ap (λ (n : ℕ). last_digits (at - start) n (drop at digits)) none ∙ all_zeros (at - start) (drop at digits) ∙ sym are
 
--- the first half holds zeros still, once the second is put
-pub zeros_before : (low : List ℕ) → take 16 low ≡ replicate 16 48 → drop 0 low ≡ replicate 16 48 ++ drop 16 low
-zeros_before low is = sym (take-append-drop 16 low) ∙ ap (λ (l : List ℕ). l ++ drop 16 low) is
-
 -- no digit is left
 pub all_put : (start at rest : ℕ) (digits : List ℕ) → at ≡ start → last_digits (at - start) rest (drop at digits) ≡ drop start digits
 unfolding last_digits

@@ -23,15 +23,6 @@ abbrev pub Before : List ℕ → Members → Type 0
 Before k no_members = ⊤
 Before k (member l d ms) = slice_cmp nat_cmp k l ≡ Less
 
--- the members stand in the order of their names
-abbrev pub MembersInOrder : Members → Type 0
-MembersInOrder no_members = ⊤
-MembersInOrder (member k d ms) = Before k ms × MembersInOrder ms
-
--- a member of the name goes behind all
-abbrev pub GoesLast : List ℕ → List (Bor (List ℕ) × Plain) → Type 0
-GoesLast name es = (d : Data) → put name d (members_of es) ≡ onto es (member name d no_members)
-
 -- where a member of a new name goes
 abbrev pub FitsIn : List ℕ → List (Bor (List ℕ) × Plain) → ℕ → Type 0
 FitsIn name es i =

@@ -1,244 +1,250 @@
-//! Requests as they are mostly written: compact, with their moment and their word in front, and two numbers behind them.
-//! A new span or an event may have fields before these.
-//! None says nothing of what the line spells. The fields are tested for UTF-8; all else of such a line is ASCII.
-ghost use Rattle.std.specs.Prelude.{◌≡◌, ◌<◌, ◌^◌, Ok, IfSome};
-ghost use Rattle.trace_lines.specs.text.QuickLines.{line_from, two_numbers};
+//! Requests as they are mostly written: compact, with a common word, and of numbers, fields and a parent alone, in any
+//! order. None says nothing of what the line spells. The fields are tested for UTF-8; all else of such a line is ASCII.
+ghost use Rattle.std.specs.Prelude.{◌≡◌, Some, None, Ok, IfSome, option_map, codes};
+ghost use Rattle.serde_json.specs.Data.{Data, no_members};
+ghost use Rattle.serde_json.specs.Written.{compact_text};
+ghost use Rattle.trace_lines.specs.reading.Object.{whole_number};
+ghost use Rattle.trace_lines.specs.text.QuickLines.{AreSpelled, HasMembers, HasValue, kind_value, parent_value};
 ghost use Rattle.trace_lines.specs.reading.Spelled.{request_spelled};
 
 use crate::read::plain_fields::leading_fields;
 use crate::read::syntax::flat::closes;
-use crate::read::syntax::scan::{number, word};
+use crate::read::syntax::scan::{behind, number, word};
 use otel_base::list::Items;
+use otel_base::text::Text;
 use span_script::request::{Call, Request, RequestParent};
 use std::alloc::Global;
+use trace_base::field::Value as FieldValue;
 
-// Two numbers, each behind a front, and the bracket that closes an object.
+// The most members of a line that is read so.
+const MOST_MEMBERS: u32 = 8;
+
+/// The kinds of calls that are read so.
+#[derive(Clone, Copy, Drop)]
+pub(crate) enum CallKind {
+    New,
+    Event,
+    Enter,
+    Exit,
+    Drop,
+}
+
+/// The members of a request that were read; of a name that came twice the last.
+#[derive(Drop)]
+pub(crate) struct RequestMembers {
+    at: Option<u64>,
+    kind: Option<CallKind>,
+    fields: Option<Items<(Text, FieldValue)>>,
+    guard: Option<u64>,
+    handle: Option<u64>,
+    lane: Option<u64>,
+    parent: RequestParent,
+    site: Option<u64>,
+}
+
+// Reads a number behind a name, and tells what stands behind it.
 #[inline(always)]
-fn pair(text: &[u8], first: &[u8], second: &[u8]) -> Option<(u64, u64)>
-    ensures text { IfSome result (λ r.
-        text.now ≡ two_numbers first.now r.0 second.now r.1) }
-    ensures one { IfSome result (λ r. r.0 < 2 ^ 64) }
-    ensures other { IfSome result (λ r. r.1 < 2 ^ 64) }
+fn number_member<'a>(slot: &mut Option<u64>, text: &'a [u8], name: &[u8]) -> Option<&'a [u8]>
+    ensures { IfSome result (λ rest. (d : Data) × (option_map whole_number slot.new ≡ Some d)
+        × HasValue text.now name.now d rest.now) }
 {
-    let before = word(text, first)?;
-    let (one, middle) = number(before)?;
-    let behind = word(middle, second)?;
-    let (other, last) = number(behind)?;
-    closes(last, b'}')?;
-    Some((one, other))
+    let digits = word(text, name)?;
+    let (number, rest) = number(digits)?;
+    *slot = Some(number);
+    Some(rest)
 }
 
-// A drop.
-fn drop_line(line: &[u8], at: u64, rest: &[u8]) -> Option<Request>
-    requires fits { at < 2 ^ 64 }
-    requires front { line.now ≡ line_from at rest.now }
-    ensures { IfSome result (λ request. request_spelled line.now ≡ Ok request) }
-{
-    match pair(rest, b"drop\",\"handle\":", b",\"lane\":") {
-        Some((handle, lane)) => Some(Request {
-            at,
-            lane_place: lane,
-            call: Call::Drop { handle },
-        }),
-        None => {
-            let (lane, handle) = pair(rest, b"drop\",\"lane\":", b",\"handle\":")?;
-            Some(Request {
-                at,
-                lane_place: lane,
-                call: Call::Drop { handle },
-            })
-        }
-    }
-}
-
-// An entry.
-fn enter_line(line: &[u8], at: u64, rest: &[u8]) -> Option<Request>
-    requires fits { at < 2 ^ 64 }
-    requires front { line.now ≡ line_from at rest.now }
-    ensures { IfSome result (λ request. request_spelled line.now ≡ Ok request) }
-{
-    match pair(rest, b"enter\",\"handle\":", b",\"lane\":") {
-        Some((handle, lane)) => Some(Request {
-            at,
-            lane_place: lane,
-            call: Call::Enter { handle },
-        }),
-        None => {
-            let (lane, handle) = pair(rest, b"enter\",\"lane\":", b",\"handle\":")?;
-            Some(Request {
-                at,
-                lane_place: lane,
-                call: Call::Enter { handle },
-            })
-        }
-    }
-}
-
-// An exit.
-fn exit_line(line: &[u8], at: u64, rest: &[u8]) -> Option<Request>
-    requires fits { at < 2 ^ 64 }
-    requires front { line.now ≡ line_from at rest.now }
-    ensures { IfSome result (λ request. request_spelled line.now ≡ Ok request) }
-{
-    match pair(rest, b"exit\",\"guard\":", b",\"lane\":") {
-        Some((guard, lane)) => Some(Request {
-            at,
-            lane_place: lane,
-            call: Call::Exit { guard },
-        }),
-        None => {
-            let (lane, guard) = pair(rest, b"exit\",\"lane\":", b",\"guard\":")?;
-            Some(Request {
-                at,
-                lane_place: lane,
-                call: Call::Exit { guard },
-            })
-        }
-    }
-}
-
-// A span without fields, contextual or under no other.
-fn new_line(alloc: Global, line: &[u8], at: u64, rest: &[u8]) -> Option<Request>
-    requires fits { at < 2 ^ 64 }
-    requires front { line.now ≡ line_from at rest.now }
-    ensures { IfSome result (λ request. request_spelled line.now ≡ Ok request) }
-{
-    let fields = Items::new(alloc);
-    match pair(rest, b"new\",\"lane\":", b",\"site\":") {
-        Some((lane, site)) => Some(Request {
-            at,
-            lane_place: lane,
-            call: Call::New {
-                site,
-                parent: RequestParent::Contextual,
-                fields,
-            },
-        }),
-        None => {
-            let (lane, site) = pair(rest, b"new\",\"lane\":", b",\"parent\":\"root\",\"site\":")?;
-            Some(Request {
-                at,
-                lane_place: lane,
-                call: Call::New {
-                    site,
-                    parent: RequestParent::Root,
-                    fields,
-                },
-            })
-        }
-    }
-}
-
-// A contextual span with fields.
-fn new_fields_line(alloc: Global, line: &[u8], at: u64, rest: &[u8]) -> Option<Request>
-    requires fits { at < 2 ^ 64 }
-    requires front { line.now ≡ line_from at rest.now }
-    ensures { IfSome result (λ request. request_spelled line.now ≡ Ok request) }
-{
-    let array = word(rest, b"new\",\"fields\":")?;
-    let (fields, tail) = leading_fields(alloc, array)?;
-    let (lane, site) = pair(tail, b",\"lane\":", b",\"site\":")?;
-    let call = Call::New {
-        site,
-        parent: RequestParent::Contextual,
-        fields,
-    };
-    Some(Request {
-        at,
-        lane_place: lane,
-        call,
-    })
-}
-
-// An event without fields, contextual or under no other.
-fn event_line(alloc: Global, line: &[u8], at: u64, rest: &[u8]) -> Option<Request>
-    requires fits { at < 2 ^ 64 }
-    requires front { line.now ≡ line_from at rest.now }
-    ensures { IfSome result (λ request. request_spelled line.now ≡ Ok request) }
-{
-    let fields = Items::new(alloc);
-    match pair(rest, b"event\",\"lane\":", b",\"site\":") {
-        Some((lane, site)) => Some(Request {
-            at,
-            lane_place: lane,
-            call: Call::Event {
-                site,
-                parent: RequestParent::Contextual,
-                fields,
-            },
-        }),
-        None => {
-            let (lane, site) = pair(
-                rest,
-                b"event\",\"lane\":",
-                b",\"parent\":\"root\",\"site\":",
-            )?;
-            Some(Request {
-                at,
-                lane_place: lane,
-                call: Call::Event {
-                    site,
-                    parent: RequestParent::Root,
-                    fields,
-                },
-            })
-        }
-    }
-}
-
-// A contextual event with fields.
-fn event_fields_line(alloc: Global, line: &[u8], at: u64, rest: &[u8]) -> Option<Request>
-    requires fits { at < 2 ^ 64 }
-    requires front { line.now ≡ line_from at rest.now }
-    ensures { IfSome result (λ request. request_spelled line.now ≡ Ok request) }
-{
-    let array = word(rest, b"event\",\"fields\":")?;
-    let (fields, tail) = leading_fields(alloc, array)?;
-    let (lane, site) = pair(tail, b",\"lane\":", b",\"site\":")?;
-    let call = Call::Event {
-        site,
-        parent: RequestParent::Contextual,
-        fields,
-    };
-    Some(Request {
-        at,
-        lane_place: lane,
-        call,
-    })
-}
-
-// The moment in front, and what stands behind the quote of the word.
+// The word of a kind, in quotes.
 #[inline(always)]
-fn moment(line: &[u8]) -> Option<(u64, &[u8])>
-    ensures front { IfSome result (λ r. line.now ≡ line_from r.0 r.1.now) }
-    ensures fits { IfSome result (λ r. r.0 < 2 ^ 64) }
+#[tactic(auto, unfolding(json::specs::Print::escape_byte))]
+fn word_of(kind: CallKind) -> &'static [u8]
+    ensures { result.now ≡ compact_text (kind_value kind) }
 {
-    let digits = word(line, b"{\"at\":")?;
-    let (at, behind) = number(digits)?;
-    let rest = word(behind, b",\"do\":\"")?;
-    Some((at, rest))
+    match kind {
+        CallKind::New => b"\"new\"",
+        CallKind::Event => b"\"event\"",
+        CallKind::Enter => b"\"enter\"",
+        CallKind::Exit => b"\"exit\"",
+        CallKind::Drop => b"\"drop\"",
+    }
+}
+
+// The only kind that a word in quotes may be.
+#[inline(always)]
+fn kind_at(word: &[u8]) -> Option<CallKind> {
+    if word.len() < 3 {
+        return None;
+    }
+    match (word[1], word[2]) {
+        (b'n', _) => Some(CallKind::New),
+        (b'd', _) => Some(CallKind::Drop),
+        (b'e', b'n') => Some(CallKind::Enter),
+        (b'e', b'v') => Some(CallKind::Event),
+        (b'e', _) => Some(CallKind::Exit),
+        _ => None,
+    }
+}
+
+// Reads the word of `do`.
+#[inline(always)]
+fn kind_member<'a>(slot: &mut Option<CallKind>, text: &'a [u8]) -> Option<&'a [u8]>
+    ensures { IfSome result (λ rest. (d : Data) × (option_map kind_value slot.new ≡ Some d)
+        × HasValue text.now (codes "\"do\":") d rest.now) }
+{
+    let value = word(text, b"\"do\":")?;
+    let kind = kind_at(value)?;
+    let rest = word(value, word_of(kind))?;
+    *slot = Some(kind);
+    Some(rest)
+}
+
+// Reads the fields.
+#[inline(always)]
+fn fields_member<'a>(
+    alloc: Global,
+    slot: &mut Option<Items<(Text, FieldValue)>>,
+    text: &'a [u8],
+) -> Option<&'a [u8]>
+    ensures { IfSome result (λ rest. (d : Data) × (AreSpelled slot.new (Some d))
+        × HasValue text.now (codes "\"fields\":") d rest.now) }
+{
+    let array = word(text, b"\"fields\":")?;
+    let (fields, rest) = leading_fields(alloc, array)?;
+    *slot = Some(fields);
+    Some(rest)
+}
+
+// Reads the parent: a handle's number, or no span.
+#[inline(always)]
+fn parent_member<'a>(parent: &mut RequestParent, text: &'a [u8]) -> Option<&'a [u8]>
+    ensures { IfSome result (λ rest. (d : Data) × (parent_value parent.new ≡ Some d)
+        × HasValue text.now (codes "\"parent\":") d rest.now) }
+{
+    let value = word(text, b"\"parent\":")?;
+    match number(value) {
+        Some((handle, rest)) => {
+            *parent = RequestParent::Under { handle };
+            Some(rest)
+        }
+        None => {
+            let rest = word(value, b"\"root\"")?;
+            *parent = RequestParent::Root;
+            Some(rest)
+        }
+    }
+}
+
+impl RequestMembers {
+    ghost use Rattle.trace_lines.specs.text.QuickLines.{filled, named_values, ReadsMember, AreOf};
+
+    // No member was read.
+    #[inline(always)]
+    fn none() -> RequestMembers
+        ensures fields { result.fields ≡ None }
+        ensures all { filled (named_values result None) ≡ no_members }
+    {
+        RequestMembers {
+            at: None,
+            kind: None,
+            fields: None,
+            guard: None,
+            handle: None,
+            lane: None,
+            parent: RequestParent::Contextual,
+            site: None,
+        }
+    }
+
+    // Reads a member, and tells what stands behind it.
+    #[inline(always)]
+    fn read<'a>(&mut self, alloc: Global, text: &'a [u8]) -> Option<&'a [u8]>
+        ensures { IfSome result (λ rest. ReadsMember self.old self.new text.now rest.now) }
+    {
+        if text.len() < 2 {
+            return None;
+        }
+        match text[1] {
+            b'a' => number_member(&mut self.at, text, b"\"at\":"),
+            b'd' => kind_member(&mut self.kind, text),
+            b'f' => fields_member(alloc, &mut self.fields, text),
+            b'g' => number_member(&mut self.guard, text, b"\"guard\":"),
+            b'h' => number_member(&mut self.handle, text, b"\"handle\":"),
+            b'l' => number_member(&mut self.lane, text, b"\"lane\":"),
+            b'p' => parent_member(&mut self.parent, text),
+            b's' => number_member(&mut self.site, text, b"\"site\":"),
+            _ => None,
+        }
+    }
+
+    // The request that has these members and no other.
+    #[inline(always)]
+    fn request(self, alloc: Global) -> Option<Request>
+        ensures { IfSome result (λ request. AreOf self request) }
+    {
+        let RequestMembers {
+            at,
+            kind,
+            fields,
+            guard,
+            handle,
+            lane,
+            parent,
+            site,
+        } = self;
+        let call = match (kind?, fields, guard, handle, parent, site) {
+            (CallKind::New, fields, None, None, parent, Some(site)) => Call::New {
+                site,
+                parent,
+                fields: fields.unwrap_or(Items::new(alloc)),
+            },
+            (CallKind::Event, fields, None, None, parent, Some(site)) => Call::Event {
+                site,
+                parent,
+                fields: fields.unwrap_or(Items::new(alloc)),
+            },
+            (CallKind::Enter, None, None, Some(handle), RequestParent::Contextual, None) => {
+                Call::Enter { handle }
+            }
+            (CallKind::Exit, None, Some(guard), None, RequestParent::Contextual, None) => {
+                Call::Exit { guard }
+            }
+            (CallKind::Drop, None, None, Some(handle), RequestParent::Contextual, None) => {
+                Call::Drop { handle }
+            }
+            _ => return None,
+        };
+        Some(Request {
+            at: at?,
+            lane_place: lane?,
+            call,
+        })
+    }
+}
+
+// The members of the object that a line is.
+#[inline(always)]
+fn members(alloc: Global, line: &[u8]) -> Option<RequestMembers>
+    ensures { IfSome result (λ members. HasMembers line.now members) }
+{
+    let mut members = RequestMembers::none();
+    let mut rest = behind(line, b'{')?;
+    for _ in 0..MOST_MEMBERS {
+        let after = members.read(alloc, rest)?;
+        match behind(after, b',') {
+            Some(more) => rest = more,
+            None => {
+                closes(after, b'}')?;
+                return Some(members);
+            }
+        }
+    }
+    None
 }
 
 /// The request of a line. None says nothing.
 pub(crate) fn quick_request(alloc: Global, line: &[u8]) -> Option<Request>
     ensures { IfSome result (λ request. request_spelled line.now ≡ Ok request) }
 {
-    let (at, rest) = moment(line)?;
-    if rest.len() < 2 {
-        return None;
-    }
-    match (rest[0], rest[1]) {
-        (b'n', _) => match new_line(alloc, line, at, rest) {
-            Some(request) => Some(request),
-            None => new_fields_line(alloc, line, at, rest),
-        },
-        (b'd', _) => drop_line(line, at, rest),
-        (b'e', b'n') => enter_line(line, at, rest),
-        (b'e', b'v') => match event_line(alloc, line, at, rest) {
-            Some(request) => Some(request),
-            None => event_fields_line(alloc, line, at, rest),
-        },
-        (b'e', _) => exit_line(line, at, rest),
-        _ => None,
-    }
+    let members = members(alloc, line)?;
+    members.request(alloc)
 }

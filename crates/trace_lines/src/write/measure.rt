@@ -4,7 +4,7 @@ ghost use Rattle.serde_json.specs.Written.{compact_text};
 ghost use Rattle.trace_lines.specs.values.MeasureData.{instrument_name, measure_data};
 ghost use Rattle.trace_lines.specs.text.Writes.{Writes};
 
-use super::attribute::add_attributes;
+use super::array::add_array;
 use super::pieces::{add, add_long_integer, add_number, add_text};
 use super::text_buffer::TextBuffer;
 use otel_metrics::measure::{Measure, MetricKind};
@@ -14,7 +14,7 @@ use std::alloc::AllocError;
 pub fn add_measure(out: &mut TextBuffer, line: u64, measure: &Measure) -> Result<(), AllocError>
     ensures { Writes result out.old out.new (compact_text (measure_data line measure.now)) }
 {
-    add_attributes(out, "{\"attributes\":", measure.attributes.as_slice())?;
+    add_array(out, "{\"attributes\":", measure.attributes.as_slice())?;
     add_text(out, ",\"instrument\":", name_of(measure.kind))?;
     add_number(out, ",\"line\":", line)?;
     add_text(out, ",\"name\":", measure.name.as_str())?;

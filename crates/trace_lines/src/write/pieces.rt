@@ -31,16 +31,22 @@ pub fn add(out: &mut TextBuffer, front: &str) -> Result<(), AllocError>
     Ok(())
 }
 
+// Adds two texts as they are.
+#[inline(always)]
+fn add_two(out: &mut TextBuffer, front: &str, text: &str) -> Result<(), AllocError>
+    ensures { Writes result out.old out.new (front.now ++ text.now) }
+{
+    out.extend_from_two(front.as_bytes(), text.as_bytes())?;
+    Ok(())
+}
+
 /// Adds a whole number.
 #[inline(always)]
 pub fn add_number(out: &mut TextBuffer, front: &str, number: u64) -> Result<(), AllocError>
     ensures { Writes result out.old out.new (front.now ++ decimal number) }
 {
     let mut buffer = Buffer::new();
-    let digits = buffer.format(number);
-    add(out, front)?;
-    add(out, digits)?;
-    Ok(())
+    add_two(out, front, buffer.format(number))
 }
 
 /// Adds an integer.
@@ -48,10 +54,7 @@ pub fn add_integer(out: &mut TextBuffer, front: &str, number: i64) -> Result<(),
     ensures { Writes result out.old out.new (front.now ++ signed_decimal number) }
 {
     let mut buffer = Buffer::new();
-    let digits = buffer.format(number);
-    add(out, front)?;
-    add(out, digits)?;
-    Ok(())
+    add_two(out, front, buffer.format(number))
 }
 
 /// Adds an integer of 128 bits.
@@ -59,10 +62,7 @@ pub fn add_long_integer(out: &mut TextBuffer, front: &str, number: i128) -> Resu
     ensures { Writes result out.old out.new (front.now ++ signed_decimal number) }
 {
     let mut buffer = Buffer::new();
-    let digits = buffer.format(number);
-    add(out, front)?;
-    add(out, digits)?;
-    Ok(())
+    add_two(out, front, buffer.format(number))
 }
 
 #[inline(always)]
@@ -77,9 +77,7 @@ fn flag_word(flag: bool) -> &'static str
 pub fn add_flag(out: &mut TextBuffer, front: &str, flag: bool) -> Result<(), AllocError>
     ensures { Writes result out.old out.new (front.now ++ compact_text (boolean flag)) }
 {
-    add(out, front)?;
-    add(out, flag_word(flag))?;
-    Ok(())
+    add_two(out, front, flag_word(flag))
 }
 
 /// Adds a text in quotes.
@@ -105,8 +103,7 @@ pub fn add_plain(out: &mut TextBuffer, front: &str, text: &[u8]) -> Result<(), A
     requires plain { escape text.now ≡ text.now }
     ensures { Writes result out.old out.new (front.now ++ quoted text.now) }
 {
-    add(out, front)?;
-    out.add_quoted(text)?;
+    out.add_quoted(front.as_bytes(), text)?;
     Ok(())
 }
 

@@ -2,13 +2,12 @@
 ghost use Rattle.std.specs.Prelude.{◌≡◌, ◌++◌, codes};
 ghost use Rattle.json.specs.Print.{quoted};
 ghost use Rattle.serde_json.specs.Written.{compact_text};
-ghost use Rattle.trace_lines.specs.reading.Object.{array_of};
-ghost use Rattle.trace_lines.specs.values.RecordData.{event_data, link_data, kind_name, status_data, lane_text, record_object};
+ghost use Rattle.trace_lines.specs.values.RecordData.{kind_name, status_data, lane_text, record_object};
 ghost use Rattle.trace_lines.specs.text.Writes.{Writes};
 
-use super::attribute::add_attributes;
+use super::array::{WriteItem, add_array};
 use super::hex::{add_id, add_long_id};
-use super::pieces::{add, add_number, add_text, separator};
+use super::pieces::{add, add_number, add_text};
 use super::text_buffer::TextBuffer;
 use otel_base::record::{Link, OtelEvent, Record, SpanKind};
 use otel_base::status::Status;
@@ -24,12 +23,12 @@ pub fn add_record(
 ) -> Result<(), AllocError>
     ensures { Writes result out.old out.new (compact_text (record_object lane number finished.now)) }
 {
-    add_attributes(out, "{\"attributes\":", finished.attributes.as_slice())?;
+    add_array(out, "{\"attributes\":", finished.attributes.as_slice())?;
     add_number(out, ",\"end\":", finished.end)?;
-    add_events(out, ",\"events\":", finished.events.as_slice())?;
+    add_array(out, ",\"events\":", finished.events.as_slice())?;
     add_kind(out, finished.kind)?;
     add_lane(out, lane)?;
-    add_links(out, ",\"links\":", finished.links.as_slice())?;
+    add_array(out, ",\"links\":", finished.links.as_slice())?;
     add_text(out, ",\"name\":", finished.name.as_str())?;
     add_id(out, ",\"parent\":", finished.parent)?;
     add_number(out, ",\"record\":", number)?;
@@ -106,52 +105,32 @@ fn add_status(out: &mut TextBuffer, status: &Status) -> Result<(), AllocError>
     }
 }
 
-fn add_events(out: &mut TextBuffer, front: &str, events: &[OtelEvent]) -> Result<(), AllocError>
-    ensures { Writes result out.old out.new (front.now ++ compact_text (array_of event_data events.now)) }
-{
-    add(out, front)?;
-    add(out, "[")?;
-    let mut later = false;
-    for event in events {
-        add_event(out, separator(later), event)?;
-        later = true;
+impl WriteItem for OtelEvent {
+    ghost use Rattle.trace_lines.specs.values.RecordData.{event_data};
+
+    ghost item_data = { event_data };
+
+    fn add_item(&self, out: &mut TextBuffer, front: &str) -> Result<(), AllocError> {
+        add(out, front)?;
+        add_array(out, "{\"attributes\":", self.attributes.as_slice())?;
+        add_text(out, ",\"name\":", self.name.as_str())?;
+        add_number(out, ",\"time\":", self.time)?;
+        add(out, "}")?;
+        Ok(())
     }
-    add(out, "]")?;
-    Ok(())
 }
 
-fn add_event(out: &mut TextBuffer, front: &str, event: &OtelEvent) -> Result<(), AllocError>
-    ensures { Writes result out.old out.new (front.now ++ compact_text (event_data event.now)) }
-{
-    add(out, front)?;
-    add_attributes(out, "{\"attributes\":", event.attributes.as_slice())?;
-    add_text(out, ",\"name\":", event.name.as_str())?;
-    add_number(out, ",\"time\":", event.time)?;
-    add(out, "}")?;
-    Ok(())
-}
+impl WriteItem for Link {
+    ghost use Rattle.trace_lines.specs.values.RecordData.{link_data};
 
-fn add_links(out: &mut TextBuffer, front: &str, links: &[Link]) -> Result<(), AllocError>
-    ensures { Writes result out.old out.new (front.now ++ compact_text (array_of link_data links.now)) }
-{
-    add(out, front)?;
-    add(out, "[")?;
-    let mut later = false;
-    for link in links {
-        add_link(out, separator(later), link)?;
-        later = true;
+    ghost item_data = { link_data };
+
+    fn add_item(&self, out: &mut TextBuffer, front: &str) -> Result<(), AllocError> {
+        add(out, front)?;
+        add_array(out, "{\"attributes\":", self.attributes.as_slice())?;
+        add_id(out, ",\"span\":", self.context.span)?;
+        add_long_id(out, ",\"trace\":", self.context.trace)?;
+        add(out, "}")?;
+        Ok(())
     }
-    add(out, "]")?;
-    Ok(())
-}
-
-fn add_link(out: &mut TextBuffer, front: &str, link: &Link) -> Result<(), AllocError>
-    ensures { Writes result out.old out.new (front.now ++ compact_text (link_data link.now)) }
-{
-    add(out, front)?;
-    add_attributes(out, "{\"attributes\":", link.attributes.as_slice())?;
-    add_id(out, ",\"span\":", link.context.span)?;
-    add_long_id(out, ",\"trace\":", link.context.trace)?;
-    add(out, "}")?;
-    Ok(())
 }

@@ -81,15 +81,29 @@ impl TextBuffer {
         Ok(())
     }
 
-    /// Adds bytes in quotes.
+    /// Adds bytes, and others behind them.
+    #[inline(always)]
+    pub fn extend_from_two(&mut self, front: &[u8], other: &[u8]) -> Result<(), AllocError>
+        ensures { OnOk result (self.new.items ≡ self.old.items ++ (front.now ++ other.now)) }
+    {
+        make_room(&mut self.bytes, self.len, front.len() + other.len())?;
+        let room = self.bytes.as_mut_slice();
+        let start = put(room, self.len, front);
+        self.len = put(room, start, other);
+        Ok(())
+    }
+
+    /// Adds bytes, and a text in quotes behind them.
     #[inline(always)]
     #[tactic(auto, using(crate::proofs::texts::AddsLemmas::quoted_put))]
-    pub fn add_quoted(&mut self, text: &[u8]) -> Result<(), AllocError>
-        ensures { OnOk result (self.new.items ≡ self.old.items ++ 34 ∷ (text.now ++ 34 ∷ [])) }
+    pub fn add_quoted(&mut self, front: &[u8], text: &[u8]) -> Result<(), AllocError>
+        ensures { OnOk result (self.new.items ≡ self.old.items ++ (front.now ++ 34 ∷ (text.now ++ 34 ∷ []))) }
     {
-        make_room(&mut self.bytes, self.len, text.len() + 2)?;
+        let count = front.len().saturating_add(text.len() + 2);
+        make_room(&mut self.bytes, self.len, count)?;
         let room = self.bytes.as_mut_slice();
-        let start = put(room, self.len, b"\"");
+        let quote = put(room, self.len, front);
+        let start = put(room, quote, b"\"");
         let close = put(room, start, text);
         self.len = put(room, close, b"\"");
         Ok(())

@@ -12,10 +12,10 @@ ghost use Rattle.trace_lines.specs.reading.Object.{items};
 ghost use Rattle.trace_lines.specs.reading.Spelled.{line_value, line_members};
 ghost use Rattle.trace_lines.specs.text.Compact.{plain_data, members_of, BeginsWithValue};
 ghost use Rattle.trace_lines.specs.reading.Left.{value_data};
-ghost use Rattle.trace_lines.specs.reading.Placed.{FindsMember, FitsIn, MembersInOrder, GoesLast};
+ghost use Rattle.trace_lines.specs.reading.Placed.{FindsMember, FitsIn};
 
 use crate::read::plain::Plain;
-use crate::read::syntax::scan::{DEEPEST, behind, text, value};
+use crate::read::syntax::scan::{DEEPEST, MAX_ITEMS, behind, text, value};
 use crate::read::syntax::value::Value;
 use std::alloc::Global;
 use std::cmp::Ordering;
@@ -26,11 +26,8 @@ const USUAL: usize = 8;
 // The most members of an object. One that has more is read as a tree.
 const MOST_MEMBERS: u32 = 32;
 
-// The most items of an array.
-const MOST_ITEMS: u32 = 65_536;
-
 /// Whether bytes are known to be UTF-8.
-pub fn is_text(bytes: &[u8]) -> bool
+pub fn is_utf8(bytes: &[u8]) -> bool
     ensures { result ≡ true → IsUtf8 bytes.now }
 {
     bytes.is_ascii() || str::from_utf8(bytes).is_ok()
@@ -51,7 +48,7 @@ fn member(bytes: &[u8]) -> Option<((&[u8], Plain<'_>), &[u8])>
 pub(crate) fn members<'a>(alloc: Global, line: &'a [u8]) -> Option<Vec<(&'a [u8], Plain<'a>)>>
     ensures { IfSome result (λ members. line_members line.now ≡ Some (members_of members.items)) }
 {
-    if !is_text(line) {
+    if !is_utf8(line) {
         return None;
     }
     let mut members = Vec::with_capacity(alloc, USUAL).ok()?;
@@ -74,12 +71,12 @@ pub(crate) fn members<'a>(alloc: Global, line: &'a [u8]) -> Option<Vec<(&'a [u8]
 pub(crate) fn items<'a>(alloc: Global, text: &'a [u8]) -> Option<Vec<Value<'a>>>
     ensures { IfSome result (λ values. line_value text.now ≡ Some (array (items value_data values.items))) }
 {
-    if !is_text(text) {
+    if !is_utf8(text) {
         return None;
     }
     let mut values = Vec::with_capacity(alloc, USUAL).ok()?;
     let mut rest = behind(text, b'[')?;
-    for _ in 0..MOST_ITEMS {
+    for _ in 0..MAX_ITEMS {
         let (plain, after) = value(rest)?;
         keep(&mut values, Value::Plain(plain))?;
         match behind(after, b',') {
@@ -151,32 +148,11 @@ fn place_for(members: &[(&[u8], Plain<'_>)], name: &[u8]) -> Option<usize>
     Some(at)
 }
 
-// Whether a name is known to come behind all that are there.
-fn is_last(members: &[(&[u8], Plain<'_>)], name: &[u8]) -> bool
-    requires { MembersInOrder (members_of members.now) }
-    ensures { result ≡ true → GoesLast name.now members.now }
-{
-    if members.is_empty() {
-        return true;
-    }
-    let last = members.len() - 1;
-    match compare(name, members[last].0) {
-        Ordering::Less => false,
-        Ordering::Equal => false,
-        Ordering::Greater => true,
-    }
-}
-
-// Puts a member in its place, which mostly is the last. None where its name is there, or there is no memory.
+// Puts a member in its place. None where its name is there, or there is no memory.
 fn place<'a>(members: &mut Vec<(&'a [u8], Plain<'a>)>, named: (&'a [u8], Plain<'a>)) -> Option<()>
-    requires { MembersInOrder (members_of members.old.items) }
     ensures { IfSome result (λ _.
         members_of members.new.items ≡ put named.entry.0.now (plain_data named.entry.1) (members_of members.old.items)) }
 {
-    if is_last(members.as_slice(), named.0) {
-        members.push(named).ok()?;
-        return Some(());
-    }
     let at = place_for(members.as_slice(), named.0)?;
     members.insert(at, named).ok()?;
     Some(())

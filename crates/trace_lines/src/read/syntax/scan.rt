@@ -12,7 +12,7 @@ use crate::write::escape::plain_run;
 pub const DEEPEST: u32 = 16;
 
 // The most items that are taken of an array, and members of an object.
-const MAX_ITEMS: u32 = 65_536;
+pub(crate) const MAX_ITEMS: u32 = 65_536;
 
 /// What stands behind a byte.
 #[inline(always)]

@@ -1,9 +1,8 @@
-use Rattle.std.proofs.Common.{◌≡◌, refl, rules}
-use Rattle.trace_lines.proofs.Common.{signed_decimal}
-use Rattle.trace_lines.proofs.texts.AddsLemmas.{then, retold}
+use Rattle.std.proofs.Common.{◌≡◌, ◌++◌, List, ℕ, OnOk, subst, rules}
+use Rattle.trace_lines.proofs.Common.{signed_decimal, AddsText}
 use Rattle.trace_lines.proofs.write.pieces.add_long_integer.Goals as goal
 
 pub returns : goal.returns
 returns c =
-    let digits : c.format-digits.result.now ≡ signed_decimal c.args.number = search rules in
-    retold _ _ _ _ (then _ _ _ _ _ c.in_ok-add.ensures c.in_ok-add-2.ensures) (rw digits refl)
+    let digits : c.format.result.now ≡ signed_decimal c.args.number = search rules in
+    subst (λ (text : List ℕ). OnOk c.add_two.result (AddsText c.args.out.now.items c.add_two.new.out.items (c.args.front.now ++ text))) digits c.add_two.ensures

@@ -1,7 +1,7 @@
-use Rattle.std.proofs.Common.{refl}
-use Rattle.trace_lines.proofs.texts.AddsLemmas.{then, retold}
+use Rattle.std.proofs.Common.{◌++◌, List, ℕ, OnOk, subst}
+use Rattle.trace_lines.proofs.Common.{AddsText}
 use Rattle.trace_lines.proofs.write.pieces.add_number.Goals as goal
 
 pub returns : goal.returns
 returns c =
-    retold _ _ _ _ (then _ _ _ _ _ c.in_ok-add.ensures c.in_ok-add-2.ensures) (rw c.format-digits.ensures.text refl)
+    subst (λ (text : List ℕ). OnOk c.add_two.result (AddsText c.args.out.now.items c.add_two.new.out.items (c.args.front.now ++ text))) c.format.ensures.text c.add_two.ensures

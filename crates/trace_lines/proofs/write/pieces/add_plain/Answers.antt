@@ -1,10 +1,10 @@
 use Rattle.std.proofs.Common.{◌≡◌, ◌++◌, [], ◌∷◌, ap, sym, ◌∙◌, rules}
-use Rattle.trace_lines.proofs.Common.{IsUtf8-quoted}
-use Rattle.trace_lines.proofs.texts.AddsLemmas.{then}
+use Rattle.trace_lines.proofs.Common.{IsUtf8-append, IsUtf8-quoted, quoted}
 use Rattle.trace_lines.proofs.write.pieces.add_plain.Goals as goal
 
 pub returns : goal.returns
 returns c =
+    let front = c.args.front.now in
     let text = c.args.text.now in
-    let added : c.add_quoted.new.self.items ≡ c.add.new.out.items ++ 34 ∷ (text ++ 34 ∷ []) = search rules in
-    then _ _ _ _ _ c.in_ok-add.ensures (added ∙ ap (λ l. c.add.new.out.items ++ 34 ∷ (l ++ 34 ∷ [])) (sym c.requires.plain), IsUtf8-quoted text c.requires.utf8)
+    let added : c.add_quoted.new.self.items ≡ c.args.out.now.items ++ (front ++ 34 ∷ (text ++ 34 ∷ [])) = search rules in
+    (added ∙ ap (λ l. c.args.out.now.items ++ (front ++ 34 ∷ (l ++ 34 ∷ []))) (sym c.requires.plain), IsUtf8-append front (quoted text) c.utf8.front (IsUtf8-quoted text c.requires.utf8))

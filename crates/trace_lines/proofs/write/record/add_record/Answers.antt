@@ -59,18 +59,18 @@ returns c =
     let t7 : List ℕ = s7 ++ t8 in
     let x7 : AddsText c.add_text.new.out.items new t7 = then c.add_text.new.out.items c.add_id.new.out.items new s7 t8 c.in_ok-add_id.ensures x8 in
     let t6 : List ℕ = s6 ++ t7 in
-    let x6 : AddsText c.add_links.new.out.items new t6 = then c.add_links.new.out.items c.add_text.new.out.items new s6 t7 c.in_ok-add_text.ensures x7 in
+    let x6 : AddsText c.add_array-3.new.out.items new t6 = then c.add_array-3.new.out.items c.add_text.new.out.items new s6 t7 c.in_ok-add_text.ensures x7 in
     let t5 : List ℕ = s5 ++ t6 in
-    let x5 : AddsText c.add_lane.new.out.items new t5 = then c.add_lane.new.out.items c.add_links.new.out.items new s5 t6 c.in_ok-add_links.ensures x6 in
+    let x5 : AddsText c.add_lane.new.out.items new t5 = then c.add_lane.new.out.items c.add_array-3.new.out.items new s5 t6 c.in_ok-add_array-3.ensures x6 in
     let t : List ℕ = s ++ t5 in
     let x : AddsText c.add_kind.new.out.items new t = then c.add_kind.new.out.items c.add_lane.new.out.items new s t5 c.in_ok-add_lane.ensures x5 in
     let t4 : List ℕ = s4 ++ t in
-    let x4 : AddsText c.add_events.new.out.items new t4 = then c.add_events.new.out.items c.add_kind.new.out.items new s4 t c.in_ok-add_kind.ensures x in
+    let x4 : AddsText c.add_array-2.new.out.items new t4 = then c.add_array-2.new.out.items c.add_kind.new.out.items new s4 t c.in_ok-add_kind.ensures x in
     let t3 : List ℕ = s3 ++ t4 in
-    let x3 : AddsText c.add_number.new.out.items new t3 = then c.add_number.new.out.items c.add_events.new.out.items new s3 t4 c.in_ok-add_events.ensures x4 in
+    let x3 : AddsText c.add_number.new.out.items new t3 = then c.add_number.new.out.items c.add_array-2.new.out.items new s3 t4 c.in_ok-add_array-2.ensures x4 in
     let t2 : List ℕ = s2 ++ t3 in
-    let x2 : AddsText c.add_attributes.new.out.items new t2 = then c.add_attributes.new.out.items c.add_number.new.out.items new s2 t3 c.in_ok-add_number.ensures x3 in
+    let x2 : AddsText c.add_array.new.out.items new t2 = then c.add_array.new.out.items c.add_number.new.out.items new s2 t3 c.in_ok-add_number.ensures x3 in
     let t1 : List ℕ = s1 ++ t2 in
-    let x1 : AddsText c.args.out.now.items new t1 = then c.args.out.now.items c.add_attributes.new.out.items new s1 t2 c.in_ok-add_attributes.ensures x2 in
+    let x1 : AddsText c.args.out.now.items new t1 = then c.args.out.now.items c.add_array.new.out.items new s1 t2 c.in_ok-add_array.ensures x2 in
     retold c.args.out.now.items new t1 (compact_text (record_object c.args.lane c.args.number finished)) x1
     (rw (c.as_slice.ensures, c.as_slice-2.ensures, c.as_slice-3.ensures, c.as_str.ensures) (whole c.args.lane c.args.number finished))

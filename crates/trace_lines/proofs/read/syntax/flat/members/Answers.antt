@@ -1,7 +1,6 @@
-use Rattle.std.proofs.Common.{◌≡◌, ◌++◌, [], ◌∷◌, Some, refl, ap, sym, subst, ◌∙◌, arith, rules}
+use Rattle.std.proofs.Common.{◌≡◌, ◌++◌, [], ◌∷◌, Some, refl, ap, sym, ◌∙◌, arith, rules}
 use Rattle.std.specs.Str.{IsUtf8}
-use Rattle.trace_lines.proofs.Common.{no_members, put, plain_data, members_of, DEEPEST, MembersInOrder}
-use Rattle.trace_lines.proofs.readings.OrderLemmas.{held_in_order}
+use Rattle.trace_lines.proofs.Common.{no_members, put, plain_data, members_of, DEEPEST}
 use Rattle.trace_lines.proofs.readings.CompactLemmas.{Named, AllNamed-push, held_push, members_first, members_on, members_text_end, object_read}
 use Rattle.trace_lines.proofs.read.syntax.flat.members.Goals as goal
 
@@ -9,9 +8,6 @@ pub loop-init : goal.loop-init
 loop-init c =
     let none : c.in_ok-members.members.items ≡ [] = search rules in
     ([], tt, members_first c.in_ok-rest.rest.now, ap members_of none)
-
-pub place-requires : goal.place-requires
-place-requires c = subst MembersInOrder (sym c.loop.invariant.3) (held_in_order c.loop.invariant.0 no_members tt)
 
 pub returns-in-None : goal.returns-in-None
 returns-in-None c =
