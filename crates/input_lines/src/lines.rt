@@ -1,7 +1,7 @@
 //! The lines of some bytes.
 ghost use Rattle.std.specs.Prelude.{◌≡◌, ◌∷◌, ◌<◌, length};
 ghost use Rattle.trace_lines.specs.Lines.{lines_of, is_space, is_blank};
-ghost use Rattle.script_lines.specs.Refusals.{are_blank};
+ghost use Rattle.input_lines.specs.Refusals.{are_blank};
 
 use memchr::memchr;
 

@@ -1,7 +1,7 @@
 use Rattle.std.proofs.Common.{arith}
 use Rattle.std.proofs.lemmas.Bool.{eqb-true}
-use Rattle.script_lines.proofs.FirstLineLemmas.{fed_line, only_line, feedless_before, feedless_from}
-use Rattle.script_lines.proofs.lines.first_line.Goals as goal
+use Rattle.input_lines.proofs.FirstLineLemmas.{fed_line, only_line, feedless_before, feedless_from}
+use Rattle.input_lines.proofs.lines.first_line.Goals as goal
 
 pub returns-in-Some-clause-lines : goal.returns-in-Some-clause-lines
 returns-in-Some-clause-lines c =

@@ -1,8 +1,8 @@
 use Rattle.std.proofs.Common.{◌≡◌, ◌&&◌, Bool, length, sym, ap, ◌∙◌, eqb-true}
 use Rattle.trace_lines.specs.Lines.{lines_of}
-use Rattle.script_lines.specs.Refusals.{are_blank}
-use Rattle.script_lines.proofs.FirstLineLemmas.{none_left}
-use Rattle.script_lines.proofs.lines.are_blank.Goals as goal
+use Rattle.input_lines.specs.Refusals.{are_blank}
+use Rattle.input_lines.proofs.FirstLineLemmas.{none_left}
+use Rattle.input_lines.proofs.lines.are_blank.Goals as goal
 
 pub returns-then-not-is_blank : goal.returns-then-not-is_blank
 returns-then-not-is_blank c =

@@ -3,7 +3,7 @@ use Rattle.std.proofs.Common.{◌≡◌, ℕ, List, [], ◌∷◌, ◌++◌, ref
 use Rattle.std.specs.Prelude.{true, false}
 use Rattle.std.proofs.lemmas.List.Folds.{list_all-append}
 use Rattle.trace_lines.specs.Lines.{is_blank}
-use Rattle.script_lines.specs.Refusals.{are_blank}
+use Rattle.input_lines.specs.Refusals.{are_blank}
 
 -- lines are not all blank where one isn't
 pub some_before : (lines more : List (List ℕ)) → are_blank lines ≡ false → are_blank (lines ++ more) ≡ false
