@@ -1,6 +1,6 @@
 //! Task lines as they are mostly written: compact, and with their members in the order of their names, which are read in one
 //! pass. None says nothing of what a text is.
-ghost use Rattle.std.specs.Prelude.{◌≡◌, ◌<◌, ◌^◌, ◌+◌, ◌++◌, [], ◌∷◌, Some, Ok, IfSome, decimal};
+ghost use Rattle.std.specs.Prelude.{◌≡◌, ◌<◌, ◌≤◌, ◌^◌, ◌+◌, ◌++◌, [], ◌∷◌, Some, Ok, IfSome, decimal, length};
 ghost use Rattle.serde_json.specs.Data.{Data};
 ghost use Rattle.trace_lines.specs.forms.AttributeForm.{otel_value_of};
 ghost use Rattle.trace_lines.specs.forms.FieldForm.{fields_of};
@@ -9,15 +9,19 @@ ghost use Rattle.trace_lines.specs.text.Compact.{BeginsWithValue};
 ghost use Rattle.task_lines.specs.Compact.{BeginsStep, BeginsSteps, EndsTask};
 ghost use Rattle.task_lines.specs.TaskForm.{task_spelled};
 
+use memchr::memchr;
 use otel_base::list::Items;
 use otel_base::text::Text;
 use otel_base::value::OtelValue;
 use std::alloc::Global;
 use trace_base::field::Value as FieldValue;
 use trace_lines::read::syntax::scan::{DEEPEST, number, text, value, word};
-use trace_lines::read::{closes, is_text, leading_fields};
+use trace_lines::read::{closes, is_utf8, leading_fields};
 use trace_lines::{Value, otel_value_of};
 use trace_tasks::script::{Step, Task};
+
+// The room that the steps of most tasks need.
+const USUAL_STEPS: usize = 16;
 
 // The most steps that are read so.
 const MOST_STEPS: u32 = 65_536;
@@ -48,9 +52,28 @@ fn fields_in_front(alloc: Global, bytes: &[u8]) -> Option<(Items<(Text, FieldVal
     ensures { IfSome result (λ r.
         (d : Data) × BeginsWithValue (DEEPEST + 2) bytes.now d r.1.now × (fields_of d ≡ Some r.0)) }
 {
-    let (listed, tail) = leading_fields(alloc, bytes)?;
+    let size = fields_size(bytes);
+    let (listed, tail) = leading_fields(alloc, &bytes[..size])?;
     let fields = without_spare_room(alloc, listed.into_vec())?;
-    Some((fields, tail))
+    let rest = &bytes[size - tail.len()..];
+    Some((fields, rest))
+}
+
+// How much of a text is tested for UTF-8 as fields: mostly these end at the first closing bracket, with another one behind it.
+fn fields_size(bytes: &[u8]) -> usize
+    ensures { result ≤ length bytes.now }
+{
+    match memchr(b']', bytes) {
+        Some(at) => {
+            let end = at + 1;
+            if end < bytes.len() && bytes[end] == b']' {
+                end + 1
+            } else {
+                bytes.len()
+            }
+        }
+        None => bytes.len(),
+    }
 }
 
 fn event_with_fields(alloc: Global, bytes: &[u8]) -> Option<(Step, &[u8])>
@@ -145,11 +168,11 @@ fn keep(steps: &mut Vec<Step>, step: Step) -> Option<()>
 fn leading_steps(alloc: Global, bytes: &[u8]) -> Option<(Items<Step>, &[u8])>
     ensures { IfSome result (λ r. BeginsSteps bytes.now r.0 r.1.now) }
 {
-    let mut steps = Vec::new(alloc);
     let mut rest = word(bytes, b"[")?;
     if let Some(end) = word(rest, b"]") {
-        return Some((Items::from(steps), end));
+        return Some((Items::new(alloc), end));
     }
+    let mut steps = Vec::with_capacity(alloc, USUAL_STEPS).ok()?;
     for _ in 0..MOST_STEPS {
         let (next, after) = step(alloc, rest)?;
         keep(&mut steps, next)?;
@@ -182,7 +205,7 @@ fn site_and_steps(alloc: Global, bytes: &[u8], front: &[u8]) -> Option<(u64, Ite
 pub(crate) fn quick_task(alloc: Global, line: &[u8]) -> Option<Task>
     ensures { IfSome result (λ task. task_spelled line.now ≡ Ok task) }
 {
-    if !is_text(line) {
+    if !is_utf8(line) {
         return None;
     }
     match word(line, b"{\"fields\":") {

@@ -2,9 +2,9 @@
 use Rattle.std.proofs.Common.{◌≡◌, ℕ, List, refl, sym, ap, ◌∙◌, inl, inr, Vec, Global}
 use Rattle.std.specs.Prelude.{Option, Some, None, Result, Ok, Err, true, false, not, is_ok, IfOk, IfSome}
 use Rattle.trace_lines.specs.text.Texts.{refusal_text}
-use Rattle.script_lines.specs.declared.answer.Answer.{Answer}
-use Rattle.script_lines.specs.declared.refused_line.RefusedLine.{RefusedLine}
-use Rattle.script_lines.specs.Refusals.{Refuses, NoneRefused}
+use Rattle.input_lines.specs.declared.answer.Answer.{Answer}
+use Rattle.input_lines.specs.declared.refused_line.RefusedLine.{RefusedLine}
+use Rattle.input_lines.specs.Refusals.{Refuses, NoneRefused}
 use Rattle.trace_tasks.specs.declared.script.TaskScript.{TaskScript}
 use Rattle.task_runs.specs.Reading.{EndsAs, IsRefusedBy, IsStopped}
 use Rattle.task_runs.specs.Scripts.{tasks_of}

@@ -8,9 +8,9 @@ use Rattle.span_script.specs.declared.settings.Settings.{Settings}
 use Rattle.trace_lines.specs.declared.told.Told.{Told}
 use Rattle.trace_lines.specs.declared.told.Told.TheVariants as told
 use Rattle.trace_lines.specs.Lines.{is_blank}
-use Rattle.script_lines.specs.declared.refused_line.RefusedLine.{RefusedLine}
-use Rattle.script_lines.specs.Refusals.{IsTold, are_blank}
-use Rattle.script_lines.proofs.BlankLemmas.{some_before, all_blank, one_not_blank}
+use Rattle.input_lines.specs.declared.refused_line.RefusedLine.{RefusedLine}
+use Rattle.input_lines.specs.Refusals.{IsTold, are_blank}
+use Rattle.input_lines.proofs.BlankLemmas.{some_before, all_blank, one_not_blank}
 use Rattle.trace_tasks.specs.declared.script.Task.{Task}
 use Rattle.trace_tasks.specs.declared.script.TaskScript.{TaskScript}
 use Rattle.task_runs.specs.declared.script.ReadStage.{ReadStage}

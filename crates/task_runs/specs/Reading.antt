@@ -5,8 +5,8 @@ use Rattle.span_script.specs.declared.settings.Settings.{Settings}
 use Rattle.span_script.specs.Admission.{opening_read}
 use Rattle.span_script.specs.Setups.{HasOwnIds}
 use Rattle.trace_lines.specs.declared.told.Told.{Told}
-use Rattle.script_lines.specs.declared.refused_line.RefusedLine.{RefusedLine}
-use Rattle.script_lines.specs.Refusals.{IsTold, are_blank}
+use Rattle.input_lines.specs.declared.refused_line.RefusedLine.{RefusedLine}
+use Rattle.input_lines.specs.Refusals.{IsTold, are_blank}
 use Rattle.trace_tasks.specs.declared.script.Task.{Task}
 use Rattle.trace_tasks.specs.declared.script.TaskScript.{TaskScript}
 use Rattle.task_runs.specs.declared.script.ReadStage.{ReadStage}

@@ -1,14 +1,14 @@
 //! What is written for a whole input.
 ghost use Rattle.std.specs.Prelude.{◌≡◌, not, None, IfSome, IfOk};
 ghost use Rattle.trace_lines.specs.Lines.{lines_of};
-ghost use Rattle.script_lines.specs.Refusals.{Refuses, NoneRefused};
+ghost use Rattle.input_lines.specs.Refusals.{Refuses, NoneRefused};
 ghost use Rattle.task_runs.specs.Reading.{HasReadLines};
 ghost use Rattle.task_runs.specs.Texts.{accepts_tasks, TellsTasks};
 
 use crate::run::run_task_script;
 use crate::script::TaskReader;
+use input_lines::{Answer, first_line, refused_answer};
 use otel_base::memory::Memory;
-use script_lines::{Answer, first_line, refused_answer};
 use std::alloc::{AllocGlobal, Global};
 use std::random::RandomSource;
 

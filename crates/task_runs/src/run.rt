@@ -45,7 +45,8 @@ fn polls_of(tasks: &[Task]) -> Option<u64>
 }
 
 /// Polls the tasks of a script in turn, and runs the requests that they spell: what is written is of the outcome of the flat
-/// list of these, with an entry round each poll, and none of them is refused. `Memory` freely.
+/// list of these, with an entry round each poll, and none of them is refused. `Memory` freely, and where one would be, which
+/// isn't so of tasks that fit their settings.
 pub fn run_task_script<R: RandomSource + AllocGlobal>(
     rt: &R,
     alloc: Global,

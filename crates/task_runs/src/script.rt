@@ -2,9 +2,9 @@
 ghost use Rattle.std.specs.Prelude.{◌≡◌, ◌≢◌, ℕ, List, [], ◌∷◌, ◌++◌, OnOk, IfOk, IfErr};
 ghost use Rattle.task_runs.specs.Reading.{HasReadLines, ReadsSettings, ReadsTask, IsRefusedBy, EndsAs};
 
+use input_lines::{RefusedLine, is_blank};
 use otel_base::list::Items;
 use otel_base::memory::Memory;
-use script_lines::{RefusedLine, is_blank};
 use span_script::open_error::OpenError;
 use span_script::reply::Refusal;
 use span_script::settings::Settings;

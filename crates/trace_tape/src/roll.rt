@@ -1,5 +1,5 @@
 //! Requests in order, with room for some that come later.
-ghost use Rattle.std.specs.Prelude.{◌≡◌, ◌+◌, ◌<◌, ◌≤◌, [], ◌∷◌, ◌++◌, OnOk, OnErr, IfOk};
+ghost use Rattle.std.specs.Prelude.{◌≡◌, ◌+◌, ◌<◌, ◌≤◌, [], ◌∷◌, ◌++◌, OnOk, OnErr};
 
 use otel_base::memory::Memory;
 use span_script::request::Request;
@@ -43,15 +43,14 @@ impl Roll {
         self.requests.as_slice()
     }
 
-    // Moves the requests out, in order. The spare places stay.
-    pub(crate) fn take(&mut self) -> Result<Vec<Request>, Memory>
-        ensures ok { IfOk result (λ taken. (taken.items ≡ self.old.requests)
-            × (self.new ≡ record self.old { requests = [] })) }
+    // Moves the requests behind others, in order. The spare places stay.
+    pub(crate) fn move_to(&mut self, others: &mut Vec<Request>) -> Result<(), Memory>
+        ensures moved { OnOk result (others.new.items ≡ others.old.items ++ self.old.requests) }
+        ensures emptied { OnOk result (self.new ≡ record self.old { requests = [] }) }
         ensures memory_leaves { OnErr result (self.new ≡ self.old) }
     {
-        let mut taken = Vec::with_capacity(*self.requests.allocator(), self.requests.len())?;
-        taken.append(&mut self.requests)?;
-        Ok(taken)
+        others.append(&mut self.requests)?;
+        Ok(())
     }
 
     // Takes the room for one request more.

@@ -1,5 +1,5 @@
 //! The tape.
-ghost use Rattle.std.specs.Prelude.{◌≡◌, ◌≤◌, ◌+◌, ◌-◌, [], ◌++◌, ℕ, IfOk, OnErr, true, false, None, slice_set, count_by};
+ghost use Rattle.std.specs.Prelude.{◌≡◌, ◌≤◌, ◌+◌, ◌-◌, [], ◌++◌, ℕ, OnOk, OnErr, true, false, None, slice_set, count_by};
 ghost use Rattle.std.proofs.Common.{refl, ◌∙◌, ap};
 ghost use Rattle.trace_base.specs.declared.lane.Lane.{Lane};
 ghost use Rattle.trace_base.specs.declared.subscriber.Interest.TheVariants as interests;
@@ -70,13 +70,13 @@ impl Tape {
         self.roll.requests()
     }
 
-    /// Moves the requests off the tape that the calls so far spelled, in order. `Memory` leaves it as it is.
-    pub fn take_requests(&mut self) -> Result<Vec<Request>, Memory>
-        ensures ok { IfOk result (λ taken. (taken.items ≡ self.old.requests)
-            × (self.new ≡ record self.old { requests = [] })) }
+    /// Moves the requests that the calls so far spelled behind others, in order. `Memory` leaves the tape as it is.
+    pub fn move_requests(&mut self, others: &mut Vec<Request>) -> Result<(), Memory>
+        ensures moved { OnOk result (others.new.items ≡ others.old.items ++ self.old.requests) }
+        ensures emptied { OnOk result (self.new ≡ record self.old { requests = [] }) }
         ensures memory_leaves { OnErr result (self.new ≡ self.old) }
     {
-        self.roll.take()
+        self.roll.move_to(others)
     }
 }
 

@@ -39,8 +39,8 @@ pub use Rattle.trace_tasks.specs.Acts.{Asks, CallsIf, Changes, IsGranted, PollsS
 pub use Rattle.trace_tasks.specs.Begun.{AllSited, AreBegun, Begins, MakesOne, Ran}
 pub use Rattle.trace_tasks.specs.Carrying.{Carries, CarriesCall, Entered, EventTold, Exited, Handled, Made, MakesGated, TaskScene}
 pub use Rattle.trace_tasks.specs.Flat.{UnfinishedTask, after_poll, all_polls, declared_ones, drop_at_end, flat_list, makings, moment_of, poll_requests, polls_left, requeue, round_requests, rounds_requests, step_call, tasks_at_first, turns_requests, yield_count}
-pub use Rattle.trace_tasks.specs.Spelled.{AreTested, CarriesTape, IsDeclared, IsNewTape, IsTested, tape_spans}
-pub use Rattle.trace_tasks.specs.Stops.{Drops, DropsAll, GaveUp, MeetsFull, StopsBeginning, StopsInTurn, StopsPoll, StopsTurns, TurnStops, drops_of_tasks, exit_if, leaving_requests, left_after}
+pub use Rattle.trace_tasks.specs.Spelled.{AreTested, CarriesTape, IsDeclared, IsNewTape, IsTested, KeepsOnTape, tape_spans}
+pub use Rattle.trace_tasks.specs.Stops.{Drops, DropsAll, GaveUp, IsPartOfPoll, MeetsFull, StopsBeginning, StopsInTurn, StopsPoll, StopsTurns, TurnStops, drops_of_tasks, exit_if, leaving_requests, left_after}
 pub use Rattle.trace_tasks.specs.Turning.{IsAlone, IsAloneAs, IsLeft, Ready, SameAttached, SpansStay, Turned, dispatch_serving, left_as, root_of_one_handle, served_by}
 pub use Rattle.trace_tasks.specs.Waiting.{AllKnown, AllStand, AllWait, AreApart, IsApart, KeepsBut, TakesTurn, TakesTurnIf, TakesTurns, TaskStands, Waits, polls_in, queue_with}
 pub use Rattle.trace_tasks.specs.declared.running.Running.{Running}

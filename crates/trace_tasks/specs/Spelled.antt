@@ -38,6 +38,10 @@ abbrev pub AreTested : List Callsite → List Task → Type 0
 AreTested sites [] = Unit {0}
 AreTested sites (t ∷ ts) = IsDeclared (slice_get sites t.site) t.fields × IsTested sites t.steps × AreTested sites ts
 
+-- a tape of a world keeps exactly some requests
+abbrev pub KeepsOnTape : ℕ → List Request → Worlds TapeValue → Type 0
+KeepsOnTape d requests world = (tape : TapeValue) × (slice_get world.subscribers d ≡ Some tape) × (tape.requests ≡ requests)
+
 -- a tape of a world that is asked for everything, and on which nothing was spelled yet
 pub record IsNewTape (world : Worlds TapeValue) (d : ℕ) (tape : TapeValue) : Type 0 where
   pub there : slice_get world.subscribers d ≡ Some tape

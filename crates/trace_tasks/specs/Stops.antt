@@ -43,10 +43,17 @@ drops_of_tasks at left = map (λ t. on_first_lane at (call.Drop t.number)) left
 abbrev pub leaving_requests : ℕ → ℕ → List Request → List UnfinishedTask → List Request
 leaving_requests at k part left = exit_if at k part ++ drops_of_tasks at left
 
+-- a part of the poll after so many polls, of the first of the tasks that are left
+abbrev pub IsPartOfPoll : List Callsite → ℕ → List UnfinishedTask → List Request → Type 0
+IsPartOfPoll sites polls [] part = ⊥
+IsPartOfPoll sites polls (t ∷ waiting) part = (others : List Request) × (part ++ others ≡ poll_requests sites polls t)
+
 -- where a run stops: in the poll after so many polls, at whose moment it does, with all tasks begun; or at 0, as spans are made,
 -- where memory is wanted
-abbrev pub StopsAt : (tasks first : List Task) (polls : ℕ) (part : List Request) → EnterError → ℕ → Type 0
-StopsAt tasks first polls part e at = ((at ≡ moment_of polls) × (first ≡ tasks)) ⊎ ((at ≡ 0) × (polls ≡ 0) × (part ≡ []) × (e ≡ Memory))
+abbrev pub StopsAt : List Callsite → (tasks first : List Task) (polls : ℕ) (part : List Request) → EnterError → ℕ → Type 0
+StopsAt sites tasks first polls part e at =
+    ((at ≡ moment_of polls) × (first ≡ tasks) × IsPartOfPoll sites polls (left_after polls (tasks_at_first 0 first)) part)
+    ⊎ ((at ≡ 0) × (polls ≡ 0) × (part ≡ []) × (e ≡ Memory))
 
 module _ {S : Type 0} (spans : S → Spans) (hint : S → Option LevelFilter) (enables : S → ℕ → Callsite → Bool) (does : S → SubscriberCall → S → Type 0) (touches : S → PartCall → S → Type 0) (at : ℕ) where
   -- the handles of some tasks were dropped, one after another, and nothing else happened
@@ -103,6 +110,7 @@ module _ {S : Type 0} (spans : S → Spans) (hint : S → Option LevelFilter) (e
     pub part : List Request
     pub others : List Request
     pub within : turns_requests sites polls 0 ts ++ part ++ others ≡ turns_requests sites (all_polls ts) 0 ts
+    pub in_poll : IsPartOfPoll sites polls (t ∷ waiting) part
     pub not_entered : e ≡ Full → part ≡ []
     pub full_at_first : e ≡ Full → IsFull s.lane
     pub stopped : Stopped (turns_requests sites polls 0 ts ++ part) (leaving_requests (moment_of polls) polls part (t ∷ waiting)) (moment_of polls) e s new later
@@ -117,7 +125,7 @@ module _ {S : Type 0} (spans : S → Spans) (hint : S → Option LevelFilter) (e
     pub others : List Request
     pub within : makings first ++ turns_requests sites polls 0 (tasks_at_first 0 first) ++ part ++ others ≡ flat_list sites tasks
     pub at : ℕ
-    pub moment : StopsAt tasks first polls part e at
+    pub moment : StopsAt sites tasks first polls part e at
     pub not_entered : e ≡ Full → part ≡ []
     pub full_at_call : e ≡ Full → IsFull s.lane
     pub stopped : Stopped (makings first ++ turns_requests sites polls 0 (tasks_at_first 0 first) ++ part) (leaving_requests at polls part (left_after polls (tasks_at_first 0 first))) at e s new later

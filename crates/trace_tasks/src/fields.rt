@@ -17,11 +17,12 @@ pub(crate) fn values_of(
 ) -> Result<ValueSet, Memory>
     ensures { IfOk result (λ values. values ≡ values_of callsite.now fields) }
 {
-    let mut pairs = Items::new(alloc);
+    let mut pairs = Vec::with_capacity(alloc, fields.as_slice().len())?;
     for (name, value) in fields.into_vec() {
         if let Some(place) = callsite.field(name.as_str()) {
             pairs.push((place, value))?;
         }
     }
+    let pairs = Items::from(pairs);
     Ok(ValueSet { pairs })
 }

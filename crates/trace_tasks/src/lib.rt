@@ -2,7 +2,8 @@
 //!
 //! All turns on `run_tasks`, which polls the tasks of a script over any subscriber: it carries out the requests of a flat
 //! list (`specs/Flat`), each by exactly its call (`specs/Carrying`), and where it is refused a front of that list
-//! (`specs/Stops`). Over a new tape the list itself is left (`spell_tasks`), or handed on as it is spelled (`run_on_tape`).
+//! (`specs/Stops`). Over a new tape the list itself is left (`runs_over_a_tape`), or handed on as it is spelled
+//! (`run_on_tape`).
 #![tactic(auto)]
 
 mod acts;
@@ -20,4 +21,4 @@ mod turn;
 pub use request_sink::RequestSink;
 pub use run::run_tasks;
 pub use script::{Step, Task, TaskScript};
-pub use taped::{run_on_tape, spell_tasks};
+pub use taped::{run_on_tape, runs_over_a_tape};

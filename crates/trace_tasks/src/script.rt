@@ -6,7 +6,7 @@ use span_script::settings::Settings;
 use trace_base::field::Value;
 
 /// One step of a task. Callsites are named by their places.
-#[derive(Clone, Drop)]
+#[derive(Drop)]
 pub enum Step {
     /// Tells a contextual event of a callsite, with the values of some fields; `tracing::Event::dispatch`.
     Event {
@@ -27,7 +27,7 @@ pub enum Step {
 }
 
 /// A task: the callsite of its span, the values of some of the span's fields, and its steps in order.
-#[derive(Clone, Drop)]
+#[derive(Drop)]
 pub struct Task {
     /// The callsite of its span.
     pub site: u64,
@@ -38,7 +38,7 @@ pub struct Task {
 }
 
 /// The settings of a script, and its tasks in order.
-#[derive(Clone, Drop)]
+#[derive(Drop)]
 pub struct TaskScript {
     /// The settings.
     pub settings: Settings,

@@ -1,10 +1,18 @@
 //! Runs of tasks over a tape.
-ghost use Rattle.std.specs.Prelude.{◌≡◌, ◌≢◌, ◌<◌, ◌^◌, ◌+◌, [], length, sum_by, Some, Err, IfOk, OnOk, slice_get};
+ghost use Rattle.std.specs.Prelude.{◌≡◌, ◌≢◌, ◌<◌, ◌^◌, ◌+◌, ℕ, List, [], length, sum_by, true, false, None, Err, IfOk, OnOk};
 ghost use Rattle.futures.specs.Task.{Keeps};
 ghost use Rattle.otel_base.specs.declared.enter_error.EnterError.TheVariants as faults;
-ghost use Rattle.trace_tasks.specs.Begun.{AllSited};
+ghost use Rattle.trace_base.specs.declared.callsite.Callsite.{Callsite};
+ghost use Rattle.trace_base.specs.declared.lane.Lane.{Lane};
+ghost use Rattle.trace_base.specs.Gate.{Worlds};
+ghost use Rattle.trace_tape.specs.Taping.{TapeValue, DoesTape};
+ghost use Rattle.trace_tape.specs.Touching.{TouchesTape};
+ghost use Rattle.trace_tasks.specs.declared.script.Task.{Task};
+ghost use Rattle.trace_tasks.specs.Begun.{AllSited, Ran};
+ghost use Rattle.trace_tasks.specs.Carrying.{TaskScene};
 ghost use Rattle.trace_tasks.specs.Flat.{all_polls, tasks_at_first, flat_list, yield_count};
-ghost use Rattle.trace_tasks.specs.Spelled.{AreTested, IsNewTape, tape_spans};
+ghost use Rattle.trace_tasks.specs.Spelled.{AreTested, IsNewTape, KeepsOnTape, tape_spans};
+ghost use Rattle.trace_tasks.specs.Stops.{GaveUp};
 ghost use Rattle.trace_tasks.specs.TapeTurns.{WaitOnTape, TakesAll, OnlyRequestsChange, HandsOn, HandsTurnsOn};
 ghost use Rattle.trace_tasks.specs.Turning.{Ready, dispatch_serving};
 ghost use Rattle.trace_tasks.specs.Waiting.{AllWait, polls_in};
@@ -12,9 +20,8 @@ ghost use Rattle.trace_tasks.specs.Waiting.{AllWait, polls_in};
 use crate::begin::begin_all;
 use crate::queue::{close_all, take_turn};
 use crate::request_sink::RequestSink;
-use crate::run::run_tasks;
 use crate::running::Running;
-use crate::script::{Task, TaskScript};
+use crate::script::Task;
 use futures::task::Context;
 use otel_base::enter_error::EnterError;
 use otel_base::list::Items;
@@ -28,31 +35,19 @@ use trace_base::lane::Lane;
 use trace_base::world::World;
 use trace_tape::tape::Tape;
 
-/// Runs the tasks of a script over a new tape, which keeps exactly the flat list; answers how many polls that has: one for
-/// each task and one for each yield. Never `Full`, `Memory` freely.
-pub fn spell_tasks(
-    alloc: Global,
-    script: &TaskScript,
-    world: &mut World<Tape>,
-    lane: &mut Lane,
-    cx: &mut Context<'_>,
-) -> Result<u64, EnterError>
-    requires new_tape { (tape : _) × IsNewTape world.old (dispatch_serving lane.old) tape }
-    requires ready { Ready tape_spans (λ s lane number. 0) (λ s. Unit {0}) world.old lane.old }
-    requires sites { world.old.sites ≡ script.now.settings.callsites }
-    requires sited { AllSited (length script.now.settings.callsites) script.now.tasks }
-    requires tested { AreTested script.now.settings.callsites script.now.tasks }
-    requires few { length script.now.tasks < 2 ^ 63 }
-    requires few_polls { all_polls (tasks_at_first 0 script.now.tasks) < 2 ^ 60 }
-
-    ensures polls { IfOk result (λ polls. polls ≡ sum_by (λ t. yield_count t.steps) script.now.tasks + length script.now.tasks) }
-    ensures never_full { result ≢ Err faults.Full }
-    ensures spelled { IfOk result (λ polls. (tape : _) × (slice_get world.new.subscribers (dispatch_serving lane.old) ≡ Some tape)
-        × (tape.requests ≡ flat_list script.now.settings.callsites script.now.tasks)) }
-    ensures context { Keeps cx.old cx.new }
-{
-    run_tasks(alloc, script, world, lane, cx)
-}
+/// What `run_tasks` comes to over a new tape: the tape keeps exactly the flat list, and the run is never `Full`.
+pub fn runs_over_a_tape()
+    ensures spelled { (tasks : List Task) (old new : Worlds TapeValue) (before later : Lane) (tape : TapeValue) (polls : ℕ)
+        → IsNewTape old (dispatch_serving before) tape
+        → Ready tape_spans (λ s lane number. 0) (λ s. Unit {0}) old before
+        → AreTested old.sites tasks → all_polls (tasks_at_first 0 tasks) < 2 ^ 60
+        → Ran tape_spans (λ s. None) (λ s lane c. true) DoesTape TouchesTape old.sites tasks old new before later polls
+        → KeepsOnTape (dispatch_serving before) (flat_list old.sites tasks) new }
+    ensures never_full { (d : ℕ) (sites : List Callsite) (tasks : List Task) (s : TaskScene TapeValue)
+        (new : Worlds TapeValue) (later : Lane)
+        → ¬ (GaveUp tape_spans (λ s. None) (λ s lane c. true) (λ s id. false) DoesTape TouchesTape (λ s t. t ≡ s)
+        d sites tasks faults.Full s new later) }
+{}
 
 /// Runs tasks over a new tape, and hands the requests that they spell on, those of a poll as soon as it has ended: the sink
 /// takes exactly the flat list. Answers how many polls that has: one for each task and one for each yield. Never `Full`,
@@ -118,7 +113,8 @@ fn begin_and_spell<K: RequestSink>(
             return Err(EnterError::Memory);
         }
     }
-    match hand_on(world, dispatch, sink) {
+    let mut makings = Vec::new(alloc);
+    match hand_on(world, dispatch, &mut makings, sink) {
         Ok(()) => spell_turns(queue, world, lane, dispatch, cx, sink),
         Err(Memory) => {
             close_all(queue, world, 0);
@@ -147,9 +143,11 @@ fn spell_turns<K: RequestSink>(
     ensures empty { queue.new.items ≡ [] }
     ensures context { Keeps cx.old cx.new }
 {
+    // The requests of a poll, in room that is taken once.
+    let mut batch = Vec::new(world.allocator());
     let mut polls = 0;
     while take_turn(queue, world, lane, 10 * (polls + 1), cx)? {
-        if let Err(Memory) = hand_on(world, dispatch, sink) {
+        if let Err(Memory) = hand_on(world, dispatch, &mut batch, sink) {
             close_all(queue, world, 10 * (polls + 1));
             return Err(EnterError::Memory);
         }
@@ -158,25 +156,30 @@ fn spell_turns<K: RequestSink>(
     Ok(polls)
 }
 
-// Hands the requests on a tape on, which leaves none on it.
+// Hands the requests on a tape on, by way of an empty batch. None is left on it.
 fn hand_on<K: RequestSink>(
     world: &mut World<Tape>,
     dispatch: Dispatch,
+    batch: &mut Vec<Request>,
     sink: &mut K,
 ) -> Result<(), Memory>
     requires there { dispatch < length world.old.subscribers }
+    requires empty { batch.old.items ≡ [] }
     ensures changes { OnlyRequestsChange dispatch world.old world.new }
     ensures ok { OnOk result (HandsOn K.takes dispatch world.old world.new sink.old sink.new) }
+    ensures empty { OnOk result (batch.new.items ≡ []) }
 {
-    let requests = world.subscriber_mut(dispatch).take_requests()?;
-    push_all(sink, requests)
+    world.subscriber_mut(dispatch).move_requests(batch)?;
+    push_all(sink, batch)
 }
 
-// Hands requests on.
-fn push_all<K: RequestSink>(sink: &mut K, requests: Vec<Request>) -> Result<(), Memory>
-    ensures { OnOk result (TakesAll K.takes requests.items sink.old sink.new) }
+// Hands requests on, the first one first.
+fn push_all<K: RequestSink>(sink: &mut K, requests: &mut Vec<Request>) -> Result<(), Memory>
+    ensures taken { OnOk result (TakesAll K.takes requests.old.items sink.old sink.new) }
+    ensures none { OnOk result (requests.new.items ≡ []) }
 {
-    for request in requests {
+    requests.reverse();
+    while let Some(request) = requests.pop() {
         sink.push(request)?;
     }
     Ok(())

@@ -1,9 +1,7 @@
 -- A poll of a task's steps, so far.
-use Rattle.std.proofs.Common.{◌≡◌, ℕ, List, [], ◌∷◌, ◌++◌, Bool, Option, Ok, Err, refl, sym, ap, subst, ◌∙◌, ◌⊎◌, inl, inr, append_assoc}
+use Rattle.std.proofs.Common.{◌≡◌, ℕ, List, [], ◌∷◌, ◌++◌, Bool, Option, Err, refl, sym, ap, subst, ◌∙◌, ◌⊎◌, inl, inr, append_assoc}
 use Rattle.trace_tasks.proofs.Common.{Callsite, Lane, LevelFilter, Worlds, Spans, SubscriberCall, spans_after_call, CallLanes, CallsBy, KeepsLent, calls_none, calls_then, keeps_nothing, PartCall, StaysStack, Step, steps_now, steps_left, StepOn, StepsOn, PollsSteps, Changes, Asks, Wants}
-use Rattle.std.proofs.lemmas.List.{append-nil}
 use Rattle.otel_base.specs.declared.enter_error.EnterError.TheVariants as faults
-use Rattle.futures.specs.declared.task.Poll.TheVariants as polls
 use Rattle.trace_tasks.specs.declared.script.Step.TheVariants as step
 use Rattle.trace_tasks.proofs.polls.ChangesLemmas.{lent_then, changes_keep, changes_call}
 
@@ -74,16 +72,6 @@ module _ {S : Type 0} (spans : S → Spans) (hint : S → Option LevelFilter) (e
         split = append_assoc so_far.done (s ∷ []) (steps_now steps) ∙ ap (λ (xs : List Step). so_far.done ++ xs) (sym (ap steps_now is ∙ next_now s steps act)) ∙ so_far.split;
         did = did_more so_far.done s old world next so_far.did on;
       }
-
-  all_done : (first all : List Step) (old world : Worlds S) (so_far : Polling first all old world) → steps_now all ≡ [] → StepsOn spans hint enables does touches lane at (steps_now first) old world
-  all_done first all old world so_far none =
-      subst (λ (xs : List Step). StepsOn spans hint enables does touches lane at xs old world) (sym (append-nil so_far.done) ∙ ap (λ (xs : List Step). so_far.done ++ xs) (sym none) ∙ so_far.split) so_far.did
-
-  pub polled_pending : (first all steps : List Step) (old world : Worlds S) → Polling first all old world → all ≡ step.Yield ∷ steps → PollsSteps spans hint enables does touches same first old lane at (Ok polls.Pending) steps world lane
-  polled_pending first all steps old world so_far is = (refl, sym so_far.left ∙ ap steps_left is, all_done first all old world so_far (ap steps_now is))
-
-  pub polled_ready : (first all steps : List Step) (old world : Worlds S) → Polling first all old world → all ≡ [] → PollsSteps spans hint enables does touches same first old lane at (Ok (polls.Ready tt)) steps world lane
-  polled_ready first all steps old world so_far is = (refl, sym so_far.left ∙ ap steps_left is, all_done first all old world so_far (ap steps_now is))
 
   -- a step wanted memory
   pub polled_wants : (first all steps : List Step) (old world next : Worlds S) → Polling first all old world → Wants spans hint enables does touches same at world next → PollsSteps spans hint enables does touches same first old lane at (Err faults.Memory) steps next lane

@@ -1,10 +1,10 @@
 -- A poll of a task, and its end if it is finished.
 use Rattle.std.proofs.Common.{◌≡◌, ℕ, List, [], ◌∷◌, ◌++◌, length, map, Bool, Option, Some, None, Ok, refl, sym, ap, subst, ◌∙◌, arith, inl, inr, ◌⊎◌}
-use Rattle.trace_tasks.proofs.Common.{option_map_or, Callsite, Lane, LevelFilter, SubscriberCall, TryClose, Exit, spans_after_call, CallLanes, Worlds, Span, Spans, span_at, entries_on, next_of, without_hold, Replaced, Chain, ended, closes, ReleasesChain, all_released, releases, spans_in, no_spans, Handle, Held, HasOn, ReplacedOn, as_many, seen_before, seen_later, chain_shown, Instrumented, HasAll, AreAllAttached, KeepsLent, Polled, CannotEnter, IsInside, same_kept, keeps_all, PartCall, StaysStack, on_first_lane, Running, Step, steps_now, StepsOn, PollsSteps, TaskScene, Handled, Carries, UnfinishedTask, step_call, moment_of, drop_at_end, served_by, dispatch_serving, Ready, root_of_one_handle, IsAlone, IsAloneAs, left_as, Turned}
+use Rattle.trace_tasks.proofs.Common.{Callsite, Lane, LevelFilter, SubscriberCall, TryClose, Exit, spans_after_call, CallLanes, Worlds, Span, Spans, span_at, entries_on, next_of, without_hold, Replaced, Chain, ended, closes, ReleasesChain, all_released, releases, spans_in, Handle, Held, ReplacedOn, as_many, seen_before, seen_later, chain_shown, Instrumented, HasAll, AreAllAttached, KeepsLent, Polled, CannotEnter, IsInside, same_kept, keeps_all, PartCall, StaysStack, on_first_lane, Running, Step, steps_now, StepsOn, PollsSteps, TaskScene, Handled, Carries, UnfinishedTask, step_call, moment_of, drop_at_end, served_by, dispatch_serving, Ready, root_of_one_handle, IsAlone, IsAloneAs, left_as, Turned}
 use Rattle.std.specs.Option.{option_map}
 use Rattle.futures.specs.declared.task.Poll.{Poll}
 use Rattle.futures.specs.declared.task.Poll.TheVariants as polls
-use Rattle.trace_base.specs.Conditions.{Allowed, HasFewHolds}
+use Rattle.trace_base.specs.Conditions.{Allowed}
 use Rattle.span_script.specs.declared.request.Call.TheVariants as call
 use Rattle.trace_tasks.proofs.queues.RootLemmas.{others_stay, no_next}
 use Rattle.trace_tasks.proofs.polls.EntryLemmas.{Through, through}
@@ -156,15 +156,6 @@ module _ {S : Type 0} (spans : S → Spans) (hint : S → Option LevelFilter) (e
             (record { world = old; lane = before; handles = handles; guards = guards }) end) (sym polled.1)
             (thr.carried t k handles guards (on_first_lane m (call.Drop number) ∷ []) end moment count (sym same) refl is (end, drop, refl));
       }
-
--- a root that one handle holds has few holds
-pub few_holds : {S : Type 0} (spans : S → Spans) (world : Worlds S) (d site : ℕ) (held : Held) → IsAloneAs (spans_in spans world d).made d site held → HasOn (λ s id. HasFewHolds (spans s).made id) world held
-few_holds spans world d site None lone = tt
-few_holds {S} spans world d site (Some h) lone = λ s there. (
-    let a = ap (λ (n : ℕ). (span_at (spans_in spans world n).made h.1).holds) lone.0 in
-    let b = ap (λ (o : Option S). (span_at (option_map_or spans o no_spans).made h.1).holds) there in
-    let e = ap (λ (x : Span). x.holds) lone.1 in
-    omega (arith, a, b, e))
 
 module _ {S : Type 0} (spans : S → Spans) (is_whole : S → Type 0) (does : S → SubscriberCall → S → Type 0) (keeps_whole : (s : S) (call : SubscriberCall) (t : S) → does s call t → is_whole s → is_whole t) (at : ℕ) where
   chain_whole : (o : Option ℕ) (s t : S) → Chain spans does at o s t → is_whole s → is_whole t

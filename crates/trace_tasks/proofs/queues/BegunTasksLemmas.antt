@@ -2,12 +2,13 @@
 use Rattle.std.proofs.Common.{◌≡◌, ℕ, ◌+◌, ◌<◌, ◌≤◌, ◌^◌, List, [], ◌∷◌, ◌++◌, length, Bool, Option, Some, None, Result, Ok, Err, refl, sym, ap, subst, ◌∙◌, arith, sum_by, append_assoc, inl, inr, IfOk, IfErr, OnErr}
 use Rattle.std.proofs.lemmas.List.{append-nil, length_push}
 use Rattle.otel_base.specs.declared.enter_error.EnterError.TheVariants as faults
-use Rattle.trace_tasks.proofs.Common.{sum_by-cons, EnterError, Callsite, Lane, LevelFilter, SubscriberCall, Worlds, Span, Spans, span_at, made_if_held, spans_in, Handle, Held, id_of, Instrumented, PartCall, Request, on_first_lane, Running, Task, Begins, AreBegun, Ran, TaskScene, Carries, UnfinishedTask, yield_count, polls_left, all_polls, tasks_at_first, makings, moment_of, rounds_requests, flat_list, untouched, turns_requests, DropsAll, leaving_requests, StopsTurns, StopsBeginning, GaveUp, IsAloneAs, Ready, dispatch_serving, Waits, AllWait, AllKnown, AllStand, TakesTurns, polls_in}
+use Rattle.trace_tasks.proofs.Common.{sum_by-cons, EnterError, Callsite, Lane, LevelFilter, SubscriberCall, Worlds, Span, Spans, span_at, made_if_held, spans_in, Handle, Held, id_of, Instrumented, PartCall, Request, on_first_lane, Running, Task, Begins, AreBegun, Ran, TaskScene, Carries, UnfinishedTask, yield_count, polls_left, all_polls, tasks_at_first, makings, moment_of, rounds_requests, untouched, turns_requests, DropsAll, leaving_requests, StopsTurns, StopsBeginning, IsPartOfPoll, GaveUp, IsAloneAs, Ready, dispatch_serving, Waits, AllWait, AllKnown, AllStand, TakesTurns, polls_in}
 use Rattle.span_handles.specs.Knowing.{KeepsHandles}
 use Rattle.span_script.specs.declared.request.Call.TheVariants as call
 use Rattle.span_script.specs.declared.request.RequestParent.TheVariants as request_parent
 use Rattle.trace_tasks.proofs.polls.CarriesLemmas.{carry_then}
 use Rattle.trace_tasks.proofs.polls.EntryLemmas.{get_push, get_before}
+use Rattle.trace_tasks.proofs.queues.LeftHandlesLemmas.{closing_first, closed_all}
 use Rattle.trace_tasks.proofs.queues.QueueLemmas.{stand_push, apart_push}
 use Rattle.trace_tasks.proofs.tapes.RoundsLemmas.{rounds_are_turns}
 
@@ -159,7 +160,7 @@ module _ {S : Type 0} (spans : S → Spans) (hint : S → Option LevelFilter) (e
         within = append_assoc (makings tasks ++ front) stop.part stop.others ∙ append_assoc (makings tasks) front (stop.part ++ stop.others)
             ∙ ap (λ (rs : List Request). makings tasks ++ rs) (sym (append_assoc front stop.part stop.others) ∙ stop.within ∙ sym (rounds_are_turns sites (all_polls ts) 0 ts (omega arith)));
         at = moment_of stop.polls;
-        moment = inl (refl, refl);
+        moment = inl (refl, refl, subst (λ (us : List UnfinishedTask). IsPartOfPoll sites stop.polls us stop.part) (sym stop.next) stop.in_poll);
         not_entered = stop.not_entered;
         full_at_call = stop.full_at_first;
         stopped = record {
@@ -210,30 +211,11 @@ module _ {S : Type 0} (spans : S → Spans) (hint : S → Option LevelFilter) (e
       }
 
   -- a run that was refused before it made a span
-  pub gave_up_first : (activates : S → ℕ → Bool) (same : S → S → Type 0) (sites : List Callsite) (tasks : List Task) (lane : Lane) (world : Worlds S)
+  pub gave_up_first : (activates : S → ℕ → Bool) (same : S → S → Type 0) (sites : List Callsite) (tasks : List Task) (lane : Lane) (world : Worlds S) → Ready spans kept is_whole world lane
       → GaveUp spans hint enables activates does touches same (dispatch_serving lane) sites tasks faults.Memory (record { world = world; lane = lane; handles = []; guards = [] }) world lane
-  gave_up_first activates same sites tasks lane world =
-      let start : TaskScene S = record { world = world; lane = lane; handles = []; guards = [] } in
-      record {
-        first = [];
-        polls = 0;
-        part = [];
-        others = flat_list sites tasks;
-        within = refl;
-        at = 0;
-        moment = inr (refl, refl, refl, refl);
-        not_entered = λ is_full. refl;
-        full_at_call = λ is_full. absurd (cc is_full);
-        stopped = record {
-          here = start;
-          carried = refl;
-          failed = start;
-          fails = record { world = untouched refl; lane = record { id = refl; name = refl; default = refl; live = refl }; handles = refl; guards = refl };
-          guards = [];
-          closed = refl;
-          full = λ is_full. absurd (cc is_full);
-        };
-      }
+  gave_up_first activates same sites tasks lane world ready =
+      gave_up_begun activates same sites tasks lane world world world [] (record { first = []; others = tasks; within = refl; world = world; so_far = none_begun spans hint enables kept is_whole does touches lane world ready; wants = untouched refl })
+      (λ handles ts stand. closed_all spans hint enables does touches 0 [] [] world world handles ts refl (closing_first spans hint enables does touches 0 [] world handles ts stand))
 
   pub gave_up_if : (activates : S → ℕ → Bool) (same : S → S → Type 0) (sites : List Callsite) (tasks : List Task) (lane later : Lane) (old world new : Worlds S) (fs : List (Instrumented Running)) (result : Result ℕ EnterError) → old.sites ≡ sites
       → AreBegun spans hint enables kept is_whole does touches tasks lane old world fs

@@ -176,6 +176,7 @@ module _ {S : Type 0} (spans : S → Spans) (hint : S → Option LevelFilter) (e
           within = append_assoc (turns_requests old.sites polls 0 ts) one.part (one.others ++ more)
               ∙ ap (λ (rs : List Request). turns_requests old.sites polls 0 ts ++ rs) (sym (append_assoc one.part one.others more) ∙ ap (λ (rs : List Request). rs ++ more) one.within)
               ∙ sym whole;
+          in_poll = (one.others, one.within);
           not_entered = one.not_entered;
           full_at_first = λ is_full. (
               let here_is : st.here ≡ start = subst (λ (rs : List Request). Carries spans hint enables does touches d rs start st.here) (one.not_entered is_full) st.carried in

@@ -68,9 +68,6 @@ tasks_after d sites k t s m tape p ts all (Some rest) is =
 
 -- ---- the makings
 
-the_handle : (a b : Handle) → ◌≡◌ {A = Option Handle} (Some a) (Some b) → a ≡ b
-the_handle a b e = cc e
-
 -- a tape on which some spans were made and nothing else
 pub record OnlySpansMade (d : ℕ) (sites : List Callsite) (i : ℕ) (s : TaskScene TapeValue) (tape : TapeValue) : Type 0 where
   pub between : BetweenPolls d sites 0 s tape

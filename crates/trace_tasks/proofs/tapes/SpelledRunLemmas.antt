@@ -1,9 +1,9 @@
 -- A run over a new tape spells the flat list.
-use Rattle.std.proofs.Common.{◌≡◌, ℕ, zero, suc, ◌+◌, ◌<◌, ◌^◌, List, [], ◌∷◌, ◌++◌, true, false, Some, None, Result, Ok, Err, refl, sym, ap, subst, ◌∙◌, arith, slice_get, append_assoc, IfOk, IfErr}
+use Rattle.std.proofs.Common.{◌≡◌, ℕ, zero, suc, ◌+◌, ◌<◌, ◌^◌, List, [], ◌∷◌, ◌++◌, true, false, Some, None, refl, sym, ap, subst, ◌∙◌, arith, slice_get, append_assoc}
 use Rattle.std.proofs.lemmas.Bool.{true≢false}
 use Rattle.std.proofs.lemmas.List.{append-nil}
 use Rattle.otel_base.specs.declared.enter_error.EnterError.TheVariants as faults
-use Rattle.trace_tasks.proofs.Common.{EnterError, Callsite, Lane, Worlds, Request, TapeValue, DoesTape, TouchesTape, steps_left, TaskScene, UnfinishedTask, poll_requests, after_poll, requeue, turns_requests, rounds_requests, tasks_at_first, makings, all_polls, flat_list, tape_spans, CarriesTape, AreTested, IsNewTape, Ran, GaveUp, Ready, dispatch_serving, Task}
+use Rattle.trace_tasks.proofs.Common.{Callsite, Lane, Worlds, Request, TapeValue, DoesTape, TouchesTape, steps_left, TaskScene, UnfinishedTask, poll_requests, after_poll, requeue, turns_requests, rounds_requests, tasks_at_first, makings, all_polls, flat_list, tape_spans, CarriesTape, AreTested, IsNewTape, KeepsOnTape, Ran, GaveUp, Ready, dispatch_serving, Task}
 use Rattle.trace_tasks.specs.TapeTurns.{BetweenPolls, AllCanBePolled}
 use Rattle.trace_tasks.proofs.tapes.PollsLemmas.{poll_spells, split}
 use Rattle.trace_tasks.proofs.tapes.RoundsLemmas.{rounds_are_turns}
@@ -21,8 +21,8 @@ turns_spell d sites (suc n) k (t ∷ ts) s m tape few between all did =
     (rest.0, rest.1, rest.2 ∙ ap (λ (qs : List Request). qs ++ turns_requests sites n (k + 1) (requeue ts (after_poll t))) p.requests ∙ append_assoc tape.requests (poll_requests sites k t) (turns_requests sites n (k + 1) (requeue ts (after_poll t))))
 
 -- a run over a new tape leaves the flat list
-run_spells : (tasks : List Task) (old new : Worlds TapeValue) (before later : Lane) (tape : TapeValue) (polls : ℕ) → IsNewTape old (dispatch_serving before) tape → Ready tape_spans (λ s lane number. 0) (λ s. Unit {0}) old before → AreTested old.sites tasks → all_polls (tasks_at_first 0 tasks) < 2 ^ 60
-    → Ran tape_spans (λ s. None) (λ s lane c. true) DoesTape TouchesTape old.sites tasks old new before later polls → (now : TapeValue) × (slice_get new.subscribers (dispatch_serving before) ≡ Some now) × (now.requests ≡ flat_list old.sites tasks)
+pub run_spells : (tasks : List Task) (old new : Worlds TapeValue) (before later : Lane) (tape : TapeValue) (polls : ℕ) → IsNewTape old (dispatch_serving before) tape → Ready tape_spans (λ s lane number. 0) (λ s. Unit {0}) old before → AreTested old.sites tasks → all_polls (tasks_at_first 0 tasks) < 2 ^ 60
+    → Ran tape_spans (λ s. None) (λ s lane c. true) DoesTape TouchesTape old.sites tasks old new before later polls → KeepsOnTape (dispatch_serving before) (flat_list old.sites tasks) new
 run_spells tasks old new before later tape polls is_new ready tested few ran =
     let d : ℕ = dispatch_serving before in
     let ts : List UnfinishedTask = tasks_at_first 0 tasks in
@@ -37,16 +37,6 @@ run_spells tasks old new before later tape polls is_new ready tested few ran =
       end.2 ∙ ap (λ (qs : List Request). qs ++ turns_requests old.sites (all_polls ts) 0 ts) (all.requests ∙ ap (λ (qs : List Request). qs ++ makings tasks) is_new.no_requests) ∙ ap (λ (rs : List Request). makings tasks ++ rs) (sym as_turns),
     )
 
-pub spelled : (sites : List Callsite) (tasks : List Task) (old new : Worlds TapeValue) (before later : Lane) (tape : TapeValue) (result : Result ℕ EnterError) → IsNewTape old (dispatch_serving before) tape → Ready tape_spans (λ s lane number. 0) (λ s. Unit {0}) old before
-    → old.sites ≡ sites → AreTested sites tasks → all_polls (tasks_at_first 0 tasks) < 2 ^ 60 → IfOk result (λ polls. Ran tape_spans (λ s. None) (λ s lane c. true) DoesTape TouchesTape sites tasks old new before later polls)
-    → IfOk result (λ polls. (now : TapeValue) × (slice_get new.subscribers (dispatch_serving before) ≡ Some now) × (now.requests ≡ flat_list sites tasks))
-spelled sites tasks old new before later tape (Err e) is_new ready same tested few ran = tt
-spelled sites tasks old new before later tape (Ok polls) is_new ready same tested few ran =
-    subst (λ (xs : List Callsite). (now : TapeValue) × (slice_get new.subscribers (dispatch_serving before) ≡ Some now) × (now.requests ≡ flat_list xs tasks)) same
-    (run_spells tasks old new before later tape polls is_new ready (subst (λ (xs : List Callsite). AreTested xs tasks) (sym same) tested) few (subst (λ (xs : List Callsite). Ran tape_spans (λ s. None) (λ s lane c. true) DoesTape TouchesTape xs tasks old new before later polls) (sym same) ran))
-
 -- a tape attaches nothing, so no lane is full for it
-pub never_full : (d : ℕ) (sites : List Callsite) (tasks : List Task) (s : TaskScene TapeValue) (new : Worlds TapeValue) (later : Lane) (result : Result ℕ EnterError)
-    → IfErr result (λ e. GaveUp tape_spans (λ s. None) (λ s lane c. true) (λ s id. false) DoesTape TouchesTape (λ s t. t ≡ s) d sites tasks e s new later) → result ≡ Err faults.Full → ⊥
-never_full d sites tasks s new later (Ok polls) gave is = absurd (cc is)
-never_full d sites tasks s new later (Err e) gave is = (let full = gave.stopped.full (cc is) in absurd (true≢false (sym full.attaches)))
+pub never_full : (d : ℕ) (sites : List Callsite) (tasks : List Task) (s : TaskScene TapeValue) (new : Worlds TapeValue) (later : Lane) → GaveUp tape_spans (λ s. None) (λ s lane c. true) (λ s id. false) DoesTape TouchesTape (λ s t. t ≡ s) d sites tasks faults.Full s new later → ⊥
+never_full d sites tasks s new later gave = (let full = gave.stopped.full refl in absurd (true≢false (sym full.attaches)))

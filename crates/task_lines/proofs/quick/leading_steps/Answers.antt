@@ -1,4 +1,4 @@
-use Rattle.std.proofs.Common.{◌+◌, ◌++◌, [], ◌∷◌, Some, ap, sym, ◌∙◌}
+use Rattle.std.proofs.Common.{◌≡◌, ◌+◌, ◌++◌, [], ◌∷◌, Some, ap, sym, ◌∙◌, rules}
 use Rattle.serde_json.specs.Data.{no_items}
 use Rattle.trace_lines.specs.declared.read.syntax.scan.TheConstants.{DEEPEST}
 use Rattle.trace_lines.proofs.readings.CompactLemmas.{Pair, AllRead-push, items_first, items_on, items_text_end, array_front, read_items}
@@ -9,11 +9,11 @@ pub returns-in-Some : goal.returns-in-Some
 returns-in-Some c = (
   no_items,
   array_front (DEEPEST + 3) c.args.bytes.now c.in_ok-rest.rest.now c.in-Some.end.now [] tt c.in_ok-rest.ensures c.in-Some.ensures,
-  ap (λ ss. Some ss) (sym (c.from.ensures ∙ c.new-steps.ensures.items)),
+  ap (λ ss. Some ss) (sym c.new.ensures),
 )
 
 pub loop-init : goal.loop-init
-loop-init c = ([], tt, items_first c.in_ok-rest.rest.now, ap (λ ss. Some ss) (sym c.new-steps.ensures.items))
+loop-init c = let none : c.in_ok-steps.steps.items ≡ [] = search rules in ([], tt, items_first c.in_ok-rest.rest.now, ap (λ ss. Some ss) (sym none))
 
 pub returns-in-None : goal.returns-in-None
 returns-in-None c =

@@ -4,4 +4,4 @@ use Rattle.trace_tasks.proofs.run.run_tasks.Goals as goal
 
 pub returns-in_default-clause-gives_up : goal.returns-in_default-clause-gives_up
 returns-in_default-clause-gives_up g c =
-    gave_up_first g.S.Subscriber.spans g.S.Subscriber.hint g.S.Subscriber.enables g.S.Subscriber.kept g.S.Subscriber.is_whole g.S.Subscriber.does g.S.OtelPart.touches g.S.Subscriber.activates g.S.Subscriber.same c.args.script.now.settings.callsites c.args.script.now.tasks c.args.lane.now c.args.world.now
+    gave_up_first g.S.Subscriber.spans g.S.Subscriber.hint g.S.Subscriber.enables g.S.Subscriber.kept g.S.Subscriber.is_whole g.S.Subscriber.does g.S.OtelPart.touches g.S.Subscriber.activates g.S.Subscriber.same c.args.script.now.settings.callsites c.args.script.now.tasks c.args.lane.now c.args.world.now c.requires.ready
