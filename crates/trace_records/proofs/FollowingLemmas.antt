@@ -11,9 +11,9 @@ use Rattle.span_script.specs.Fits.{State, StandsFor}
 use Rattle.span_script.proofs.runs.RunLemmas.{records_push}
 use Rattle.trace_lines.specs.declared.told.Told.TheVariants as told
 use Rattle.trace_lines.specs.Lines.{is_blank}
-use Rattle.script_lines.proofs.BlankLemmas.{some_before, one_not_blank}
+use Rattle.input_lines.proofs.BlankLemmas.{some_before, one_not_blank}
 use Rattle.trace_records.specs.declared.finished.FinishedSpans.{FinishedSpans}
-use Rattle.script_lines.specs.declared.refused_line.RefusedLine.{RefusedLine}
+use Rattle.input_lines.specs.declared.refused_line.RefusedLine.{RefusedLine}
 use Rattle.trace_records.specs.declared.line.Opened.{Opened}
 use Rattle.trace_records.specs.declared.line.Answered.{Answered}
 use Rattle.trace_records.specs.declared.script.ScriptStage.{ScriptStage}

@@ -1,7 +1,7 @@
 -- What is written where a line is refused.
 use Rattle.std.proofs.Common.{ℕ, List, [], ap}
 use Rattle.std.specs.Prelude.{Option, is_ok}
-use Rattle.script_lines.specs.Refusals.{Refuses}
+use Rattle.input_lines.specs.Refusals.{Refuses}
 use Rattle.trace_records.specs.Scripts.{ScriptRan, script_of}
 use Rattle.trace_records.specs.Inputs.{accepts_within, TellsRun, AreRefused}
 

@@ -16,7 +16,7 @@ use Rattle.trace_lines.specs.declared.told.Told.{Told}
 use Rattle.trace_lines.specs.declared.told.Told.TheVariants as told
 use Rattle.trace_lines.specs.reading.Spelled.{settings_spelled, request_spelled}
 use Rattle.trace_lines.specs.Report.{effect_of_line, effect_of_request}
-use Rattle.script_lines.specs.Refusals.{IsTold}
+use Rattle.input_lines.specs.Refusals.{IsTold}
 use Rattle.trace_records.specs.declared.line.Opened.{Opened}
 use Rattle.trace_records.specs.declared.line.Answered.{Answered}
 use Rattle.trace_records.specs.Scripts.{takes_lanes, setup_of_settings, setup_of_line, lane_spelled}

@@ -5,9 +5,9 @@ use Rattle.span_script.specs.Tables.{History, tables}
 use Rattle.span_script.specs.calls.Spans.{open_spans}
 use Rattle.span_script.specs.Fits.{State, StandsFor}
 use Rattle.span_script.specs.Outcomes.{records_of_history}
-use Rattle.script_lines.specs.Refusals.{IsTold, are_blank}
+use Rattle.input_lines.specs.Refusals.{IsTold, are_blank}
 use Rattle.trace_records.specs.declared.finished.FinishedSpans.{FinishedSpans}
-use Rattle.script_lines.specs.declared.refused_line.RefusedLine.{RefusedLine}
+use Rattle.input_lines.specs.declared.refused_line.RefusedLine.{RefusedLine}
 use Rattle.trace_records.specs.declared.script.ScriptRun.{ScriptRun}
 use Rattle.trace_records.specs.declared.script.ScriptStage.{ScriptStage}
 use Rattle.trace_records.specs.declared.script.ScriptStage.TheVariants as stage

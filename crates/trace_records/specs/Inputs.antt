@@ -4,7 +4,7 @@ use Rattle.span_script.specs.calls.Spans.{open_spans}
 use Rattle.span_script.specs.Outcomes.{records_of_history}
 use Rattle.span_script.specs.Tables.{tables}
 use Rattle.trace_lines.specs.text.Texts.{refusal_text, end_text}
-use Rattle.script_lines.specs.declared.refused_line.RefusedLine.{RefusedLine}
+use Rattle.input_lines.specs.declared.refused_line.RefusedLine.{RefusedLine}
 use Rattle.trace_records.specs.Scripts.{ScriptRan, ScriptResult, script_of}
 use Rattle.trace_records.specs.Following.{IsStopped}
 

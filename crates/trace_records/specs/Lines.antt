@@ -5,7 +5,7 @@ use Rattle.span_script.specs.Fits.{State, StandsFor}
 use Rattle.trace_lines.specs.declared.told.Told.{Told}
 use Rattle.trace_lines.specs.reading.Spelled.{request_spelled}
 use Rattle.trace_lines.specs.Report.{effect_of_line}
-use Rattle.script_lines.specs.Refusals.{IsTold}
+use Rattle.input_lines.specs.Refusals.{IsTold}
 use Rattle.trace_records.specs.declared.line.Opened.{Opened}
 use Rattle.trace_records.specs.declared.line.Answered.{Answered}
 use Rattle.trace_records.specs.Scripts.{setup_of_line, lane_spelled}

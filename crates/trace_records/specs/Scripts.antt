@@ -11,7 +11,7 @@ use Rattle.trace_lines.specs.declared.told.Told.TheVariants as told
 use Rattle.trace_lines.specs.Lines.{is_blank}
 use Rattle.trace_lines.specs.reading.Spelled.{settings_spelled, request_spelled}
 use Rattle.trace_lines.specs.Report.{effect_of_line}
-use Rattle.script_lines.specs.declared.refused_line.RefusedLine.{RefusedLine}
+use Rattle.input_lines.specs.declared.refused_line.RefusedLine.{RefusedLine}
 
 -- A script that ran: what its settings fix, the history of its requests, and for each record of that the lane of the drop
 -- that closed the span, by its place.

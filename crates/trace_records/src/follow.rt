@@ -1,14 +1,14 @@
 //! Following the lines of a whole script.
 ghost use Rattle.std.specs.Prelude.{◌≡◌, None, IfSome, IfOk};
 ghost use Rattle.trace_lines.specs.Lines.{lines_of};
-ghost use Rattle.script_lines.specs.Refusals.{NoneRefused};
+ghost use Rattle.input_lines.specs.Refusals.{NoneRefused};
 ghost use Rattle.trace_records.specs.Following.{HasFollowed};
 ghost use Rattle.trace_records.specs.Inputs.{AreRefused, accepts_within};
 
 use crate::kept::Kept;
 use crate::script::ScriptRun;
+use input_lines::{first_line, refused_answer};
 use otel_base::memory::Memory;
-use script_lines::{first_line, refused_answer};
 use std::alloc::Global;
 use trace_base::discard::Discard;
 use trace_tree::TreeSpan;

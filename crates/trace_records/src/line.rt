@@ -2,7 +2,7 @@
 ghost use Rattle.std.specs.Prelude.{◌≡◌, Option, IfOk, IfErr, OnOk, OnErr, true, false};
 ghost use Rattle.span_script.specs.Fits.{StandsFor, is_for_memory};
 ghost use Rattle.span_script.specs.Tables.{History, tables};
-ghost use Rattle.script_lines.specs.Refusals.{IsTold};
+ghost use Rattle.input_lines.specs.Refusals.{IsTold};
 ghost use Rattle.trace_records.specs.Scripts.{takes_lanes};
 ghost use Rattle.trace_records.specs.Lines.{OpensLine, AnswersLine};
 

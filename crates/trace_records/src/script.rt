@@ -5,8 +5,8 @@ ghost use Rattle.trace_records.specs.Following.{HasFollowed, EndsAs, IsRefusedBy
 use crate::finished::{FinishedSpans, drop_measures};
 use crate::kept::Kept;
 use crate::line::{Opened, answer_line, open_line};
+use input_lines::{RefusedLine, is_blank};
 use otel_base::memory::Memory;
-use script_lines::{RefusedLine, is_blank};
 use std::alloc::Global;
 use std::mem;
 use trace_base::discard::Discard;

@@ -1,3 +1,4 @@
+pub mod Common
 pub mod SumsLemmas
 pub mod MakingLemmas
 pub mod RenamesLemmas

@@ -2,22 +2,12 @@
 use Rattle.std.proofs.Common.{◌≡◌, ℕ, zero, suc, ◌+◌, List, [], ◌∷◌, ◌++◌, length, Some, Ok, refl, sym, ap, subst, ◌∙◌, arith, append_assoc, append-nil, length-append}
 use Rattle.std.specs.List.{sum_by}
 use Rattle.std.proofs.lemmas.List.Sums.{sum_by-append}
-use Rattle.otel_base.specs.declared.record.Record.{Record}
+use Rattle.trace_run.proofs.Common.{Record, Request, State, StandsFor, ServedByHistory, records_of_history, Setup, History, Tables, no_tables, tables, records_of, generated_setup, generated_requests, generated_script, round, rounds, history_unless_refused, history_after, busy_of, event_count, IsValid, without_taken, SumsUp, with_records, of_requests, Counts, ServesRequests}
 use Rattle.span_script.specs.declared.reply.Reply.{Reply}
-use Rattle.span_script.specs.declared.request.Request.{Request}
 use Rattle.span_script.specs.calls.Here.{Resolved}
 use Rattle.span_script.specs.Effects.{effect_of}
 use Rattle.span_script.specs.calls.Spans.{open_spans}
-use Rattle.span_script.specs.Fits.{State, StandsFor, ServedByHistory}
-use Rattle.span_script.specs.Outcomes.{records_of_history}
-use Rattle.span_script.specs.Setups.{Setup}
-use Rattle.span_script.specs.Tables.{History, Tables, no_tables, tables, records_of}
-use Rattle.trace_lines.specs.Generated.{generated_setup, generated_requests, generated_script, round, rounds}
-use Rattle.trace_lines.specs.Replay.{history_unless_refused, history_after, busy_of, event_count}
-use Rattle.trace_lines.specs.Report.{IsValid}
 use Rattle.trace_lines.specs.declared.write.summary.Summary.{Summary}
-use Rattle.trace_records.specs.Following.{without_taken}
-use Rattle.trace_run.specs.Making.{SumsUp, with_records, of_requests, Counts, ServesRequests}
 use Rattle.trace_run.specs.declared.make.Totals.{Totals}
 use Rattle.trace_records.proofs.FollowingLemmas.{stands_beside}
 use Rattle.span_script.proofs.runs.RunLemmas.{records_push}

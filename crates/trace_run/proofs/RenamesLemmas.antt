@@ -1,18 +1,14 @@
 -- Where spans start early, what `run` writes is the text of the same script without that, with other ids.
-use Rattle.std.proofs.Common.{ℕ, List, Option, Some, None, sym, subst}
-use Rattle.std.specs.Prelude.{IfSome}
+use Rattle.std.proofs.Common.{ℕ, List, Option, Some, None, sym, subst, IfSome}
 use Rattle.trace_eager.specs.Renamed.{IsRenamed}
 use Rattle.trace_eager.proofs.RenamedLemmas.{is_renamed}
-use Rattle.trace_lines.specs.Lines.{lines_of}
+use Rattle.trace_run.proofs.Common.{lines_of, Carries, Streams, Puts, Status}
 use Rattle.trace_lines.specs.declared.signal.Signal.TheVariants as signal
-use Rattle.trace_stream.specs.Carries.{Carries}
 use Rattle.trace_run.specs.Commands.{meaning_by}
 use Rattle.trace_stream.specs.Runs.{answering_of_run, meaning_of_runs}
 use Rattle.trace_stream.specs.reading.Reading.{LeavesStreams}
 use Rattle.trace_run.specs.Renames.{RenamesIds}
-use Rattle.trace_stream.specs.Streams.{Streams, Puts}
 use Rattle.trace_run.specs.declared.invocation.Invocation.{Invocation}
-use Rattle.trace_stream.specs.declared.status.Status.{Status}
 use Rattle.trace_stream.specs.declared.status.Status.TheVariants as ends
 
 by_left : (before now : Streams) (left : Option (List ℕ)) → IfSome left (λ bytes. LeavesStreams (answering_of_run signal.Traces) ends.Ok bytes now.left before.held now.held)

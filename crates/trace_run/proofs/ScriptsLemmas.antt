@@ -1,31 +1,18 @@
 -- What the commands write that read a script whole, and keep something of each of its records.
-use Rattle.std.proofs.Common.{◌≡◌, ℕ, zero, suc, ◌+◌, ◌<◌, ◌≤◌, List, [], ◌∷◌, ◌++◌, length, map, get_or, cond, true, refl, sym, ap, subst, ◌∙◌, arith, eq-eqb, inl, inr, Vec, Global}
+use Rattle.std.proofs.Common.{◌≡◌, ℕ, zero, suc, ◌+◌, ◌<◌, ◌≤◌, List, [], ◌∷◌, ◌++◌, length, map, get_or, cond, true, refl, sym, ap, subst, ◌∙◌, arith, eq-eqb, inl, inr, Vec, Global, Bool, Option, Some, None, Result, Ok, Err, is_ok, not, IfOk, IfSome}
 use Rattle.std.specs.List.{All}
 use Rattle.std.proofs.lemmas.List.{map-id}
-use Rattle.std.specs.Prelude.{Bool, Option, Some, None, Result, Ok, Err, is_ok, not, IfOk, IfSome}
-use Rattle.otel_base.specs.declared.record.Record.{Record}
+use Rattle.trace_run.proofs.Common.{Record, records_of_history, Setup, History, MOST_LANES, accepts, EndsAs, Refuses, NoneRefused, AreRefused, TellsRun, accepts_within, refuses, accepts_same, legal, TellsAll, TellsTrees}
 use Rattle.batch_lines.specs.Texts.{TellsBatches}
 use Rattle.span_laws.specs.Laws.{IsHistory, occurrences}
 use Rattle.span_laws.specs.Telling.{id_of}
 use Rattle.span_laws.proofs.spans.OccurrencesLemmas.{occurs_cons}
-use Rattle.span_script.specs.Outcomes.{records_of_history}
-use Rattle.span_script.specs.Setups.{Setup}
-use Rattle.span_script.specs.Tables.{History}
-use Rattle.trace_batch.specs.declared.relay.TheConstants.{MOST_LANES}
-use Rattle.trace_lines.specs.Report.{accepts}
 use Rattle.trace_lines.specs.text.Texts.{refusal_text}
-use Rattle.script_lines.specs.declared.answer.Answer.{Answer}
+use Rattle.input_lines.specs.declared.answer.Answer.{Answer}
 use Rattle.trace_records.specs.declared.finished.FinishedSpans.{FinishedSpans}
-use Rattle.script_lines.specs.declared.refused_line.RefusedLine.{RefusedLine}
-use Rattle.trace_records.specs.Following.{EndsAs}
-use Rattle.script_lines.specs.Refusals.{Refuses, NoneRefused}
-use Rattle.trace_records.specs.Inputs.{AreRefused, TellsRun, accepts_within}
+use Rattle.input_lines.specs.declared.refused_line.RefusedLine.{RefusedLine}
 use Rattle.trace_records.specs.Scripts.{ScriptRan, script_of}
-use Rattle.trace_records.proofs.InputsLemmas.{refuses}
 use Rattle.trace_records.proofs.LanesLaws.{few_lanes}
-use Rattle.trace_records.proofs.ScriptsLaws.{accepts_same, legal}
-use Rattle.trace_run.specs.Commands.Batch.{TellsAll}
-use Rattle.trace_run.specs.Commands.Tree.{TellsTrees}
 use Rattle.trace_tree.specs.Busy.{tree_span}
 use Rattle.trace_tree.specs.Paths.{AreDistinct}
 use Rattle.trace_tree.specs.declared.span.TreeSpan.{TreeSpan}

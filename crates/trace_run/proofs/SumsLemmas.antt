@@ -1,11 +1,8 @@
 -- What is left where a summary is made.
-use Rattle.std.proofs.Common.{◌≡◌, ℕ, List, [], refl, sym, subst, arith}
-use Rattle.std.specs.Prelude.{Option}
+use Rattle.std.proofs.Common.{◌≡◌, ℕ, List, [], refl, sym, subst, arith, Option}
 use Rattle.std.proofs.lemmas.List.{append-nil}
-use Rattle.trace_stream.specs.declared.status.Status.{Status}
+use Rattle.trace_run.proofs.Common.{Status, Streams, CountsFault, PutsFront, Causes, Carries}
 use Rattle.trace_stream.specs.declared.status.Status.TheVariants as ends
-use Rattle.trace_stream.specs.Streams.{Streams, CountsFault, PutsFront}
-use Rattle.trace_stream.specs.Carries.{Causes, Carries}
 use Rattle.trace_run.specs.Commands.Make.{generated_line, LeavesSum, CompletesSum, meaning_of_make}
 
 sum_front : (status : Status) (rounds : ℕ) (before now : Option (List ℕ)) → LeavesSum status rounds before now → PutsFront before now (generated_line rounds)

@@ -1,15 +1,12 @@
 -- What came of a script for threads, by how its reading ended and by the status.
-use Rattle.std.proofs.Common.{◌≡◌, ℕ, List, [], ◌⊎◌, inl, inr, refl}
-use Rattle.std.specs.Prelude.{Bool, true, false, not}
+use Rattle.std.proofs.Common.{◌≡◌, ℕ, List, [], ◌⊎◌, inl, inr, refl, Bool, true, false, not}
 use Rattle.std.specs.Io.KnownBytes.{IsAtEnd}
-use Rattle.trace_lines.specs.Lines.{lines_of}
+use Rattle.trace_run.proofs.Common.{lines_of, accepts_threads, TellsThreads, Streams, Takes, Puts}
 use Rattle.thread_run.proofs.InputLemmas.{none_refused}
-use Rattle.thread_run.specs.Inputs.{accepts_threads, TellsThreads}
 use Rattle.thread_run.specs.declared.input.ThreadsOutcome.{ThreadsOutcome}
 use Rattle.thread_handles.specs.declared.gather.Ended.{Ended}
 use Rattle.trace_run.specs.Commands.Threads.{AnswersEnded, ComesOf}
 use Rattle.trace_stream.specs.reading.AllLines.{WritesAnswer, status_at_end}
-use Rattle.trace_stream.specs.Streams.{Streams, Takes, Puts}
 use Rattle.trace_stream.specs.declared.input.End.{End}
 use Rattle.trace_stream.specs.declared.input.End.TheVariants as end
 

@@ -1,6 +1,6 @@
 -- What the words of an invocation ask for.
 use Rattle.std.specs.Prelude.{ℕ, List, [], ◌∷◌, if◌then◌else◌, Option, Some, None, option_map, option_and_then, ◌&&◌, nat_le, codes, bytes_eq}
-use Rattle.trace_run.specs.declared.batch.TheConstants.{MOST_ITEMS}
+use Rattle.trace_run.specs.declared.batch.TheConstants.{MAX_BATCH_ITEMS}
 use Rattle.trace_run.specs.declared.invocation.Invocation.{Invocation}
 use Rattle.trace_run.specs.declared.invocation.Invocation.TheVariants.{Script, Batch, Threads}
 use Rattle.trace_run.specs.declared.script.Command.TheVariants.{Run, Make, Tree, Tasks}
@@ -25,7 +25,7 @@ invocation_by word =
 abbrev pub invocation_with : List ℕ → List ℕ → Option Invocation
 invocation_with word number =
     if bytes_eq word (codes "make") then option_map (λ n. Script (Make n)) (number_up_to MOST_ROUNDS number) else
-    (if bytes_eq word (codes "batch") then option_map Batch (number_up_to MOST_ITEMS number) else None)
+    (if bytes_eq word (codes "batch") then option_map Batch (number_up_to MAX_BATCH_ITEMS number) else None)
 
 abbrev pub invocation_of : List (List ℕ) → Option Invocation
 invocation_of [] = None

@@ -1,6 +1,6 @@
 //! The command `batch`: a script is run, and the records of its finished spans are written in batches.
 //!
-//! Its answers are made in threads, so it may wait, which an `AllLines` may not; it goes the same way as `answer_all`.
+//! Its answers are made in threads, so it may wait, which an `AllLinesCommand` may not; it goes the same way as `answer_all`.
 ghost use Rattle.std.specs.Prelude.{◌≡◌, ◌<◌, ℕ, not, Some, IfOk};
 ghost use Rattle.trace_batch.specs.declared.relay.TheConstants.{MOST_LANES};
 ghost use Rattle.trace_lines.specs.Lines.{lines_of};
@@ -10,9 +10,9 @@ ghost use Rattle.trace_run.specs.Commands.Batch.{TellsAll, accepts_few, meaning_
 ghost use Rattle.trace_stream.specs.Streams.{StopsReading, StopsWriting, streams_of};
 
 use batch_lines::batches_text;
+use input_lines::{Answer, refused_answer};
 use otel_base::memory::Memory;
 use otel_base::record::Record;
-use script_lines::{Answer, refused_answer};
 use std::alloc::Global;
 use std::sync::Wait;
 use std::thread::Threads;
@@ -29,7 +29,7 @@ use trace_stream::status::Status;
 use turnstile::Turnstile;
 
 /// How many records a batch has at most.
-pub const MOST_ITEMS: u64 = 1000;
+pub const MAX_BATCH_ITEMS: u64 = 1000;
 
 /// Runs a script of at most eight lanes, and writes its records in batches of a size. It waits for the threads that make
 /// the records' texts; `turns` is called round each push into their queue.

@@ -2,7 +2,7 @@
 ghost use Rattle.std.specs.Prelude.{◌≡◌, map, string_bytes};
 ghost use Rattle.trace_run.specs.Words.{number_up_to, invocation_by, invocation_with, invocation_of};
 
-use crate::batch::MOST_ITEMS;
+use crate::batch::MAX_BATCH_ITEMS;
 use crate::script::Command;
 use trace_lines::Signal;
 use trace_lines::generated::MOST_ROUNDS;
@@ -60,7 +60,7 @@ fn invocation_with(word: &str, number: &str) -> Option<Invocation>
             Some(Invocation::Script { command })
         }
         "batch" => {
-            let size = number_up_to(MOST_ITEMS, number)?;
+            let size = number_up_to(MAX_BATCH_ITEMS, number)?;
             Some(Invocation::Batch { size })
         }
         _ => None,

@@ -1,7 +1,7 @@
 //! The command `threads`: workers in threads call spans that they share, and the history of each span is written with its
 //! record.
 //!
-//! It waits for its threads, which an `AllLines` may not; it goes the same way as `answer_all`.
+//! It waits for its threads, which an `AllLinesCommand` may not; it goes the same way as `answer_all`.
 ghost use Rattle.std.specs.Prelude.{IfOk};
 ghost use Rattle.thread_run.specs.Inputs.{TellsThreads, accepts_threads};
 ghost use Rattle.trace_lines.specs.Lines.{lines_of};
@@ -10,8 +10,8 @@ ghost use Rattle.trace_stream.specs.Carries.{Carries, StopsAtFault};
 ghost use Rattle.trace_run.specs.Commands.Threads.{AnswersEnded, ComesOf, meaning_of_threads};
 ghost use Rattle.trace_stream.specs.Streams.{StopsReading, StopsWriting, streams_of};
 
+use input_lines::Answer;
 use otel_base::memory::Memory;
-use script_lines::Answer;
 use std::alloc::Global;
 use std::sync::Wait;
 use std::thread::Threads;

@@ -3,12 +3,12 @@ ghost use Rattle.std.specs.Prelude.{None};
 ghost use Rattle.trace_lines.specs.Report.{accepts};
 ghost use Rattle.trace_run.specs.Commands.Tree.{TellsTrees};
 
+use input_lines::{Answer, refused_answer};
 use otel_base::memory::Memory;
-use script_lines::{Answer, refused_answer};
 use span_laws::ids::ids;
 use std::alloc::Global;
 use trace_records::{follow_lines, refusal_of};
-use trace_stream::all_lines::AllLines;
+use trace_stream::all_lines::AllLinesCommand;
 use trace_tree::TreeSpan;
 use tree_lines::tree_text;
 
@@ -16,7 +16,7 @@ use tree_lines::tree_text;
 #[derive(Clone, Copy)]
 pub struct Tree;
 
-impl AllLines for Tree {
+impl AllLinesCommand for Tree {
     ghost accepts = { λ _. accepts };
 
     ghost writes = { λ _. TellsTrees };

@@ -1,21 +1,12 @@
 -- What a command that reads all lines leaves, from what was read, answered and written.
-use Rattle.std.proofs.Common.{◌≡◌, ◌≢◌, ℕ, List, [], ◌∷◌, ◌++◌, refl, sym, ap, subst, ◌∙◌, take, drop, length, ◌<◌, ◌≤◌, ◌+◌, ◌⊎◌, inl, inr, arith}
-use Rattle.std.specs.Prelude.{Bool, true, false, not, min, Option, Some, None, IfSome, Result, Ok, Err, IfOk}
-use Rattle.std.specs.Io.KnownBytes.{IsAtEnd}
-use Rattle.std.proofs.lemmas.Bool.{cases_lt}
+use Rattle.std.proofs.Common.{◌≡◌, ◌≢◌, ℕ, List, [], ◌∷◌, ◌++◌, refl, sym, ap, subst, ◌∙◌, take, drop, length, ◌<◌, ◌≤◌, ◌+◌, ◌⊎◌, inl, inr, arith, Bool, true, false, not, min, Option, Some, None, IfSome, Result, Ok, Err, IfOk}
+use Rattle.trace_stream.proofs.Common.{IsAtEnd, cases_lt, lines_of, MAX_INPUT, Refuses, NoneRefused, whole_part, whole_lines, Causes, Carries, StopsAtFault, HasRefused, PutsSome, LeavesStreams, IsRefusedAt, Streams, CountsFault, MeetsEnd, Takes, Puts, PutsFront}
 use Rattle.std.proofs.lemmas.List.{append-nil, take_all}
-use Rattle.trace_lines.specs.Lines.{lines_of}
-use Rattle.trace_lines.specs.declared.limits.TheConstants.{MAX_INPUT}
-use Rattle.script_lines.specs.declared.answer.Answer.{Answer}
+use Rattle.input_lines.specs.declared.answer.Answer.{Answer}
 use Rattle.trace_stream.specs.declared.input.End.{End}
 use Rattle.trace_stream.specs.declared.input.End.TheVariants as end
 use Rattle.trace_stream.specs.declared.status.Status.TheVariants as ends
-use Rattle.script_lines.specs.Refusals.{Refuses, NoneRefused}
 use Rattle.trace_stream.specs.reading.AllLines.{writes_last, meaning_of_all_lines, AnswersCut, WritesAnswer, status_at_end}
-use Rattle.trace_stream.specs.reading.Breaks.{whole_part, whole_lines}
-use Rattle.trace_stream.specs.Carries.{Causes, Carries, StopsAtFault}
-use Rattle.trace_stream.specs.reading.Reading.{HasRefused, PutsSome, LeavesStreams, IsRefusedAt}
-use Rattle.trace_stream.specs.Streams.{Streams, CountsFault, MeetsEnd, Takes, Puts, PutsFront}
 use Rattle.trace_stream.proofs.LinesLemmas.{lines_on}
 use Rattle.trace_stream.proofs.ReadingLemmas.{split_at, all_read, reads_lines}
 

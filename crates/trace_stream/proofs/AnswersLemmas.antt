@@ -1,6 +1,5 @@
 -- One line more is answered, and the lines end.
-use Rattle.std.proofs.Common.{◌≡◌, ℕ, List, [], ◌∷◌, ◌++◌, refl, sym, ap, subst, ◌∙◌, append_assoc, ◌+◌, inl, inr}
-use Rattle.std.specs.Prelude.{None, Result, Ok, Err, true, false}
+use Rattle.std.proofs.Common.{◌≡◌, ℕ, List, [], ◌∷◌, ◌++◌, refl, sym, ap, subst, ◌∙◌, append_assoc, ◌+◌, inl, inr, None, Result, Ok, Err, true, false}
 use Rattle.std.proofs.lemmas.List.{append-nil}
 use Rattle.otel_base.specs.declared.record.Record.{Record}
 use Rattle.otel_metrics.specs.declared.measure.Measure.{Measure}
@@ -10,24 +9,20 @@ use Rattle.span_script.specs.Tables.{History, Tables, tables, records_of}
 use Rattle.span_script.specs.calls.Spans.{open_spans}
 use Rattle.span_script.specs.Fits.{State, StandsFor}
 use Rattle.span_script.specs.Admission.{OpeningRead, opening_read}
-use Rattle.trace_lines.specs.declared.signal.Signal.{Signal}
+use Rattle.trace_stream.proofs.Common.{Signal, is_blank, Report, with_text_before, refused_report, effect_of_line, answer_text, answer_count, last_text, report_on, report_from, OpensLine, AnswersLine, IsAnswered, Opens, Runs, Stops, AnswersAt, is_refused, Cuts}
 use Rattle.trace_lines.specs.declared.told.Told.{Told}
 use Rattle.trace_lines.specs.declared.told.Told.TheVariants as told
-use Rattle.trace_lines.specs.Lines.{is_blank}
 use Rattle.trace_lines.specs.reading.Spelled.{settings_spelled}
 use Rattle.trace_lines.specs.text.Texts.{refusal_text}
 use Rattle.trace_lines.specs.Report as report
-use Rattle.trace_lines.specs.Report.{Report, with_text_before, refused_report, effect_of_line, answer_text, answer_count, last_text, report_on, report_from}
 use Rattle.trace_records.specs.declared.line.Opened.{Opened}
 use Rattle.trace_records.specs.declared.line.Answered.{Answered}
 use Rattle.trace_records.specs.Scripts.{setup_read, setup_of_settings, setup_of_line}
-use Rattle.trace_records.specs.Lines.{OpensLine, AnswersLine}
-use Rattle.script_lines.proofs.BlankLemmas.{some_before, one_not_blank}
+use Rattle.input_lines.proofs.BlankLemmas.{some_before, one_not_blank}
 use Rattle.trace_records.proofs.FollowingLemmas.{stands_beside}
 use Rattle.trace_stream.specs.declared.answers.RunStage.{RunStage}
 use Rattle.trace_stream.specs.declared.answers.RunStage.TheVariants as stage
 use Rattle.trace_stream.specs.declared.written.Written.{Written}
-use Rattle.trace_stream.specs.reading.Answers.{IsAnswered, Opens, Runs, Stops, AnswersAt, is_refused, Cuts}
 
 -- ---- what a settings line opens
 

@@ -1,22 +1,9 @@
 -- What a run leaves, from what was read, answered and written.
-use Rattle.std.proofs.Common.{◌≡◌, ℕ, List, [], ◌++◌, refl, sym, ap, subst, ◌∙◌, take, drop, length, ◌<◌, ◌≤◌, inl, inr}
-use Rattle.std.specs.Prelude.{Bool, true, false, Option, Some, None, IfSome}
-use Rattle.std.specs.Io.KnownBytes.{IsAtEnd}
+use Rattle.std.proofs.Common.{◌≡◌, ℕ, List, [], ◌++◌, refl, sym, ap, subst, ◌∙◌, take, drop, length, ◌<◌, ◌≤◌, inl, inr, Bool, true, false, Option, Some, None, IfSome}
+use Rattle.trace_stream.proofs.Common.{IsAtEnd, lines_of, Signal, Report, report_from, report, output, accepts, MAX_INPUT, Progress, Status, Streams, Takes, Puts, PutsFront, whole_lines, AnswersAll, Stops, Cuts, is_refused, answering_of_run, HasRefused, PutsWhole, PutsSome, LeavesStreams, IsRefusedAt, Keeps, IsMidway, HasFront, Reports, last_status}
 use Rattle.std.proofs.lemmas.List.{append-nil, take_all}
-use Rattle.trace_lines.specs.Lines.{lines_of}
-use Rattle.trace_lines.specs.declared.signal.Signal.{Signal}
-use Rattle.trace_lines.specs.Report.{Report, report_from, report, output, accepts}
 use Rattle.trace_lines.proofs.laws.OutputsLaws.{alike}
-use Rattle.trace_lines.specs.declared.limits.TheConstants.{MAX_INPUT}
-use Rattle.trace_stream.specs.declared.progress.Progress.{Progress}
-use Rattle.trace_stream.specs.declared.status.Status.{Status}
 use Rattle.trace_stream.specs.declared.status.Status.TheVariants as ends
-use Rattle.trace_stream.specs.Streams.{Streams, Takes, Puts, PutsFront}
-use Rattle.trace_stream.specs.reading.Breaks.{whole_lines, AnswersAll}
-use Rattle.trace_stream.specs.reading.Answers.{Stops, Cuts, is_refused}
-use Rattle.trace_stream.specs.Runs.{answering_of_run}
-use Rattle.trace_stream.specs.reading.Reading.{HasRefused, PutsWhole, PutsSome, LeavesStreams, IsRefusedAt}
-use Rattle.trace_stream.specs.Progress.{Keeps, IsMidway, HasFront, Reports, last_status}
 use Rattle.trace_stream.proofs.ReadingLemmas.{split_at, all_read, takes_none}
 use Rattle.trace_stream.proofs.AnswersLemmas.{stops_end, cut_at}
 use Rattle.trace_stream.proofs.ProgressLemmas.{same_front, stops_report}

@@ -1,3 +1,4 @@
+pub mod Common
 pub mod StreamsLemmas
 pub mod LinesLemmas
 pub mod ReadingLemmas

@@ -1,10 +1,7 @@
 -- Where lines end.
 use Rattle.std.proofs.Common.{◌≡◌, ℕ, List, [], ◌∷◌, ◌++◌, refl, sym, ap, ◌∙◌, append_assoc, take, drop, length, get_or, ◌+◌, ◌-◌, ◌<◌, ◌==◌, arith, Bool, true, false, inl, inr}
-use Rattle.std.proofs.lemmas.Bool.{cases_Bool}
-use Rattle.std.proofs.lemmas.List.{take-append-drop, take_more, drop_more, take_rest}
-use Rattle.trace_lines.specs.Lines.{onto, lines_of}
-use Rattle.script_lines.proofs.FirstLineLemmas.{NoFeed, ended_line}
-use Rattle.trace_stream.specs.reading.Breaks.{has_feed, whole_part, whole_lines}
+use Rattle.trace_stream.proofs.Common.{cases_Bool, take_more, drop_more, take_rest, onto, lines_of, NoFeed, ended_line, has_feed, whole_part, whole_lines}
+use Rattle.std.proofs.lemmas.List.{take-append-drop}
 
 -- ---- the first line
 

@@ -1,19 +1,9 @@
 -- A run goes on behind a piece of its input.
-use Rattle.std.proofs.Common.{◌≡◌, ℕ, List, [], ◌∷◌, ◌++◌, refl, sym, ap, subst, ◌∙◌, append_assoc, take, length, ◌<◌, ◌≤◌, ◌+◌, ◌-◌, arith, zero, suc, inl, inr}
-use Rattle.std.specs.Prelude.{Bool, true, false, min, Option, Result, Ok, Err, OnOk}
-use Rattle.std.proofs.lemmas.Bool.{cases_lt}
+use Rattle.std.proofs.Common.{◌≡◌, ℕ, List, [], ◌∷◌, ◌++◌, refl, sym, ap, subst, ◌∙◌, append_assoc, take, length, ◌<◌, ◌≤◌, ◌+◌, ◌-◌, arith, zero, suc, inl, inr, Bool, true, false, min, Option, Result, Ok, Err, OnOk}
+use Rattle.trace_stream.proofs.Common.{cases_lt, lines_of, Signal, Report, report_from, report, output, IsFrontOf, Puts, PutsFront, has_feed, whole_part, whole_lines, AnswersTo, Stops, Cuts, is_refused, Keeps, IsMidway, HasFront, Progress, only_line}
 use Rattle.std.proofs.lemmas.List.{append-nil, take_all, take-take, length-append, length-take-le}
-use Rattle.trace_lines.specs.Lines.{lines_of}
-use Rattle.trace_lines.specs.declared.signal.Signal.{Signal}
-use Rattle.trace_lines.specs.Report.{Report, report_from, report, output}
-use Rattle.trace_stream.specs.Streams.{IsFrontOf, Puts, PutsFront}
-use Rattle.trace_stream.specs.reading.Breaks.{has_feed, whole_part, whole_lines}
-use Rattle.trace_stream.specs.reading.Answers.{AnswersTo, Stops, Cuts, is_refused}
-use Rattle.trace_stream.specs.Progress.{Keeps, IsMidway, HasFront}
 use Rattle.trace_stream.specs.declared.answers.Answers.{Answers}
-use Rattle.trace_stream.specs.declared.progress.Progress.{Progress}
 use Rattle.trace_stream.proofs.StreamsLemmas.{puts_more}
-use Rattle.script_lines.proofs.FirstLineLemmas.{only_line}
 use Rattle.trace_stream.proofs.LinesLemmas.{lines_on, lines_ended, lines_last, feedless, part_ended, part_still, kept_still, rest_still}
 use Rattle.trace_stream.proofs.AnswersLemmas.{cut_at}
 

@@ -1,13 +1,8 @@
 -- What a command that reads lines does, from its parts.
-use Rattle.std.proofs.Common.{◌≡◌, ℕ, List, [], ◌++◌, refl, sym, ap, subst, ◌∙◌, append_assoc, take, drop, length, ◌<◌, ◌+◌, inl, inr, arith}
-use Rattle.std.specs.Prelude.{true, false, Option, Some, None, IfSome}
-use Rattle.std.specs.Io.KnownBytes.{IsAtEnd}
+use Rattle.std.proofs.Common.{◌≡◌, ℕ, List, [], ◌++◌, refl, sym, ap, subst, ◌∙◌, append_assoc, take, drop, length, ◌<◌, ◌+◌, inl, inr, arith, true, false, Option, Some, None, IfSome}
+use Rattle.trace_stream.proofs.Common.{IsAtEnd, Status, Streams, MeetsEnd, Takes, Puts, Causes, Answering, PutsSome, LeavesStreams, Completes, IsRefusedAt, ReadsLines}
 use Rattle.std.proofs.lemmas.List.{append-nil, take-append-drop, length-append}
-use Rattle.trace_stream.specs.declared.status.Status.{Status}
 use Rattle.trace_stream.specs.declared.status.Status.TheVariants as ends
-use Rattle.trace_stream.specs.Streams.{Streams, MeetsEnd, Takes, Puts}
-use Rattle.trace_stream.specs.Carries.{Causes}
-use Rattle.trace_stream.specs.reading.Reading.{Answering, PutsSome, LeavesStreams, Completes, IsRefusedAt, ReadsLines}
 use Rattle.trace_stream.proofs.StreamsLemmas.{takes_still}
 
 -- ---- what was read

@@ -1,8 +1,7 @@
 -- Moves of told bytes, one after another.
-use Rattle.std.proofs.Common.{◌≡◌, ℕ, List, [], ◌++◌, sym, ap, subst, ◌∙◌, append_assoc, take, drop, length, ◌+◌, ◌≤◌, ◌-◌, arith}
-use Rattle.std.specs.Prelude.{Option, Some, None, Result, Ok, Err, OnErr}
-use Rattle.std.proofs.lemmas.List.{append-nil, take-append-drop, drop-take, take-take, take_rest, length-drop}
-use Rattle.trace_stream.specs.Streams.{Takes, Puts, PutsFront}
+use Rattle.std.proofs.Common.{◌≡◌, ℕ, List, [], ◌++◌, sym, ap, subst, ◌∙◌, append_assoc, take, drop, length, ◌+◌, ◌≤◌, ◌-◌, arith, Option, Some, None, Result, Ok, Err, OnErr}
+use Rattle.trace_stream.proofs.Common.{drop-take, take_rest, Takes, Puts, PutsFront}
+use Rattle.std.proofs.lemmas.List.{append-nil, take-append-drop, take-take, length-drop}
 
 pub puts_more : (a b c : Option (List ℕ)) (x y : List ℕ) → Puts a b x → Puts b c y → Puts a c (x ++ y)
 puts_more None b c x y first second = tt

@@ -1,7 +1,7 @@
 //! Commands that read all lines before they write.
 ghost use Rattle.std.specs.Prelude.{◌≡◌, ℕ, List, Bool, not, None, IfSome, IfOk};
 ghost use Rattle.trace_lines.specs.Lines.{lines_of};
-ghost use Rattle.script_lines.specs.Refusals.{Refuses, NoneRefused};
+ghost use Rattle.input_lines.specs.Refusals.{Refuses, NoneRefused};
 ghost use Rattle.trace_stream.specs.reading.AllLines.{meaning_of_all_lines, AnswersCut, WritesAnswer, status_at_end};
 ghost use Rattle.trace_stream.specs.Carries.{Carries, StopsAtFault};
 ghost use Rattle.trace_stream.specs.Streams.{StopsReading, StopsWriting, streams_of};
@@ -12,13 +12,13 @@ use crate::lines::whole_part;
 use crate::sink::{Sink, write_all};
 use crate::source::Source;
 use crate::status::Status;
+use input_lines::Answer;
 use otel_base::memory::Memory;
-use script_lines::Answer;
 use std::alloc::Global;
 use trace_lines::limits::MAX_INPUT;
 
 /// A command that reads all lines before it writes.
-pub trait AllLines {
+pub trait AllLinesCommand {
     /// Whether none of the lines is refused, and a settings line is among them.
     ghost accepts: { Self → List (List ℕ) → Bool };
 
@@ -39,7 +39,7 @@ pub trait AllLines {
 
 /// Carries out a command that reads all lines before it writes. Nothing is written where a read failed, too much came, or no
 /// memory was to be had, unless a whole line is refused.
-pub fn answer_all<C: AllLines, R: Source, W: Sink>(
+pub fn answer_all<C: AllLinesCommand, R: Source, W: Sink>(
     alloc: Global,
     command: &mut C,
     source: &mut R,
@@ -64,7 +64,7 @@ pub fn answer_all<C: AllLines, R: Source, W: Sink>(
 }
 
 // What is written for what was read: all of it, or its whole lines that end within the longest input.
-fn answer_input<C: AllLines>(
+fn answer_input<C: AllLinesCommand>(
     alloc: Global,
     command: &mut C,
     input: &Input,
@@ -82,7 +82,11 @@ fn answer_input<C: AllLines>(
 }
 
 // What is written for whole lines at which an input breaks off.
-fn answer_cut<C: AllLines>(alloc: Global, command: &mut C, part: &[u8]) -> Result<Answer, Memory>
+fn answer_cut<C: AllLinesCommand>(
+    alloc: Global,
+    command: &mut C,
+    part: &[u8],
+) -> Result<Answer, Memory>
     ensures { IfOk result (λ answer. AnswersCut (C.accepts command.old) (C.writes command.old)
         answer.refused (lines_of part.now) answer.text.items) }
 {

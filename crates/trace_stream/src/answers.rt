@@ -5,8 +5,8 @@ ghost use Rattle.trace_lines.specs.Report.{report_from};
 ghost use Rattle.trace_stream.specs.reading.Answers.{Opens, Runs, AnswersAt, Goes, AnswersTo, is_refused};
 
 use crate::written::Written;
+use input_lines::is_blank;
 use otel_base::memory::Memory;
-use script_lines::is_blank;
 use std::alloc::Global;
 use std::mem;
 use trace_base::discard::Discard;

@@ -17,7 +17,7 @@ pub mod status;
 pub mod turns;
 pub mod written;
 
-pub use all_lines::{AllLines, answer_all};
+pub use all_lines::{AllLinesCommand, answer_all};
 pub use failed::Failed;
 pub use sink::{MemSink, Sink, StdSink, SureSink};
 pub use source::{MemSource, Source, StdSource, SureSource};

@@ -57,7 +57,7 @@ fn output_with_line<R: AllocGlobal>(
 }
 
 // The first of some scripts that goes otherwise than is written there.
-fn differing<R: AllocGlobal>(rt: &R, scripts: &str) -> Result<Option<String>, Fail> {
+fn first_difference<R: AllocGlobal>(rt: &R, scripts: &str) -> Result<Option<String>, Fail> {
     let mut row = Row::new(rt);
     for line in scripts.lines() {
         match output_with_line(rt, row.input.as_str(), line)? {
@@ -71,14 +71,14 @@ fn differing<R: AllocGlobal>(rt: &R, scripts: &str) -> Result<Option<String>, Fa
 
 #[test]
 fn steps_behind_refused_requests(rt: HostRuntime) -> Result<(), Fail> {
-    let differing = differing(&rt, STEPS)?;
-    assert!(rt; differing.is_none(), "{differing:?}");
+    let difference = first_difference(&rt, STEPS)?;
+    assert!(rt; difference.is_none(), "{difference:?}");
     Ok(())
 }
 
 #[test]
 fn runs_scripts_at_once(rt: HostRuntime) -> Result<(), Fail> {
-    let differing = differing(&rt, WHOLE_RUNS)?;
-    assert!(rt; differing.is_none(), "{differing:?}");
+    let difference = first_difference(&rt, WHOLE_RUNS)?;
+    assert!(rt; difference.is_none(), "{difference:?}");
     Ok(())
 }

@@ -9,7 +9,7 @@ use Rattle.trace_records.specs.Inputs.{TellsRun, accepts_within}
 use Rattle.trace_records.specs.Scripts.{ScriptRan, script_of}
 use Rattle.trace_stream.specs.reading.AllLines.{meaning_of_all_lines}
 use Rattle.trace_stream.specs.Meaning.{Meaning}
-use Rattle.trace_run.specs.declared.batch.TheConstants.{MOST_ITEMS}
+use Rattle.trace_run.specs.declared.batch.TheConstants.{MAX_BATCH_ITEMS}
 
 -- the records of a script, in batches of n
 abbrev pub TellsBatchesOf : ℕ → ScriptRan → List ℕ → Type 0
@@ -25,4 +25,4 @@ abbrev pub accepts_few : List (List ℕ) → Bool
 accepts_few lines = accepts_within (Some MOST_LANES) lines
 
 abbrev pub meaning_of_batches : ℕ → Meaning
-meaning_of_batches size = record (meaning_of_all_lines accepts_few (TellsAll size)) { IsPossible = (0 < size) × (size ≤ MOST_ITEMS) }
+meaning_of_batches size = record (meaning_of_all_lines accepts_few (TellsAll size)) { IsPossible = (0 < size) × (size ≤ MAX_BATCH_ITEMS) }

@@ -2,8 +2,8 @@
 use Rattle.std.specs.Prelude.{◌≡◌, ℕ, List, [], take, Bool, true, false, not}
 use Rattle.trace_lines.specs.Lines.{lines_of}
 use Rattle.trace_lines.specs.declared.limits.TheConstants.{MAX_INPUT}
-use Rattle.script_lines.specs.declared.answer.Answer.{Answer}
-use Rattle.script_lines.specs.Refusals.{Refuses, NoneRefused}
+use Rattle.input_lines.specs.declared.answer.Answer.{Answer}
+use Rattle.input_lines.specs.Refusals.{Refuses, NoneRefused}
 use Rattle.trace_stream.specs.reading.Breaks.{whole_lines}
 use Rattle.trace_stream.specs.Meaning.{Meaning}
 use Rattle.trace_stream.specs.reading.Reading.{Answering, meaning_of_reading}

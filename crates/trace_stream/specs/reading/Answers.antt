@@ -5,7 +5,7 @@ use Rattle.span_script.specs.declared.reply.Reply.{Reply}
 use Rattle.span_script.specs.Tables.{History, tables}
 use Rattle.span_script.specs.Fits.{State, StandsFor}
 use Rattle.trace_lines.specs.Report.{with_text_before, answer_text, answer_count, report_on, report_from}
-use Rattle.script_lines.specs.Refusals.{are_blank}
+use Rattle.input_lines.specs.Refusals.{are_blank}
 use Rattle.trace_records.specs.Following.{without_taken}
 use Rattle.trace_stream.specs.Streams.{IsFrontOf}
 use Rattle.trace_stream.specs.reading.Breaks.{AnswersAll}

@@ -5,7 +5,7 @@ use Rattle.std.proofs.Common.{◌⊎◌}
 use Rattle.trace_lines.specs.Lines.{lines_of}
 use Rattle.trace_lines.specs.declared.signal.Signal.{Signal}
 use Rattle.trace_lines.specs.Report.{last_text, report_from}
-use Rattle.script_lines.specs.Refusals.{are_blank}
+use Rattle.input_lines.specs.Refusals.{are_blank}
 
 -- whether a line feed is among the bytes
 abbrev pub has_feed : List ℕ → Bool

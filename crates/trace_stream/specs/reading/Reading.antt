@@ -3,7 +3,7 @@ use Rattle.std.specs.Prelude.{◌≡◌, ℕ, ◌<◌, ◌≤◌, List, [], leng
 use Rattle.std.proofs.Common.{◌⊎◌}
 use Rattle.trace_lines.specs.Lines.{lines_of}
 use Rattle.trace_lines.specs.declared.limits.TheConstants.{MAX_INPUT}
-use Rattle.script_lines.specs.Refusals.{are_blank}
+use Rattle.input_lines.specs.Refusals.{are_blank}
 use Rattle.trace_stream.specs.Meaning.{Meaning}
 use Rattle.trace_stream.specs.Streams.{Streams, MeetsEnd, IsQuiet, Takes, Puts, PutsFront}
 use Rattle.trace_stream.specs.reading.Breaks.{whole_lines}

@@ -1,9 +1,6 @@
 -- What the lines come to is written.
-use Rattle.std.proofs.Common.{refl, subst}
-use Rattle.std.specs.Prelude.{Some}
-use Rattle.trace_batch.specs.declared.relay.TheConstants.{MOST_LANES}
-use Rattle.trace_lines.specs.Lines.{lines_of}
-use Rattle.trace_run.specs.Commands.Batch.{TellsBatchesOf, accepts_few}
+use Rattle.std.proofs.Common.{refl, subst, Some}
+use Rattle.trace_run.proofs.Common.{MOST_LANES, lines_of, TellsBatchesOf, accepts_few}
 use Rattle.trace_run.proofs.ScriptsLemmas.{BatchEnds, as_many, each_within, few, tells_batches, batch_accepted, refused_text, refused_flag}
 use Rattle.trace_run.proofs.batch.batch_answer.Goals as goal
 

@@ -1,10 +1,5 @@
-use Rattle.std.proofs.Common.{subst}
-use Rattle.std.specs.Prelude.{Some, IfSome}
-use Rattle.trace_batch.specs.declared.relay.TheConstants.{MOST_LANES}
-use Rattle.trace_lines.specs.Lines.{lines_of}
-use Rattle.trace_records.specs.Inputs.{AreRefused}
-use Rattle.trace_records.proofs.InputsLemmas.{refuses}
-use Rattle.trace_run.specs.Commands.Batch.{TellsBatchesOf}
+use Rattle.std.proofs.Common.{subst, Some, IfSome}
+use Rattle.trace_run.proofs.Common.{MOST_LANES, lines_of, AreRefused, refuses, TellsBatchesOf}
 use Rattle.trace_run.proofs.batch.batch_cut.Goals as goal
 
 pub returns-in-Some : goal.returns-in-Some

@@ -1,6 +1,5 @@
 use Rattle.std.proofs.Common.{◌∙◌}
-use Rattle.trace_run.specs.Commands.Batch.{TellsAll, accepts_few}
-use Rattle.trace_stream.proofs.AllLinesLemmas.{tells_cut}
+use Rattle.trace_run.proofs.Common.{TellsAll, accepts_few, tells_cut}
 use Rattle.trace_run.proofs.batch.batch_input.Goals as goal
 
 pub returns-in-Fault : goal.returns-in-Fault

@@ -1,6 +1,4 @@
-use Rattle.trace_run.specs.Commands.Batch.{TellsAll, accepts_few}
-use Rattle.trace_stream.specs.Streams.{Streams, streams_of}
-use Rattle.trace_stream.proofs.AllLinesLemmas.{IsRead, carries_whole, carries_broken, stops_of}
+use Rattle.trace_run.proofs.Common.{TellsAll, accepts_few, Streams, streams_of, IsRead, carries_whole, carries_broken, stops_of}
 use Rattle.trace_run.proofs.batch.run_batch.Goals as goal
 
 pub returns-in-Ok-write_all-clause-carries : goal.returns-in-Ok-write_all-clause-carries

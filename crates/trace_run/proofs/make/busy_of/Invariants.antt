@@ -1,7 +1,7 @@
 -- What is summed, and what is to be, are all.
 use Rattle.std.proofs.Common.{◌≡◌, ◌+◌, drop}
 use Rattle.std.specs.List.{sum_by}
-use Rattle.trace_lines.specs.Replay.{busy_in}
+use Rattle.trace_run.proofs.Common.{busy_in}
 use Rattle.trace_run.proofs.make.busy_of.Given as goal
 
 abbrev pub invariant-loop-attribute : goal.invariant-loop-attribute

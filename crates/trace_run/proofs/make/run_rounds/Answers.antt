@@ -1,9 +1,7 @@
 use Rattle.std.proofs.Common.{◌≡◌, ◌+◌, ℕ, [], Ok, refl, ap, subst, ◌∙◌}
 use Rattle.span_script.specs.declared.settings.Settings.{Settings}
 use Rattle.span_script.specs.Admission.{opening_read}
-use Rattle.span_script.specs.Fits.{StandsFor}
-use Rattle.span_script.specs.Setups.{setup_by}
-use Rattle.span_script.specs.Tables.{tables}
+use Rattle.trace_run.proofs.Common.{StandsFor, setup_by, tables}
 use Rattle.trace_run.proofs.MakingLemmas.{opened, summed}
 use Rattle.trace_run.proofs.make.run_rounds.Goals as goal
 

@@ -1,8 +1,5 @@
 use Rattle.std.proofs.Common.{ℕ, sym, ap, subst, ◌∙◌}
-use Rattle.span_script.specs.Fits.{StandsFor}
-use Rattle.span_script.specs.Setups.{Setup}
-use Rattle.span_script.specs.Tables.{tables}
-use Rattle.trace_run.specs.Making.{with_records}
+use Rattle.trace_run.proofs.Common.{StandsFor, Setup, tables, with_records}
 use Rattle.trace_run.proofs.MakingLemmas.{served}
 use Rattle.trace_run.proofs.make.serve.Goals as goal
 

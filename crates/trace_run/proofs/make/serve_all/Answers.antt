@@ -1,6 +1,6 @@
 use Rattle.std.proofs.Common.{◌≡◌, List, [], ◌∷◌, ◌++◌, refl, sym, ap, ◌∙◌, append_assoc}
 use Rattle.std.specs.Vec.Iter.{into_iter_items}
-use Rattle.span_script.specs.declared.request.Request.{Request}
+use Rattle.trace_run.proofs.Common.{Request}
 use Rattle.trace_run.proofs.MakingLemmas.{serves_on}
 use Rattle.trace_run.proofs.make.serve_all.Goals as goal
 

@@ -1,8 +1,6 @@
 -- The requests so far are served, and those that are left come behind them.
 use Rattle.std.proofs.Common.{◌≡◌, ◌++◌, List}
-use Rattle.span_script.specs.declared.request.Request.{Request}
-use Rattle.span_script.specs.Tables.{History}
-use Rattle.trace_run.specs.Making.{Counts, ServesRequests}
+use Rattle.trace_run.proofs.Common.{Request, History, Counts, ServesRequests}
 use Rattle.trace_run.proofs.make.serve_all.Given as goal
 
 abbrev pub invariant-loop-request : goal.invariant-loop-request

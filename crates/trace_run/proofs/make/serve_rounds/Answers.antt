@@ -1,6 +1,5 @@
 use Rattle.std.proofs.Common.{◌≡◌, ◌+◌, List, [], ◌++◌, sym, ap, ◌∙◌, arith}
-use Rattle.span_script.specs.declared.request.Request.{Request}
-use Rattle.trace_lines.specs.Generated.{round, rounds}
+use Rattle.trace_run.proofs.Common.{Request, round, rounds}
 use Rattle.trace_run.proofs.MakingLemmas.{serves_on, rounds_more}
 use Rattle.trace_run.proofs.make.serve_rounds.Goals as goal
 

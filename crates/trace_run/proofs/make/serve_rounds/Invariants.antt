@@ -1,6 +1,5 @@
 -- The rounds so far are served.
-use Rattle.trace_lines.specs.Generated.{rounds}
-use Rattle.trace_run.specs.Making.{Counts, ServesRequests}
+use Rattle.trace_run.proofs.Common.{rounds, Counts, ServesRequests}
 use Rattle.trace_run.proofs.make.serve_rounds.Given as goal
 use Rattle.std.proofs.Common.{[]}
 

@@ -1,5 +1,5 @@
 use Rattle.std.proofs.Common.{refl}
-use Rattle.trace_stream.specs.Streams.{Streams, streams_of}
+use Rattle.trace_run.proofs.Common.{Streams, streams_of}
 use Rattle.trace_run.proofs.SumsLemmas.{carries_made}
 use Rattle.trace_run.proofs.RenamesLemmas.{renames_ids}
 use Rattle.trace_run.specs.declared.invocation.Invocation.TheVariants as invocation

@@ -1,6 +1,4 @@
-use Rattle.thread_run.specs.Inputs.{accepts_threads, TellsThreads}
-use Rattle.trace_stream.specs.Streams.{Streams, streams_of}
-use Rattle.trace_stream.proofs.AllLinesLemmas.{IsRead, carries_whole, carries_broken, stops_of}
+use Rattle.trace_run.proofs.Common.{accepts_threads, TellsThreads, Streams, streams_of, IsRead, carries_whole, carries_broken, stops_of}
 use Rattle.trace_run.proofs.ThreadsLemmas.{ended_of, accepted_of}
 use Rattle.trace_run.proofs.threads.run_threads.Goals as goal
 

@@ -1,8 +1,5 @@
-use Rattle.std.proofs.Common.{subst}
-use Rattle.std.specs.Prelude.{IfSome}
-use Rattle.trace_lines.specs.Lines.{lines_of}
-use Rattle.script_lines.specs.Refusals.{Refuses}
-use Rattle.thread_run.specs.Inputs.{accepts_threads, TellsThreads}
+use Rattle.std.proofs.Common.{subst, IfSome}
+use Rattle.trace_run.proofs.Common.{lines_of, Refuses, accepts_threads, TellsThreads}
 use Rattle.trace_run.proofs.threads.threads_cut.Goals as goal
 
 pub returns-in-Some : goal.returns-in-Some

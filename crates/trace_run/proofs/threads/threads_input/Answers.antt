@@ -1,6 +1,5 @@
 use Rattle.std.proofs.Common.{Ok, ◌∙◌}
-use Rattle.thread_run.specs.Inputs.{accepts_threads, TellsThreads}
-use Rattle.trace_stream.proofs.AllLinesLemmas.{tells_cut}
+use Rattle.trace_run.proofs.Common.{accepts_threads, TellsThreads, tells_cut}
 use Rattle.trace_run.proofs.ThreadsLemmas.{comes_cut}
 use Rattle.trace_run.proofs.threads.threads_input.Goals as goal
 

@@ -1,7 +1,5 @@
-use Rattle.std.proofs.Common.{◌++◌, subst}
-use Rattle.std.specs.Prelude.{IfErr}
-use Rattle.script_lines.specs.Refusals.{IsTold}
-use Rattle.trace_records.specs.Lines.{AnswersLine}
+use Rattle.std.proofs.Common.{◌++◌, subst, IfErr}
+use Rattle.trace_stream.proofs.Common.{IsTold, AnswersLine}
 use Rattle.trace_stream.proofs.AnswersLemmas.{unserved, answered, put_behind}
 use Rattle.trace_stream.proofs.answers.answer.Goals as goal
 

@@ -1,6 +1,5 @@
-use Rattle.std.proofs.Common.{◌++◌, subst}
-use Rattle.std.specs.Prelude.{None}
-use Rattle.trace_records.specs.Lines.{OpensLine}
+use Rattle.std.proofs.Common.{◌++◌, subst, None}
+use Rattle.trace_stream.proofs.Common.{OpensLine}
 use Rattle.trace_stream.proofs.AnswersLemmas.{opened, unopened, put_behind}
 use Rattle.trace_stream.proofs.answers.open.Goals as goal
 

@@ -1,6 +1,5 @@
 use Rattle.std.proofs.Common.{◌≡◌, ◌+◌, ◌-◌, length}
-use Rattle.trace_lines.specs.declared.limits.TheConstants.{MAX_INPUT}
-use Rattle.trace_stream.specs.Streams.{Takes}
+use Rattle.trace_stream.proofs.Common.{MAX_INPUT, Takes}
 use Rattle.trace_stream.proofs.input.read_all.Given as goal
 
 abbrev pub invariant-loop-block : goal.invariant-loop-block

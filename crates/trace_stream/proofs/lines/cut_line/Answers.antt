@@ -1,6 +1,6 @@
 use Rattle.std.proofs.Common.{arith}
 use Rattle.std.proofs.lemmas.Bool.{eqb-true}
-use Rattle.script_lines.proofs.FirstLineLemmas.{feedless_before, feedless_from}
+use Rattle.trace_stream.proofs.Common.{feedless_before, feedless_from}
 use Rattle.trace_stream.proofs.LinesLemmas.{split_at_feed, no_feed}
 use Rattle.trace_stream.proofs.lines.cut_line.Goals as goal
 

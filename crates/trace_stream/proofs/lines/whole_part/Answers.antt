@@ -1,6 +1,6 @@
 use Rattle.std.proofs.Common.{sym, ◌+◌}
 use Rattle.std.proofs.lemmas.Bool.{eqb-true}
-use Rattle.script_lines.proofs.FirstLineLemmas.{feedless_from}
+use Rattle.trace_stream.proofs.Common.{feedless_from}
 use Rattle.trace_stream.proofs.LinesLemmas.{part_at, part_none}
 use Rattle.trace_stream.proofs.lines.whole_part.Goals as goal
 

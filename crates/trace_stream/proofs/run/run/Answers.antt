@@ -1,5 +1,4 @@
-use Rattle.trace_stream.specs.Runs.{answering_of_run}
-use Rattle.trace_stream.specs.Streams.{Streams, streams_of}
+use Rattle.trace_stream.proofs.Common.{answering_of_run, Streams, streams_of}
 use Rattle.trace_stream.proofs.ReadingLemmas.{reads_lines}
 use Rattle.trace_stream.proofs.run.run.Goals as goal
 

@@ -1,8 +1,5 @@
 use Rattle.std.proofs.Common.{rules, ◌≡◌, ◌<◌, ◌≤◌, ◌++◌, ◌∙◌, sym, subst, ℕ, List, length, take, false, true, inr}
-use Rattle.std.specs.Io.KnownBytes.{IsAtEnd}
-use Rattle.trace_lines.specs.declared.limits.TheConstants.{MAX_INPUT}
-use Rattle.trace_stream.specs.Streams.{MeetsEnd, Takes, streams_of}
-use Rattle.trace_stream.specs.Progress.{IsMidway, HasFront}
+use Rattle.trace_stream.proofs.Common.{IsAtEnd, MAX_INPUT, MeetsEnd, Takes, streams_of, IsMidway, HasFront}
 use Rattle.trace_stream.proofs.StreamsLemmas.{takes_more, takes_still}
 use Rattle.trace_stream.proofs.ProgressLemmas.{left_front, take_piece, size_on}
 use Rattle.trace_stream.proofs.EndsLemmas.{ends_met, front_met, reports_front, ends_fault, ends_long, ends_refused, refused_at, front_of}

@@ -1,8 +1,5 @@
 use Rattle.std.proofs.Common.{◌≡◌, ◌+◌, ◌-◌, [], List, ℕ, false, length, take}
-use Rattle.trace_lines.specs.declared.limits.TheConstants.{MAX_INPUT}
-use Rattle.trace_stream.specs.reading.Answers.{is_refused}
-use Rattle.trace_stream.specs.Progress.{IsMidway}
-use Rattle.trace_stream.specs.Streams.{Takes}
+use Rattle.trace_stream.proofs.Common.{MAX_INPUT, is_refused, IsMidway, Takes}
 use Rattle.trace_stream.proofs.run.run_blocks.Given as goal
 
 abbrev pub invariant-loop-total : goal.invariant-loop-total

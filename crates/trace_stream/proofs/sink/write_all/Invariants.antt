@@ -1,5 +1,5 @@
 use Rattle.std.proofs.Common.{◌≡◌, length, ◌-◌, ◌≤◌, take}
-use Rattle.trace_stream.specs.Streams.{Puts}
+use Rattle.trace_stream.proofs.Common.{Puts}
 use Rattle.trace_stream.proofs.sink.write_all.Given as goal
 
 abbrev pub invariant-loop-at : goal.invariant-loop-at

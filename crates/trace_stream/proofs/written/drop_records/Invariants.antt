@@ -1,5 +1,5 @@
 use Rattle.std.proofs.Common.{◌≡◌, length}
-use Rattle.trace_records.specs.Following.{without_taken}
+use Rattle.trace_stream.proofs.Common.{without_taken}
 use Rattle.trace_stream.proofs.written.drop_records.Given as goal
 
 abbrev pub invariant-loop : goal.invariant-loop

@@ -1,7 +1,5 @@
 use Rattle.std.proofs.Common.{rules, ◌≡◌, ◌++◌, [], ◌∷◌, ℕ, List, length, subst, ◌∙◌}
-use Rattle.std.proofs.lemmas.List.{nil_from_length}
-use Rattle.trace_stream.specs.reading.Answers.{AnswersTo}
-use Rattle.trace_stream.specs.reading.Breaks.{whole_lines}
+use Rattle.trace_stream.proofs.Common.{nil_from_length, AnswersTo, whole_lines}
 use Rattle.trace_stream.proofs.ProgressLemmas.{ended, ended_whole, on_ok_then}
 use Rattle.trace_stream.proofs.progress.Progress.answer_line.Goals as goal
 

@@ -1,8 +1,5 @@
-use Rattle.std.proofs.Common.{rules, ◌≡◌, ◌<◌, ◌++◌, [], ◌∷◌, ℕ, List, length, sym, ap, subst, ◌∙◌}
-use Rattle.std.specs.Prelude.{IfOk}
-use Rattle.trace_lines.specs.Lines.{lines_of}
-use Rattle.trace_lines.specs.Report.{report_from}
-use Rattle.trace_stream.specs.reading.Breaks.{whole_lines}
+use Rattle.std.proofs.Common.{rules, ◌≡◌, ◌<◌, ◌++◌, [], ◌∷◌, ℕ, List, length, sym, ap, subst, ◌∙◌, IfOk}
+use Rattle.trace_stream.proofs.Common.{lines_of, report_from, whole_lines}
 use Rattle.trace_stream.proofs.ProgressLemmas.{lines_kept}
 use Rattle.trace_stream.proofs.progress.Progress.end.Goals as goal
 

@@ -1,5 +1,5 @@
 use Rattle.std.proofs.Common.{◌≡◌, ◌++◌, ◌∷◌, [], ℕ, List, refl, false, ◌∙◌}
-use Rattle.trace_stream.specs.reading.Breaks.{has_feed}
+use Rattle.trace_stream.proofs.Common.{has_feed}
 use Rattle.trace_stream.proofs.ProgressLemmas.{left_front, front_of_piece, piece_on, midway_line, midway_kept}
 use Rattle.trace_stream.proofs.progress.Progress.feed.Goals as goal
 

@@ -1,6 +1,5 @@
-use Rattle.std.proofs.Common.{◌≡◌, ◌++◌, length, List, ℕ}
-use Rattle.std.specs.Prelude.{Option}
-use Rattle.trace_stream.specs.Progress.{IsMidway}
+use Rattle.std.proofs.Common.{◌≡◌, ◌++◌, length, List, ℕ, Option}
+use Rattle.trace_stream.proofs.Common.{IsMidway}
 use Rattle.trace_stream.proofs.progress.Progress.feed.Given as goal
 
 abbrev pub invariant-loop-line : goal.invariant-loop-line

@@ -1,5 +1,5 @@
 use Rattle.std.proofs.Common.{◌≡◌, []}
-use Rattle.trace_stream.specs.Streams.{Puts}
+use Rattle.trace_stream.proofs.Common.{Puts}
 use Rattle.trace_stream.proofs.sink.StdSinkSink.write.Given as goal
 
 abbrev pub invariant-loop : goal.invariant-loop

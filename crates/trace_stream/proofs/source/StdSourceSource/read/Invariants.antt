@@ -1,5 +1,5 @@
 use Rattle.std.proofs.Common.{◌≡◌, []}
-use Rattle.trace_stream.specs.Streams.{Takes}
+use Rattle.trace_stream.proofs.Common.{Takes}
 use Rattle.trace_stream.proofs.source.StdSourceSource.read.Given as goal
 
 abbrev pub invariant-loop : goal.invariant-loop

@@ -1,6 +1,5 @@
 use Rattle.std.proofs.Common.{◌≡◌, ◌+◌, ◌++◌, length}
-use Rattle.trace_lines.specs.Report.{measure_lines}
-use Rattle.trace_records.specs.Following.{without_taken}
+use Rattle.trace_stream.proofs.Common.{measure_lines, without_taken}
 use Rattle.trace_stream.proofs.written.Written.write_measures.Given as goal
 
 abbrev pub invariant-loop-measure : goal.invariant-loop-measure

@@ -1,6 +1,5 @@
 use Rattle.std.proofs.Common.{◌≡◌, ◌+◌, ◌++◌, length}
-use Rattle.trace_lines.specs.Report.{record_lines}
-use Rattle.trace_records.specs.Following.{without_taken}
+use Rattle.trace_stream.proofs.Common.{record_lines, without_taken}
 use Rattle.trace_stream.proofs.written.Written.write_records.Given as goal
 
 abbrev pub invariant-loop-finished : goal.invariant-loop-finished

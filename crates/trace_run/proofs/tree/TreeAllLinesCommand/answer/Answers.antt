@@ -1,12 +1,8 @@
 -- What the lines come to is written.
-use Rattle.std.proofs.Common.{subst}
-use Rattle.std.specs.Prelude.{None}
-use Rattle.trace_lines.specs.Lines.{lines_of}
-use Rattle.trace_lines.specs.Report.{accepts}
-use Rattle.trace_records.proofs.ScriptsLaws.{accepts_same}
-use Rattle.trace_run.specs.Commands.Tree.{TellsTreeOf}
+use Rattle.std.proofs.Common.{subst, None}
+use Rattle.trace_run.proofs.Common.{lines_of, accepts, accepts_same, TellsTreeOf}
 use Rattle.trace_run.proofs.ScriptsLemmas.{TreeEnds, distinct_finished, tells_tree, tree_accepted, refused_text, refused_flag}
-use Rattle.trace_run.proofs.tree.TreeAllLines.answer.Goals as goal
+use Rattle.trace_run.proofs.tree.TreeAllLinesCommand.answer.Goals as goal
 
 pub tree_text-requires : goal.tree_text-requires
 tree_text-requires c =

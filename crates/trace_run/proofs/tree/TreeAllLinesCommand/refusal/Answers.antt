@@ -1,10 +1,7 @@
 use Rattle.std.specs.Prelude.{None}
-use Rattle.trace_lines.specs.Lines.{lines_of}
-use Rattle.trace_lines.specs.Report.{accepts}
-use Rattle.trace_records.proofs.ScriptsLaws.{accepts_same}
-use Rattle.trace_run.specs.Commands.Tree.{TellsTreeOf}
+use Rattle.trace_run.proofs.Common.{lines_of, accepts, accepts_same, TellsTreeOf}
 use Rattle.trace_run.proofs.ScriptsLemmas.{refusal_some, refusal_none}
-use Rattle.trace_run.proofs.tree.TreeAllLines.refusal.Goals as goal
+use Rattle.trace_run.proofs.tree.TreeAllLinesCommand.refusal.Goals as goal
 
 pub returns-clause-some : goal.returns-clause-some
 returns-clause-some c = refusal_some None accepts accepts_same TellsTreeOf (lines_of c.args.bytes.now) c.refusal_of.result c.refusal_of.ensures.some
