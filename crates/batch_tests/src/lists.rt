@@ -58,26 +58,25 @@ pub fn lists(alloc: Global, counts: &[u64]) -> Result<Vec<Items<Item<Number>>>, 
     Ok(all)
 }
 
+// Whether an item is the next one of its lane, with its text. Then that lane has one more.
+fn is_next(alloc: Global, one: &Sent, next: &mut [u64]) -> Result<bool, Memory> {
+    let lane = usize::try_from(one.lane).unwrap_or(usize::MAX);
+    if lane >= next.len() || next[lane] != one.place {
+        return Ok(false);
+    }
+    next[lane] = next[lane].saturating_add(1);
+    let number = number_of(one.lane, one.place);
+    let text = format!(in alloc; "{number} {} {}", one.lane, one.place)?;
+    Ok(one.text.as_slice() == text.as_bytes())
+}
+
 /// Whether a list has of each lane so many items in order, with their texts, and no others.
 pub fn is_merge(alloc: Global, sent: &[Sent], counts: &[u64]) -> Result<bool, Memory> {
     let mut next = Vec::from_elem(alloc, 0u64, counts.len())?;
-    let next = next.as_mut_slice();
     for one in sent {
-        let lane = usize::try_from(one.lane).unwrap_or(usize::MAX);
-        if lane >= next.len() || next[lane] != one.place {
-            return Ok(false);
-        }
-        let number = number_of(one.lane, one.place);
-        let text = format!(in alloc; "{number} {} {}", one.lane, one.place)?;
-        if one.text.as_slice() != text.as_bytes() {
-            return Ok(false);
-        }
-        next[lane] = next[lane].saturating_add(1);
-    }
-    for lane in 0..counts.len().min(next.len()) {
-        if next[lane] != counts[lane] {
+        if !is_next(alloc, one, next.as_mut_slice())? {
             return Ok(false);
         }
     }
-    Ok(true)
+    Ok(next.as_slice() == counts)
 }

@@ -1,7 +1,7 @@
 //! The lines of an output.
 ghost use Rattle.std.specs.Prelude.{◌≤◌, length};
 
-use script_lines::first_line;
+use input_lines::first_line;
 
 /// How the first line of an output begins: with a history, or with the end line or the refusal line where there is none.
 const BEGINNINGS: [&[u8]; 3] = [b"{\"history\":", b"{\"done\":", b"{\"line\":"];

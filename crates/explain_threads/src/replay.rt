@@ -1,8 +1,8 @@
 //! The order in which an output has the entries of each span, as a turnstile.
 use crate::output::is_history;
 use event_gate::TextFilter;
+use input_lines::first_line;
 use otel_base::memory::Memory;
-use script_lines::first_line;
 use std::alloc::Global;
 use std::sync::atomic::{AtomicU64, Ordering};
 use std::thread::yield_now;

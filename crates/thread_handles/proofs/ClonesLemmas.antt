@@ -8,16 +8,15 @@ use native.Mathlib.Decide.{ℕ_discrete}
 use Rattle.trace_threads.specs.declared.making.Making.{Making}
 use Rattle.trace_threads.specs.declared.history.Entry.{Entry}
 use Rattle.trace_threads.specs.declared.history.HandleAct.TheVariants.{Clone, Release}
-use Rattle.trace_threads.specs.declared.turns.View.{View}
 use Rattle.trace_threads.specs.declared.handle.Released.{Released}
-use Rattle.trace_threads.specs.History.{IsLegal, has, entries_by, open_count}
+use Rattle.trace_threads.specs.History.{IsLegal, has, entries_by}
 use Rattle.trace_threads.specs.Turns.{Turn, entries}
 use Rattle.trace_threads.specs.Calls.{MakesEntry, IsCloneOf}
 use Rattle.trace_threads.specs.Handles.{SharedHandle, ReleasedHandle, open_of, LeavesHandle, ClosedAs, IsSameHandle}
 use Rattle.trace_threads.proofs.queue.FrontsLemmas.{prefix_entries}
 use Rattle.thread_script.specs.Asks.{Ask, ask, FollowsAsks, clones_asked, numbers_from, clone_entries}
 use Rattle.thread_handles.specs.Works.{WasReleased}
-use Rattle.thread_handles.specs.Shares.{IsFirst, numbers_of, AreOut, AreCloned, HasLearnt, HaveLearnt, IsFresh, IsShared}
+use Rattle.thread_handles.specs.Shares.{numbers_of, AreCloned, HasLearnt, HaveLearnt, IsFresh, IsShared}
 use Rattle.thread_handles.proofs.AsksLemmas.{follows_made, by_append, no_items}
 use Rattle.thread_handles.proofs.FirstEntriesLemmas.{opened}
 use Rattle.thread_handles.proofs.WorkLemmas.{same_get}
@@ -33,17 +32,6 @@ get_push P (x ∷ xs) y (suc i) d f p low = get_push P xs y i d (λ j l. f (suc 
 asked_push : (made : ℕ) (hs : List SharedHandle) (x : SharedHandle) → clones_asked made (numbers_of (hs ++ x ∷ [])) ≡ clones_asked made (numbers_of hs) ++ ask made (Clone x.number) ∷ []
 asked_push made [] x = refl
 asked_push made (h ∷ hs) x = ap (λ (l : List Ask). ask made (Clone h.number) ∷ l) (asked_push made hs x)
-
-pub cloned_first : (h : SharedHandle) (at : ℕ) → IsFirst h at → AreCloned h h []
-cloned_first h at f = record {
-  span = refl;
-  number = f.0;
-  origin = refl;
-  out = ap (λ (v : View). open_count v.mine) f.1;
-  follows = subst (λ (v : View). FollowsAsks 0 h.view.origin.made_at [] (entries v.seen)) (sym f.1) refl;
-  own_entries = ap (λ (v : View). entries_by 0 (entries v.seen)) f.1 ∙ sym (ap (λ (v : View). v.mine) f.1);
-  each = λ i d low. absurd (omega (arith, low));
-}
 
 pub cloned_more : (at : ℕ) (h g f x : SharedHandle) (hs : List SharedHandle) → h.view.origin.made_at ≡ at → AreCloned h g hs → IsSameHandle g f → x.span ≡ g.span → IsCloneOf f.view x.view → MakesEntry g.view f.view g.number at (Clone x.number) → open_of f ≡ open_of g → AreCloned h f (hs ++ x ∷ [])
 cloned_more at h g f x hs moment c same span clone made opn =
@@ -61,10 +49,6 @@ cloned_more at h g f x hs moment c same span clone made opn =
       own_entries = m.own_entries;
       each = λ i d low. get_push (λ (y : SharedHandle). (y.span ≡ h.span) × (y.view.origin ≡ h.view.origin) × (y.view.mine ≡ [])) hs x i d (λ j l. c.each j d l) (span ∙ c.span, clone.2 ∙ made.same ∙ c.origin, clone.1) low;
     }
-
--- a clone that made no entry has none open
-pub cloned_out : (h g : SharedHandle) (hs : List SharedHandle) → AreCloned h g hs → AreOut hs
-cloned_out h g hs c i d low = ap open_count (c.each i d low).2
 
 -- ---- the release of the first handle
 

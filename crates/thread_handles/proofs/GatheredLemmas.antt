@@ -71,9 +71,6 @@ earlier_closes making p q None (Some last) r l x y =
 
 module _ (span : TableId) (making : Making) (count n : ℕ) (parts : ℕ → List Ask) (r o u : Released) (g : GathersReleases span making count n parts r) (left : IsLeft (n + 1) (parts n) span making o) (same_span : u.pass.span ≡ span) (same_origin : u.pass.view.origin ≡ making)
     (legal : IsLegal making.made_at (entries u.pass.view.seen)) (ours : IsPrefix r.pass.view.seen u.pass.view.seen) (theirs : IsPrefix o.pass.view.seen u.pass.view.seen) (closes : u.closed ≡ or_else r.closed o.closed) where
-  whole : List Entry
-  whole = entries u.pass.view.seen
-
   our_log : IsPrefix (entries r.pass.view.seen) (entries u.pass.view.seen)
   our_log = prefix_entries r.pass.view.seen u.pass.view.seen ours
 

@@ -1,12 +1,11 @@
 -- What a handle's calls leave of what it is asked.
-use Rattle.std.proofs.Common.{◌≡◌, ◌≢◌, ℕ, zero, suc, ◌+◌, ◌-◌, ◌<◌, ◌≤◌, ◌==◌, Bool, true, false, ◌||◌, List, [], ◌∷◌, ◌++◌, length, refl, ap, sym, ◌∙◌, subst, arith, Some, None, append_assoc, set, drop, get_or-set_same, get_or-set_other, Ok, Err, OnOk, Result, is_ok, true≢false}
+use Rattle.std.proofs.Common.{◌≡◌, ◌≢◌, ℕ, zero, suc, ◌+◌, ◌-◌, ◌<◌, ◌≤◌, ◌==◌, Bool, true, false, ◌||◌, List, [], ◌∷◌, ◌++◌, length, refl, ap, sym, ◌∙◌, subst, arith, Some, None, append_assoc, set, drop, Ok, Err, OnOk, Result, is_ok, true≢false}
 use Rattle.std.specs.Prelude.{Option, nat_lt, slice_index_or, if◌then◌else◌}
 use Rattle.std.proofs.lemmas.Bool.Decides.{nat_tests}
 use Rattle.otel_state.specs.declared.op.Op.{Op}
 use Rattle.otel_state.specs.declared.times.TheConstants.{GREATEST}
 use mathlib.Core.Logic.{dite}
 use native.Mathlib.Decide.{ℕ_discrete}
-use Rattle.otel_state.specs.declared.op.Op.TheVariants.{Exit}
 use Rattle.trace_threads.specs.declared.making.Making.{Making}
 use Rattle.trace_threads.specs.declared.history.Entry.{Entry}
 use Rattle.trace_threads.specs.declared.history.HandleAct.TheVariants.{Call, Release}
@@ -24,7 +23,7 @@ use Rattle.thread_script.specs.declared.script.SharedLine.{SharedLine}
 use Rattle.thread_script.specs.declared.script.WorkerOp.{WorkerOp}
 use Rattle.thread_script.specs.Asks.{Ask, ask, FollowsAsks, is_balanced, balanced_by}
 use Rattle.thread_script.specs.Plans.{AreTimed, later_at, part_by, op_asked, asked_on, release_at, last_at}
-use Rattle.thread_handles.specs.Works.{DidCall, DidAt, DidAll, MayDo, IsAtWork, AllAtWork, part_of, AreMade, AreLow, WasReleased, AllReleased, IsLeft, AllLeft}
+use Rattle.thread_handles.specs.Works.{DidCall, DidAt, DidAll, IsAtWork, AllAtWork, part_of, AreMade, AreLow, WasReleased, AllReleased, IsLeft, AllLeft}
 use Rattle.thread_handles.proofs.AsksLemmas.{follows_made}
 
 still_balanced : (n : ℕ) (m : Move) (left : List Ask) → balanced_by n m (is_balanced left) ≡ true → is_balanced left (open_count_after n m) ≡ true
@@ -57,17 +56,6 @@ pub did_all : (plan : Plan) (k : ℕ) (last : Option ℕ) (all left : List Worke
 did_all plan k last all left o hs gs fs len w d s x low =
     let h = slice_index_or hs s x in
     did_one k o.at (part_of plan last s h all) (part_of plan last s h left) (asked_on plan s o) h (slice_index_or gs s x) (slice_index_or fs s x) (w s x low) (d s x (omega (arith, len, low)))
-
-exit_open : (k at : ℕ) (all left : List Ask) (asked : Option Op) (h g : SharedHandle) → asked ≡ Some Exit → IsAtWork k all (part_by at asked left) h g → 0 < open_of g
-exit_open k at all left asked h g e w =
-    let v : IsAtWork k all (ask at (Call Exit) ∷ left) h g = subst (λ (a : Option Op). IsAtWork k all (part_by at a left) h g) e w in
-    let b = (both (nat_lt 0 (open_of g)) (is_balanced left (open_of g - 1)) v.balanced).0 in
-    grind (arith, nat_tests)
-
-pub may_do_all : (plan : Plan) (k : ℕ) (last : Option ℕ) (all left : List WorkerOp) (o : WorkerOp) (hs gs : List SharedHandle) → length gs ≡ length hs → AllAtWork plan k last all (o ∷ left) hs gs → MayDo plan o gs
-may_do_all plan k last all left o hs gs len w s x low e =
-    let h = slice_index_or hs s x in
-    exit_open k o.at (part_of plan last s h all) (part_of plan last s h left) (asked_on plan s o) h (slice_index_or gs s x) e (w s x (omega (arith, len, low)))
 
 -- ---- the end
 
@@ -104,33 +92,6 @@ is_left k at all h g r w d =
     }
 
 -- ---- lists of handles
-
-at_case : (hs : List SharedHandle) (i at s : ℕ) (op : Option Op) (f d : SharedHandle) (b : Bool) → (i == s) ≡ b → i < length hs → DidCall (slice_index_or hs i d) f at op → DidCall (slice_index_or hs s d) (slice_index_or (set hs i f) s d) at (if b then op else None)
-at_case hs i at s op f d true is low did =
-    let same : i ≡ s = grind (arith, nat_tests) in
-    subst (λ (k : ℕ). DidCall (slice_index_or hs k d) (slice_index_or (set hs i f) k d) at op) same (subst (λ (x : SharedHandle). DidCall (slice_index_or hs i d) x at op) (sym (get_or-set_same hs i f d low)) did)
-at_case hs i at s op f d false is low did =
-    let apart : s ≢ i = grind (arith, nat_tests) in
-    get_or-set_other hs i s f d apart
-
--- the handle at a place was changed
-pub did_set : (hs : List SharedHandle) (i at : ℕ) (op : Option Op) (h f : SharedHandle) → i < length hs → slice_index_or hs i h ≡ h → DidCall h f at op → DidAt i at op hs (set hs i f)
-did_set hs i at op h f low is did s d l = at_case hs i at s op f d (i == s) refl low (subst (λ (x : SharedHandle). DidCall x f at op) (sym (same_held hs i d h low ∙ is)) did)
-  where
-    same_held : (xs : List SharedHandle) (k : ℕ) (x y : SharedHandle) → k < length xs → slice_index_or xs k x ≡ slice_index_or xs k y
-    same_held [] k x y low = absurd (omega (arith, low))
-    same_held (z ∷ xs) zero x y low = refl
-    same_held (z ∷ xs) (suc k) x y low = same_held xs k x y (omega (arith, low))
-
-none_case : (h : SharedHandle) (at : ℕ) (op : Option Op) (b : Bool) → b ≡ false → DidCall h h at (if b then op else None)
-none_case h at op true e = absurd cc
-none_case h at op false e = refl
-
--- there is no handle at that place
-pub did_none : (hs : List SharedHandle) (i at : ℕ) (op : Option Op) → length hs ≤ i → DidAt i at op hs hs
-did_none hs i at op out s d low =
-    let miss : (i == s) ≡ false = grind (arith, nat_tests) in
-    none_case (slice_index_or hs s d) at op (i == s) miss
 
 map_ok : {X E : Type 0} (r : Result X E) (A B : Type 0) → (A → B) → OnOk r A → OnOk r B
 map_ok (Ok x) A B f a = f a

@@ -51,6 +51,7 @@ fn call_at<R: Wait>(
     if place < handles.len() {
         return call_on(rt, &mut handles[place], at, op);
     }
+    drop(op);
     Ok(())
 }
 

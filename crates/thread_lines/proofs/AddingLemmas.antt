@@ -1,10 +1,10 @@
 -- What one line more does, where the lines behind it are still to come.
-use Rattle.std.proofs.Common.{◌≡◌, ℕ, ◌+◌, List, [], ◌∷◌, Bool, true, false, Ok, Err, refl, sym, ap, subst, ◌∙◌}
+use Rattle.std.proofs.Common.{◌≡◌, ℕ, ◌+◌, List, [], ◌∷◌, Bool, true, false, Ok, Err, sym, ap, subst, ◌∙◌}
 use Rattle.std.specs.Prelude.{Result, if◌then◌else◌, IfOk, IfErr}
 use Rattle.trace_lines.specs.declared.told.Told.{Told}
 use Rattle.trace_lines.specs.Lines.{is_blank}
-use Rattle.script_lines.specs.declared.refused_line.RefusedLine.{RefusedLine}
-use Rattle.script_lines.specs.Refusals.{IsTold}
+use Rattle.input_lines.specs.declared.refused_line.RefusedLine.{RefusedLine}
+use Rattle.input_lines.specs.Refusals.{IsTold}
 use Rattle.thread_script.specs.declared.script.ThreadScript.{ThreadScript}
 use Rattle.thread_lines.specs.declared.stop.ScriptStop.{ScriptStop}
 use Rattle.thread_lines.specs.declared.stop.ScriptStop.TheVariants as stop

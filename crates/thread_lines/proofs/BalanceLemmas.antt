@@ -21,7 +21,7 @@ use Rattle.thread_script.specs.declared.script.WorkerOp.{WorkerOp}
 use Rattle.thread_script.specs.declared.script.WorkerCall.{WorkerCall}
 use Rattle.thread_script.specs.declared.script.WorkerCall.TheVariants as work
 use Rattle.thread_script.specs.Asks.{Ask, is_balanced, balanced_by}
-use Rattle.thread_script.specs.Plans.{op_asked, record_asked, event_asked, site_of, part_by, part_on, AreTimed}
+use Rattle.thread_script.specs.Plans.{op_asked, record_asked, event_asked, shared_callsite, part_by, part_on, AreTimed}
 use Rattle.thread_lines.specs.declared.line.ThreadOp.{ThreadOp}
 use Rattle.thread_lines.specs.declared.line.ThreadCall.{ThreadCall}
 use Rattle.thread_lines.specs.declared.line.ThreadCall.TheVariants as said
@@ -81,7 +81,7 @@ by_event plan at values None = refl
 by_event plan at values (Some c) = by_gate _ _ refl
 
 asked_moves : (plan : Plan) (span at : ℕ) (call : WorkerCall) → MovesAs (move_of_call call) (op_asked plan span at call)
-asked_moves plan span at (work.Record fields) = by_site plan fields (site_of plan span)
+asked_moves plan span at (work.Record fields) = by_site plan fields (shared_callsite plan span)
 asked_moves plan span at (work.Event site values) = by_event plan at values (slice_get plan.callsites site)
 asked_moves plan span at (work.Own op) = refl
 
@@ -121,9 +121,6 @@ one_more plan entered k o rest false is low has e =
     subst (λ (n : ℕ). is_balanced rest n ≡ true) (elsewhere entered o.span k (move_of_call o.what) (λ same. eqb-false o.span k is (sym same))) e
 
 -- ---- what the tests of a call say
-
-has_stays : (n : ℕ) → has_entry_for n stays ≡ true
-has_stays n = refl
 
 call_has : (s : ThreadScript) (entered : List ℕ) (span : ℕ) (call : ThreadCall) (what : WorkerCall) → call_tested s entered span call ≡ Ok what → has_entry_for (entered_on entered span) (move_of_call what) ≡ true
 call_has s entered span (said.Record fields) what e =

@@ -3,9 +3,9 @@ use Rattle.std.proofs.Common.{◌≡◌, ℕ, ◌+◌, List, [], ◌∷◌, ◌+
 use Rattle.std.specs.Prelude.{Result, if◌then◌else◌}
 use Rattle.trace_lines.specs.declared.told.Told.{Told}
 use Rattle.trace_lines.specs.Lines.{is_blank}
-use Rattle.script_lines.specs.Refusals.{are_blank}
+use Rattle.input_lines.specs.Refusals.{are_blank}
 use Rattle.thread_script.specs.declared.script.ThreadScript.{ThreadScript}
-use Rattle.script_lines.specs.declared.refused_line.RefusedLine.{RefusedLine}
+use Rattle.input_lines.specs.declared.refused_line.RefusedLine.{RefusedLine}
 use Rattle.thread_lines.specs.Steps.{script_opened, text_added, at_line, lines_added, script_from, script_of}
 
 by_step : {A B : Type 0} (n : ℕ) (r : Result A Told) (one other : A → Result B RefusedLine) (w : RefusedLine) → ((a : A) → one a ≡ Err w → other a ≡ Err w) → at_line n r one ≡ Err w → at_line n r other ≡ Err w

@@ -1,8 +1,6 @@
 -- Calls that passed their tests, in front of those that are to be tested.
-use Rattle.std.proofs.Common.{◌≡◌, ℕ, zero, suc, take, arith, List, [], ◌∷◌, ◌++◌, length, Ok, Err, refl, sym, ap, subst, ◌∙◌, append_assoc, append-nil, replicate}
-use Rattle.std.specs.Prelude.{Result, ⊤, ◌==◌, nat_lt}
-use Rattle.std.specs.List.{list_all}
-use Rattle.span_script.specs.declared.reply.Refusal.TheVariants as refusal
+use Rattle.std.proofs.Common.{◌≡◌, ℕ, List, [], ◌∷◌, ◌++◌, length, Ok, Err, refl, sym, ap, subst, ◌∙◌, append_assoc, replicate}
+use Rattle.std.specs.Prelude.{Result, ⊤, nat_lt}
 use Rattle.trace_lines.specs.declared.told.Told.{Told}
 use Rattle.trace_lines.specs.declared.told.Told.TheVariants as told
 use Rattle.thread_script.specs.declared.script.ThreadScript.{ThreadScript}
@@ -19,10 +17,6 @@ in_front front (Ok more) = Ok (front ++ more)
 in_front front (Err why) = Err why
 
 -- ---- at the front of all
-
-pub all_ok : {A : Type 0} (all : Result (List A) Told) (front : List A) → Ok (front ++ []) ≡ in_front [] all → all ≡ Ok front
-all_ok (Ok more) front e = sym e ∙ ap Ok (append-nil front)
-all_ok (Err why) front e = absurd (cc e)
 
 pub all_err : {A : Type 0} (all : Result (List A) Told) (w : Told) → Err w ≡ in_front [] all → all ≡ Err w
 all_err (Ok more) w e = absurd (cc e)
@@ -49,14 +43,6 @@ one_refused s before entered front o os w refused =
 
 -- ---- at the end
 
-pub all_passed : (s : ThreadScript) (before : ℕ) (entered : List ℕ) (front : List WorkerOp) (u : ⊤) → refuse_unless (told.Step refusal.InUse) (list_all (λ n. n == 0) entered) ≡ Ok u
-    → Ok (front ++ []) ≡ in_front front (ops_tested s before entered [])
-all_passed s before entered front u e = ap (λ (r : Result ⊤ Told). in_front front (r >>= (λ closed. Ok []))) (sym e)
-
-pub left_open : (s : ThreadScript) (before : ℕ) (entered : List ℕ) (front : List WorkerOp) (w : Told) → refuse_unless (told.Step refusal.InUse) (list_all (λ n. n == 0) entered) ≡ Err w
-    → Err w ≡ in_front front (ops_tested s before entered [])
-left_open s before entered front w e = ap (λ (r : Result ⊤ Told). in_front front (r >>= (λ closed. Ok []))) (sym e)
-
 -- ---- what is answered
 
 module _ (s : ThreadScript) (before : ℕ) (entered : List ℕ) (front : List WorkerOp) (all : Result (List WorkerOp) Told) (r : Result (List WorkerOp) ScriptStop) (why : ScriptStop) (is : r ≡ Err why) where
@@ -65,13 +51,6 @@ module _ (s : ThreadScript) (before : ℕ) (entered : List ℕ) (front : List Wo
     where
       by_why : (w : ScriptStop) → AnswersTest {A = WorkerOp} (λ op. op) (Err w) (op_tested s before entered o) → AnswersTest {A = List WorkerOp} (λ l. l) (Err w) all
       by_why (stop.Refused t) refused = all_err all t (one_refused s before entered front o os t refused ∙ e)
-      by_why stop.Memory refused = tt
-
-  pub left_here : AnswersTest {A = ⊤} (λ u. u) (Err why) (refuse_unless (told.Step refusal.InUse) (list_all (λ n. n == 0) entered)) → in_front front (ops_tested s before entered []) ≡ in_front [] all → AnswersTest {A = List WorkerOp} (λ l. l) r all
-  left_here a e = subst (λ (x : Result (List WorkerOp) ScriptStop). AnswersTest {A = List WorkerOp} (λ l. l) x all) (sym is) (by_why why a)
-    where
-      by_why : (w : ScriptStop) → AnswersTest {A = ⊤} (λ u. u) (Err w) (refuse_unless (told.Step refusal.InUse) (list_all (λ n. n == 0) entered)) → AnswersTest {A = List WorkerOp} (λ l. l) (Err w) all
-      by_why (stop.Refused t) refused = all_err all t (left_open s before entered front t refused ∙ e)
       by_why stop.Memory refused = tt
 
 -- ---- the line of a worker

@@ -24,8 +24,8 @@ use Rattle.thread_lines.specs.declared.line.ThreadLine.TheVariants as line
 use Rattle.thread_lines.specs.declared.line.ThreadOp.{ThreadOp}
 use Rattle.thread_lines.specs.declared.line.ThreadCall.{ThreadCall}
 use Rattle.thread_lines.specs.declared.line.ThreadCall.TheVariants as said
-use Rattle.script_lines.specs.declared.refused_line.RefusedLine.{RefusedLine}
-use Rattle.script_lines.specs.Refusals.{IsTold}
+use Rattle.input_lines.specs.declared.refused_line.RefusedLine.{RefusedLine}
+use Rattle.input_lines.specs.Refusals.{IsTold}
 use Rattle.thread_lines.specs.Steps.{◌>>=◌, refuse_unless, names_nothing, need, time_tested, lane_tested, directives_tested, script_at_first, script_if_read, script_opened, last_made, has_room, shared_added, move_of_call, entered_on, entered_after, shared_tested, entry_tested, call_tested, op_tested, ops_tested, worker_added, line_added, text_added, at_line, lines_added, script_from, script_of}
 use Rattle.thread_lines.specs.ThreadForm.{thread_form}
 

@@ -1,14 +1,14 @@
 //! The script that lines come to.
 ghost use Rattle.std.specs.Prelude.{◌≡◌, ◌+◌, IfErr, IfOk};
 ghost use Rattle.trace_lines.specs.Lines.{lines_of};
-ghost use Rattle.script_lines.specs.Refusals.{IsTold};
+ghost use Rattle.input_lines.specs.Refusals.{IsTold};
 ghost use Rattle.thread_lines.specs.Runnable.{IsRunnable};
 ghost use Rattle.thread_lines.specs.Steps.{script_of, script_from, lines_added};
 
 use crate::added::{add_text, open_script};
 use crate::stop::ScriptStop;
+use input_lines::{RefusedLine, first_line, is_blank};
 use otel_base::memory::Memory;
-use script_lines::{RefusedLine, first_line, is_blank};
 use std::alloc::Global;
 use thread_script::ThreadScript;
 use trace_lines::Told;

@@ -117,7 +117,7 @@ fn test_op(
 }
 
 // How many entries are open after a call, so many being open before. No line has so many calls that the sum wraps.
-fn entries_after(entries: u64, call: &WorkerCall) -> Result<u64, Memory>
+fn open_count_after_call(entries: u64, call: &WorkerCall) -> Result<u64, Memory>
     ensures { IfOk result (λ n. n ≡ open_count_after entries (move_of_call call.now)) }
 {
     match call {
@@ -134,7 +134,7 @@ fn count_entry(entered: &mut [u64], op: &WorkerOp) -> Result<(), Memory>
     ensures counted { OnOk result (entered.new ≡ entered_after entered.old op.now.span (move_of_call op.now.what)) }
 {
     let entries = entered[op.span as usize];
-    entered[op.span as usize] = entries_after(entries, &op.what)?;
+    entered[op.span as usize] = open_count_after_call(entries, &op.what)?;
     Ok(())
 }
 

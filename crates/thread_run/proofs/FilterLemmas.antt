@@ -1,11 +1,11 @@
 -- A text whose pieces are directives isn't refused.
-use Rattle.std.proofs.Common.{◌≡◌, ℕ, ◌+◌, List, [], ◌∷◌, ◌++◌, Bool, true, false, Ok, Err, sym, ap, subst, ◌∙◌}
-use Rattle.std.specs.Prelude.{Result, ◌==◌, if◌then◌else◌}
+use Rattle.std.proofs.Common.{◌≡◌, ℕ, ◌+◌, List, [], ◌∷◌, ◌++◌, true, false, Ok, Err, sym, ap, subst, ◌∙◌}
+use Rattle.std.specs.Prelude.{Result}
 use Rattle.std.specs.Str.{trim}
 use Rattle.std.proofs.lemmas.Bool.{true≢false}
 use Rattle.env_directives.specs.reading.Faults.{HasFault}
 use Rattle.env_directives.specs.reading.Forms.{IsDirective}
-use Rattle.env_directives.specs.reading.Reading.{DirectiveRead, reading}
+use Rattle.env_directives.specs.reading.Reading.{DirectiveRead}
 use Rattle.env_directives.specs.reading.Separators.{comma_pieces}
 use Rattle.env_directives.specs.declared.directive.ParseError.{ParseError}
 use Rattle.env_directives.specs.declared.directive.ParseError.TheVariants as fault

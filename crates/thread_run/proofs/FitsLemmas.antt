@@ -1,5 +1,5 @@
 -- What workers answer fits the script.
-use Rattle.std.proofs.Common.{◌≡◌, ℕ, zero, suc, ◌+◌, ◌<◌, List, [], ◌∷◌, length, refl, sym, ap, subst, ◌∙◌, arith, Vec, Global}
+use Rattle.std.proofs.Common.{◌≡◌, ℕ, suc, ◌<◌, List, [], ◌∷◌, length, sym, ap, ◌∙◌, arith, Vec, Global}
 use Rattle.std.specs.Prelude.{All, slice_index_or, Result, Ok, Err, IfOk, vec_len}
 use Rattle.shared_gate.specs.Gates.{GateValue}
 use Rattle.shared_gate.specs.Order.{opening_of}

@@ -19,7 +19,6 @@ use Rattle.trace_threads.specs.declared.turns.View.{View}
 use Rattle.thread_script.specs.declared.script.SharedLine.{SharedLine}
 use Rattle.thread_script.specs.declared.script.ThreadScript.{ThreadScript}
 use Rattle.thread_script.specs.Plans.{plan_of}
-use Rattle.thread_handles.specs.Shares.{IsFirst}
 use Rattle.thread_work.specs.Spans.{AreFirsts}
 use Rattle.thread_lines.specs.Runnable.{AreShared, IsRunnable}
 use Rattle.thread_run.specs.Spans.{lane_of, IsLane, ids_at, no_values, making_on, shared_making, IsMadeFor, AreMadeUpTo, AreMadeFor}

@@ -1,7 +1,7 @@
 -- What is written for the lines of a script for threads.
 use Rattle.std.specs.Prelude.{◌≡◌, ℕ, List, [], Bool, Result, Ok, Err, is_ok}
 use Rattle.trace_lines.specs.text.Texts.{refusal_text}
-use Rattle.script_lines.specs.declared.refused_line.RefusedLine.{RefusedLine}
+use Rattle.input_lines.specs.declared.refused_line.RefusedLine.{RefusedLine}
 use Rattle.thread_script.specs.declared.script.ThreadScript.{ThreadScript}
 use Rattle.thread_handles.specs.declared.gather.Ended.{Ended}
 use Rattle.thread_lines.specs.Steps.{script_of}

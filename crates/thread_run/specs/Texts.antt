@@ -34,13 +34,13 @@ deed_after before k (Call op) = deed.Call (call_count k before)
 deed_after before k (Join n) = deed.Join
 deed_after before k Release = deed.Release
 
-abbrev pub entry_after : List Entry → Entry → EntryText
-entry_after before e = record { caller = e.caller; deed = deed_after before e.caller e.what }
+abbrev pub entry_text_after : List Entry → Entry → EntryText
+entry_text_after before e = record { caller = e.caller; deed = deed_after before e.caller e.what }
 
 -- what the entries of a history tell, some having come before
-abbrev pub entries_after : List Entry → List Entry → List EntryText
-entries_after before [] = []
-entries_after before (e ∷ log) = entry_after before e ∷ entries_after (before ++ e ∷ []) log
+abbrev pub entry_texts_after : List Entry → List Entry → List EntryText
+entry_texts_after before [] = []
+entry_texts_after before (e ∷ log) = entry_text_after before e ∷ entry_texts_after (before ++ e ∷ []) log
 
 abbrev pub deed_data : Deed → Data
 deed_data deed.Clone = string (codes "clone")
@@ -62,7 +62,7 @@ told_text place told = line_of (history_data place told)
 
 -- the line of a history
 abbrev pub history_text : ℕ → List Entry → List ℕ
-history_text place log = told_text place (entries_after [] log)
+history_text place log = told_text place (entry_texts_after [] log)
 
 -- a history line and a record line for each shared span, so many having come before
 abbrev pub spans_text : ℕ → List Ended → List ℕ

@@ -1,6 +1,6 @@
 //! What the entries of a history tell.
 ghost use Rattle.std.specs.Prelude.{◌≡◌, ◌+◌, ◌<◌, ◌==◌, ℕ, List, [], ◌∷◌, ◌++◌, IfOk, OnOk, if◌then◌else◌, slice_index_or, vec_len};
-ghost use Rattle.thread_run.specs.Texts.{CallsAreCounted, deed_after, entries_after};
+ghost use Rattle.thread_run.specs.Texts.{CallsAreCounted, deed_after, entry_texts_after};
 ghost use Rattle.trace_threads.specs.declared.history.Entry.{Entry};
 
 use otel_base::memory::Memory;
@@ -75,7 +75,7 @@ fn deed_of(counts: &mut Vec<u64>, entry: &Entry) -> Result<Deed, Memory>
 
 /// What the entries of a history tell, in order.
 pub(crate) fn entry_texts(alloc: Global, history: &[Entry]) -> Result<Vec<EntryText>, Memory>
-    ensures { IfOk result (λ told. told.items ≡ entries_after [] history.now) }
+    ensures { IfOk result (λ told. told.items ≡ entry_texts_after [] history.now) }
 {
     let mut counts = Vec::new(alloc);
     let mut told = Vec::new(alloc);

@@ -1,13 +1,13 @@
 //! What is written for a whole input.
 ghost use Rattle.std.specs.Prelude.{◌≡◌, not, None, IfSome, IfOk};
 ghost use Rattle.trace_lines.specs.Lines.{lines_of};
-ghost use Rattle.script_lines.specs.Refusals.{Refuses, NoneRefused};
+ghost use Rattle.input_lines.specs.Refusals.{Refuses, NoneRefused};
 ghost use Rattle.thread_run.specs.Inputs.{TellsEnded, TellsThreads, accepts_threads};
 
 use crate::run::run_script;
 use crate::text::ended_text;
+use input_lines::{Answer, are_blank, refused_answer};
 use otel_base::memory::Memory;
-use script_lines::{Answer, are_blank, refused_answer};
 use std::alloc::Global;
 use std::sync::Wait;
 use std::thread::Threads;

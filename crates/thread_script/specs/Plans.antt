@@ -33,13 +33,13 @@ text_admits text c = gate_rule (fixed_text_filter text) [] c
 abbrev pub AreNoLevels : Levels → Type 0
 AreNoLevels levels = (levels.reload ≡ 0) × (levels.list ≡ [])
 
-abbrev pub line_site : Plan → Option SharedLine → Option Callsite
-line_site plan None = None
-line_site plan (Some line) = slice_get plan.callsites line.site
+abbrev pub line_callsite : Plan → Option SharedLine → Option Callsite
+line_callsite plan None = None
+line_callsite plan (Some line) = slice_get plan.callsites line.site
 
 -- the callsite of a shared span
-abbrev pub site_of : Plan → ℕ → Option Callsite
-site_of plan s = line_site plan (slice_get plan.shared s)
+abbrev pub shared_callsite : Plan → ℕ → Option Callsite
+shared_callsite plan s = line_callsite plan (slice_get plan.shared s)
 
 -- a field's value at the first place of its name, if the callsite declares the name
 abbrev pub declared_value : Callsite → List ℕ × Value → Option (ℕ × Value)
@@ -59,7 +59,7 @@ event_asked plan at values None = None
 event_asked plan at values (Some c) = if text_admits plan.filter c then Some (event_of c values plan.layer at) else None
 
 abbrev pub op_asked : Plan → ℕ → ℕ → WorkerCall → Option Op
-op_asked plan s at (calls.Record fields) = record_asked plan fields (site_of plan s)
+op_asked plan s at (calls.Record fields) = record_asked plan fields (shared_callsite plan s)
 op_asked plan s at (calls.Event site values) = event_asked plan at values (slice_get plan.callsites site)
 op_asked plan s at (calls.Own op) = Some op
 

@@ -1,6 +1,6 @@
 //! The ops that the calls of workers come to.
 ghost use Rattle.std.specs.Prelude.{◌≡◌, IfOk, option_map, slice_get};
-ghost use Rattle.thread_script.specs.Plans.{text_admits, AreNoLevels, site_of, record_asked, event_asked, op_asked};
+ghost use Rattle.thread_script.specs.Plans.{text_admits, AreNoLevels, shared_callsite, record_asked, event_asked, op_asked};
 
 use crate::plan::Plan;
 use crate::script::WorkerCall;
@@ -43,7 +43,7 @@ fn is_admitted<G: EventGate>(
 
 // The callsite of a shared span.
 fn span_site(plan: &Plan, span: u64) -> Option<&Callsite>
-    ensures { option_map (λ c. c.now) result ≡ site_of plan.now span }
+    ensures { option_map (λ c. c.now) result ≡ shared_callsite plan.now span }
 {
     let line = plan.shared.as_slice().get(span as usize)?;
     plan.callsites.as_slice().get(line.site as usize)
@@ -56,7 +56,7 @@ fn record_op(
     span: u64,
     fields: Items<(Text, Value)>,
 ) -> Result<Option<Op>, Memory>
-    ensures { IfOk result (λ op. op ≡ record_asked plan.now fields (site_of plan.now span)) }
+    ensures { IfOk result (λ op. op ≡ record_asked plan.now fields (shared_callsite plan.now span)) }
 {
     let Some(callsite) = span_site(plan, span) else {
         return Ok(None);

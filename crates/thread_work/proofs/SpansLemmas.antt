@@ -247,6 +247,3 @@ pub shared_at : {G : Type 0} (k : ℕ) (spans : List SharedHandle) (jobs lent gi
 shared_at {G} k spans jobs lent given begun rest rs n lent_is len count is sh =
     let same : begun ≡ given = is ∙ take_front n given rest (len ∙ ap length lent_is ∙ count) in
     (ap length same ∙ len ∙ ap length lent_is, subst (λ (t : List (Job G) × List (Job G)). WereShared k spans t.0 t.1 rs) (λ i. (lent_is i, sym same i)) sh)
-
-pub room_for : {G : Type 0} (opening : G → List ℕ) (plan : Plan) (spans : List SharedHandle) (jobs lent : List (Job G)) → lent ≡ jobs → ArePreparedFor opening plan spans jobs → HaveRoomFor (length spans) lent
-room_for {G} opening plan spans jobs lent is p = subst (HaveRoomFor (length spans)) (sym is) (λ w d low. (p w d low).room)

@@ -1,34 +1,18 @@
 -- What the writer has of the lanes, after each of its steps.
-use Rattle.std.proofs.Common.{◌≡◌, ◌≢◌, ℕ, zero, suc, ◌+◌, ◌-◌, ◌≤◌, List, [], ◌∷◌, ◌++◌, map, take, drop, length, get_or, refl, ap, sym, subst, ◌∙◌, arith, Vec, Global}
+use Rattle.std.proofs.Common.{◌≡◌, ◌≢◌, ℕ, zero, suc, ◌+◌, ◌-◌, ◌≤◌, List, [], ◌∷◌, ◌++◌, map, take, drop, get_or, refl, ap, sym, subst, ◌∙◌, arith, Vec, Global}
 use Rattle.std.specs.Prelude.{false, Result, Ok, Err, IfOk}
-use Rattle.std.proofs.lemmas.List.{append-nil, get_or_past}
+use Rattle.std.proofs.lemmas.List.{append-nil}
 use Rattle.crossbeam_queue.specs.Passes.{view}
 use Rattle.trace_batch.specs.declared.item.Item.{Item}
 use Rattle.trace_batch.specs.declared.item.Sent.{Sent}
 use Rattle.trace_batch.specs.declared.writer.Writer.{Writer}
 use Rattle.trace_batch.specs.Merges.{sent_of, of_lane, texts, IsMerge}
-use Rattle.trace_batch.specs.Rule.{writer, known_at, lanes_of, KnowsEndedLanes}
+use Rattle.trace_batch.specs.Rule.{writer, lanes_of, KnowsEndedLanes}
 use Rattle.trace_batch.specs.Serving.{HasServed, Serving}
 use Rattle.trace_batch.proofs.Lanes.{of_append}
 use Rattle.trace_batch.proofs.Texts.{sent_all, AllOf, of_own_texts, of_other_texts, all_drop}
 
 module _ {F : Type 0} (text : F → ℕ → ℕ → List ℕ) where
-  -- before anything was taken, where no lane is left
-  pub served_none : (lists : List (List (Item F))) (lane : ℕ) (w : Writer) → length lists ≤ lane → w.taken ≡ [] → w.late ≡ [] → HasServed text lists lane [] [] w
-  served_none lists lane w all taken late = record {
-    taken = taken;
-    late = λ l past. ap (of_lane l) late ∙ sym (ap (map (sent_of text)) (get_or_past lists l [] (omega arith)));
-    others = λ l less. ap (of_lane l) late;
-  }
-
-  pub served_more : (lists : List (List (Item F))) (lane : ℕ) (known : List (List Sent)) (got : List Sent) (x : Sent) (w v : Writer)
-      → HasServed text lists lane known got w → v.taken ≡ w.taken ++ x ∷ [] → v.late ≡ w.late → HasServed text lists lane known (got ++ x ∷ []) v
-  served_more lists lane known got x w v k taken late = record {
-    taken = taken ∙ ap (λ (l : List Sent). l ++ x ∷ []) k.taken;
-    late = λ l past. ap (λ (ys : List Sent). known_at lane known l ++ of_lane l ys) late ∙ k.late l past;
-    others = λ l less. ap (of_lane l) late ∙ k.others l less;
-  }
-
   module _ (lists : List (List (Item F))) (lane sent : ℕ) (list : List (Item F)) (known : List (List Sent)) (got : List Sent) (w v : Writer) (is : list ≡ get_or lists lane []) (own : AllOf lane list)
       (k : HasServed text lists (lane + 1) known got w) (taken : v.taken ≡ w.taken) (late : v.late ≡ w.late ++ map (sent_of text) (drop sent list)) where
     late_of : (l : ℕ) → of_lane l v.late ≡ of_lane l w.late ++ of_lane l (map (sent_of text) (drop sent list))

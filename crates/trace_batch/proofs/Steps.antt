@@ -19,22 +19,12 @@ at_end [] a b (suc j) n e = absurd (some-ne-none b (sym e))
 at_end (x ∷ xs) a b zero n e = absurd (n e)
 at_end (x ∷ xs) a b (suc j) n e = ap suc (at_end xs a b j n e)
 
-there : (views : List View) (j : ℕ) (v : View) → get_elem? views j ≡ some v → j < length views
-there [] j v e = absurd (some-ne-none v (sym e))
-there (x ∷ views) zero v e = omega arith
-there (x ∷ views) (suc j) v e = let l = there views j v e in omega (arith, l)
-
 -- which of the two an added view is
 added : (l : List View) (a b : View) (j : ℕ) → get_elem? (l ++ a ∷ []) j ≡ some b → (get_elem? l j ≡ some b) ⊎ ((j ≡ length l) × (a ≡ b))
 added [] a b zero e = inr (refl, ⊎_elim (λ (x : get_elem? [] 0 ≡ some b). absurd (some-ne-none b (sym x))) (λ x. x) (at_snoc [] a b 0 e))
 added [] a b (suc j) e = absurd (some-ne-none b (sym e))
 added (x ∷ xs) a b zero e = inl e
 added (x ∷ xs) a b (suc j) e = ⊎_elim (λ h. inl h) (λ (h : (j ≡ length xs) × (a ≡ b)). inr (ap suc h.0, h.1)) (added xs a b j e)
-
-length_set : (l : List View) (i : ℕ) (a : View) → length (set l i a) ≡ length l
-length_set [] i a = refl
-length_set (x ∷ xs) zero a = refl
-length_set (x ∷ xs) (suc i) a = ap suc (length_set xs i a)
 
 abbrev All : (ℕ → View → Type 0) → List View → Type 0
 All F views = (port : ℕ) (v : View) → get_elem? views port ≡ some v → F port v

@@ -1,7 +1,7 @@
 -- The texts of a list's items.
-use Rattle.std.proofs.Common.{◌≡◌, ◌≢◌, ℕ, ◌+◌, ◌<◌, suc, List, [], ◌∷◌, ◌++◌, map, take, drop, length, get_or, refl, ap, sym, ◌∙◌, arith}
+use Rattle.std.proofs.Common.{◌≡◌, ◌≢◌, ℕ, ◌+◌, suc, List, [], ◌∷◌, ◌++◌, map, take, drop, refl, ap, sym, ◌∙◌, arith}
 use Rattle.std.specs.List.{All}
-use Rattle.std.proofs.lemmas.List.{take_more, map-append, take-append-drop}
+use Rattle.std.proofs.lemmas.List.{map-append, take-append-drop}
 use Rattle.std.proofs.lemmas.List.Elements.{All-drop}
 use Rattle.trace_batch.specs.declared.item.Item.{Item}
 use Rattle.trace_batch.specs.Merges.{sent_of, of_lane}
@@ -18,9 +18,6 @@ module _ {F : Type 0} where
   all_drop l k xs a = All-drop (λ (i : Item F). i.lane ≡ l) k xs a
 
 module _ {F : Type 0} (text : F → ℕ → ℕ → List ℕ) where
-  pub sent_more : (list : List (Item F)) (i : ℕ) (d : Item F) → i < length list → map (sent_of text) (take (i + 1) list) ≡ map (sent_of text) (take i list) ++ sent_of text (get_or list i d) ∷ []
-  sent_more list i d h = ap (map (sent_of text)) (take_more list i d h) ∙ map-append (sent_of text) (take i list) (get_or list i d ∷ [])
-
   pub sent_all : (list : List (Item F)) (i : ℕ) → map (sent_of text) (take i list) ++ map (sent_of text) (drop i list) ≡ map (sent_of text) list
   sent_all list i = sym (map-append (sent_of text) (take i list) (drop i list)) ∙ ap (map (sent_of text)) (take-append-drop i list)
 

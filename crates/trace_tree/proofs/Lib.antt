@@ -2,7 +2,6 @@ pub mod Orders
 pub mod Walks
 pub mod Parents
 pub mod Latest
-pub mod Stacks
 pub mod Visits
 pub mod Indexing
 pub mod Groups

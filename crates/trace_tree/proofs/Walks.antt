@@ -25,10 +25,6 @@ module _ {X : Type 0} (P : X → Type 0) where
   all_map Q f (x ∷ xs) a = (f x a.0, all_map Q f xs a.1)
 
 module _ {X : Type 0} (R : X → X → Type 0) where
-  pub ordered_right : (xs ys : List X) → Ordered R (xs ++ ys) → Ordered R ys
-  ordered_right [] ys o = o
-  ordered_right (x ∷ xs) ys o = ordered_right xs ys o.1
-
   -- two lists, each ordered, and each of the one before each of the other
   pub ordered_append : (xs ys : List X) → Ordered R xs → Ordered R ys → AllByRecursion (λ x. AllByRecursion (R x) ys) xs → Ordered R (xs ++ ys)
   ordered_append [] ys a b h = b

@@ -53,7 +53,7 @@ pub fn answers(gate: &mut SharedGate, question: &Question, yes: bool, reload: u6
     ensures { gate.new.table ≡ gate.old.table }
 {
     let admission = gate.enabled(&question.event, &question.levels);
-    admission.yes == yes && admission.reload == reload
+    (admission.yes == yes) & (admission.reload == reload)
 }
 
 // Has a gate learn what its writer tells, and says whether that is of the text of this number.
@@ -65,7 +65,7 @@ pub fn learns(writer: &mut GateWriter, gate: &mut SharedGate, reload: u64) -> bo
     match writer.tell() {
         Ok(note) => {
             let is_last = note.reload() == reload;
-            gate.learn(note).is_ok() && is_last
+            gate.learn(note).is_ok() & is_last
         }
         Err(_) => false,
     }

@@ -4,7 +4,6 @@ ghost use Rattle.std.specs.Thread.{IsSync};
 ghost use Rattle.shared_gate.specs.declared.writer.TheConstants.{MOST_GATES};
 
 use crate::gate_questions::{Question, answers, learns, make_question};
-use otel_base::memory::Memory;
 use shared_gate::{GateNote, GateWriter, SharedGate};
 use std::alloc::Global;
 use std::sync::Wait;
@@ -47,7 +46,8 @@ fn ask_often(gate: &mut SharedGate, question: &Question, least: u64) -> bool
     let mut is_right = true;
     for _ in 0..ASKS {
         let admission = gate.enabled(&question.event, &question.levels);
-        is_right &= last <= admission.reload && admission.yes == is_through(admission.reload);
+        is_right &= last <= admission.reload;
+        is_right &= admission.yes == is_through(admission.reload);
         last = admission.reload;
     }
     is_right
@@ -69,7 +69,7 @@ fn learn_and_ask(gate: &mut SharedGate, note: &mut Option<GateNote>, question: &
     match note.take() {
         Some(note) => {
             let least = note.reload();
-            gate.learn(note).is_ok() && ask_often(gate, question, least)
+            gate.learn(note).is_ok() & ask_often(gate, question, least)
         }
         None => false,
     }
@@ -81,7 +81,7 @@ fn ends_by_last(writer: &mut GateWriter, gate: &mut SharedGate, question: &Quest
     ensures { writer.new ≡ writer.old }
 {
     let last = END - 1;
-    learns(writer, gate, last) && answers(gate, question, is_through(last), last)
+    learns(writer, gate, last) & answers(gate, question, is_through(last), last)
 }
 
 // Asks each gate in a thread of its own, while texts are put in force for the next one and for all.
@@ -110,7 +110,7 @@ fn ask_all<R: Threads + Wait + Sync>(
             ensures { writer.exit.now.table ≡ writer.entry.now.table }
         { ask_all(rt, writer, gates, question, to) },
     );
-    is_put && is_asked && rest && ends_by_last(writer, &mut gate, question)
+    is_put & is_asked & rest & ends_by_last(writer, &mut gate, question)
 }
 
 // One writer and so many gates.
@@ -133,17 +133,11 @@ fn are_asked<R: Threads + Wait + Sync>(
     }
 }
 
-// Eight gates, with a question whose levels are of no text.
-fn are_eight_asked<R: Threads + Wait + Sync + AllocGlobal>(rt: &R) -> Result<bool, Memory>
-    requires { IsSync R.row }
-{
-    let question = make_question(rt.alloc(), END)?;
-    Ok(are_asked(rt, rt.alloc(), 8, &question))
-}
-
-// After 1,000 texts, of which each gate saw some while they were put in force, each has the last one.
+// After 1,000 texts, of which each gate saw some while they were put in force, each has the last one. The levels are of no
+// text.
 #[test]
 fn eight_gates_are_asked(rt: HostRuntime) -> Result<(), Fail> {
-    assert!(rt; are_eight_asked(&rt)?);
+    let question = make_question(rt.alloc(), END)?;
+    assert!(rt; are_asked(&rt, rt.alloc(), 8, &question));
     Ok(())
 }

@@ -3,7 +3,6 @@ ghost use Rattle.std.specs.Prelude.{◌≡◌};
 
 use crate::gate_questions::{Question, answers, learns, make_question};
 use event_gate::GateError;
-use otel_base::memory::Memory;
 use shared_gate::{GateWriter, SharedGate};
 use std::alloc::Global;
 use std::sync::Wait;
@@ -15,34 +14,35 @@ fn answers_by_its_texts<R: Wait>(
     rt: &R,
     writer: GateWriter,
     gate: SharedGate,
-    opening: &Question,
-    last: &Question,
+    question: &mut Question,
 ) -> bool
     requires { gate.table ≡ writer.table }
 {
     let mut writer = writer;
     let mut gate = gate;
-    let mut is_right = answers(&mut gate, last, false, 0);
-    is_right &= answers(&mut gate, opening, true, 0);
+    let mut is_right = answers(&mut gate, question, false, 0);
+    question.levels.reload = 0;
+    is_right &= answers(&mut gate, question, true, 0);
     is_right &= writer.reload(rt, "info") == Ok(1);
-    is_right &= answers(&mut gate, opening, true, 1);
+    is_right &= answers(&mut gate, question, true, 1);
     is_right &= writer.reload(rt, "off,,a=b=c") == Err(GateError::Directive { piece: 3 });
-    is_right &= answers(&mut gate, opening, true, 1);
+    is_right &= answers(&mut gate, question, true, 1);
     is_right &= writer.reload(rt, "off") == Ok(2);
     is_right &= learns(&mut writer, &mut gate, 2);
-    is_right &= answers(&mut gate, opening, false, 2);
-    is_right &= answers(&mut gate, last, true, 2);
+    is_right &= answers(&mut gate, question, false, 2);
+    question.levels.reload = 2;
+    is_right &= answers(&mut gate, question, true, 2);
     writer.end(rt);
-    is_right && answers(&mut gate, last, true, 2)
+    is_right & answers(&mut gate, question, true, 2)
 }
 
 // Asks one of two gates.
-fn first_answers<R: Wait>(rt: &R, alloc: Global, opening: &Question, last: &Question) -> bool {
+fn first_answers<R: Wait>(rt: &R, alloc: Global, question: &mut Question) -> bool {
     let Ok((writer, mut gates)) = SharedGate::make(alloc, "off", 2) else {
         return false;
     };
     match gates.pop() {
-        Some(gate) => answers_by_its_texts(rt, writer, gate, opening, last),
+        Some(gate) => answers_by_its_texts(rt, writer, gate, question),
         None => {
             writer.end(rt);
             false
@@ -50,14 +50,9 @@ fn first_answers<R: Wait>(rt: &R, alloc: Global, opening: &Question, last: &Ques
     }
 }
 
-fn is_asked<R: Wait + AllocGlobal>(rt: &R) -> Result<bool, Memory> {
-    let opening = make_question(rt.alloc(), 0)?;
-    let last = make_question(rt.alloc(), 2)?;
-    Ok(first_answers(rt, rt.alloc(), &opening, &last))
-}
-
 #[test]
 fn gate_writer_reload(rt: HostRuntime) -> Result<(), Fail> {
-    assert!(rt; is_asked(&rt)?);
+    let mut question = make_question(rt.alloc(), 2)?;
+    assert!(rt; first_answers(&rt, rt.alloc(), &mut question));
     Ok(())
 }

@@ -76,12 +76,6 @@ module _ (m w : SeatValue) (t : ℕ) (state : Shared) (k : ℕ) (num : m.0.numbe
   is_live = ap (λ (x : View). x.live) b.view
 
   module _ (at : ℕ) (what : HandleAct) where
-    abbrev new : Entry
-    new = written_entry m.0.origin.made_at (entries w.0.seen) k at what
-
-    abbrev state_after : Shared → Shared
-    state_after s = shared_of s.making (s.log ++ written_entry s.making.made_at s.log k at what ∷ [])
-
     may_now : may_do (sum m.0.origin.made_at (entries w.0.seen)) k what ≡ true → may (sum m.0.origin.made_at (entries w.0.seen)) (written_entry m.0.origin.made_at (entries w.0.seen) k at what) ≡ true
     may_now can = may_any (sum m.0.origin.made_at (entries w.0.seen)) k at what held.1 can
 

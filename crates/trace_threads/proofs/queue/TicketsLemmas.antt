@@ -1,5 +1,5 @@
 -- Drawing a ticket, and looking whether it is served.
-use Rattle.std.proofs.Common.{◌≡◌, ◌≢◌, inl, inr, ℕ, ◌+◌, ◌<◌, ◌==◌, Bool, true, false, List, [], ◌∷◌, length, set, refl, ap, sym, ◌∙◌, subst, arith, if◌then◌else◌, MatchBool}
+use Rattle.std.proofs.Common.{◌≡◌, inl, inr, ℕ, ◌+◌, ◌<◌, ◌==◌, Bool, true, false, List, [], ◌∷◌, length, set, refl, ap, sym, ◌∙◌, subst, arith, if◌then◌else◌, MatchBool}
 use Rattle.trace_threads.proofs.Common.{nat_tests, get_elem?, either, step, keeps, takes, Allows, set_here, set_again, Making, View, TicketStage, Idle, Waits, Holds, LAST, Turn, Slot, SeatValue, entries, home_of, view, Staged, ViewFitsRule, IsHolder, IsHome, KeepsRule, KeepsWords, at_stage, Drawn, HasTurn, LookedAs, Looked, Noticed}
 use mathlib.Core.Option as core
 use Rattle.trace_threads.proofs.queue.SeatsLemmas.{prefix_self, Goes, allows, fits_set, there, same_view, home_else, no_holder, at_own, sides}
@@ -119,15 +119,6 @@ looks making slots id t v waits live =
 
 pub looks_as : (making : Making) (slots id t : ℕ) (me : SeatValue) → me.0.stage ≡ Waits t → me.0.live ≡ true → me.1 ≡ [] → Allows (KeepsWords making) slots id me 0 (λ n. n) (Looked (step slots 0 0 0 core.none) me)
 looks_as making slots id t me waits live none = subst (λ (c : List (ℕ × Slot)). Allows (KeepsWords making) slots id (me.0, c) 0 (λ n. n) (Looked (step slots 0 0 0 core.none) (me.0, c))) (sym none) (looks making slots id t me.0 waits live)
-
-looked_at : (me : SeatValue) (n t : ℕ) (w : SeatValue) → me.0.stage ≡ Waits t → LookedAs me n w me.0.stage → MatchBool (n == t) (HasTurn me t w) (w ≡ me)
-looked_at me n t w waits l = subst (LookedAs me n w) waits l
-
-pub looked_turn : (me : SeatValue) (n t : ℕ) (w : SeatValue) → me.0.stage ≡ Waits t → LookedAs me n w me.0.stage → n ≡ t → HasTurn me t w
-looked_turn me n t w waits l e = let yes : (n == t) ≡ true = grind (arith, nat_tests) in subst (λ (b : Bool). MatchBool b (HasTurn me t w) (w ≡ me)) yes (looked_at me n t w waits l)
-
-pub looked_same : (me : SeatValue) (n t : ℕ) (w : SeatValue) → me.0.stage ≡ Waits t → LookedAs me n w me.0.stage → n ≢ t → w ≡ me
-looked_same me n t w waits l e = let not_yet : (n == t) ≡ false = grind (arith, nat_tests) in subst (λ (b : Bool). MatchBool b (HasTurn me t w) (w ≡ me)) not_yet (looked_at me n t w waits l)
 
 -- ---- a plain look
 

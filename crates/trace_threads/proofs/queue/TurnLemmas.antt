@@ -1,7 +1,7 @@
 -- The begin and the end of a turn.
 use Rattle.std.proofs.Common.{◌≡◌, ℕ, ◌+◌, ◌%◌, ◌^◌, true, false, List, [], ◌∷◌, ◌++◌, refl, ap, sym, ◌∙◌, subst, true≢false, Some, None, Option, IsSome}
 use mathlib.Core.Option as core
-use Rattle.trace_threads.proofs.Common.{Step, step, Allows, rest, Making, Entry, Waits, IsHeld, has, Shared, shared_of, some_making, Turn, Slot, SeatValue, entries, home_of, Known, KeepsWords, at_stage, HasTurn, view_after, PassedOn, Closed, Begun, FinishesState}
+use Rattle.trace_threads.proofs.Common.{Step, step, Allows, rest, Making, Entry, Waits, IsHeld, has, Shared, shared_of, some_making, Turn, Slot, SeatValue, entries, home_of, Known, KeepsWords, at_stage, HasTurn, view_after, PassedOn, Closed, FinishesState}
 use Rattle.trace_threads.specs.History.{sum, is_none}
 use Rattle.trace_threads.proofs.queue.PassesLemmas.{passes_on}
 
@@ -25,30 +25,8 @@ abbrev state_of : Slot → Shared
 state_of None = shared_of some_making []
 state_of (Some l) = l
 
-abbrev rest_of : List (ℕ × Slot) → List (ℕ × Slot)
-rest_of [] = []
-rest_of (x ∷ xs) = xs
-
 there_is : (m : SeatValue) (t : ℕ) (w : SeatValue) → IsSome m.0.number → HasTurn m t w → w.1 ≡ (0, Some (shared_of m.0.origin (entries w.0.seen))) ∷ m.1
 there_is m t w s h = h.slot ∙ ap (λ (x : Slot). (0, x) ∷ m.1) (home_known m.0.origin (entries w.0.seen) m.0.mine m.0.number s h.own_entries)
-
-begun : (m : SeatValue) (t : ℕ) (w u : SeatValue) (state : Shared) → IsSome m.0.number → m.1 ≡ [] → HasTurn (at_stage (Waits t) m.0, m.1) t w → w.1 ≡ (0, Some state) ∷ rest w.1 → u ≡ (w.0, (0, None) ∷ rest w.1) → Begun m u t state
-begun m t w u state s empty h found after =
-    let full = there_is (at_stage (Waits t) m.0, m.1) t w s h in
-    let same : state ≡ shared_of m.0.origin (entries w.0.seen) = ap (λ l. state_of (value_in l)) (sym found ∙ full) in
-    let none : rest w.1 ≡ [] = ap rest_of (sym found ∙ full) ∙ empty in
-    let made : Begun m (w.0, (0, None) ∷ rest w.1) t state = record {
-      view = h.view;
-      slot = ap (λ (l : List (ℕ × Slot)). (0, None) ∷ l) none;
-      state = same;
-      begins = h.begins;
-      before = h.before;
-      legal = h.legal;
-      own_entries = h.own_entries;
-      other = h.other;
-      apart = h.apart;
-    } in
-    subst (λ (x : SeatValue). Begun m x t state) (sym after) made
 
 pub finishes : (making : Making) (slots id : ℕ) (m me : SeatValue) (state : Shared) → m.1 ≡ (0, None) ∷ [] → m.0.live ≡ true → me ≡ (m.0, (0, Some state) ∷ rest m.1) → FinishesState m.0 state
     → Allows (KeepsWords making) slots id me 0 (λ n. (n + 1) % 2 ^ 64) (PassedOn (step slots 0 1 0 core.none) me)
@@ -69,13 +47,6 @@ module _ (o : SeatValue) (t : ℕ) (m w : SeatValue) (drew : m ≡ (at_stage (Wa
 
   pub takes_out : (x : Slot) × (w.1 ≡ (0, x) ∷ rest w.1)
   takes_out = let full = there_is (at_stage (Waits t) o.0, o.1) t w some_number turn_of in (Some (shared_of o.0.origin (entries w.0.seen)), full ∙ ap (λ (l : List (ℕ × Slot)). (0, Some (shared_of o.0.origin (entries w.0.seen))) ∷ rest l) (sym full))
-
-  pub never_none : (x : Slot) → w.1 ≡ (0, x) ∷ rest w.1 → x ≡ None → ⊥
-  never_none x found e = let full = there_is (at_stage (Waits t) o.0, o.1) t w some_number turn_of in
-      let is : Some (shared_of o.0.origin (entries w.0.seen)) ≡ None = ap value_in (sym full ∙ found) ∙ e in absurd cc
-
-  pub begun_by : (u : SeatValue) (x : Slot) (state : Shared) → o.1 ≡ [] → w.1 ≡ (0, x) ∷ rest w.1 → x ≡ Some state → u ≡ (w.0, (0, None) ∷ rest w.1) → Begun o u t state
-  begun_by u x state empty found is after = begun o t w u state some_number empty turn_of (found ∙ ap (λ (y : Slot). (0, y) ∷ rest w.1) is) after
 
 pub closed_as : (slots t : ℕ) (last : Slot) (n : ℕ) (me w : SeatValue) → Closed (step slots 0 t (t + 1) (core.some last)) me n w → (turn : Turn) × (last ≡ Some (shared_of me.0.origin (entries (me.0.seen ++ turn ∷ [])))) × (w ≡ (view_after me.0 turn, []))
 closed_as slots t last n me w p = (p.0, core.some-injective last (Some (shared_of me.0.origin (entries (me.0.seen ++ p.0 ∷ [])))) p.1, p.2)

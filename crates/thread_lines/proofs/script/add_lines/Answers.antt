@@ -3,7 +3,7 @@ use Rattle.std.specs.Prelude.{⊤}
 use Rattle.trace_lines.specs.Lines.{lines_of}
 use Rattle.thread_lines.specs.Steps.{text_added, lines_added}
 use Rattle.thread_lines.proofs.RunnableLemmas.{text_runs}
-use Rattle.script_lines.proofs.FirstLineLemmas.{none_left}
+use Rattle.input_lines.proofs.FirstLineLemmas.{none_left}
 use Rattle.thread_lines.proofs.AddingLemmas.{not_added, blank_added, more_added, refused_there}
 use Rattle.thread_lines.proofs.script.add_lines.Goals as goal
 

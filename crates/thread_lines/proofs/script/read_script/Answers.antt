@@ -2,10 +2,10 @@ use Rattle.std.proofs.Common.{◌≡◌, List, ℕ, length, Err, sym, ap, subst,
 use Rattle.std.specs.Prelude.{Result, IfOk}
 use Rattle.trace_lines.specs.declared.told.Told.TheVariants as told
 use Rattle.trace_lines.specs.Lines.{lines_of}
-use Rattle.script_lines.specs.declared.refused_line.RefusedLine.{RefusedLine}
+use Rattle.input_lines.specs.declared.refused_line.RefusedLine.{RefusedLine}
 use Rattle.thread_script.specs.declared.script.ThreadScript.{ThreadScript}
 use Rattle.thread_lines.specs.Steps.{script_opened, script_from, script_of}
-use Rattle.script_lines.proofs.FirstLineLemmas.{none_left}
+use Rattle.input_lines.proofs.FirstLineLemmas.{none_left}
 use Rattle.thread_lines.proofs.AddingLemmas.{not_answered, blank_from, opened_from, unopened_there, told_where}
 use Rattle.thread_lines.proofs.ToldLemmas.{script_told}
 use Rattle.thread_lines.proofs.script.read_script.Goals as goal

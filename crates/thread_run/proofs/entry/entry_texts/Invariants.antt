@@ -1,10 +1,10 @@
 -- The entries so far are told, and their callers' calls counted.
 use Rattle.std.proofs.Common.{◌≡◌, ◌++◌, [], take, drop}
-use Rattle.thread_run.specs.Texts.{CallsAreCounted, entries_after}
+use Rattle.thread_run.specs.Texts.{CallsAreCounted, entry_texts_after}
 use Rattle.thread_run.proofs.entry.entry_texts.Given as goal
 
 abbrev pub invariant-loop-entry : goal.invariant-loop-entry
 invariant-loop-entry l = record {
-  told : l.told.items ++ entries_after (take l.entry-index l.history) (drop l.entry-index l.history) ≡ entries_after [] l.history;
+  told : l.told.items ++ entry_texts_after (take l.entry-index l.history) (drop l.entry-index l.history) ≡ entry_texts_after [] l.history;
   counted : CallsAreCounted (take l.entry-index l.history) l.counts.items;
 }

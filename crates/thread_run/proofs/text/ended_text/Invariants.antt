@@ -1,5 +1,5 @@
 -- The lines of the spans so far are written.
-use Rattle.std.proofs.Common.{◌≡◌, ◌++◌, take, drop}
+use Rattle.std.proofs.Common.{◌≡◌, ◌++◌, drop}
 use Rattle.thread_run.specs.Texts.{spans_text}
 use Rattle.thread_run.proofs.text.ended_text.Given as goal
 
