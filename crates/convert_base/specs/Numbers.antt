@@ -10,6 +10,15 @@ use Rattle.convert_base.specs.declared.format.Format.TheVariants as format
 use Rattle.convert_base.specs.declared.fault.Fault.{Fault}
 use Rattle.convert_base.specs.declared.fault.Fault.TheVariants as fault
 
+-- the kind of a record's word
+abbrev pub kind_of : List ℕ → Option Kind
+kind_of word =
+    if bytes_eq word (codes "internal") then Some kind.Internal else
+    (if bytes_eq word (codes "server") then Some kind.Server else
+    (if bytes_eq word (codes "client") then Some kind.Client else
+    (if bytes_eq word (codes "producer") then Some kind.Producer else
+    (if bytes_eq word (codes "consumer") then Some kind.Consumer else None))))
+
 -- the kinds of the OpenTelemetry protocol
 abbrev pub kind_number : Kind → ℕ
 kind_number kind.Internal = 1

@@ -1,12 +1,9 @@
 //! The part that a span plays.
 ghost use Rattle.std.specs.Prelude.{◌≡◌};
-ghost use Rattle.convert_base.specs.Numbers.{kind_number};
+ghost use Rattle.convert_base.specs.Numbers.{kind_of, kind_number};
 
-use serde::Deserialize;
-
-/// The part that a span plays, by the word that its record has.
-#[derive(Clone, Copy, Deserialize)]
-#[serde(rename_all = "lowercase")]
+/// The part that a span plays.
+#[derive(Clone, Copy)]
 pub enum Kind {
     Internal,
     Server,
@@ -16,6 +13,20 @@ pub enum Kind {
 }
 
 impl Kind {
+    /// The kind that a word of a record names.
+    pub fn of(word: &str) -> Option<Kind>
+        ensures { result ≡ kind_of word.now }
+    {
+        match word {
+            "internal" => Some(Kind::Internal),
+            "server" => Some(Kind::Server),
+            "client" => Some(Kind::Client),
+            "producer" => Some(Kind::Producer),
+            "consumer" => Some(Kind::Consumer),
+            _ => None,
+        }
+    }
+
     /// The number of the kind in the OpenTelemetry protocol.
     pub fn number(self) -> u8
         ensures { result ≡ kind_number self }

@@ -1,6 +1,6 @@
 //! Record lines, as `trace_tool` writes them.
 use convert_base::{Fault, Kind};
-use serde::{Deserialize, Serialize};
+use serde::{Deserialize, Deserializer, Format, Serialize};
 use serde_json::{Error, Value};
 use std::alloc::Global;
 use std::io;
@@ -9,6 +9,7 @@ use std::io;
 #[derive(Drop, Deserialize)]
 pub struct Record {
     pub name: String,
+    #[serde(deserialize_with = "kind")]
     pub kind: Kind,
     pub trace: String,
     pub span: String,
@@ -54,6 +55,14 @@ pub enum Status {
     Unset,
     Ok,
     Error(String),
+}
+
+fn kind<F: Format>(alloc: Global, from: &mut Deserializer<'_, '_, F>) -> Result<Kind, F::Error> {
+    let word = from.string(alloc)?;
+    match Kind::of(word.as_str()) {
+        Some(kind) => Ok(kind),
+        None => Err(from.custom("no kind of a span")),
+    }
 }
 
 /// The record of a line that was read, none where it is blank, a reply, a refusal or the end.
