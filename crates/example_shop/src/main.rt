@@ -43,7 +43,7 @@ fn run(alloc: Global, cx: &mut task::Context<'_>) -> Result<String, Fault> {
     let stack = new_stack(alloc, LayerSettings::default(), filter, None);
     let (mut desk, dispatch) = Desk::new(alloc, stack)?;
     let served = serve(alloc, &mut desk, dispatch, cx);
-    let told = records(alloc, desk, dispatch);
+    let told = tell_records(alloc, desk, dispatch);
     served?;
     Ok(told?)
 }
@@ -102,7 +102,7 @@ fn refilter(desk: &mut Desk<Stack>, dispatch: Dispatch, filter: EnvFilter) -> Re
 }
 
 // Takes the records, and tells them.
-fn records(alloc: Global, desk: Desk<Stack>, dispatch: Dispatch) -> Result<String, Memory>
+fn tell_records(alloc: Global, desk: Desk<Stack>, dispatch: Dispatch) -> Result<String, Memory>
     requires { dispatch < length desk.world.subscribers }
 {
     let Desk {

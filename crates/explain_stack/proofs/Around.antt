@@ -34,12 +34,12 @@ known_again spans old now new closed keeps gains others loses held known = elim 
 
 module _ {S : Type 0} (spans : S → Spans) (attaches : S → Bool) (kept : S → ℕ → ℕ → ℕ) (is_whole : S → Type 0) (does : S → SubscriberCall → S → Type 0)
     (shows : (s : S) (call : SubscriberCall) (t : S) → does s call t → spans t ≡ spans_after_call (spans s) call) (lanes : (s : S) (call : SubscriberCall) (t : S) → does s call t → CallLanes (attaches s) (kept s) call (kept t))
-    (keeps_whole : (s : S) (call : SubscriberCall) (t : S) → does s call t → is_whole s → is_whole t) (dispatch made sites : ℕ) (lane other : Lane) (old new : Worlds S) where
-  copied_stands : (d : ℕ) (current : Option (ℕ × ℕ)) (handle : Handle) → Copies does old new d current handle → Stands spans kept is_whole dispatch made sites old lane other → Stands spans kept is_whole dispatch made sites new lane other
-  copied_stands d None handle did stands = subst (λ (w : Worlds S). Stands spans kept is_whole dispatch made sites w lane other) (sym did.1) stands
-  copied_stands d (Some c) handle did stands = quiet_stands spans kept is_whole (λ s t. does s (CloneSpan c.0) t) (quiet_call spans attaches kept is_whole does shows lanes keeps_whole (CloneSpan c.0) tt) old new d dispatch made sites lane other did.1 stands
+    (keeps_whole : (s : S) (call : SubscriberCall) (t : S) → does s call t → is_whole s → is_whole t) (dispatch span_count site_count : ℕ) (lane other : Lane) (old new : Worlds S) where
+  copied_stands : (d : ℕ) (current : Option (ℕ × ℕ)) (handle : Handle) → Copies does old new d current handle → Stands spans kept is_whole dispatch span_count site_count old lane other → Stands spans kept is_whole dispatch span_count site_count new lane other
+  copied_stands d None handle did stands = subst (λ (w : Worlds S). Stands spans kept is_whole dispatch span_count site_count w lane other) (sym did.1) stands
+  copied_stands d (Some c) handle did stands = quiet_stands spans kept is_whole (λ s t. does s (CloneSpan c.0) t) (quiet_call spans attaches kept is_whole does shows lanes keeps_whole (CloneSpan c.0) tt) old new d dispatch span_count site_count lane other did.1 stands
 
-  pub current_stands : (id : ℕ) (handle : Handle) → IsCurrent spans does old new id (Some dispatch) handle → Stands spans kept is_whole dispatch made sites old lane other → Stands spans kept is_whole dispatch made sites new lane other
+  pub current_stands : (id : ℕ) (handle : Handle) → IsCurrent spans does old new id (Some dispatch) handle → Stands spans kept is_whole dispatch span_count site_count old lane other → Stands spans kept is_whole dispatch span_count site_count new lane other
   current_stands id handle is stands = elim (slice_get_cases old.subscribers dispatch).1 [
     | inl here ↦ copied_stands dispatch (current_on id (spans here.0)) handle (is here.0 here.2) stands
     | inr past ↦ absurd (let there = stands.there in let beyond = past.0 in omega (arith, there, beyond))

@@ -27,7 +27,7 @@ use Rattle.explain_stack.proofs.Quiet.{quiet_call, quiet_part, quiet_same}
 
 -- it stands as before, and knows what it knew
 pub record Goes {S : Type 0} (spans : S → Spans) (kept : S → ℕ → ℕ → ℕ) (is_whole : S → Type 0) (old new : Worlds S) : Type 0 where
-  pub stands : (dispatch made sites : ℕ) (lane other : Lane) → Stands spans kept is_whole dispatch made sites old lane other → Stands spans kept is_whole dispatch made sites new lane other
+  pub stands : (dispatch span_count site_count : ℕ) (lane other : Lane) → Stands spans kept is_whole dispatch span_count site_count old lane other → Stands spans kept is_whole dispatch span_count site_count new lane other
   pub known : KeepsKnown spans old new
 
 pub goes_nowhere : {S : Type 0} (spans : S → Spans) (kept : S → ℕ → ℕ → ℕ) (is_whole : S → Type 0) (old new : Worlds S) → new ≡ old → Goes spans kept is_whole old new
@@ -37,7 +37,7 @@ module _ {S : Type 0} (spans : S → Spans) (kept : S → ℕ → ℕ → ℕ) (
     (stays : (s : S) (call : PartCall) (t : S) → touches s call t → StaysStack spans kept attaches is_whole s t) where
   part_goes : (call : PartCall) (old new : Worlds S) (d : ℕ) → Replaced (λ s t. touches s call t) old new d → Goes spans kept is_whole old new
   part_goes call old new d r = record {
-    stands = λ dispatch made sites lane other stands. quiet_stands spans kept is_whole (λ s t. touches s call t) (quiet_part spans kept is_whole attaches touches stays call) old new d dispatch made sites lane other r stands;
+    stands = λ dispatch span_count site_count lane other stands. quiet_stands spans kept is_whole (λ s t. touches s call t) (quiet_part spans kept is_whole attaches touches stays call) old new d dispatch span_count site_count lane other r stands;
     known = keeps_same spans (λ s t. touches s call t) (λ s t did. (stays s call t did).spans_same) old new d r;
   }
 
@@ -51,16 +51,16 @@ module _ {S : Type 0} (spans : S → Spans) (kept : S → ℕ → ℕ → ℕ) (
 
 module _ {S : Type 0} (spans : S → Spans) (attaches : S → Bool) (kept : S → ℕ → ℕ → ℕ) (is_whole : S → Type 0) (does : S → SubscriberCall → S → Type 0)
     (shows : (s : S) (call : SubscriberCall) (t : S) → does s call t → spans t ≡ spans_after_call (spans s) call) (lanes : (s : S) (call : SubscriberCall) (t : S) → does s call t → CallLanes (attaches s) (kept s) call (kept t))
-    (keeps_whole : (s : S) (call : SubscriberCall) (t : S) → does s call t → is_whole s → is_whole t) (old new : Worlds S) (at : ℕ) (dispatch made sites : ℕ) (lane other : Lane) (stands : Stands spans kept is_whole dispatch made sites old lane other) where
-  pub recorded_stands : (values : ValueSet) (held : Held) (callsite : Option Callsite) → RecordsAt does old new at values held callsite → Stands spans kept is_whole dispatch made sites new lane other
-  recorded_stands values None callsite did = (goes_nowhere spans kept is_whole old new did).stands dispatch made sites lane other stands
-  recorded_stands values (Some h) None did = (goes_nowhere spans kept is_whole old new did).stands dispatch made sites lane other stands
-  recorded_stands values (Some h) (Some c) did = quiet_stands spans kept is_whole (λ s t. does s (Records h.1 at c values) t) (quiet_call spans attaches kept is_whole does shows lanes keeps_whole (Records h.1 at c values) tt) old new h.0 dispatch made sites lane other did stands
+    (keeps_whole : (s : S) (call : SubscriberCall) (t : S) → does s call t → is_whole s → is_whole t) (old new : Worlds S) (at : ℕ) (dispatch span_count site_count : ℕ) (lane other : Lane) (stands : Stands spans kept is_whole dispatch span_count site_count old lane other) where
+  pub recorded_stands : (values : ValueSet) (held : Held) (callsite : Option Callsite) → RecordsAt does old new at values held callsite → Stands spans kept is_whole dispatch span_count site_count new lane other
+  recorded_stands values None callsite did = (goes_nowhere spans kept is_whole old new did).stands dispatch span_count site_count lane other stands
+  recorded_stands values (Some h) None did = (goes_nowhere spans kept is_whole old new did).stands dispatch span_count site_count lane other stands
+  recorded_stands values (Some h) (Some c) did = quiet_stands spans kept is_whole (λ s t. does s (Records h.1 at c values) t) (quiet_call spans attaches kept is_whole does shows lanes keeps_whole (Records h.1 at c values) tt) old new h.0 dispatch span_count site_count lane other did stands
 
-  pub followed_stands : (held from : Held) → FollowsOn does old new at held from → Stands spans kept is_whole dispatch made sites new lane other
-  followed_stands None from did = (goes_nowhere spans kept is_whole old new did).stands dispatch made sites lane other stands
-  followed_stands (Some h) None did = (goes_nowhere spans kept is_whole old new did).stands dispatch made sites lane other stands
-  followed_stands (Some h) (Some f) did = quiet_stands spans kept is_whole (λ s t. does s (Follows h.1 f.1 at) t) (quiet_call spans attaches kept is_whole does shows lanes keeps_whole (Follows h.1 f.1 at) tt) old new h.0 dispatch made sites lane other did stands
+  pub followed_stands : (held from : Held) → FollowsOn does old new at held from → Stands spans kept is_whole dispatch span_count site_count new lane other
+  followed_stands None from did = (goes_nowhere spans kept is_whole old new did).stands dispatch span_count site_count lane other stands
+  followed_stands (Some h) None did = (goes_nowhere spans kept is_whole old new did).stands dispatch span_count site_count lane other stands
+  followed_stands (Some h) (Some f) did = quiet_stands spans kept is_whole (λ s t. does s (Follows h.1 f.1 at) t) (quiet_call spans attaches kept is_whole does shows lanes keeps_whole (Follows h.1 f.1 at) tt) old new h.0 dispatch span_count site_count lane other did stands
 
 -- a link whose context is valid, or nothing
 pub links_go : {S : Type 0} (spans : S → Spans) (kept : S → ℕ → ℕ → ℕ) (attaches : S → Bool) (is_whole : S → Type 0) (touches : S → PartCall → S → Type 0)
@@ -80,10 +80,10 @@ pub event_goes : {S : Type 0} (spans : S → Spans) (attaches : S → Bool) (kep
 event_goes spans attaches kept is_whole does sound allowed shows lanes keeps_whole same same_spans same_kept same_whole old new d lane at parent site values (Ok x) did left =
     let call : SubscriberCall = Event lane at parent site did.0 values in
     record {
-      stands = λ dispatch made sites on other stands. quiet_stands spans kept is_whole (λ s t. does s call t) (quiet_call spans attaches kept is_whole does shows lanes keeps_whole call tt) old new d dispatch made sites on other did.1 stands;
+      stands = λ dispatch span_count site_count on other stands. quiet_stands spans kept is_whole (λ s t. does s call t) (quiet_call spans attaches kept is_whole does shows lanes keeps_whole call tt) old new d dispatch span_count site_count on other did.1 stands;
       known = keeps_call spans does sound allowed shows old new d call did.1 tt;
     }
 event_goes spans attaches kept is_whole does sound allowed shows lanes keeps_whole same same_spans same_kept same_whole old new d lane at parent site values (Err e) did left = record {
-  stands = λ dispatch made sites on other stands. quiet_stands spans kept is_whole same (quiet_same spans kept is_whole same same_spans same_kept same_whole) old new d dispatch made sites on other left stands;
+  stands = λ dispatch span_count site_count on other stands. quiet_stands spans kept is_whole same (quiet_same spans kept is_whole same same_spans same_kept same_whole) old new d dispatch span_count site_count on other left stands;
   known = keeps_same spans same same_spans old new d left;
 }

@@ -63,11 +63,11 @@ attached_elsewhere R old new d r kept before later other same apart moves still 
 
 module _ {S : Type 0} (spans : S → Spans) (attaches : S → Bool) (kept : S → ℕ → ℕ → ℕ) (is_whole : S → Type 0) (does : S → SubscriberCall → S → Type 0)
     (shows : (s : S) (call : SubscriberCall) (t : S) → does s call t → spans t ≡ spans_after_call (spans s) call) (lanes : (s : S) (call : SubscriberCall) (t : S) → does s call t → CallLanes (attaches s) (kept s) call (kept t))
-    (keeps_whole : (s : S) (call : SubscriberCall) (t : S) → does s call t → is_whole s → is_whole t) (dispatch made sites : ℕ) where
+    (keeps_whole : (s : S) (call : SubscriberCall) (t : S) → does s call t → is_whole s → is_whole t) (dispatch span_count site_count : ℕ) where
   -- a span more
   pub grown_stands : (old new : Worlds S) (d id : ℕ) (in_lane : Lane) (at : ℕ) (parent : Parent) (site : ℕ) (callsite : Callsite) (values : ValueSet)
       → Replaced (λ s t. (id ≡ length (spans s).made) × does s (NewSpan in_lane at parent site callsite values) t) old new d
-      → (lane other : Lane) → Stands spans kept is_whole dispatch made sites old lane other → Stands spans kept is_whole dispatch (made + 1) sites new lane other
+      → (lane other : Lane) → Stands spans kept is_whole dispatch span_count site_count old lane other → Stands spans kept is_whole dispatch (span_count + 1) site_count new lane other
   grown_stands old new d id in_lane at parent site callsite values r lane other stands =
       let call : SubscriberCall = NewSpan in_lane at parent site callsite values in
       let R : S → S → Type 0 = λ s t. (id ≡ length (spans s).made) × does s call t in
@@ -80,7 +80,7 @@ module _ {S : Type 0} (spans : S → Spans) (attaches : S → Bool) (kept : S �
               let last : r.later ≡ t = cc same in
               let one = ap (λ (x : Spans). length x.made) (shows r.before call r.later r.did.1) ∙ new_made (spans r.before) in_lane at parent site callsite values in
               let was = stands.few d r.before r.there in
-              subst (λ (s : S). length (spans s).made ≤ made + 1) last (omega (arith, one, was)))
+              subst (λ (s : S). length (spans s).made ≤ span_count + 1) last (omega (arith, one, was)))
           | inr apart ↦ (
               let was = stands.few e t (sym (others_same R old new d r e apart) ∙ there) in
               omega (arith, was))
@@ -101,13 +101,13 @@ module _ {S : Type 0} (spans : S → Spans) (attaches : S → Bool) (kept : S �
 
   -- the lane has other contexts
   moved_stands : (call : SubscriberCall) (old new : Worlds S) (d : ℕ) (before later other : Lane) (r : Replaced (λ s t. does s call t) old new d) → later.id ≡ before.id → later.default ≡ before.default → KeepsAttached (kept r.before) before later (kept r.later)
-      → ((x : Spans) → length (spans_after_call x call).made ≡ length x.made) → Stands spans kept is_whole dispatch made sites old before other → Stands spans kept is_whole dispatch made sites new later other
+      → ((x : Spans) → length (spans_after_call x call).made ≡ length x.made) → Stands spans kept is_whole dispatch span_count site_count old before other → Stands spans kept is_whole dispatch span_count site_count new later other
   moved_stands call old new d before later other r same default moves as_many_made stands =
       let R : S → S → Type 0 = λ s t. does s call t in
       record {
         there = (let n = as_many R old new d r in omega (arith, n, stands.there));
         whole = keeps_all R old new d r is_whole (λ s t did w. keeps_whole s call t did w) stands.whole;
-        few = keeps_all R old new d r (λ s. length (spans s).made ≤ made) (λ s t did few. (let e = ap (λ (x : Spans). length x.made) (shows s call t did) in let m = as_many_made (spans s) in omega (arith, e, m, few))) stands.few;
+        few = keeps_all R old new d r (λ s. length (spans s).made ≤ span_count) (λ s t did few. (let e = ap (λ (x : Spans). length x.made) (shows s call t did) in let m = as_many_made (spans s) in omega (arith, e, m, few))) stands.few;
         declared = (let e = ap (λ (w : Worlds S). length w.sites) r.others in omega (arith, e, stands.declared));
         attached = attached_after R old new d r kept before later same moves stands.attached;
         in_world = own_after R old new d r before later default stands.in_world;
@@ -117,25 +117,25 @@ module _ {S : Type 0} (spans : S → Spans) (attaches : S → Bool) (kept : S �
       }
 
   pub entered_stands : (held : Held) (old new : Worlds S) (at : ℕ) (before later other : Lane) → ReplacedOn (λ id s t. does s (Enter id at before later) t) old new held → (held ≡ None → later ≡ before)
-      → Stands spans kept is_whole dispatch made sites old before other → Stands spans kept is_whole dispatch made sites new later other
+      → Stands spans kept is_whole dispatch span_count site_count old before other → Stands spans kept is_whole dispatch span_count site_count new later other
   entered_stands None old new at before later other r none stands =
-      subst (λ (l : Lane). Stands spans kept is_whole dispatch made sites new l other) (sym (none refl)) (subst (λ (w : Worlds S). Stands spans kept is_whole dispatch made sites w before other) (sym r) stands)
+      subst (λ (l : Lane). Stands spans kept is_whole dispatch span_count site_count new l other) (sym (none refl)) (subst (λ (w : Worlds S). Stands spans kept is_whole dispatch span_count site_count w before other) (sym r) stands)
   entered_stands (Some h) old new at before later other r none stands =
       let l = lanes r.before (Enter h.1 at before later) r.later r.did in
       moved_stands (Enter h.1 at before later) old new h.0 before later other r l.0.id l.0.default l.1 (λ x. enter_made x h.1 before.id) stands
 
   pub exited_stands : (held : Held) (old new : Worlds S) (at : ℕ) (before later other : Lane) → ReplacedOn (λ id s t. does s (Exit id at before later) t) old new held → (held ≡ None → later ≡ before)
-      → Stands spans kept is_whole dispatch made sites old before other → Stands spans kept is_whole dispatch made sites new later other
+      → Stands spans kept is_whole dispatch span_count site_count old before other → Stands spans kept is_whole dispatch span_count site_count new later other
   exited_stands None old new at before later other r none stands =
-      subst (λ (l : Lane). Stands spans kept is_whole dispatch made sites new l other) (sym (none refl)) (subst (λ (w : Worlds S). Stands spans kept is_whole dispatch made sites w before other) (sym r) stands)
+      subst (λ (l : Lane). Stands spans kept is_whole dispatch span_count site_count new l other) (sym (none refl)) (subst (λ (w : Worlds S). Stands spans kept is_whole dispatch span_count site_count w before other) (sym r) stands)
   exited_stands (Some h) old new at before later other r none stands =
       let l = lanes r.before (Exit h.1 at before later) r.later r.did in
       moved_stands (Exit h.1 at before later) old new h.0 before later other r l.0.id l.0.default l.1 (λ x. exit_made x h.1 before.id) stands
 
 -- the lane is the same but for room
-pub lane_left : {S : Type 0} (spans : S → Spans) (kept : S → ℕ → ℕ → ℕ) (is_whole : S → Type 0) (dispatch made sites : ℕ) (world : Worlds S) (before later other : Lane) → LeavesLane before later
-    → Stands spans kept is_whole dispatch made sites world before other → Stands spans kept is_whole dispatch made sites world later other
-lane_left spans kept is_whole dispatch made sites world before later other left stands = record {
+pub lane_left : {S : Type 0} (spans : S → Spans) (kept : S → ℕ → ℕ → ℕ) (is_whole : S → Type 0) (dispatch span_count site_count : ℕ) (world : Worlds S) (before later other : Lane) → LeavesLane before later
+    → Stands spans kept is_whole dispatch span_count site_count world before other → Stands spans kept is_whole dispatch span_count site_count world later other
+lane_left spans kept is_whole dispatch span_count site_count world before later other left stands = record {
   there = stands.there;
   whole = stands.whole;
   few = stands.few;

@@ -1,9 +1,8 @@
 -- What polls under a span keep of a scene.
-use Rattle.std.proofs.Common.{◌≡◌, ℕ, ◌≤◌, List, [], ◌∷◌, ◌++◌, Bool, Option, Some, None, sym, ap, subst, ◌∙◌, arith, count_by, inl, inr, ◌⊎◌}
+use Rattle.std.proofs.Common.{◌≡◌, ℕ, ◌≤◌, List, [], ◌∷◌, ◌++◌, Bool, Option, None, sym, ap, subst, ◌∙◌, arith, count_by, inl, inr, ◌⊎◌}
 use Rattle.std.specs.Prelude.{◌==◌}
 use Rattle.otel_base.specs.declared.context.Context.{Context}
 use Rattle.trace_base.specs.declared.lane.Lane.{Lane}
-use Rattle.trace_base.specs.lanes.Default.{with_own}
 use Rattle.trace_base.specs.Gate.{Worlds, IsInWorld}
 use Rattle.trace_base.specs.Spans.{Spans}
 use Rattle.trace_base.specs.Calls.{SubscriberCall, Exit, spans_after_call}
@@ -14,7 +13,6 @@ use Rattle.span_handles.specs.Entries.{BeginsInside}
 use Rattle.span_futures.specs.declared.instrument.Instrumented.{Instrumented}
 use Rattle.span_futures.specs.Polls.{Polled, CannotEnter, IsInside}
 use Rattle.span_futures.specs.Lent.{all_kept}
-use Rattle.span_futures.specs.Served.{served_lane, lane_back}
 use Rattle.explain_stack.specs.Order.{Stands}
 use Rattle.explain_stack.specs.Puts.{PollsUnder}
 use Rattle.explain_stack.proofs.Moves.{entered_stands, exited_stands, lane_left}
@@ -34,23 +32,18 @@ attached_same number before later live =
     let all = ap (λ (xs : List (ℕ × Context)). count_by (λ i. i.0 == number) xs) live in
     omega (arith, all)
 
--- a lane whose default was put back is what it was
-pub served_back : (dispatch : Option ℕ) (before left later : Lane) → left ≡ served_lane dispatch before → later ≡ lane_back dispatch before left → later ≡ before
-served_back None before left later is back = back ∙ is
-served_back (Some d) before left later is back = back ∙ ap (λ (l : Lane). with_own l before.default) is
-
 module _ {S : Type 0} (spans : S → Spans) (attaches : S → Bool) (kept : S → ℕ → ℕ → ℕ) (is_whole : S → Type 0) (does : S → SubscriberCall → S → Type 0)
     (shows : (s : S) (call : SubscriberCall) (t : S) → does s call t → spans t ≡ spans_after_call (spans s) call) (lanes : (s : S) (call : SubscriberCall) (t : S) → does s call t → CallLanes (attaches s) (kept s) call (kept t))
-    (keeps_whole : (s : S) (call : SubscriberCall) (t : S) → does s call t → is_whole s → is_whole t) (dispatch made sites : ℕ) where
+    (keeps_whole : (s : S) (call : SubscriberCall) (t : S) → does s call t → is_whole s → is_whole t) (dispatch span_count site_count : ℕ) where
   -- an entry and an exit, with nothing between them
   inside_stands : (at : ℕ) (held : Held) (old world left new : Worlds S) (before lane left_lane later other : Lane) → BeginsInside does at held old before world lane → left ≡ world → left_lane ≡ lane
       → ReplacedOn (λ id s t. does s (Exit id at left_lane later) t) left new held → (held ≡ None → later ≡ left_lane)
-      → Stands spans kept is_whole dispatch made sites old before other → Stands spans kept is_whole dispatch made sites new later other
+      → Stands spans kept is_whole dispatch span_count site_count old before other → Stands spans kept is_whole dispatch span_count site_count new later other
   inside_stands at held old world left new before lane left_lane later other begins same lane_same exited none stands =
-      exited_stands spans attaches kept is_whole does shows lanes keeps_whole dispatch made sites held left new at left_lane later other exited none
-      (subst (λ (l : Lane). Stands spans kept is_whole dispatch made sites left l other) (sym lane_same)
-      (subst (λ (w : Worlds S). Stands spans kept is_whole dispatch made sites w lane other) (sym same)
-      (entered_stands spans attaches kept is_whole does shows lanes keeps_whole dispatch made sites held old world at before lane other begins.entered begins.none stands)))
+      exited_stands spans attaches kept is_whole does shows lanes keeps_whole dispatch span_count site_count held left new at left_lane later other exited none
+      (subst (λ (l : Lane). Stands spans kept is_whole dispatch span_count site_count left l other) (sym lane_same)
+      (subst (λ (w : Worlds S). Stands spans kept is_whole dispatch span_count site_count w lane other) (sym same)
+      (entered_stands spans attaches kept is_whole does shows lanes keeps_whole dispatch span_count site_count held old world at before lane other begins.entered begins.none stands)))
 
   -- a poll under a span of a future that leaves the world and the lane as they are
   pub polled_stands : (same : S → S → Type 0) → ((s t : S) → same s t → spans t ≡ spans s) → ((s t : S) → same s t → kept t ≡ kept s) → ((s t : S) → same s t → is_whole s → is_whole t)
@@ -58,10 +51,10 @@ module _ {S : Type 0} (spans : S → Spans) (attaches : S → Bool) (kept : S �
       → ((f : T) (w : Worlds S) (l : Lane) (at : ℕ) (r : Polled A) (g : T) (v : Worlds S) (m : Lane) → polls f w l at r g v m → (v ≡ w) × (m ≡ l))
       → (future next : Instrumented T) (old new : Worlds S) (before later other : Lane) (at : ℕ) (r : Polled A)
       → CannotEnter same activates future old before r next new later ⊎ IsInside does activates polls future old before at r next new later
-      → Stands spans kept is_whole dispatch made sites old before other → Stands spans kept is_whole dispatch made sites new later other
+      → Stands spans kept is_whole dispatch span_count site_count old before other → Stands spans kept is_whole dispatch span_count site_count new later other
   polled_stands same same_spans same_kept same_whole activates polls leaves future next old new before later other at r (inl refused) stands =
-      lane_left spans kept is_whole dispatch made sites new before later other refused.lane_same
-      (quiet_on spans kept is_whole (λ id. same) (λ id. quiet_same spans kept is_whole same same_spans same_kept same_whole) old new future.span.held dispatch made sites before other refused.nothing stands)
+      lane_left spans kept is_whole dispatch span_count site_count new before later other refused.lane_same
+      (quiet_on spans kept is_whole (λ id. same) (λ id. quiet_same spans kept is_whole same same_spans same_kept same_whole) old new future.span.held dispatch span_count site_count before other refused.nothing stands)
   polled_stands same same_spans same_kept same_whole activates polls leaves future next old new before later other at r (inr inside) stands =
       let same_world = leaves future.inner inside.world inside.lane at r next.inner inside.left_world inside.left_lane inside.polled in
       inside_stands at future.span.held old inside.world inside.left_world new before inside.lane inside.left_lane later other inside.entered same_world.0 same_world.1 inside.exited inside.none stands
@@ -77,9 +70,9 @@ polls_under {S} {T} same does activates polls at given future next old left new 
     (record { next = next; did = polled }))
 
 -- more is attached to the lane
-pub filled_stands : {S : Type 0} (spans : S → Spans) (kept : S → ℕ → ℕ → ℕ) (is_whole : S → Type 0) (dispatch made sites : ℕ) (world : Worlds S) (before later other : Lane) → later.id ≡ before.id → later.default ≡ before.default
-    → ((number : ℕ) → attached_as number before ≤ attached_as number later) → Stands spans kept is_whole dispatch made sites world before other → Stands spans kept is_whole dispatch made sites world later other
-filled_stands spans kept is_whole dispatch made sites world before later other id default more stands = record {
+pub filled_stands : {S : Type 0} (spans : S → Spans) (kept : S → ℕ → ℕ → ℕ) (is_whole : S → Type 0) (dispatch span_count site_count : ℕ) (world : Worlds S) (before later other : Lane) → later.id ≡ before.id → later.default ≡ before.default
+    → ((number : ℕ) → attached_as number before ≤ attached_as number later) → Stands spans kept is_whole dispatch span_count site_count world before other → Stands spans kept is_whole dispatch span_count site_count world later other
+filled_stands spans kept is_whole dispatch span_count site_count world before later other id default more stands = record {
   there = stands.there;
   whole = stands.whole;
   few = stands.few;

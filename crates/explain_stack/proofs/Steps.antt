@@ -16,11 +16,11 @@ module _ {S : Type 0} (spans : S → Spans) (kept : S → ℕ → ℕ → ℕ) (
     pub as_many_made : (s t : S) → R s t → length (spans t).made ≡ length (spans s).made
     pub as_kept : (s t : S) → R s t → kept t ≡ kept s
 
-  pub quiet_stands : (R : S → S → Type 0) (q : IsQuiet R) (old new : Worlds S) (d dispatch made sites : ℕ) (lane other : Lane) → Replaced R old new d → Stands spans kept is_whole dispatch made sites old lane other → Stands spans kept is_whole dispatch made sites new lane other
-  quiet_stands R q old new d dispatch made sites lane other r stands = record {
+  pub quiet_stands : (R : S → S → Type 0) (q : IsQuiet R) (old new : Worlds S) (d dispatch span_count site_count : ℕ) (lane other : Lane) → Replaced R old new d → Stands spans kept is_whole dispatch span_count site_count old lane other → Stands spans kept is_whole dispatch span_count site_count new lane other
+  quiet_stands R q old new d dispatch span_count site_count lane other r stands = record {
     there = (let n = as_many R old new d r in omega (arith, n, stands.there));
     whole = keeps_all R old new d r is_whole q.stays_whole stands.whole;
-    few = keeps_all R old new d r (λ s. length (spans s).made ≤ made) (λ s t did few. (let e = q.as_many_made s t did in omega (arith, e, few))) stands.few;
+    few = keeps_all R old new d r (λ s. length (spans s).made ≤ span_count) (λ s t did few. (let e = q.as_many_made s t did in omega (arith, e, few))) stands.few;
     declared = (let e = ap (λ (w : Worlds S). length w.sites) r.others in omega (arith, e, stands.declared));
     attached = λ number. (
         let k = same_kept R old new d r kept (q.as_kept r.before r.later r.did) lane.id number in
@@ -35,6 +35,6 @@ module _ {S : Type 0} (spans : S → Spans) (kept : S → ℕ → ℕ → ℕ) (
     apart = stands.apart;
   }
 
-  pub quiet_on : (R : ℕ → S → S → Type 0) (q : (id : ℕ) → IsQuiet (R id)) (old new : Worlds S) (held : Held) (dispatch made sites : ℕ) (lane other : Lane) → ReplacedOn R old new held → Stands spans kept is_whole dispatch made sites old lane other → Stands spans kept is_whole dispatch made sites new lane other
-  quiet_on R q old new None dispatch made sites lane other r stands = subst (λ (w : Worlds S). Stands spans kept is_whole dispatch made sites w lane other) (sym r) stands
-  quiet_on R q old new (Some h) dispatch made sites lane other r stands = quiet_stands (R h.1) (q h.1) old new h.0 dispatch made sites lane other r stands
+  pub quiet_on : (R : ℕ → S → S → Type 0) (q : (id : ℕ) → IsQuiet (R id)) (old new : Worlds S) (held : Held) (dispatch span_count site_count : ℕ) (lane other : Lane) → ReplacedOn R old new held → Stands spans kept is_whole dispatch span_count site_count old lane other → Stands spans kept is_whole dispatch span_count site_count new lane other
+  quiet_on R q old new None dispatch span_count site_count lane other r stands = subst (λ (w : Worlds S). Stands spans kept is_whole dispatch span_count site_count w lane other) (sym r) stands
+  quiet_on R q old new (Some h) dispatch span_count site_count lane other r stands = quiet_stands (R h.1) (q h.1) old new h.0 dispatch span_count site_count lane other r stands

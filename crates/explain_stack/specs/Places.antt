@@ -30,15 +30,15 @@ pub record IsNoneOf (handles : Handles) (handle : Handle) : Type 0 where
   pub c : same_held handles.c.held handle.held ≡ false
 
 -- all three are known, with callsites of the world
-pub record AreHeld {S : Type 0} (spans : S → Spans) (sites : ℕ) (world : Worlds S) (handles : Handles) : Type 0 where
-  pub a : IsHeld spans sites world handles.a
-  pub b : IsHeld spans sites world handles.b
-  pub c : IsHeld spans sites world handles.c
+pub record AreHeld {S : Type 0} (spans : S → Spans) (site_count : ℕ) (world : Worlds S) (handles : Handles) : Type 0 where
+  pub a : IsHeld spans site_count world handles.a
+  pub b : IsHeld spans site_count world handles.b
+  pub c : IsHeld spans site_count world handles.c
 
 -- a scene in order, and three handles that its world knows
 pub record InPlay {S : Type 0} (spans : S → Spans) (kept : S → ℕ → ℕ → ℕ) (is_whole : S → Type 0) (scene : Scene S) (handles : Handles) : Type 0 where
   pub order : SceneInOrder spans kept is_whole scene
-  pub held : AreHeld spans scene.sites scene.world handles
+  pub held : AreHeld spans scene.site_count scene.world handles
 
 -- the handle of a name is closed, and a disabled one is left there
 pub record ClosesNamed {S : Type 0} (spans : S → Spans) (does : S → SubscriberCall → S → Type 0) (at : ℕ) (name : List ℕ) (handles : Handles) (old : Worlds S) (left : Handles) (new : Worlds S) : Type 0 where

@@ -88,7 +88,7 @@ fn make_at<S: Stack>(
     words: &str,
 ) -> Result<String, Memory>
     requires play { InPlay S.spans S.kept S.is_whole scene.old handles.old }
-    requires site { site < scene.old.sites }
+    requires site { site < scene.old.site_count }
     ensures play { InPlay S.spans S.kept S.is_whole scene.new handles.new }
 {
     let values = words::values(alloc, words)?;
@@ -114,9 +114,9 @@ fn new_span<S: Stack>(
     values: &ValueSet,
 ) -> Result<Option<Span>, Memory>
     requires play { InPlay S.spans S.kept S.is_whole scene.old handles.now }
-    requires site { site < scene.old.sites }
+    requires site { site < scene.old.site_count }
     ensures play { InPlay S.spans S.kept S.is_whole scene.new handles.now }
-    ensures made { IfOk result (λ made. IfSome made (IsHeld S.spans scene.new.sites scene.new.world)) }
+    ensures made { IfOk result (λ made. IfSome made (IsHeld S.spans scene.new.site_count scene.new.world)) }
 {
     if parent == "root" {
         let root = Span::none();

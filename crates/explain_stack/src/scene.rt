@@ -34,21 +34,26 @@ pub struct Scene<S> {
     pub(crate) lane: Lane,
     pub(crate) other: Lane,
     pub(crate) dispatch: Dispatch,
-    // At least as many as were made.
+    // At least as many spans as were made.
     pub(crate) span_count: u64,
-    pub(crate) sites: u64,
+    pub(crate) site_count: u64,
 }
 
 impl<S: Stack> Scene<S> {
     /// The stack, which knows no span, in a world that has as many callsites and nothing else.
-    pub fn new(alloc: Global, mut world: World<S>, sites: u64, stack: S) -> Result<Scene<S>, Memory>
+    pub fn new(
+        alloc: Global,
+        mut world: World<S>,
+        site_count: u64,
+        stack: S,
+    ) -> Result<Scene<S>, Memory>
         requires whole { S.is_whole stack }
         requires spans { S.spans stack ≡ no_spans }
         requires kept { (lane number : ℕ) → S.kept stack lane number ≡ 0 }
         requires empty { length world.subscribers ≡ 0 }
         ensures { IfOk result (λ scene. SceneInOrder S.spans S.kept S.is_whole scene) }
     {
-        let sites = site_count(&world, sites);
+        let site_count = known_site_count(&world, site_count);
         match world.add(stack) {
             Ok(dispatch) => Ok(Scene {
                 world,
@@ -56,7 +61,7 @@ impl<S: Stack> Scene<S> {
                 other: bare_lane(alloc, 2, None),
                 dispatch,
                 span_count: 0,
-                sites,
+                site_count,
             }),
             Err((stack, memory)) => {
                 stack.discard();
@@ -68,9 +73,9 @@ impl<S: Stack> Scene<S> {
 
     /// The callsite of a number, if there is one.
     pub fn site_at(&self, place: u64) -> Option<SiteId>
-        ensures { IfSome result (λ site. site < self.now.sites) }
+        ensures { IfSome result (λ site. site < self.now.site_count) }
     {
-        if place < self.sites {
+        if place < self.site_count {
             self.world.site_at(place)
         } else {
             None
@@ -80,7 +85,7 @@ impl<S: Stack> Scene<S> {
     /// Whether the stack takes what a callsite makes on the lane of an id.
     pub fn admits(&self, alloc: Global, lane: u64, site: SiteId) -> bool
         requires order { SceneInOrder S.spans S.kept S.is_whole self.now }
-        requires site { site < self.now.sites }
+        requires site { site < self.now.site_count }
     {
         let lane = bare_lane(alloc, lane, Some(self.dispatch));
         self.world.admits(&lane, site)
@@ -112,7 +117,7 @@ impl<S: Stack> Scene<S> {
             other: _,
             dispatch,
             span_count: _,
-            sites: _,
+            site_count: _,
         } = self;
         let done = world.subscriber_mut(dispatch).tell(alloc, told);
         world.discard();
@@ -136,7 +141,7 @@ impl<S: Stack> Scene<S> {
     }
 
     /// Whether the lane's current span, if it has one, may be held once more.
-    pub(crate) fn has_room_around(&self) -> bool
+    pub(crate) fn can_hold_current(&self) -> bool
         requires order { SceneInOrder S.spans S.kept S.is_whole self.now }
         ensures few { IsTrue result
             → Has (λ s. HasFewHoldsAbove (S.spans s) self.now.lane.id parent.Current) self.now.world
@@ -180,11 +185,11 @@ fn bare_lane(alloc: Global, id: u64, default: Option<Dispatch>) -> Lane
 }
 
 // So many callsites, if the world has them.
-fn site_count<S: Subscriber>(world: &World<S>, sites: u64) -> u64
+fn known_site_count<S: Subscriber>(world: &World<S>, site_count: u64) -> u64
     ensures { result ≤ length world.now.sites }
 {
-    if sites > 0 && world.site_at(sites - 1).is_some() {
-        sites
+    if site_count > 0 && world.site_at(site_count - 1).is_some() {
+        site_count
     } else {
         0
     }

@@ -125,15 +125,15 @@ fn run_on<S: Stack>(
     requires kept { (lane number : ℕ) → S.kept stack lane number ≡ 0 }
 {
     let mut world = World::new(alloc);
-    let sites = match declare(alloc, &mut world, lines) {
-        Ok(sites) => sites,
+    let site_count = match declare(alloc, &mut world, lines) {
+        Ok(site_count) => site_count,
         Err(memory) => {
             world.discard();
             stack.discard();
             return Err(memory);
         }
     };
-    let mut scene = Scene::new(alloc, world, sites, stack)?;
+    let mut scene = Scene::new(alloc, world, site_count, stack)?;
     let mut handles = Handles::new();
     let mut told = String::new(alloc);
     let played = play(alloc, &mut scene, &mut handles, lines, &mut told, cx);
@@ -148,15 +148,15 @@ fn declare<S: Stack>(alloc: Global, world: &mut World<S>, lines: &[String]) -> R
     requires { length world.old.subscribers ≡ 0 }
     ensures { length world.new.subscribers ≡ 0 }
 {
-    let mut sites = 0;
+    let mut site_count = 0;
     for line in lines {
         if let Some(words) = line.as_str().strip_prefix("site ") {
             if let Some(callsite) = words::callsite(alloc, words)? {
-                sites = world.add_site(callsite)?.number().wrapping_add(1);
+                site_count = world.add_site(callsite)?.number().wrapping_add(1);
             }
         }
     }
-    Ok(sites)
+    Ok(site_count)
 }
 
 // Makes the calls of the other lines, and tells each line and what is answered.

@@ -21,7 +21,7 @@ pub fn tell<S: Stack>(
     words: &str,
 ) -> Result<String, Memory>
     requires order { SceneInOrder S.spans S.kept S.is_whole scene.old }
-    requires held { IsHeld S.spans scene.old.sites scene.old.world span.now }
+    requires held { IsHeld S.spans scene.old.site_count scene.old.world span.now }
     ensures keeps { KeepsScene S.spans S.kept S.is_whole scene.old scene.new }
 {
     match call {
@@ -43,7 +43,7 @@ fn record<S: Stack>(
     words: &str,
 ) -> Result<(), Memory>
     requires order { SceneInOrder S.spans S.kept S.is_whole scene.old }
-    requires held { IsHeld S.spans scene.old.sites scene.old.world span.now }
+    requires held { IsHeld S.spans scene.old.site_count scene.old.world span.now }
     ensures keeps { KeepsScene S.spans S.kept S.is_whole scene.old scene.new }
 {
     let values = words::values(alloc, words)?;
@@ -61,7 +61,7 @@ fn event<S: Stack>(
     words: &str,
 ) -> Result<(), Memory>
     requires order { SceneInOrder S.spans S.kept S.is_whole scene.old }
-    requires held { IsHeld S.spans scene.old.sites scene.old.world span.now }
+    requires held { IsHeld S.spans scene.old.site_count scene.old.world span.now }
     ensures keeps { KeepsScene S.spans S.kept S.is_whole scene.old scene.new }
 {
     let (site, words) = words.split_once(' ').unwrap_or((words, ""));
@@ -83,8 +83,8 @@ fn event_at<S: Stack>(
     words: &str,
 ) -> Result<(), Memory>
     requires order { SceneInOrder S.spans S.kept S.is_whole scene.old }
-    requires held { IsHeld S.spans scene.old.sites scene.old.world span.now }
-    requires site { site < scene.old.sites }
+    requires held { IsHeld S.spans scene.old.site_count scene.old.world span.now }
+    requires site { site < scene.old.site_count }
     ensures keeps { KeepsScene S.spans S.kept S.is_whole scene.old scene.new }
 {
     let values = words::values(alloc, words)?;
@@ -103,7 +103,7 @@ fn ask<S: Stack>(
     words: &str,
 ) -> Result<String, Memory>
     requires order { SceneInOrder S.spans S.kept S.is_whole scene.old }
-    requires held { IsHeld S.spans scene.old.sites scene.old.world span.now }
+    requires held { IsHeld S.spans scene.old.site_count scene.old.world span.now }
     ensures keeps { KeepsScene S.spans S.kept S.is_whole scene.old scene.new }
 {
     match call {
@@ -121,7 +121,7 @@ fn context<S: Stack>(
     at: u64,
 ) -> Result<String, Memory>
     requires order { SceneInOrder S.spans S.kept S.is_whole scene.old }
-    requires held { IsHeld S.spans scene.old.sites scene.old.world span.now }
+    requires held { IsHeld S.spans scene.old.site_count scene.old.world span.now }
     ensures keeps { KeepsScene S.spans S.kept S.is_whole scene.old scene.new }
 {
     let own = scene.context(at, span).span_context();
@@ -138,7 +138,7 @@ fn set_parent<S: Stack>(
     words: &str,
 ) -> Result<String, Memory>
     requires order { SceneInOrder S.spans S.kept S.is_whole scene.old }
-    requires held { IsHeld S.spans scene.old.sites scene.old.world span.now }
+    requires held { IsHeld S.spans scene.old.site_count scene.old.world span.now }
     ensures keeps { KeepsScene S.spans S.kept S.is_whole scene.old scene.new }
 {
     let context = Context {

@@ -17,7 +17,7 @@ pub fn fill<S: Stack>(alloc: Global, scene: &mut Scene<S>) -> Result<String, Mem
     requires order { SceneInOrder S.spans S.kept S.is_whole scene.old }
     ensures order { SceneInOrder S.spans S.kept S.is_whole scene.new }
     ensures world { scene.new.world ≡ scene.old.world }
-    ensures sites { scene.new.sites ≡ scene.old.sites }
+    ensures sites { scene.new.site_count ≡ scene.old.site_count }
 {
     scene.fill()?;
     told::done_line(alloc, true)

@@ -74,7 +74,7 @@ impl<S: Stack> Scene<S> {
     ) -> Result<(), Memory>
         requires order { SceneInOrder S.spans S.kept S.is_whole self.old }
         requires known { IsKnown S.spans self.old.world span.now.held }
-        requires site { site < self.old.sites }
+        requires site { site < self.old.site_count }
         ensures keeps { KeepsScene S.spans S.kept S.is_whole self.old self.new }
     {
         if !self.has_room(span) {

@@ -28,9 +28,9 @@ impl<S: Stack> Scene<S> {
     ) -> Result<Option<Span>, Memory>
         requires order { SceneInOrder S.spans S.kept S.is_whole self.old }
         requires known { IsKnown S.spans self.old.world parent.now.held }
-        requires site { site < self.old.sites }
+        requires site { site < self.old.site_count }
         ensures keeps { KeepsScene S.spans S.kept S.is_whole self.old self.new }
-        ensures made { IfOk result (λ made. IfSome made (IsHeld S.spans self.new.sites self.new.world)) }
+        ensures made { IfOk result (λ made. IfSome made (IsHeld S.spans self.new.site_count self.new.world)) }
         ensures makes { IfOk result (λ made. IfSome made
             (Makes S.spans S.does self.old.world self.new.world self.old.lane at (place_under parent.now.held) site
             values.now self.old.dispatch)) }
@@ -59,14 +59,14 @@ impl<S: Stack> Scene<S> {
         values: &ValueSet,
     ) -> Result<Option<Span>, Memory>
         requires order { SceneInOrder S.spans S.kept S.is_whole self.old }
-        requires site { site < self.old.sites }
+        requires site { site < self.old.site_count }
         ensures keeps { KeepsScene S.spans S.kept S.is_whole self.old self.new }
-        ensures made { IfOk result (λ made. IfSome made (IsHeld S.spans self.new.sites self.new.world)) }
+        ensures made { IfOk result (λ made. IfSome made (IsHeld S.spans self.new.site_count self.new.world)) }
         ensures makes { IfOk result (λ made. IfSome made
             (Makes S.spans S.does self.old.world self.new.world self.old.lane at parent.Current site values.now
             self.old.dispatch)) }
     {
-        if self.span_count >= 1000 || !self.has_room_around() {
+        if self.span_count >= 1000 || !self.can_hold_current() {
             return Ok(None);
         }
         let span = Span::new_with(&mut self.world, &self.lane, at, site, values, self.dispatch)?;
@@ -119,7 +119,7 @@ impl<S: Stack> Scene<S> {
         requires known { IsKnown S.spans self.old.world span.held }
         ensures order { SceneInOrder S.spans S.kept S.is_whole self.new }
         ensures others { KeepsOthers S.spans self.old.world self.new.world span.held }
-        ensures sites { self.new.sites ≡ self.old.sites }
+        ensures sites { self.new.site_count ≡ self.old.site_count }
         ensures value { ClosesOn S.spans self.old.world span.held result }
         ensures closes { ClosesHeld S.spans S.does at self.old.world self.new.world span.held }
     {
@@ -129,7 +129,7 @@ impl<S: Stack> Scene<S> {
     /// Records values on a span.
     pub fn record(&mut self, at: u64, span: &Span, values: &ValueSet) -> Result<(), Memory>
         requires order { SceneInOrder S.spans S.kept S.is_whole self.old }
-        requires held { IsHeld S.spans self.old.sites self.old.world span.now }
+        requires held { IsHeld S.spans self.old.site_count self.old.world span.now }
         ensures keeps { KeepsScene S.spans S.kept S.is_whole self.old self.new }
     {
         span.record_all(&mut self.world, at, values)?;

@@ -143,7 +143,7 @@ impl<S: Stack> Scene<S> {
             (PutsAround S.spans S.does self.old.world self.new.world self.old.lane.id self.old.dispatch at
             span.now.held) }
     {
-        if get_default(&self.world, &self.lane) != Some(self.dispatch) || !self.has_room_around() {
+        if get_default(&self.world, &self.lane) != Some(self.dispatch) || !self.can_hold_current() {
             return None;
         }
         let future = self.put_around();
@@ -165,7 +165,7 @@ impl<S: Stack> Scene<S> {
         ensures held { IsKnown S.spans self.new.world result.span.held }
         ensures keeps { KeepsHandles S.spans self.old.world self.new.world }
         ensures more { GainsOne S.spans self.old.world self.new.world result.span.held }
-        ensures sites { self.new.sites ≡ self.old.sites }
+        ensures sites { self.new.site_count ≡ self.old.site_count }
     {
         Looks { is_ready: false }.in_current_span(&mut self.world, &self.lane)
     }
@@ -178,7 +178,7 @@ impl<S: Stack> Scene<S> {
         ensures closes { ClosesHeld S.spans S.does at self.old.world self.new.world future.span.held }
         ensures others { KeepsOthers S.spans self.old.world self.new.world future.span.held }
         ensures fewer { LosesOne S.spans self.old.world self.new.world future.span.held }
-        ensures sites { self.new.sites ≡ self.old.sites }
+        ensures sites { self.new.site_count ≡ self.old.site_count }
     {
         future.into_inner(&mut self.world, at);
     }
@@ -188,7 +188,7 @@ impl<S: Stack> Scene<S> {
         requires order { SceneInOrder S.spans S.kept S.is_whole self.old }
         ensures order { SceneInOrder S.spans S.kept S.is_whole self.new }
         ensures world { self.new.world ≡ self.old.world }
-        ensures sites { self.new.sites ≡ self.old.sites }
+        ensures sites { self.new.site_count ≡ self.old.site_count }
     {
         fill(&mut self.lane)
     }

@@ -9,6 +9,6 @@ pub returns-clause-play : goal.returns-clause-play
 returns-clause-play g c = record {
   order = c.close-closed.ensures.order;
   held = subst (λ (n : ℕ). AreHeld g.S.Subscriber.spans n c.close-closed.new.self.world c.take_last.new.self) (sym c.close-closed.ensures.sites)
-      (closed_held g.S.Subscriber.spans c.args.scene.now.sites c.args.scene.now.world c.close-closed.new.self.world c.args.name.now c.into_span.result c.args.handles.now c.take_last.new.self c.in-Some.ensures.rest
+      (closed_held g.S.Subscriber.spans c.args.scene.now.site_count c.args.scene.now.world c.close-closed.new.self.world c.args.name.now c.into_span.result c.args.handles.now c.take_last.new.self c.in-Some.ensures.rest
       (subst (λ (h : Handle). IsNoneOf c.take_last.new.self h) (sym c.into_span.ensures) c.in-Some.ensures.last) c.close-closed.ensures.others c.requires.play.held);
 }

@@ -7,23 +7,23 @@ use Rattle.explain_stack.proofs.scene.Scene.enter.Goals as goal
 
 pub returns-in-Ok-clause-keeps : goal.returns-in-Ok-clause-keeps
 returns-in-Ok-clause-keeps g c = record {
-  order = entered_stands g.S.Subscriber.spans g.S.Subscriber.attaches g.S.Subscriber.kept g.S.Subscriber.is_whole g.S.Subscriber.does g.met.S.Subscriber.shows g.met.S.Subscriber.lanes g.met.S.Subscriber.keeps_whole c.args.self.now.dispatch c.args.self.now.span_count c.args.self.now.sites c.args.span.now.held c.args.self.now.world c.open_entry.new.world c.args.at c.args.self.now.lane c.open_entry.new.lane c.args.self.now.other c.in-Ok.ensures.did c.open_entry.ensures.none c.requires.order;
+  order = entered_stands g.S.Subscriber.spans g.S.Subscriber.attaches g.S.Subscriber.kept g.S.Subscriber.is_whole g.S.Subscriber.does g.met.S.Subscriber.shows g.met.S.Subscriber.lanes g.met.S.Subscriber.keeps_whole c.args.self.now.dispatch c.args.self.now.span_count c.args.self.now.site_count c.args.span.now.held c.args.self.now.world c.open_entry.new.world c.args.at c.args.self.now.lane c.open_entry.new.lane c.args.self.now.other c.in-Ok.ensures.did c.open_entry.ensures.none c.requires.order;
   known = c.open_entry.ensures.keeps.known;
-  sites = refl;
+  site_count = refl;
 }
 
 pub returns-in-Err-Full-clause-keeps : goal.returns-in-Err-Full-clause-keeps
 returns-in-Err-Full-clause-keeps g c = record {
-  order = lane_left g.S.Subscriber.spans g.S.Subscriber.kept g.S.Subscriber.is_whole c.args.self.now.dispatch c.args.self.now.span_count c.args.self.now.sites c.open_entry.new.world c.args.self.now.lane c.open_entry.new.lane c.args.self.now.other c.in-Err-Full.ensures.lane_leaves (quiet_on g.S.Subscriber.spans g.S.Subscriber.kept g.S.Subscriber.is_whole (λ id. g.S.Subscriber.same) (λ id. quiet_same g.S.Subscriber.spans g.S.Subscriber.kept g.S.Subscriber.is_whole g.S.Subscriber.same g.met.S.Subscriber.same_spans g.met.S.Subscriber.same_kept g.met.S.Subscriber.same_whole) c.args.self.now.world c.open_entry.new.world c.args.span.now.held c.args.self.now.dispatch c.args.self.now.span_count c.args.self.now.sites c.args.self.now.lane c.args.self.now.other c.in-Err-Full.ensures.leaves c.requires.order);
+  order = lane_left g.S.Subscriber.spans g.S.Subscriber.kept g.S.Subscriber.is_whole c.args.self.now.dispatch c.args.self.now.span_count c.args.self.now.site_count c.open_entry.new.world c.args.self.now.lane c.open_entry.new.lane c.args.self.now.other c.in-Err-Full.ensures.lane_leaves (quiet_on g.S.Subscriber.spans g.S.Subscriber.kept g.S.Subscriber.is_whole (λ id. g.S.Subscriber.same) (λ id. quiet_same g.S.Subscriber.spans g.S.Subscriber.kept g.S.Subscriber.is_whole g.S.Subscriber.same g.met.S.Subscriber.same_spans g.met.S.Subscriber.same_kept g.met.S.Subscriber.same_whole) c.args.self.now.world c.open_entry.new.world c.args.span.now.held c.args.self.now.dispatch c.args.self.now.span_count c.args.self.now.site_count c.args.self.now.lane c.args.self.now.other c.in-Err-Full.ensures.leaves c.requires.order);
   known = c.open_entry.ensures.keeps.known;
-  sites = refl;
+  site_count = refl;
 }
 
 pub returns-in-Err-Memory-clause-keeps : goal.returns-in-Err-Memory-clause-keeps
 returns-in-Err-Memory-clause-keeps g c = record {
-  order = lane_left g.S.Subscriber.spans g.S.Subscriber.kept g.S.Subscriber.is_whole c.args.self.now.dispatch c.args.self.now.span_count c.args.self.now.sites c.open_entry.new.world c.args.self.now.lane c.open_entry.new.lane c.args.self.now.other c.in-Err-Memory.ensures.lane_leaves (quiet_on g.S.Subscriber.spans g.S.Subscriber.kept g.S.Subscriber.is_whole (λ id. g.S.Subscriber.same) (λ id. quiet_same g.S.Subscriber.spans g.S.Subscriber.kept g.S.Subscriber.is_whole g.S.Subscriber.same g.met.S.Subscriber.same_spans g.met.S.Subscriber.same_kept g.met.S.Subscriber.same_whole) c.args.self.now.world c.open_entry.new.world c.args.span.now.held c.args.self.now.dispatch c.args.self.now.span_count c.args.self.now.sites c.args.self.now.lane c.args.self.now.other c.in-Err-Memory.ensures.leaves c.requires.order);
+  order = lane_left g.S.Subscriber.spans g.S.Subscriber.kept g.S.Subscriber.is_whole c.args.self.now.dispatch c.args.self.now.span_count c.args.self.now.site_count c.open_entry.new.world c.args.self.now.lane c.open_entry.new.lane c.args.self.now.other c.in-Err-Memory.ensures.lane_leaves (quiet_on g.S.Subscriber.spans g.S.Subscriber.kept g.S.Subscriber.is_whole (λ id. g.S.Subscriber.same) (λ id. quiet_same g.S.Subscriber.spans g.S.Subscriber.kept g.S.Subscriber.is_whole g.S.Subscriber.same g.met.S.Subscriber.same_spans g.met.S.Subscriber.same_kept g.met.S.Subscriber.same_whole) c.args.self.now.world c.open_entry.new.world c.args.span.now.held c.args.self.now.dispatch c.args.self.now.span_count c.args.self.now.site_count c.args.self.now.lane c.args.self.now.other c.in-Err-Memory.ensures.leaves c.requires.order);
   known = c.open_entry.ensures.keeps.known;
-  sites = refl;
+  site_count = refl;
 }
 
 pub returns-in-Ok-clause-enters : goal.returns-in-Ok-clause-enters

@@ -14,9 +14,9 @@ close_entry-requires-clause-still g c =
 
 pub returns-clause-keeps : goal.returns-clause-keeps
 returns-clause-keeps g c = record {
-  order = exited_stands g.S.Subscriber.spans g.S.Subscriber.attaches g.S.Subscriber.kept g.S.Subscriber.is_whole g.S.Subscriber.does g.met.S.Subscriber.shows g.met.S.Subscriber.lanes g.met.S.Subscriber.keeps_whole c.args.self.now.dispatch c.args.self.now.span_count c.args.self.now.sites c.args.span.now.held c.args.self.now.world c.close_entry.new.world c.args.at c.args.self.now.lane c.close_entry.new.lane c.args.self.now.other c.close_entry.ensures.did c.close_entry.ensures.none c.requires.order;
+  order = exited_stands g.S.Subscriber.spans g.S.Subscriber.attaches g.S.Subscriber.kept g.S.Subscriber.is_whole g.S.Subscriber.does g.met.S.Subscriber.shows g.met.S.Subscriber.lanes g.met.S.Subscriber.keeps_whole c.args.self.now.dispatch c.args.self.now.span_count c.args.self.now.site_count c.args.span.now.held c.args.self.now.world c.close_entry.new.world c.args.at c.args.self.now.lane c.close_entry.new.lane c.args.self.now.other c.close_entry.ensures.did c.close_entry.ensures.none c.requires.order;
   known = c.close_entry.ensures.keeps.known;
-  sites = refl;
+  site_count = refl;
 }
 
 pub returns-clause-exits : goal.returns-clause-exits

@@ -1,7 +1,7 @@
 -- What is taken is the first of the records that are left.
 use Rattle.std.proofs.Common.{arith, ap, length}
 use Rattle.otel_layer.specs.Recording.{Recording}
-use Rattle.example_shop.proofs.records.Goals as goal
+use Rattle.example_shop.proofs.tell_records.Goals as goal
 
 pub loop-record-smaller : goal.loop-record-smaller
 loop-record-smaller c =

@@ -1,7 +1,7 @@
 -- Each take leaves one record fewer, and the stack is there.
 use Rattle.std.proofs.Common.{length, ◌<◌}
 use Rattle.span_stack.specs.Reading.{recording_in}
-use Rattle.example_shop.proofs.records.Given as goal
+use Rattle.example_shop.proofs.tell_records.Given as goal
 
 abbrev pub invariant-loop-record : goal.invariant-loop-record
 invariant-loop-record l = l.dispatch < length l.world.subscribers
