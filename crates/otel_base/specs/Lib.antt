@@ -1,4 +1,5 @@
 pub mod Words
+pub mod Texts
 pub mod Statuses
 pub mod Ids
 pub mod RecorderIds

@@ -1,5 +1,5 @@
 -- The fixed keys and words of records.
-use Rattle.std.specs.Prelude.{ℕ, List, Option, None, Some, codes}
+use Rattle.std.specs.Prelude.{ℕ, List, codes}
 use Rattle.otel_base.specs.declared.word.Word.{Word}
 use Rattle.otel_base.specs.declared.word.Word.TheVariants as words
 
@@ -24,8 +24,3 @@ word_text words.WarnLevel = codes "WARN"
 word_text words.InfoLevel = codes "INFO"
 word_text words.DebugLevel = codes "DEBUG"
 word_text words.TraceLevel = codes "TRACE"
-
--- the bytes of a text: those of its word if it is one, else its own
-abbrev pub text_bytes : (own : List ℕ) → Option Word → List ℕ
-text_bytes own None = own
-text_bytes own (Some word) = word_text word

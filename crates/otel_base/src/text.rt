@@ -1,6 +1,7 @@
 //! Texts that contracts see as the list of their bytes.
-ghost use Rattle.std.specs.Prelude.{◌≡◌, List, ℕ, string_bytes, IfOk};
+ghost use Rattle.std.specs.Prelude.{◌≡◌, ◌≤◌, List, ℕ, string_bytes, length, IfOk, IsOk};
 ghost use Rattle.otel_base.specs.Words.{word_text};
+ghost use Rattle.otel_base.specs.Texts.{text_bytes};
 ghost use Rattle.std.proofs.Common.{rules};
 ghost use Rattle.std.specs.Cmp.Rules.{comparing};
 ghost use Rattle.std.specs.Prelude.{bytes_eq};
@@ -10,58 +11,98 @@ ghost use Rattle.std.specs.Cmp.Lexicographic.{slice_cmp};
 
 use crate::memory::Memory;
 use crate::word::Word;
-use std::alloc::Global;
+use arrayvec::ArrayString;
+use std::alloc::{AllocError, Global};
 use std::cmp::Ordering;
 use std::marker::Model;
 
-/// A text that contracts see as the list of its bytes, which are UTF-8: a `String`, or a fixed word, which takes no
-/// memory. It stands for `opentelemetry::StringValue`, `opentelemetry::Key` and the `&str`s of
-/// `tracing_core::Metadata`.
-#[derive(Clone, Drop)]
+/// A text that contracts see as the list of its bytes, which are UTF-8: a fixed word, at most sixteen bytes, or a
+/// `String`; the first two take no memory. It stands for `opentelemetry::StringValue`, `opentelemetry::Key` and the
+/// `&str`s of `tracing_core::Metadata`.
 pub struct Text {
-    // Empty where the text is a word. As an enum the two would be told apart wherever a text goes out of scope.
-    string: String,
-    word: Option<Word>,
+    content: Content,
+}
+
+// Where a text's bytes lie.
+#[derive(Drop)]
+enum Content {
+    Fixed(Word),
+    Short(ArrayString<16>),
+    Long(String),
 }
 
 impl Model for Text {
-    ghost use Rattle.std.specs.Prelude.{List, ℕ, string_bytes};
-    ghost use Rattle.otel_base.specs.Words.{text_bytes};
+    ghost use Rattle.std.specs.Prelude.{List, ℕ};
+    ghost use Rattle.otel_base.specs.Texts.{text_bytes};
 
     ghost Value = { List ℕ };
 
-    ghost view = { λ t. text_bytes (string_bytes t.string) t.word };
+    ghost view = { λ t. text_bytes t.content };
+}
+
+// By a function of its own: else the three are told apart wherever a text goes out of scope.
+impl Drop for Text {
+    fn drop(self) {
+        let Text { content: _content } = self;
+    }
+}
+
+impl Clone for Text {
+    ghost is_clone = { λ text copy. copy ≡ text };
+
+    fn clone(&self) -> Result<Text, AllocError> {
+        let content = match self.content {
+            Content::Fixed(word) => Content::Fixed(word),
+            Content::Short(short) => Content::Short(short),
+            Content::Long(ref string) => Content::Long(string.clone()?),
+        };
+        Ok(Text { content })
+    }
 }
 
 impl Text {
     /// A fixed key or word. It takes no memory.
-    pub fn from_word(alloc: Global, word: Word) -> Text
+    pub fn from_word(word: Word) -> Text
         ensures { result ≡ word_text word }
     {
         Text {
-            string: String::new(alloc),
-            word: Some(word),
+            content: Content::Fixed(word),
         }
+    }
+
+    /// A copy of `text`. `Memory` where there is none for more than sixteen bytes.
+    pub fn from_str(alloc: Global, text: &str) -> Result<Text, Memory>
+        ensures ok { IfOk result (λ copy. copy ≡ text.now) }
+        ensures short { length text.now ≤ 16 → IsOk result }
+    {
+        let content = match ArrayString::from(text) {
+            Ok(short) => Content::Short(short),
+            Err(_) => Content::Long(String::from_str(alloc, text)?),
+        };
+        Ok(Text { content })
     }
 
     /// The text as a `&str`, without a copy.
     pub fn as_str(&self) -> &str
         ensures { result.now ≡ self.now }
     {
-        match self.word {
-            Some(word) => word.as_str(),
-            None => self.string.as_str(),
+        match self.content {
+            Content::Fixed(word) => word.as_str(),
+            Content::Short(ref short) => short.as_str(),
+            Content::Long(ref string) => string.as_str(),
         }
     }
 
-    /// The `String` that the text was made of, without a copy, or one with the bytes of its word; `Memory` where there
-    /// is none for that.
-    pub fn into_string(self) -> Result<String, Memory>
+    /// The `String` that the text was made of, without a copy, or one with its bytes; `Memory` where there is none for
+    /// that.
+    pub fn into_string(self, alloc: Global) -> Result<String, Memory>
         ensures { IfOk result (λ s. string_bytes s ≡ self) }
     {
-        match self.word {
-            Some(word) => Ok(String::from_str(*self.string.allocator(), word.as_str())?),
-            None => Ok(self.string),
+        let Text { content } = self;
+        match content {
+            Content::Fixed(word) => Ok(String::from_str(alloc, word.as_str())?),
+            Content::Short(short) => Ok(String::from_str(alloc, short.as_str())?),
+            Content::Long(string) => Ok(string),
         }
     }
 }
@@ -70,7 +111,9 @@ impl From<String> for Text {
     ghost from_gives = { λ s t. t ≡ string_bytes s };
 
     fn from(string: String) -> Text {
-        Text { string, word: None }
+        Text {
+            content: Content::Long(string),
+        }
     }
 }
 

@@ -28,7 +28,7 @@ pub use Rattle.otel_layer.specs.Counting.{after_counted, counted_events, hook_an
 pub use Rattle.otel_layer.specs.Parts.{AnswersCallIf, Applies, AppliesIn, AppliesTo, PartCall, Shows, Touches, TouchesFirst, TouchesNone, context_at}
 pub use Rattle.otel_layer.specs.Ready.{IsReadyOp, IsReadyOtel, with_moment}
 pub use Rattle.otel_layer.specs.Recording.{AttachesOwn, Closes, Detaches, Enters, Exits, Recording, RecordsCall, RecordsChain, RecordsHook, RecordsPart, Stays, closed_started, count_after, data_after, data_started, layer_recording, made_under, no_recording, recording_of, source_of, started_by, started_under, with_applied, with_close, with_entry, with_entry_op, with_exit, with_follow, with_new_recorded, with_start, with_started_link, with_starts, without_closed}
-pub use Rattle.otel_layer.specs.Rooming.{step_from_prepared}
+pub use Rattle.otel_layer.specs.laws.RoomLemmas.{step_from_prepared}
 pub use Rattle.otel_layer.specs.Steps.{ClosesSpan, DetachesOwn, DoesHook, EntersLane, EntersSpan, ExitsSpan, FollowsSpan, IfKnown, MakesSpan, Reserves, SameCore, StartsAny, StartsIf, StartsSpan, Step, all_events, lane_context, context_from, new_span_data, parent_source}
 pub use Rattle.otel_layer.specs.Table.{IdsRise, IsKept, MayRise, RisesTo, RoomFor, RoomForLink, all_data, data_at, entry_ids, ids_at, is_id, is_of_id, knows_span, own_or, read_off, update, waiting_context, context_unless_started, with_entry_read, with_op, with_span_data}
 pub use Rattle.otel_layer.specs.declared.table.Entry.{Entry}

@@ -1,5 +1,4 @@
 pub mod Common
-pub mod AppliedOpLemmas
 pub mod FoundSpanLemmas
 pub mod Gaps
 pub mod HookStepsLemmas

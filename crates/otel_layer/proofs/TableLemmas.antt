@@ -1,6 +1,6 @@
 -- A table of states, seen as the list of what its spans have come to.
-use Rattle.std.proofs.Common.{◌≡◌, ℕ, suc, zero, ◌+◌, ◌<◌, ◌≤◌, List, [], ◌∷◌, length, Bool, true, false, cond, get_or, Option, Some, None, refl, sym, ap, ◌∙◌, arith, inl, inr, Result, Ok, Err, OnOk, OnErr, unwrap_or, is_some, ◌||◌, ◌&&◌, ◌==◌, nat_lt, slice_set}
-use Rattle.otel_layer.proofs.Common.{position_or_len, list_any, remove_entry, lookup, and_parts, or_parts, cases_Bool, cond-true, cond-false, Entry, SpanData, StateValue, is_of_id, with_entry_read, read_off, all_data, entry_ids, is_id, knows_span, update}
+use Rattle.std.proofs.Common.{◌≡◌, ℕ, suc, zero, ◌+◌, ◌<◌, ◌≤◌, List, [], ◌∷◌, length, Bool, true, false, cond, get_or, Option, Some, None, refl, sym, ap, ◌∙◌, arith, inl, inr, Result, Ok, Err, OnOk, OnErr, IfOk, IsTrue, unwrap_or, is_some, ◌||◌, ◌&&◌, ◌==◌, nat_lt, slice_set}
+use Rattle.otel_layer.proofs.Common.{Memory, Op, OpReply, reply, is_growing, with_op, AppliesTo, position_or_len, list_any, remove_entry, lookup, and_parts, or_parts, cases_Bool, cond-true, cond-false, Entry, SpanData, StateValue, is_of_id, with_entry_read, read_off, all_data, entry_ids, is_id, knows_span, update}
 use Rattle.std.specs.List.{position}
 use Rattle.std.proofs.lemmas.Bool.{ltb-false, true≢false}
 use Rattle.std.proofs.lemmas.List.Quantifiers.{position-Some}
@@ -213,3 +213,15 @@ on_ok (Err b) P Q f h = h
 pub on_err : {A B : Type 0} (r : Result A B) (P Q : Type 0) → (P → Q) → OnErr r P → OnErr r Q
 on_err (Ok a) P Q f h = h
 on_err (Err b) P Q f h = f h
+
+-- ---- an op that is applied to a span, and the context that one shows
+
+pub applies_found : (o : Option SpanData) (span_data : SpanData) (spans now : List (ℕ × SpanData)) (id at : ℕ) (op : Op) (r : Result OpReply Memory) → o ≡ Some span_data → OnOk r (now ≡ with_op id at op spans) → IfOk r (λ x. x ≡ reply span_data op) → OnErr r (now ≡ spans) → OnErr r (IsTrue (is_growing op))
+    → AppliesTo o spans id at op (Some r) now
+applies_found None span_data spans now id at op r is did answer leaves growing = absurd (some_isnt_none span_data (sym is))
+applies_found (Some u) span_data spans now id at op (Ok x) is did answer leaves growing = (answer ∙ ap (λ (t : SpanData). reply t op) (sym (ap (λ (y : Option SpanData). unwrap_or y span_data) is)), did)
+applies_found (Some u) span_data spans now id at op (Err x) is did answer leaves growing = (growing, leaves)
+
+pub applies_none : (o : Option SpanData) (spans : List (ℕ × SpanData)) (id at : ℕ) (op : Op) → o ≡ None → AppliesTo o spans id at op None spans
+applies_none None spans id at op h = (refl, refl)
+applies_none (Some span_data) spans id at op h = absurd (some_isnt_none span_data h)

@@ -12,7 +12,7 @@ use Rattle.otel_state.specs.fields.EventFields.{event_of}
 use Rattle.otel_state.specs.States.{SpanData, after_op}
 use Rattle.otel_layer.specs.Core.{Core}
 use Rattle.otel_layer.specs.laws.HookLemmas.{KeepsOwn, all_keep_own}
-use Rattle.otel_layer.specs.Rooming.{same_core_does}
+use Rattle.otel_layer.specs.laws.RoomLemmas.{same_core_does}
 use Rattle.otel_layer.specs.Steps.{Events, SameCore, Step, DoesHook, all_events}
 
 -- an event is counted, and applied after that if it is taken

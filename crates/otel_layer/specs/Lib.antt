@@ -4,7 +4,6 @@ pub mod Counting
 pub mod Parts
 pub mod Ready
 pub mod Recording
-pub mod Rooming
 pub mod Starts
 pub mod Steps
 pub mod Table

@@ -1,4 +1,5 @@
 -- What the traits of layers ask to be shown.
+pub mod RoomLemmas
 pub mod HookLemmas
 pub mod LaneLemmas
 pub mod KnownSpansLemmas

@@ -9,7 +9,7 @@ ghost use Rattle.otel_layer.specs.Ready.{IsReadyOtel};
 ghost use Rattle.otel_layer.specs.laws.HookLemmas.{does_whole, same_whole_core};
 ghost use Rattle.otel_layer.specs.laws.KnownSpansLemmas.{does_sees};
 ghost use Rattle.otel_layer.specs.laws.LaneLemmas.{does_lanes, does_passive, does_settings, kept_by_tokens};
-ghost use Rattle.otel_layer.specs.Rooming.{same_core_refl, same_core_trans};
+ghost use Rattle.otel_layer.specs.laws.RoomLemmas.{same_core_refl, same_core_trans};
 
 use crate::counting::FilteredOpenTelemetryLayer;
 use crate::ready::{Ready, set_moment};

@@ -8,7 +8,7 @@ ghost use Rattle.otel_layer.specs.Ready.{IsReadyOtel};
 ghost use Rattle.otel_layer.specs.laws.HookLemmas.{does_whole, same_whole_core, all_keep_own};
 ghost use Rattle.otel_layer.specs.laws.KnownSpansLemmas.{does_sees};
 ghost use Rattle.otel_layer.specs.laws.LaneLemmas.{does_lanes, does_passive, does_settings, kept_by_tokens};
-ghost use Rattle.otel_layer.specs.Rooming.{same_core_refl, same_core_trans, same_core_does};
+ghost use Rattle.otel_layer.specs.laws.RoomLemmas.{same_core_refl, same_core_trans, same_core_does};
 
 use crate::layer::OpenTelemetryLayer;
 use crate::ready::{Ready, set_moment};

@@ -1,8 +1,7 @@
 -- The span is found, or isn't known.
 use Rattle.std.proofs.Common.{sym, refl, ◌∙◌}
 use Rattle.otel_layer.proofs.Common.{after_op}
-use Rattle.otel_layer.proofs.TableLemmas.{no_gap, found_read, found_update, found_same, found_ids, not_read, on_ok, on_err}
-use Rattle.otel_layer.proofs.AppliedOpLemmas.{applies_found, applies_none}
+use Rattle.otel_layer.proofs.TableLemmas.{applies_found, applies_none, no_gap, found_read, found_update, found_same, found_ids, not_read, on_ok, on_err}
 use Rattle.otel_layer.proofs.table.apply.Goals as goal
 
 pub returns-in-Some-state-clause-did : goal.returns-in-Some-state-clause-did
