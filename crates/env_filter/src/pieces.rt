@@ -72,7 +72,7 @@ fn read_piece(
             }
             ignored.push(Ignored {
                 piece: at as u64 + 1,
-                text: Text::from(String::from_str(alloc, piece)?),
+                text: Text::from_str(alloc, piece)?,
                 fault,
             })?;
         }

@@ -51,7 +51,7 @@ impl TextFilter {
         ensures refused { GivesGate text.now result }
     {
         // The text comes first: it is let go more cheaply than a filter.
-        let kept = Text::from(String::from_str(alloc, text)?);
+        let kept = Text::from_str(alloc, text)?;
         let filter = filter_of(alloc, text)?;
         Ok(TextFilter { text: kept, filter })
     }

@@ -87,5 +87,5 @@ fn site(
 pub(crate) fn text(alloc: Global, word: &str) -> Result<Text, Memory>
     ensures { IfOk result (λ text. text ≡ word.now) }
 {
-    Ok(Text::from(String::from_str(alloc, word)?))
+    Text::from_str(alloc, word)
 }

@@ -82,5 +82,5 @@ fn plain_value(kind: &str, text: &str) -> Option<Value> {
 }
 
 fn text_of(alloc: Global, text: &str) -> Result<Text, Memory> {
-    Ok(Text::from(String::from_str(alloc, text)?))
+    Text::from_str(alloc, text)
 }

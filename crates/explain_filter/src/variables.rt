@@ -116,5 +116,5 @@ fn fault_line(alloc: Global, fault: FromEnvError) -> Result<String, Memory> {
 }
 
 fn text(alloc: Global, word: &str) -> Result<Text, Memory> {
-    Ok(Text::from(String::from_str(alloc, word)?))
+    Text::from_str(alloc, word)
 }

@@ -119,5 +119,5 @@ pub fn lane(alloc: Global, id: u64) -> Lane
 }
 
 fn text(alloc: Global, word: &str) -> Result<Text, Memory> {
-    Ok(Text::from(String::from_str(alloc, word)?))
+    Text::from_str(alloc, word)
 }

@@ -104,5 +104,5 @@ pub fn status(alloc: Global, word: &str) -> Result<Status, Memory>
 pub fn text(alloc: Global, word: &str) -> Result<Text, Memory>
     ensures { IfOk result (λ text. text ≡ word.now) }
 {
-    Ok(Text::from(String::from_str(alloc, word)?))
+    Text::from_str(alloc, word)
 }

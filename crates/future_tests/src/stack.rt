@@ -111,8 +111,8 @@ pub fn site<S: Stack>(alloc: Global, world: &mut World<S>) -> Result<SiteId, Mem
     ensures global { world.new.global ≡ None }
 {
     let callsite = Callsite {
-        name: Text::from(String::from_str(alloc, "work")?),
-        target: Text::from(String::from_str(alloc, "tests")?),
+        name: Text::from_str(alloc, "work")?,
+        target: Text::from_str(alloc, "tests")?,
         level: Level::INFO,
         kind: Kind::Span,
         file: None,

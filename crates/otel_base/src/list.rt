@@ -1,5 +1,5 @@
 //! Lists that contracts see as the list of their items.
-ghost use Rattle.std.specs.Prelude.{◌≡◌, List, [], ◌∷◌, ◌++◌, OnOk, OnErr};
+ghost use Rattle.std.specs.Prelude.{◌≡◌, List, [], ◌∷◌, ◌++◌, IfOk, OnOk, OnErr};
 
 use crate::memory::Memory;
 use std::alloc::Global;
@@ -27,6 +27,15 @@ impl<T> Items<T> {
         Items {
             items: Vec::new(alloc),
         }
+    }
+
+    /// An empty list with room for so many items; `Memory` where there is none for them.
+    pub fn with_capacity(alloc: Global, capacity: usize) -> Result<Items<T>, Memory>
+        ensures { IfOk result (λ list. list ≡ []) }
+    {
+        Ok(Items {
+            items: Vec::with_capacity(alloc, capacity)?,
+        })
     }
 
     /// The `Vec` that the list was made of, without a copy.

@@ -58,7 +58,12 @@ impl Recorder {
         ensures some { IsSome result ↔ (0 < length self.old.finished) }
         ensures others { self.new ≡ record self.old { finished = drop 1 self.old.finished } }
     {
-        self.finished.pop_front()
+        // The only one is taken from the back, so that the next comes to lie where it lay.
+        if self.finished.len() == 1 {
+            self.finished.pop_back()
+        } else {
+            self.finished.pop_front()
+        }
     }
 }
 

@@ -76,7 +76,7 @@ fn number_of(
     let Some((kind, value)) = number_told(family, value) else {
         return Ok(None);
     };
-    let name = Text::from(String::from_str(alloc, rest)?);
+    let name = Text::from_str(alloc, rest)?;
     Ok(Some(Number { kind, name, value }))
 }
 

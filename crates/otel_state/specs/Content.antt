@@ -1,5 +1,5 @@
 -- The record of a making, the ops after it and the moment of the close.
-use Rattle.std.specs.Prelude.{ℕ, List, [], ◌∷◌, ◌++◌, Bool, if◌then◌else◌, codes, pos, min, count_by, flat_map, filter_map}
+use Rattle.std.specs.Prelude.{ℕ, ◌+◌, List, [], ◌∷◌, ◌++◌, Bool, if◌then◌else◌, codes, pos, min, count_by, flat_map, filter_map}
 use Rattle.otel_base.specs.declared.context.Context.{Context}
 use Rattle.otel_base.specs.declared.record.Link.{Link}
 use Rattle.otel_base.specs.declared.record.OtelEvent.{OtelEvent}
@@ -46,6 +46,10 @@ closing_count counting counted = if counting then number_attribute (codes "otel.
 
 abbrev pub closing_times : Bool → ℕ → ℕ → List KeyValue
 closing_times inactivity busy idle = if inactivity then number_attribute (codes "busy_ns") busy ∷ number_attribute (codes "idle_ns") idle ∷ [] else []
+
+-- how many these are
+abbrev pub closing_room : Bool → Bool → ℕ
+closing_room counting inactivity = (if counting then 1 else 0) + (if inactivity then 2 else 0)
 
 -- the record
 abbrev pub content : Making → List TimedOp → ℕ → Record

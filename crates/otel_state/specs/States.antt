@@ -214,10 +214,10 @@ record_of span_data closed = record {
 -- ---- what always holds of what is kept
 
 -- times are moments in order, a count is within its type, and the close has its room
-pub record IsInTime (counted entries busy last : ℕ) (left : Option ℕ) (length capacity : ℕ) : Type 0 where
+pub record IsInTime (counted entries busy last : ℕ) (left : Option ℕ) (length closing capacity : ℕ) : Type 0 where
   pub is_within : busy ≤ last
   pub is_moment : last ≤ GREATEST
   pub is_past : IfSome left (λ l. l ≤ last)
   pub is_counted : counted ≤ GREATEST
   pub is_open : entries ≤ GREATEST
-  pub has_room : length + 3 ≤ capacity
+  pub has_room : length + closing ≤ capacity

@@ -44,7 +44,7 @@ fn add_known_text(
     ensures { OnOk result (attributes.new ≡ attributes.old ++ known_text (word_text key) text.now) }
 {
     match text {
-        Some(text) => add_text(attributes, Text::from_word(alloc, key), text.clone()?),
+        Some(text) => add_text(attributes, Text::from_word(key), text.clone()?),
         None => Ok(()),
     }
 }
@@ -58,7 +58,7 @@ fn add_line(
 {
     match line {
         Some(line) => attributes.push(KeyValue {
-            key: Text::from_word(alloc, Word::LineNumber),
+            key: Text::from_word(Word::LineNumber),
             value: OtelValue::I64(i64::from(line)),
         }),
         None => Ok(()),
@@ -130,11 +130,11 @@ fn add_exception(
     if is_wanted {
         add_text(
             attributes,
-            Text::from_word(alloc, Word::ExceptionMessage),
+            Text::from_word(Word::ExceptionMessage),
             message.clone()?,
         )?;
         attributes.push(KeyValue {
-            key: Text::from_word(alloc, Word::ExceptionStacktrace),
+            key: Text::from_word(Word::ExceptionStacktrace),
             value: OtelValue::List(copy_of(alloc, chain)?),
         })?;
     }

@@ -9,7 +9,7 @@ ghost use Rattle.otel_state.specs.Statuses.{greatest_status, error_in};
 ghost use Rattle.otel_state.specs.Times.{open_by};
 ghost use Rattle.otel_state.specs.States.{after_time, unless_started, with_all, after_deed, after_op, reply, reply_after, is_growing, record_of, with_making, room_after, Stands, AppendsOp, BeginsAt, IsReadOff, IsContent, HasRoom, Keeps};
 
-use crate::closing::{add_count, add_times};
+use crate::closing::{add_count, add_times, closing_room};
 use crate::op::{Op, OpReply, SetParentError};
 use crate::times::{GREATEST, idle, moment_after, one_more};
 use crate::update::Update;
@@ -22,9 +22,6 @@ use otel_base::text::Text;
 use otel_base::value::KeyValue;
 use std::alloc::Global;
 use std::marker::Model;
-
-/// How many attributes a close adds at most.
-const CLOSING: usize = 3;
 
 /// The state of a span: its making, and what the ops since came to; the `OtelData` of `tracing_opentelemetry::layer`.
 #[derive(Drop)]
@@ -56,6 +53,7 @@ struct Opening {
 
 impl Model for SpanState {
     ghost use Rattle.std.specs.Prelude.{◌-◌, length, vec_capacity};
+    ghost use Rattle.otel_state.specs.Content.{closing_room};
     ghost use Rattle.otel_state.specs.States.{StateValue, IsInTime};
 
     ghost Value = { StateValue };
@@ -80,13 +78,13 @@ impl Model for SpanState {
         left = s.left;
       };
       room = record {
-        attributes = vec_capacity s.attributes - length s.attributes.items - 3;
+        attributes = vec_capacity s.attributes - length s.attributes.items - closing_room s.counting s.inactivity;
         events = vec_capacity s.events - length s.events.items;
         links = vec_capacity s.links - length s.links.items;
       };
     } };
 
-    ghost invariant = { λ s. IsInTime s.counted s.entries s.busy s.last s.left (length s.attributes.items) (vec_capacity s.attributes) };
+    ghost invariant = { λ s. IsInTime s.counted s.entries s.busy s.last s.left (length s.attributes.items) (closing_room s.counting s.inactivity) (vec_capacity s.attributes) };
 }
 
 impl SpanState {
@@ -111,11 +109,11 @@ impl SpanState {
         }) [] state.span_data) }
     {
         let mut attributes = first.into_vec();
-        attributes.reserve_exact(CLOSING)?;
+        attributes.reserve_exact(closing_room(counting, inactivity))?;
         Ok(SpanState {
             alloc,
             opening: Opening {
-                name: Text::from(String::from_str(alloc, name)?),
+                name: Text::from_str(alloc, name)?,
                 kind: SpanKind::Internal,
                 parent,
             },
@@ -423,7 +421,8 @@ impl SpanState {
             → links ≤ self.old.room.links → attributes + 3 < 2 ^ 64 → IsOk result }
         ensures leaves { self.new.span_data ≡ self.old.span_data }
     {
-        let all = attributes.checked_add(CLOSING).ok_or(Memory)?;
+        let closing = closing_room(self.counting, self.inactivity);
+        let all = attributes.checked_add(closing).ok_or(Memory)?;
         self.attributes.reserve(all)?;
         self.events.reserve(events)?;
         self.links.reserve(links)?;
@@ -446,14 +445,13 @@ impl SpanState {
         let parent = self.opening.parent.span_context().parent_id();
         let end = self.left.unwrap_or(at);
         let mut attributes = self.attributes;
-        add_count(self.alloc, &mut attributes, self.counting, self.counted);
-        add_times(
-            self.alloc,
+        add_count(
             &mut attributes,
+            self.counting,
+            self.counted,
             self.inactivity,
-            self.busy,
-            idle,
         );
+        add_times(&mut attributes, self.inactivity, self.busy, idle);
         Record {
             name: self.opening.name,
             kind: self.opening.kind,

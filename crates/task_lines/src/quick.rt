@@ -107,7 +107,7 @@ fn owned_text(alloc: Global, words: &[u8]) -> Option<Text>
     ensures { IfSome result (λ text. text ≡ words.now) }
 {
     let words = str::from_utf8(words).ok()?;
-    Some(Text::from(String::from_str(alloc, words).ok()?))
+    Some(Text::from_str(alloc, words).ok()?)
 }
 
 // The value of an attribute.

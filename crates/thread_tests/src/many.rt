@@ -26,7 +26,7 @@ fn write<R: Wait>(rt: &R, alloc: Global, handle: &mut Handle, number: u16) -> bo
     ensures idle { open_of handle.new ≡ open_of handle.old }
 {
     let pair = KeyValue {
-        key: Text::from_word(alloc, Word::Target),
+        key: Text::from_word(Word::Target),
         value: OtelValue::I64(i64::from(number)),
     };
     handle.call(rt, 7, Op::SetAttribute { pair }).is_ok()

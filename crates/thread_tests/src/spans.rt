@@ -49,7 +49,7 @@ pub fn alone(alloc: Global) -> Result<SpanState, Memory> {
 
 fn first(alloc: Global) -> Result<Items<KeyValue>, Memory> {
     let settings = LayerSettings::default();
-    first_attributes(alloc, &callsite(alloc)?, &lane(alloc), &settings)
+    first_attributes(alloc, &callsite(alloc)?, &lane(alloc), &settings, 0)
 }
 
 fn update(alloc: Global) -> Result<Update, Memory> {
@@ -73,7 +73,7 @@ fn values(alloc: Global) -> Result<ValueSet, Memory> {
 }
 
 fn text(alloc: Global, text: &str) -> Result<Text, Memory> {
-    Ok(Text::from(String::from_str(alloc, text)?))
+    Text::from_str(alloc, text)
 }
 
 fn callsite(alloc: Global) -> Result<Callsite, Memory> {

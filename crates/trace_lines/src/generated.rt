@@ -21,7 +21,7 @@ pub const MOST_ROUNDS: u64 = 50_000;
 fn text(alloc: Global, word: &str) -> Result<Text, Memory>
     ensures { IfOk result (λ text. text ≡ word.now) }
 {
-    Ok(Text::from(String::from_str(alloc, word)?))
+    Text::from_str(alloc, word)
 }
 
 fn callsite(

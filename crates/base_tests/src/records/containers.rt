@@ -13,25 +13,27 @@ use trace_base::dispatcher::TryInitError;
 fn is_kept(alloc: Global, made: &str) -> Result<bool, Memory> {
     let kept = text(alloc, made)?;
     let same = kept.clone()? == kept;
-    Ok(kept.into_string()?.as_str() == made && same)
+    Ok(kept.into_string(alloc)?.as_str() == made && same)
 }
 
 // Whether a fixed word is given back as a string.
 fn is_fixed(alloc: Global) -> Result<bool, Memory> {
-    let fixed = Text::from_word(alloc, Word::Level);
-    Ok(fixed.into_string()?.as_str() == "level")
+    let fixed = Text::from_word(Word::Level);
+    Ok(fixed.into_string(alloc)?.as_str() == "level")
 }
 
 #[test]
 fn gives_texts_back(rt: HostRuntime) {
-    assert_eq!(rt; is_kept(rt.alloc(), "span"), Ok(true));
+    for made in ["", "span", "sixteen bytes ..", "seventeen bytes .."] {
+        assert_eq!(rt; is_kept(rt.alloc(), made), Ok(true));
+    }
     assert_eq!(rt; is_fixed(rt.alloc()), Ok(true));
 }
 
 // Whether a text is before a fixed word, and whether it is behind it.
 fn beside_level(alloc: Global, made: &str) -> Result<(bool, bool), Memory> {
     let made = text(alloc, made)?;
-    let level = Text::from_word(alloc, Word::Level);
+    let level = Text::from_word(Word::Level);
     Ok((made < level, made > level))
 }
 

@@ -11,7 +11,7 @@ use trace_base::subscriber::Interest;
 
 /// A text.
 pub fn text(alloc: Global, text: &str) -> Result<Text, Memory> {
-    Ok(Text::from(String::from_str(alloc, text)?))
+    Text::from_str(alloc, text)
 }
 
 /// A callsite of spans with fields of these names.

@@ -325,5 +325,5 @@ impl Error for BadName {}
 pub(crate) fn text_of(alloc: Global, text: &str) -> Result<Text, Memory>
     ensures { IfOk result (λ t. t ≡ text.now) }
 {
-    Ok(Text::from(String::from_str(alloc, text)?))
+    Text::from_str(alloc, text)
 }

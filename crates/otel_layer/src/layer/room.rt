@@ -52,7 +52,9 @@ impl<T: Tracer> OpenTelemetryLayer<T> {
         ensures { IfOk result (λ state. state.value.span_data
             ≡ new_span_data callsite.now lane.now values.now empty_context 0 self.now.core.settings self.now.core.counting) }
     {
-        let first = first_attributes(self.alloc, callsite, lane, &self.settings)?;
+        let update = span_update(self.alloc, callsite, values, &self.settings)?;
+        let more = update.attributes.as_slice().len();
+        let first = first_attributes(self.alloc, callsite, lane, &self.settings, more)?;
         let state = SpanState::new(
             self.alloc,
             callsite.name.as_str(),
@@ -63,7 +65,6 @@ impl<T: Tracer> OpenTelemetryLayer<T> {
             self.settings.inactivity,
         )?;
         let mut state = Box::new(self.alloc, state)?;
-        let update = span_update(self.alloc, callsite, values, &self.settings)?;
         state.apply(0, Op::Update { update })?;
         Ok(state)
     }

@@ -42,7 +42,7 @@ pub fn event_op(
 ) -> Result<Op, Memory>
     ensures { IfOk result (λ op. op ≡ event_of callsite.now values.now settings.now at) }
 {
-    let mut event = begin(alloc, callsite)?;
+    let mut event = begin(alloc, callsite, settings)?;
     let pairs = values.pairs.as_slice();
     for pair in pairs {
         tell_pair(alloc, &mut event, callsite, pair, settings)?;
@@ -50,10 +50,12 @@ pub fn event_op(
     finish(alloc, event, callsite, settings, at)
 }
 
-fn begin(alloc: Global, callsite: &Callsite) -> Result<Event, Memory>
+fn begin(alloc: Global, callsite: &Callsite, settings: &LayerSettings) -> Result<Event, Memory>
     ensures { IfOk result (λ event. event ≡ begun_event callsite.now) }
 {
-    let mut attributes = Items::new(alloc);
+    // Level and target, and those of the location: all that an event has whose fields are its message.
+    let most = if settings.location { 5 } else { 2 };
+    let mut attributes = Items::with_capacity(alloc, most)?;
     add_level(alloc, &mut attributes, true, callsite)?;
     add_target(alloc, &mut attributes, true, callsite)?;
     Ok(Event {
@@ -247,14 +249,14 @@ fn tell_special(
         });
     }
     let key = if settings.error_events_to_exceptions {
-        event.name = Text::from_word(alloc, Word::Exception);
+        event.name = Text::from_word(Word::Exception);
         Word::ExceptionMessage
     } else {
         Word::Error
     };
     add_text(
         &mut event.attributes,
-        Text::from_word(alloc, key),
+        Text::from_word(key),
         description,
     )
 }

@@ -16,21 +16,31 @@ use trace_base::callsite::Callsite;
 use trace_base::lane::Lane;
 
 /// The first attributes of a span of a callsite that is made on a lane: location, lane, level and target, each if it is
-/// wanted and known; those that `tracing_opentelemetry::layer` adds in `on_new_span`.
+/// wanted and known; those that `tracing_opentelemetry::layer` adds in `on_new_span`. They come in a list with room for
+/// `more` and for the times of a close.
 pub fn first_attributes(
     alloc: Global,
     callsite: &Callsite,
     lane: &Lane,
     settings: &LayerSettings,
+    more: usize,
 ) -> Result<Items<KeyValue>, Memory>
     ensures { IfOk result (λ attributes. attributes ≡ first_attributes callsite.now lane.now settings.now) }
 {
-    let mut attributes = Items::new(alloc);
+    let mut attributes = Items::with_capacity(alloc, most(settings).saturating_add(more))?;
     add_location(alloc, &mut attributes, settings.location, callsite)?;
     add_lane(alloc, &mut attributes, settings.threads, lane)?;
     add_level(alloc, &mut attributes, settings.level, callsite)?;
     add_target(alloc, &mut attributes, settings.target, callsite)?;
     Ok(attributes)
+}
+
+// How many they are at most, with the times of a close.
+fn most(settings: &LayerSettings) -> usize {
+    let location = if settings.location { 3 } else { 0 };
+    let lane = if settings.threads { 2 } else { 0 };
+    let times = if settings.inactivity { 2 } else { 0 };
+    location + lane + usize::from(settings.level) + usize::from(settings.target) + times
 }
 
 fn add_lane(
@@ -43,7 +53,7 @@ fn add_lane(
 {
     if is_wanted {
         attributes.push(KeyValue {
-            key: Text::from_word(alloc, Word::ThreadId),
+            key: Text::from_word(Word::ThreadId),
             value: OtelValue::I64(lane.id.min(GREATEST) as i64),
         })?;
         add_known_text(alloc, attributes, Word::ThreadName, &lane.name)?;
@@ -61,8 +71,8 @@ pub(crate) fn add_level(
     ensures { OnOk result (attributes.new ≡ attributes.old ++ if_wanted is_wanted (level_attribute callsite.now)) }
 {
     if is_wanted {
-        let level = Text::from_word(alloc, callsite.level.word());
-        add_text(attributes, Text::from_word(alloc, Word::Level), level)?;
+        let level = Text::from_word(callsite.level.word());
+        add_text(attributes, Text::from_word(Word::Level), level)?;
     }
     Ok(())
 }
@@ -79,7 +89,7 @@ pub(crate) fn add_target(
     if is_wanted {
         add_text(
             attributes,
-            Text::from_word(alloc, Word::Target),
+            Text::from_word(Word::Target),
             callsite.target.clone()?,
         )?;
     }

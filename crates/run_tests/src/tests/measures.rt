@@ -9,7 +9,7 @@ use trace_lines::{measure_line, measures_end_line};
 fn line<R: AllocGlobal>(rt: &R) -> Result<String, Fail> {
     let queue = Measure {
         kind: MetricKind::GaugeI64,
-        name: Text::from(String::from_str(rt.alloc(), "queue")?),
+        name: Text::from_str(rt.alloc(), "queue")?,
         value: -3,
         attributes: Items::new(rt.alloc()),
     };

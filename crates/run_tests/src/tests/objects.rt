@@ -16,7 +16,7 @@ const REST: &str =
     r#""links":[{"attributes":[],"span":"000000000000000a","trace":"00000000000000010000000000000002"}],"name":"s","parent":"00000000000000ff","record":3,"span":"0000000000000005","start":9,"status":{"error":"late"},"trace":"00000000000000000000000000000004"}"#;
 
 fn text<R: AllocGlobal>(rt: &R, text: &str) -> Result<Text, Fail> {
-    Ok(Text::from(String::from_str(rt.alloc(), text)?))
+    Ok(Text::from_str(rt.alloc(), text)?)
 }
 
 // A record with attributes of each kind, an event, a link and an error.

@@ -39,7 +39,7 @@ fn plain_value(alloc: Global, plain: Plain<'_>) -> Result<OtelValue, LineError>
             Err(_) => Err(LineError::BadLine),
         },
         Plain::Below(number) => Ok(OtelValue::I64(number)),
-        Plain::Text(words) => Ok(OtelValue::Str(Text::from(String::from_str(alloc, words)?))),
+        Plain::Text(words) => Ok(OtelValue::Str(Text::from_str(alloc, words)?)),
         Plain::Flag(flag) => Ok(OtelValue::Bool(flag)),
         Plain::Nested(_) => list_value(alloc, Value::Plain(plain)),
     }

@@ -142,7 +142,7 @@ pub(crate) fn plain_value(alloc: Global, plain: Plain<'_>) -> Result<FieldValue,
     match plain {
         Plain::Whole(number) => Ok(whole_value(number)),
         Plain::Below(number) => Ok(FieldValue::I64(number)),
-        Plain::Text(words) => Ok(FieldValue::Str(Text::from(String::from_str(alloc, words)?))),
+        Plain::Text(words) => Ok(FieldValue::Str(Text::from_str(alloc, words)?)),
         Plain::Flag(flag) => Ok(FieldValue::Bool(flag)),
         Plain::Nested(words) => match plain_u64(words.as_bytes()) {
             Some(whole) => Ok(FieldValue::U64(whole)),

@@ -80,7 +80,7 @@ fn keep(
     ensures { IfSome result (λ _. option_map (λ value. fields.old.items ++ (name.now, value) ∷ [])
         (value_spelled (plain_data plain.entry)) ≡ Some fields.new.items) }
 {
-    let name = Text::from(String::from_str(alloc, name).ok()?);
+    let name = Text::from_str(alloc, name).ok()?;
     let value = plain_value(alloc, plain).ok()?;
     fields.reserve(1).ok()?;
     fields.push_reserved((name, value));

@@ -62,7 +62,7 @@ impl<'a> Value<'a> {
     {
         match self {
             Value::Plain(plain) => match plain.word() {
-                Some(words) => Ok(Text::from(String::from_str(alloc, words)?)),
+                Some(words) => Ok(Text::from_str(alloc, words)?),
                 None => Err(LineError::BadLine),
             },
             Value::Tree(Json::String(text)) => Ok(Text::from(text)),
