@@ -56,12 +56,9 @@ pub(crate) fn make<S: Subscriber>(
         (Some dispatch) result }
 {
     let (subscriber, callsite) = world.subscriber_and_site(dispatch, site);
-    let current = subscriber.current_id(lane.id);
-    let id = subscriber.new_span(lane, at, parent, current, site, callsite, values)?;
-    Ok(Span {
-        held: Some((dispatch, id)),
-        site: Some(site),
-    })
+    Span::make_by(
+        dispatch, subscriber, lane, at, parent, site, callsite, values,
+    )
 }
 
 // A handle of a lane's current span, if there is one.

@@ -1,13 +1,13 @@
 //! Handles of spans.
-ghost use Rattle.std.specs.Prelude.{◌≡◌, ◌<◌, ◌↔◌, ℕ, length, is_some, Option, Some, None, IfSome, IsTrue, option_map};
+ghost use Rattle.std.specs.Prelude.{◌≡◌, ◌<◌, ◌↔◌, ℕ, length, is_some, Option, Some, None, IfOk, OnErr, IfSome, IsTrue, option_map};
 ghost use Rattle.trace_base.specs.declared.span.Parent.TheVariants as parent;
 ghost use Rattle.trace_base.specs.Gate.{IsInWorld, dispatch_on};
 ghost use Rattle.trace_base.specs.Calls.{CloneSpan};
-ghost use Rattle.trace_base.specs.Conditions.{HasFewHolds, HasFewHoldsAbove};
+ghost use Rattle.trace_base.specs.Conditions.{AreFew, HasFewHolds, HasFewHoldsAbove, IsLiveParent};
 ghost use Rattle.span_handles.specs.Worlds.{Has, Chain};
 ghost use Rattle.span_handles.specs.Handles.{Handle, no_handle, id_of, same_held, IsKnown, HasOn, HasIf, IsSite, IsOf, ReplacedOn, MayMake, MayMakeIf, place_under, IsCurrent, callsite_in, field_in, ClosesOn};
 ghost use Rattle.span_handles.specs.Knowing.{KeepsHandles, KeepsOthers, GainsOne, LosesOne};
-ghost use Rattle.span_handles.specs.Makers.{MakesHandle};
+ghost use Rattle.span_handles.specs.Makers.{MakesBy, MakesHandle};
 
 use crate::calls::{current_in, hold, make, make_if, release};
 use otel_base::memory::Memory;
@@ -170,6 +170,34 @@ impl Span {
             values.now (Some dispatch) result }
     {
         make(world, dispatch, lane, at, parent.as_parent(), site, values)
+    }
+
+    /// As `make`, by a subscriber and at a callsite that were looked up, as `World::interest` does: the caller has asked
+    /// `passes`.
+    pub fn make_by<S: Subscriber>(
+        dispatch: Dispatch,
+        subscriber: &mut S,
+        lane: &Lane,
+        at: u64,
+        parent: Parent,
+        site: SiteId,
+        callsite: &Callsite,
+        values: &ValueSet,
+    ) -> Result<Span, Memory>
+        requires whole { S.is_whole subscriber.old }
+        requires live { IsLiveParent (S.spans subscriber.old).made parent }
+        requires few { AreFew (S.spans subscriber.old) }
+        requires few_holds { HasFewHoldsAbove (S.spans subscriber.old) lane.now.id parent }
+        ensures ok { IfOk result (MakesBy S.spans S.does subscriber.old subscriber.new lane.now at parent site
+            callsite.now values.now dispatch) }
+        ensures memory_leaves { OnErr result (S.same subscriber.old subscriber.new) }
+    {
+        let current = subscriber.current_id(lane.id);
+        let id = subscriber.new_span(lane, at, parent, current, site, callsite, values)?;
+        Ok(Span {
+            held: Some((dispatch, id)),
+            site: Some(site),
+        })
     }
 
     /// A disabled handle with a callsite; `Span::new_disabled`.

@@ -55,7 +55,7 @@ pub use Rattle.span_script.specs.Effects.{effect_of, effect_of_call, is_bad_mome
 pub use Rattle.span_script.specs.Fields.{Fields, all_values, declared_by, declared_value, declares, values_by, values_of}
 pub use Rattle.span_script.specs.Fits.{AllContextsFit, ContextSlots, ContextsFit, FilteringFits, HaveOwnNumbers, IsKept, IsLaterThanParent, IsRefusal, IsScope, LaneValue, LanesFit, MadeFit, Parts, RecordingFits, Served, ServedByHistory, Serves, ServesResolved, ShownFilter, StandsFor, State, Views, counter_by, first_of, guard_of, held_by, held_of, is_for_memory, kept_on, lane_at, lane_of, lane_value, no_lane_value, numbers_by, numbers_of, parent_in, shown_of, site_by, stack_views, state_of, tokens_of}
 pub use Rattle.span_script.specs.Setups.{HasOwnIds, Setup, event_site, id_at, if_event, if_span, name_at, span_site}
-pub use Rattle.span_script.specs.Slots.{LetsThrough, MakesOnly, TellsOnly, is_named, is_shared_by, names_handle, parent_for}
+pub use Rattle.span_script.specs.Slots.{AreNamed, LetsThrough, MakesNamed, MakesOnly, TellsNamed, TellsOnly, is_named, is_shared_by, named_values, names_handle, parent_for}
 pub use Rattle.span_script.specs.SubscriberLaws.{AddsMeasures, Aside, AsksLaw, CallsLaw, ChainsLaw, SameLaw, aside_in}
 pub use Rattle.span_script.specs.Tables.{Attached, Effect, EntryOf, FilterHook, GuardOf, History, HookClose, HookEnter, HookExit, HookNew, HookRecord, MadeSpan, Owner, Scope, ScopeGuard, SpanOp, Tables, after_effect, either_after, hooks_since, is_attached_by, is_owner, lanes_with, lanes_with_entry, lanes_with_exit, made_of, newer_text, no_made_span, no_tables, nothing_recorded, open_part, own_span, quiet_effect, recorded_by, records_of, scope_of, site_of, slot_at, slots_after, spend, tables, with_attached, with_detached, with_either, with_item, with_span_made}
 pub use Rattle.span_script.specs.calls.Contexts.{attach_effect, context_effect, detach_effect, own_context}

@@ -1,15 +1,16 @@
 //! What a caller over a world with the stack reads off each call. Each law is a function that does nothing.
-ghost use Rattle.std.specs.Prelude.{◌≡◌, ◌++◌, ℕ, drop, length, None, Some, slice_get};
+ghost use Rattle.std.specs.Prelude.{◌≡◌, ◌++◌, ℕ, Bool, drop, length, None, Some, slice_get};
 ghost use Rattle.std.specs.Option.{option_map};
 ghost use Rattle.trace_base.specs.declared.callsite.Callsite.{Callsite};
 ghost use Rattle.trace_base.specs.declared.callsite.Kind.TheVariants as kind;
 ghost use Rattle.trace_base.specs.Calls.{SubscriberCall};
-ghost use Rattle.span_handles.specs.Worlds.{Replaced, Alike, Chain, spans_in};
+ghost use Rattle.trace_base.specs.Gate.{Admits};
+ghost use Rattle.span_handles.specs.Worlds.{Has, Replaced, Alike, Chain, spans_in};
 ghost use Rattle.otel_layer.specs.Parts.{PartCall};
 ghost use Rattle.otel_layer.specs.Table.{data_at};
 ghost use Rattle.otel_layer.specs.Recording.{RecordsChain, RecordsPart};
 ghost use Rattle.env_directives.specs.orders.Choice.{admits};
-ghost use Rattle.env_filter.specs.Filtering.{FilterState, IsNewFilter, enables_in};
+ghost use Rattle.env_filter.specs.Filtering.{FilterState, IsNewFilter, enables_in, is_admitted};
 ghost use Rattle.span_stack.specs.Counting.{RecordsCallBy};
 ghost use Rattle.span_stack.specs.Filtered.{filter_after, FiltersChain};
 ghost use Rattle.span_stack.specs.Measured.{measured_by};
@@ -182,6 +183,15 @@ pub fn takes_measure()
     ensures others { (old new : StackWorlds) (dispatch : ℕ) → Replaced WithoutMeasure old new dispatch
         → Alike ⟦<Stack as Subscriber>⟧.spans ⟦<Stack as Subscriber>⟧.attaches ⟦<Stack as Subscriber>⟧.kept
         ⟦<Stack as Subscriber>⟧.is_whole old new dispatch }
+{}
+
+/// The test of the gate by the cached interests is that of the filter in place.
+pub fn passes()
+    ensures { (world : StackWorlds) (dispatch lane site : ℕ) (answer : Bool)
+        → Admits ⟦<Stack as Subscriber>⟧.hint ⟦<Stack as Subscriber>⟧.enables world lane site (Some dispatch) answer
+        → HasCurrentInterests world → Has ⟦<Stack as Subscriber>⟧.is_whole world dispatch
+        → (f : FilterState) (c : Callsite) → filter_in world dispatch ≡ Some f
+        → slice_get world.sites site ≡ Some c → answer ≡ is_admitted f lane c }
 {}
 
 /// A filter that was just made, and is told of nothing, takes the events that its static directives let through.

@@ -31,4 +31,4 @@ pub use level::{Level, LevelFilter, ParseLevelError, ParseLevelFilterError, STAT
 pub use no_subscriber::NoSubscriber;
 pub use span::{AsId, Closing, Id, Parent};
 pub use subscriber::{Interest, Subscriber};
-pub use world::World;
+pub use world::{World, passes};

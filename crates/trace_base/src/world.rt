@@ -1,6 +1,6 @@
 //! Worlds: callsites, subscribers, and the gate between them.
 ghost use Rattle.std.specs.Prelude.{◌≡◌, ◌<◌, ◌≤◌, ℕ, Bool, Option, List, [], ◌∷◌, ◌++◌, map, take, length, Some, None, OnOk, OnErr, IfSome, IfOk, IfErr, slice_get};
-ghost use Rattle.trace_base.specs.Gate.{Worlds, gate, is_hinted, dispatch_on, Admits, AdmitsFresh, IsFresh, AreSame, HasRows, IsInWorld, interests_in, interests_of_sites};
+ghost use Rattle.trace_base.specs.Gate.{Worlds, gate, is_hinted, dispatch_on, cached_at, Admits, AdmitsFresh, IsFresh, AreSame, HasRows, IsInWorld, interests_in, interests_of_sites};
 ghost use Rattle.std.specs.Borrow.{sem};
 ghost use Rattle.trace_base.specs.Lending.{LendsSubscriber};
 
@@ -169,6 +169,22 @@ impl<S: Subscriber> World<S> {
         )
     }
 
+    /// A subscriber, to be changed, and a callsite beside it with the interest that was cached: what is admitted by `passes`
+    /// is made of these without a second look-up.
+    pub fn interest(&mut self, dispatch: Dispatch, site: SiteId) -> (&mut S, &Callsite, Interest)
+        requires there { dispatch < length self.old.subscribers }
+        requires site { site < length self.old.sites }
+        ensures* lends { sem 𝓛 (LendsSubscriber S.row self.entry dispatch result.0) }
+        ensures value { slice_get self.old.subscribers dispatch ≡ Some result.0.now }
+        ensures callsite { slice_get self.old.sites site ≡ Some result.1.now }
+        ensures interest { result.2 ≡ cached_at self.old.cached dispatch site }
+    {
+        let at = dispatch.number() as usize;
+        let place = site.number() as usize;
+        let interest = self.cached[place].interests[at];
+        (&mut self.subscribers[at], &self.sites[place], interest)
+    }
+
     /// Asks all subscribers for their interests in all callsites again;
     /// `tracing_core::callsite::rebuild_interest_cache`. After `Memory` the interests stand as before.
     pub fn rebuild_interest(&mut self) -> Result<(), Memory>
@@ -249,8 +265,13 @@ fn is_hinted(hint: Option<LevelFilter>, level: Level) -> bool
     }
 }
 
-// The gate.
-fn passes<S: Subscriber>(interest: Interest, subscriber: &S, lane: u64, callsite: &Callsite) -> bool
+/// The test of `World::admits`, for who has looked up the subscriber that serves a lane and a callsite with its interest.
+pub fn passes<S: Subscriber>(
+    interest: Interest,
+    subscriber: &S,
+    lane: u64,
+    callsite: &Callsite,
+) -> bool
     ensures { result ≡ gate interest (S.hint subscriber.now) (S.enables subscriber.now lane callsite.now) callsite.now.level }
 {
     match interest {

@@ -3,7 +3,7 @@ pub use Rattle.span_handles.specs.Handles.{HasOn, Held, place_under}
 pub use Rattle.env_filter.specs.Filtering.{plain_filter}
 pub use Rattle.span_stack.specs.Reading.{StackWorlds, stack_interest}
 pub use Rattle.span_script.proofs.entries.EntriesLemmas.{by_view_opens, by_view_opens_refused, entered_is, entered_ok, entered_refused, keeps_entered, keeps_exited, serves_entered, serves_exited}
-pub use Rattle.span_script.proofs.fields.FieldsLemmas.{all_given, keeps_asked, keeps_recorded, needs_site, not_given, refuses_event, refuses_event_place, refuses_event_site, refuses_new, refuses_place, refuses_span_site, serves_asked, serves_recorded}
+pub use Rattle.span_script.proofs.fields.FieldsLemmas.{all_given, keeps_asked, keeps_recorded, needs_site, not_given, refuses_event, refuses_new, serves_asked, serves_recorded}
 pub use Rattle.span_script.proofs.filter.CounterLemmas.{stack_same}
 pub use Rattle.span_script.proofs.filter.FilterLemmas.{stack_shows}
 pub use Rattle.span_script.proofs.filter.GateLemmas.{is_current}
@@ -14,16 +14,16 @@ pub use Rattle.span_script.proofs.runs.RefusalsLemmas.{effect_is, refuses_unknow
 pub use Rattle.span_script.proofs.runs.RunLemmas.{Reached, opened_outcome, opened_replies, outcome_is, reached_next}
 pub use Rattle.span_script.proofs.runs.TakeLemmas.{kept_taken, oldest_by, state_taken}
 pub use Rattle.span_script.proofs.spans.CurrentsLemmas.{keeps_current, keeps_exchanged, refuses_in_use, serves_current, serves_exchanged}
-pub use Rattle.span_script.proofs.spans.MakingsLemmas.{keeps_new, made_alike, made_alike_own, make_may, make_may_own, serves_new, tell_live}
+pub use Rattle.span_script.proofs.spans.MakingsLemmas.{keeps_new, made_alike, make_may, make_may_named, serves_new, tell_live}
 pub use Rattle.span_script.proofs.spans.OpenCountLemmas.{counts_held, counts_none, open_counted}
 pub use Rattle.span_script.proofs.steps.BalanceLemmas.{set_none}
 pub use Rattle.span_script.proofs.steps.LanesLemmas.{has_own, on_err, own_serves, own_lane, own_there, refused_kept, refused_state, same_kept, same_state, within_view}
 pub use Rattle.span_script.proofs.steps.RequiresLemmas.{exit_may, exit_still, guard_entry, guard_named, needs_few, needs_known, needs_there, needs_whole}
-pub use Rattle.span_script.proofs.steps.ServesLemmas.{by_view, by_view_refused, serves_refusal}
+pub use Rattle.span_script.proofs.steps.ServesLemmas.{by_view, by_view_error, by_view_refused, serves_refusal}
 pub use Rattle.span_script.proofs.steps.SlotsLemmas.{found_parent}
 pub use Rattle.span_script.specs.Fields.{Fields, all_values, declared_value}
 pub use Rattle.span_script.specs.Fits.{StandsFor, State, held_by, held_of, stack_views, without_first, without_first_measure}
 pub use Rattle.span_script.specs.Setups.{event_site, id_at, setup_by, span_site}
-pub use Rattle.span_script.specs.Slots.{names_handle, parent_for}
+pub use Rattle.span_script.specs.Slots.{named_values, names_handle, parent_for}
 pub use Rattle.span_script.specs.Tables.{Scope, Tables, slot_at, tables}
 pub use Rattle.trace_pipeline.specs.Parts.{parts_of}

@@ -8,7 +8,7 @@ use Rattle.span_script.specs.calls.Here.{Resolved}
 use Rattle.span_script.specs.Effects.{effect_of}
 use Rattle.span_script.specs.calls.Spans.{open_spans}
 use Rattle.trace_lines.specs.declared.write.summary.Summary.{Summary}
-use Rattle.trace_run.specs.declared.make.Totals.{Totals}
+use Rattle.trace_run.specs.declared.script.make.Totals.{Totals}
 use Rattle.trace_records.proofs.FollowingLemmas.{stands_beside}
 use Rattle.span_script.proofs.runs.RunLemmas.{records_push}
 

@@ -11,7 +11,7 @@ use Rattle.trace_lines.specs.Replay.{history_after, busy_of, event_count, summar
 use Rattle.trace_lines.specs.Report.{IsValid}
 use Rattle.trace_lines.specs.declared.write.summary.Summary.{Summary}
 use Rattle.trace_run.specs.Commands.Make.{generated_line}
-use Rattle.trace_run.specs.declared.make.Totals.{Totals}
+use Rattle.trace_run.specs.declared.script.make.Totals.{Totals}
 
 -- The script is valid, each of its requests has an effect, and a summary is that of these effects.
 pub record SumsUp (rounds : ℕ) (summary : Summary) : Type 0 where

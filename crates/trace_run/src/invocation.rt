@@ -1,11 +1,9 @@
 //! What the words of an invocation ask for.
 ghost use Rattle.std.specs.Prelude.{◌≡◌, map, string_bytes};
-ghost use Rattle.trace_run.specs.Words.{number_up_to, invocation_by, invocation_with, invocation_of};
+ghost use Rattle.trace_run.specs.Commands.{number_up_to, invocation_by, invocation_with, invocation_of};
 
 use crate::batch::MAX_BATCH_ITEMS;
-use crate::script::Command;
-use trace_lines::Signal;
-use trace_lines::generated::MOST_ROUNDS;
+use crate::script::{Command, command_by, command_with};
 use trace_lines::read::u128_of;
 
 /// What an invocation of the program asks for.
@@ -34,19 +32,13 @@ pub fn invocation_of(words: &[String]) -> Option<Invocation>
 fn invocation_by(word: &str) -> Option<Invocation>
     ensures { result ≡ invocation_by word.now }
 {
-    let command = match word {
-        "run" => Command::Run {
-            signal: Signal::Traces,
-        },
-        "metrics" => Command::Run {
-            signal: Signal::Metrics,
-        },
-        "tree" => Command::Tree,
-        "tasks" => Command::Tasks,
-        "threads" => return Some(Invocation::Threads),
-        _ => return None,
-    };
-    Some(Invocation::Script { command })
+    match word {
+        "threads" => Some(Invocation::Threads),
+        _ => {
+            let command = command_by(word)?;
+            Some(Invocation::Script { command })
+        }
+    }
 }
 
 // What a word asks for with a number.
@@ -54,21 +46,19 @@ fn invocation_with(word: &str, number: &str) -> Option<Invocation>
     ensures { result ≡ invocation_with word.now number.now }
 {
     match word {
-        "make" => {
-            let rounds = number_up_to(MOST_ROUNDS, number)?;
-            let command = Command::Make { rounds };
-            Some(Invocation::Script { command })
-        }
         "batch" => {
             let size = number_up_to(MAX_BATCH_ITEMS, number)?;
             Some(Invocation::Batch { size })
         }
-        _ => None,
+        _ => {
+            let command = command_with(word, number)?;
+            Some(Invocation::Script { command })
+        }
     }
 }
 
-// A number from 1 to a greatest one, by its decimal.
-fn number_up_to(most: u64, word: &str) -> Option<u64>
+/// A number from 1 to a greatest one, by its decimal.
+pub(crate) fn number_up_to(most: u64, word: &str) -> Option<u64>
     ensures { result ≡ number_up_to most word.now }
 {
     let number = u128_of(word)?;

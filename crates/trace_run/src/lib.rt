@@ -1,13 +1,11 @@
 //! What the program carries out: commands over any source and sink.
 //!
-//! All turns on `top`, which reads the words and calls what they ask for. How lines come and answers go is `trace_stream`'s.
+//! All turns on `top`, which reads the words and calls what they ask for; which word is which command stands in `script`. How
+//! lines come and answers go is `trace_stream`'s.
 #![tactic(auto)]
 
 pub mod batch;
 pub mod invocation;
-mod make;
 pub mod script;
-pub mod tasks;
 pub mod threads;
 pub mod top;
-pub mod tree;

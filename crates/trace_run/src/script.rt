@@ -1,17 +1,23 @@
-//! The commands of the program, over any source and any sink.
+//! The commands of the program that need no threads, over any source and any sink: by which word each is asked for, and who
+//! carries it out.
 ghost use Rattle.std.specs.Prelude.{◌≡◌, false};
 ghost use Rattle.trace_stream.specs.Carries.{Carries, StopsAtFault};
-ghost use Rattle.trace_run.specs.Commands.{meaning_of};
-ghost use Rattle.trace_run.specs.Renames.{RenamesIds};
 ghost use Rattle.trace_stream.specs.Streams.{StopsReading, StopsWriting, streams_of};
+ghost use Rattle.trace_run.specs.Commands.{command_by, command_with, meaning_of};
+ghost use Rattle.trace_run.specs.Renames.{RenamesIds};
 ghost use Rattle.trace_run.specs.declared.invocation.Invocation.TheVariants.{Script};
 
-use crate::make::make;
-use crate::tasks::Tasks;
-use crate::tree::Tree;
+mod make;
+pub mod tasks;
+pub mod tree;
+
+use crate::invocation::number_up_to;
+use crate::script::tasks::Tasks;
+use crate::script::tree::Tree;
 use std::alloc::{AllocGlobal, Global};
 use std::random::RandomSource;
 use trace_lines::Signal;
+use trace_lines::generated::MOST_ROUNDS;
 use trace_stream::all_lines::answer_all;
 use trace_stream::run::run;
 use trace_stream::sink::Sink;
@@ -29,6 +35,36 @@ pub enum Command {
     Tree,
     /// To run a script of tasks, and to tell the finished spans of these.
     Tasks,
+}
+
+/// The command that a word alone asks for, if it asks for one.
+pub(crate) fn command_by(word: &str) -> Option<Command>
+    ensures { result ≡ command_by word.now }
+{
+    match word {
+        "run" => Some(Command::Run {
+            signal: Signal::Traces,
+        }),
+        "metrics" => Some(Command::Run {
+            signal: Signal::Metrics,
+        }),
+        "tree" => Some(Command::Tree),
+        "tasks" => Some(Command::Tasks),
+        _ => None,
+    }
+}
+
+/// The command that a word asks for with a number, if it asks for one.
+pub(crate) fn command_with(word: &str, number: &str) -> Option<Command>
+    ensures { result ≡ command_with word.now number.now }
+{
+    match word {
+        "make" => {
+            let rounds = number_up_to(MOST_ROUNDS, number)?;
+            Some(Command::Make { rounds })
+        }
+        _ => None,
+    }
 }
 
 /// Carries a command out, which makes at most 50,000 rounds. A line that is refused is told before a fault of the source
@@ -52,7 +88,7 @@ pub fn run_script<H: RandomSource + AllocGlobal, R: Source, W: Sink>(
 {
     match command {
         Command::Run { signal } => run(alloc, signal, source, sink),
-        Command::Make { rounds } => make(alloc, rounds, sink),
+        Command::Make { rounds } => make::make(alloc, rounds, sink),
         Command::Tree => answer_all(alloc, &mut Tree, source, sink),
         Command::Tasks => answer_all(alloc, &mut Tasks { rt }, source, sink),
     }

@@ -1,10 +1,9 @@
 //! The entry point of the program, over any source and any sink.
 ghost use Rattle.std.specs.Prelude.{◌≡◌, ◌↔◌, map, false, None, IfSome, string_bytes};
 ghost use Rattle.trace_stream.specs.Carries.{Carries, StopsAtFault};
-ghost use Rattle.trace_run.specs.Commands.{meaning_by};
+ghost use Rattle.trace_run.specs.Commands.{invocation_of, meaning_by};
 ghost use Rattle.trace_run.specs.Renames.{RenamesIds};
 ghost use Rattle.trace_stream.specs.Streams.{StopsReading, StopsWriting, streams_of};
-ghost use Rattle.trace_run.specs.Words.{invocation_of};
 
 use crate::batch::run_batch;
 use crate::invocation::{Invocation, invocation_of};

@@ -1,12 +1,11 @@
 -- Ops on spans that leave all else as it is, served; and events.
-use Rattle.span_script.proofs.Common.{length-map, Measure, Token, Recording, no_recording, with_start, with_applied, Lane, Callsite, Kind, ValueSet, Parent, Worlds, FilterState, IsNewFilter, enables_in, Spans, span_at, entries_on, parent_on, SubscriberCall, member_of, spans_in, kept_in, Has, Reply, RequestParent, id_at, if_event, event_site, Scope, SpanOp, FilterHook, Effect, Tables, own_span, recorded_by, quiet_effect, Fields, all_values, text_filter, here_at, Resolved, ◌>>=◌, need, ops_on, effect_of_call, if_enabled, event_ops, event_effect, after_filter_hook, scope_at, parent_for, TellsOnly, LetsThrough, Views, shown_of, State, state_of, lane_value, held_by, StandsFor, LanesFit, IsKept, Served, Parts, with_counted, with_event_by, AddsMeasures, CallsLaw, aside_in}
+use Rattle.span_script.proofs.Common.{length-map, Measure, Token, Recording, no_recording, with_start, with_applied, Lane, Callsite, Kind, ValueSet, Parent, Worlds, FilterState, IsNewFilter, enables_in, Spans, span_at, entries_on, parent_on, SubscriberCall, member_of, spans_in, kept_in, Has, Reply, RequestParent, id_at, if_event, event_site, Scope, SpanOp, FilterHook, Effect, Tables, own_span, recorded_by, quiet_effect, Fields, all_values, text_filter, here_at, Resolved, ◌>>=◌, need, ops_on, effect_of_call, if_enabled, event_ops, event_effect, after_filter_hook, scope_at, parent_for, AreNamed, TellsNamed, TellsOnly, LetsThrough, Views, shown_of, State, state_of, lane_value, held_by, StandsFor, LanesFit, IsKept, Served, Parts, with_counted, with_event_by, AddsMeasures, CallsLaw, aside_in}
 use Rattle.std.proofs.Common.{◌≡◌, ℕ, ◌<◌, List, [], ◌∷◌, length, Bool, true, false, fold, get_or, Option, Some, None, Ok, option_map, map, refl, sym, ap, subst, ◌∙◌, arith, slice_get, option_and_then, IfSome}
 use Rattle.otel_state.specs.fields.EventFields.{event_of}
 use Rattle.otel_state.specs.declared.op.Op.TheVariants as ops
 use Rattle.otel_metrics.specs.Measures.{measures}
 use Rattle.env_directives.specs.orders.Choice.{admits}
 use Rattle.trace_base.specs.declared.callsite.Kind.TheVariants as kinds
-use Rattle.trace_base.specs.Gate.{dispatch_on}
 use Rattle.span_script.specs.declared.reply.Reply.TheVariants as reply
 use Rattle.span_script.specs.declared.request.Call.TheVariants as call
 use Rattle.span_script.specs.declared.reply.What.TheVariants as what
@@ -170,11 +169,23 @@ module _ {S : Type 0} (spans : S → Spans) (views : Views S) (attaches : S → 
 
   module _ (does : S → SubscriberCall → S → Type 0) (law : CallsLaw spans views attaches kept is_whole does)
       (at place : ℕ) where
-    module _ (under : RequestParent) (p : Parent) (found : parent_for (map held_by parts.handles) under ≡ Some p) (found_site site : ℕ) (sited_is : found_site ≡ site) (given : Callsite) (evented : event_site parts.world.sites site ≡ Some given)
-        (fields : Fields) (values : ValueSet) (valued : all_values given fields ≡ Some values)
-        (before : Lane) (within : place < length parts.lanes) (here : before ≡ get_or parts.lanes place before) (enabled : Bool) (gate : LetsThrough (member_of views.filtered None parts.world parts.dispatch) parts.world.sites before.id found_site enabled) (own : before.default ≡ Some parts.dispatch) (did : TellsOnly does enabled parts.world new before at p found_site values (dispatch_on before.default parts.world.global)) (decides : Decides) where
-      same_site : (c : Callsite) → slice_get parts.world.sites found_site ≡ Some c → c ≡ given
-      same_site c is = the_callsite c given (sym is ∙ ap (λ (k : ℕ). slice_get parts.world.sites k) sited_is ∙ site_is parts.world.sites site given evented)
+    module _ (under : RequestParent) (parent : Option Parent) (found : parent ≡ parent_for (map held_by parts.handles) under) (site : ℕ) (fields : Fields)
+        (before : Lane) (within : place < length parts.lanes) (here : before ≡ get_or parts.lanes place before) (enabled : Bool) (gate : LetsThrough (member_of views.filtered None parts.world parts.dispatch) parts.world.sites before.id site enabled)
+        (did : TellsNamed does parts.world new before at parent site fields parts.dispatch enabled) (decides : Decides) where
+      abbrev named : AreNamed (event_site parts.world.sites site) parent fields
+      named = did.named
+
+      abbrev given : Callsite
+      given = named.given
+
+      abbrev p : Parent
+      p = named.under
+
+      abbrev values : ValueSet
+      values = named.values
+
+      same_site : (c : Callsite) → slice_get parts.world.sites site ≡ Some c → c ≡ given
+      same_site c is = the_callsite c given (sym is ∙ site_is parts.world.sites site given named.given_is)
 
       -- the ops that it is, on the own span of the scope that it reaches, and its measures
       abbrev ops_of : Bool → Scope → List SpanOp
@@ -183,7 +194,7 @@ module _ {S : Type 0} (spans : S → Spans) (views : Views S) (attaches : S → 
       abbrev measures_of : Bool → List Measure
       measures_of b = if_enabled b (measures given values)
 
-      does_told : (t : Tables) → StandsFor now t → (b : Bool) → TellsOnly does b parts.world new before at p found_site values (Some parts.dispatch) → (reached : Scope) → parent_on (entries_on before.id (spans_in spans parts.world parts.dispatch).lanes) p ≡ own_span reached
+      does_told : (t : Tables) → StandsFor now t → (b : Bool) → TellsOnly does b parts.world new before at p site values parts.dispatch → (reached : Scope) → parent_on (entries_on before.id (spans_in spans parts.world parts.dispatch).lanes) p ≡ own_span reached
           → Starts at [] (ops_of b reached) [] (measures_of b)
       does_told t stands true told reached reaches =
           let rec = r in
@@ -196,7 +207,7 @@ module _ {S : Type 0} (spans : S → Spans) (views : Views S) (attaches : S → 
             sites_same = ap (λ (w : Worlds S). w.sites) told.told.others;
             recorded_is = viewed.0 ∙ ap (λ (o : Option ℕ). with_event_by counter o before.id at told.callsite values rec) reaches
                 ∙ ap (λ (c : Callsite). with_event_by counter (own_span reached) before.id at c values rec) (same_site told.callsite told.is)
-                ∙ told_is decides (map (λ (l : Lane). l.id) parts.lanes) parts.opening.counting counter stands.filtering.counter stands.filtering.new reached before.id place (id_seen parts.lanes place before within here) (let l = length-map parts.lanes (λ (x : Lane). x.id) in omega (arith, within, l)) at given (event_kind parts.world.sites site given evented) values rec;
+                ∙ told_is decides (map (λ (l : Lane). l.id) parts.lanes) parts.opening.counting counter stands.filtering.counter stands.filtering.new reached before.id place (id_seen parts.lanes place before within here) (let l = length-map parts.lanes (λ (x : Lane). x.id) in omega (arith, within, l)) at given (event_kind parts.world.sites site given named.given_is) values rec;
             filter_is = viewed.1;
             aside_is = subst (λ (c : Callsite). AddsMeasures (aside_in views parts.world parts.dispatch) (aside_in views new parts.dispatch) (measures c values)) (same_site told.callsite told.is) viewed.2;
             cached_same = ap (λ (w : Worlds S). w.cached) told.told.others;
@@ -216,16 +227,16 @@ module _ {S : Type 0} (spans : S → Spans) (views : Views S) (attaches : S → 
           let k = now in
           let id = id_at k.setup.ids place in
           let callsite = given in
-          let up = find_up k t stands.fits id under p found in
+          let up = find_up k t stands.fits id under p (sym found ∙ named.under_is) in
           let reaches = ap (λ (l : ℕ). parent_on (entries_on l (spans_in spans parts.world parts.dispatch).lanes) p) (id_seen parts.lanes place before within here) ∙ up.on in
           record {
             ops = ops_of enabled up.up;
             added = measures_of enabled;
-            done = does_told t stands enabled (subst (λ (o : Option ℕ). TellsOnly does enabled parts.world new before at p found_site values (dispatch_on o parts.world.global)) own did) up.up reaches;
-            is = ap (λ o. need what.Site o >>= (λ c. need what.Handle (scope_at t id under) >>= (λ reached. need what.Field (all_values c fields) >>= (λ v. Ok (event_effect (here_at k.setup t at place) c v reached))))) evented
+            done = does_told t stands enabled did.did up.up reaches;
+            is = ap (λ o. need what.Site o >>= (λ c. need what.Handle (scope_at t id under) >>= (λ reached. need what.Field (all_values c fields) >>= (λ v. Ok (event_effect (here_at k.setup t at place) c v reached))))) named.given_is
                 ∙ ap (λ o. need what.Handle o >>= (λ reached. need what.Field (all_values callsite fields) >>= (λ v. Ok (event_effect (here_at k.setup t at place) callsite v reached)))) up.is
-                ∙ ap (λ o. need what.Field o >>= (λ v. Ok (event_effect (here_at k.setup t at place) callsite v up.up))) valued
-                ∙ ap (λ (b : Bool). Ok (measures_then at place [] (ops_of b up.up) [] (measures_of b) (reply.Enabled b))) (answered spans views parts place before within here found_site callsite (ap (λ (n : ℕ). slice_get parts.world.sites n) sited_is ∙ site_is parts.world.sites site callsite evented) enabled gate t stands);
+                ∙ ap (λ o. need what.Field o >>= (λ v. Ok (event_effect (here_at k.setup t at place) callsite v up.up))) named.values_are
+                ∙ ap (λ (b : Bool). Ok (measures_then at place [] (ops_of b up.up) [] (measures_of b) (reply.Enabled b))) (answered spans views parts place before within here site callsite (site_is parts.world.sites site callsite named.given_is) enabled gate t stands);
           }
 
       pub serves_told : (t : Tables) → StandsFor now t → Served (effect_of_call now.setup t at place (call.Event site under fields)) t now (then at place) (reply.Enabled enabled)

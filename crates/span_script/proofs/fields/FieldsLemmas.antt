@@ -1,6 +1,6 @@
 -- Fields that are declared or not, recorded on spans, and asked for.
-use Rattle.span_script.proofs.Common.{list_all, cons_option, cond-true, cond-false, Recording, no_recording, Callsite, ValueSet, Parent, Worlds, Spans, SubscriberCall, member_of, Handle, Held, IsSite, RecordsAt, RecordsOn, callsite_in, field_at, field_in, place_under, RequestParent, id_at, span_site, event_site, Scope, Tables, slot_at, site_of, Fields, declared_value, declares, declared_by, all_values, values_of, values_by, here_at, ◌>>=◌, need, ops_effect, effect_of_call, event_effect, scope_at, new_effect, parent_for, Views, State, state_of, StandsFor, IsScope, IsKept, Served, held_by, held_of, Parts, get_or-map, CallsLaw}
-use Rattle.std.proofs.Common.{◌≡◌, ℕ, suc, ◌<◌, ◌≤◌, List, [], ◌∷◌, length, Bool, true, false, Option, Some, None, Ok, Err, option_map, map, refl, sym, ap, subst, ◌∙◌, arith, ◌&&◌, is_some, slice_get, filter_map, option_and_then}
+use Rattle.span_script.proofs.Common.{list_all, cons_option, cond-true, cond-false, Recording, no_recording, Callsite, ValueSet, Parent, Worlds, Spans, SubscriberCall, member_of, Handle, Held, IsSite, RecordsAt, RecordsOn, callsite_in, field_at, field_in, place_under, RequestParent, id_at, span_site, event_site, Scope, Tables, slot_at, site_of, Effect, Fields, declared_value, declares, declared_by, all_values, values_of, values_by, Resolved, Refusal, here_at, ◌>>=◌, need, ops_effect, effect_of_call, event_effect, scope_at, new_effect, parent_for, named_values, Views, State, state_of, StandsFor, IsScope, IsKept, Served, held_by, held_of, Parts, get_or-map, CallsLaw}
+use Rattle.std.proofs.Common.{◌≡◌, ℕ, suc, ◌<◌, ◌≤◌, List, [], ◌∷◌, length, Bool, true, false, Option, Some, None, Result, Ok, Err, option_map, map, refl, sym, ap, subst, ◌∙◌, arith, ◌&&◌, is_some, slice_get, filter_map, option_and_then}
 use Rattle.trace_base.specs.declared.field.Field.{Field}
 use Rattle.trace_base.specs.Field.{place_of, named_field}
 use Rattle.span_script.specs.declared.reply.Reply.TheVariants as reply
@@ -27,42 +27,34 @@ no_scope k t fits lane (request_parent.Under handle) is = by_slot (slot_at t.han
     by_slot None e = refl
     by_slot (Some scope) e = absurd (cc e)
 
--- a callsite that isn't there, or of the other kind
-pub refuses_span_site : (k : State) (t : Tables) → Fits k t → (at place site : ℕ) (under : RequestParent) (fields : Fields) → span_site k.setup.sites site ≡ None → effect_of_call k.setup t at place (call.New site under fields) ≡ Err (refusal.UnknownName what.Site)
-refuses_span_site k t fits at place site under fields none = ap (λ o. need what.Site o >>= (λ c. need what.Handle (scope_at t (id_at k.setup.ids place) under) >>= (λ up. need what.Field (all_values c fields) >>= (λ v. Ok (new_effect (here_at k.setup t at place) site c v under up))))) none
+-- the first that isn't there of what a new span or an event names
+module _ (k : State) (t : Tables) (fits : Fits k t) (lane : ℕ) (under : RequestParent) (parent : Option Parent) (found : parent ≡ parent_for k.handles under) (fields : Fields) (given : Refusal) (make : Callsite → Scope → ValueSet → Effect) where
+  -- the effect, or the refusal
+  abbrev made_or : Option Callsite → Option Scope → Resolved
+  made_or callsite scope = need what.Site callsite >>= (λ c. need what.Handle scope >>= (λ up. need what.Field (all_values c fields) >>= (λ v. Ok (make c up v))))
 
-pub refuses_event_site : (k : State) (t : Tables) → Fits k t → (at place site : ℕ) (under : RequestParent) (fields : Fields) → event_site k.setup.sites site ≡ None → effect_of_call k.setup t at place (call.Event site under fields) ≡ Err (refusal.UnknownName what.Site)
-refuses_event_site k t fits at place site under fields none = ap (λ o. need what.Site o >>= (λ c. need what.Handle (scope_at t (id_at k.setup.ids place) under) >>= (λ reached. need what.Field (all_values c fields) >>= (λ v. Ok (event_effect (here_at k.setup t at place) c v reached))))) none
+  the_refusal : {A : Type 0} (why : Refusal) → ◌≡◌ {A = Result A Refusal} (Err why) (Err given) → ◌≡◌ {A = Resolved} (Err why) (Err given)
+  the_refusal why e = (let same : why ≡ given = cc e in ap Err same)
 
-module _ (k : State) (t : Tables) (fits : Fits k t) (at place site : ℕ) (under : RequestParent) (fields : Fields) (c : Callsite) where
-  -- a place that isn't there
-  pub refuses_place : span_site k.setup.sites site ≡ Some c → parent_for k.handles under ≡ None → effect_of_call k.setup t at place (call.New site under fields) ≡ Err (refusal.UnknownName what.Handle)
-  refuses_place spanned gone =
-      ap (λ o. need what.Site o >>= (λ c. need what.Handle (scope_at t (id_at k.setup.ids place) under) >>= (λ up. need what.Field (all_values c fields) >>= (λ v. Ok (new_effect (here_at k.setup t at place) site c v under up))))) spanned
-      ∙ ap (λ o. need what.Handle o >>= (λ up. need what.Field (all_values c fields) >>= (λ v. Ok (new_effect (here_at k.setup t at place) site c v under up)))) (no_scope k t fits (id_at k.setup.ids place) under gone)
+  by_values : (c : Callsite) (up : Scope) (o : Option ValueSet) → need what.Field o ≡ Err given → ◌≡◌ {A = Resolved} (need what.Field o >>= (λ v. Ok (make c up v))) (Err given)
+  by_values c up None e = the_refusal (refusal.UnknownName what.Field) e
+  by_values c up (Some v) e = absurd (cc e)
 
-  pub refuses_event_place : event_site k.setup.sites site ≡ Some c → parent_for k.handles under ≡ None → effect_of_call k.setup t at place (call.Event site under fields) ≡ Err (refusal.UnknownName what.Handle)
-  refuses_event_place evented gone =
-      ap (λ o. need what.Site o >>= (λ c. need what.Handle (scope_at t (id_at k.setup.ids place) under) >>= (λ reached. need what.Field (all_values c fields) >>= (λ v. Ok (event_effect (here_at k.setup t at place) c v reached))))) evented
-      ∙ ap (λ o. need what.Handle o >>= (λ reached. need what.Field (all_values c fields) >>= (λ v. Ok (event_effect (here_at k.setup t at place) c v reached)))) (no_scope k t fits (id_at k.setup.ids place) under gone)
+  by_parent : (c : Callsite) (o : Option Parent) → parent ≡ o → named_values (Some c) o fields ≡ Err given → made_or (Some c) (scope_at t lane under) ≡ Err given
+  by_parent c None is e = ap (made_or (Some c)) (no_scope k t fits lane under (sym found ∙ is)) ∙ the_refusal (refusal.UnknownName what.Handle) e
+  by_parent c (Some p) is e = (let up = find_up k t fits lane under p (sym found ∙ is) in ap (made_or (Some c)) up.is ∙ by_values c up.up (all_values c fields) e)
 
-  -- fields that aren't declared
-  module _ (p : Parent) (found : parent_for k.handles under ≡ Some p) (none : all_values c fields ≡ None) where
-    pub refuses_new : span_site k.setup.sites site ≡ Some c → effect_of_call k.setup t at place (call.New site under fields) ≡ Err (refusal.UnknownName what.Field)
-    refuses_new spanned =
-        let id = id_at k.setup.ids place in
-        let up = find_up k t fits id under p found in
-        ap (λ o. need what.Site o >>= (λ c. need what.Handle (scope_at t id under) >>= (λ up. need what.Field (all_values c fields) >>= (λ v. Ok (new_effect (here_at k.setup t at place) site c v under up))))) spanned
-        ∙ ap (λ o. need what.Handle o >>= (λ up. need what.Field (all_values c fields) >>= (λ v. Ok (new_effect (here_at k.setup t at place) site c v under up)))) up.is
-        ∙ ap (λ o. need what.Field o >>= (λ v. Ok (new_effect (here_at k.setup t at place) site c v under up.up))) none
+  pub refuses_named : (callsite : Option Callsite) → named_values callsite parent fields ≡ Err given → made_or callsite (scope_at t lane under) ≡ Err given
+  refuses_named None e = the_refusal (refusal.UnknownName what.Site) e
+  refuses_named (Some c) e = by_parent c parent refl e
 
-    pub refuses_event : event_site k.setup.sites site ≡ Some c → effect_of_call k.setup t at place (call.Event site under fields) ≡ Err (refusal.UnknownName what.Field)
-    refuses_event evented =
-        let id = id_at k.setup.ids place in
-        let up = find_up k t fits id under p found in
-        ap (λ o. need what.Site o >>= (λ c. need what.Handle (scope_at t id under) >>= (λ reached. need what.Field (all_values c fields) >>= (λ v. Ok (event_effect (here_at k.setup t at place) c v reached))))) evented
-        ∙ ap (λ o. need what.Handle o >>= (λ reached. need what.Field (all_values c fields) >>= (λ v. Ok (event_effect (here_at k.setup t at place) c v reached)))) up.is
-        ∙ ap (λ o. need what.Field o >>= (λ v. Ok (event_effect (here_at k.setup t at place) c v up.up))) none
+pub refuses_new : (k : State) (t : Tables) → Fits k t → (at place site : ℕ) (under : RequestParent) (parent : Option Parent) → parent ≡ parent_for k.handles under → (fields : Fields) (given : Refusal) → named_values (span_site k.setup.sites site) parent fields ≡ Err given
+    → effect_of_call k.setup t at place (call.New site under fields) ≡ Err given
+refuses_new k t fits at place site under parent found fields given e = refuses_named k t fits (id_at k.setup.ids place) under parent found fields given (λ c up v. new_effect (here_at k.setup t at place) site c v under up) (span_site k.setup.sites site) e
+
+pub refuses_event : (k : State) (t : Tables) → Fits k t → (at place site : ℕ) (under : RequestParent) (parent : Option Parent) → parent ≡ parent_for k.handles under → (fields : Fields) (given : Refusal) → named_values (event_site k.setup.sites site) parent fields ≡ Err given
+    → effect_of_call k.setup t at place (call.Event site under fields) ≡ Err given
+refuses_event k t fits at place site under parent found fields given e = refuses_named k t fits (id_at k.setup.ids place) under parent found fields given (λ c up v. event_effect (here_at k.setup t at place) c v up) (event_site k.setup.sites site) e
 
 -- values are fewer than the fields exactly where one of these isn't declared
 module _ (c : Callsite) where

@@ -1,6 +1,6 @@
 -- Makings, served.
 use Rattle.std.proofs.Common.{◌≡◌, ℕ, ◌+◌, ◌<◌, ◌≤◌, ◌^◌, List, [], ◌∷◌, ◌++◌, length, Bool, true, false, fold, get_or, Option, Some, None, Ok, option_map, map, refl, sym, ap, subst, ◌∙◌, arith, inl, inr, IfSome, slice_get, ◌≢◌, option_and_then}
-use Rattle.span_script.proofs.Common.{cases_eq, cases_lt, cond-true, cond-false, length-map, length_push, map_push, get_or_past, get_or_push, get_or_append_left, Lane, Parent, Callsite, ValueSet, Worlds, FilterState, Span, Spans, no_span, span_at, with_hold_of_child, entries_on, parent_on, current_of, SubscriberCall, NewSpan, with_new_span, IsLiveParent, HasFewHolds, AreFew, HasFewHoldsAbove, OneEach, Shown, Replaced, member_of, spans_in, kept_in, no_spans, Has, Handle, Makes, MayMake, no_handle, RequestParent, Setup, id_at, name_at, if_span, span_site, Context, KeyValue, empty_context, LayerSettings, SpanData, data_at_making, after_op, Token, parent_source, lane_context, context_from, new_span_data, data_at, with_span_data, Recording, source_of, no_recording, with_start, with_starts, Kind, length_held, holds_other, Scope, MadeSpan, Attached, no_made_span, HookNew, Effect, Tables, recorded_by, open_part, own_span, made_of, here_at, ◌>>=◌, need, effect_of_call, after_filter_hook, admits_at, lane_in, new_span_data_at, context_around, parent_at, new_effect, span_effect, disabled_effect, scope_at, Fields, all_values, parent_for, MakesOnly, LetsThrough, Balanced, named_by, opened_by, Views, State, state_of, lane_value, StandsFor, MadeFit, LanesFit, IsKept, Served, IsScope, held_of, guard_of, held_by, site_by, Parts, parent_in, CallsLaw, SameLaw, aside_in}
+use Rattle.span_script.proofs.Common.{cases_eq, cases_lt, cond-true, cond-false, length-map, length_push, map_push, get_or_past, get_or_push, get_or_append_left, Lane, Parent, Callsite, ValueSet, Worlds, FilterState, Span, Spans, no_span, span_at, with_hold_of_child, entries_on, parent_on, current_of, SubscriberCall, NewSpan, with_new_span, IsLiveParent, HasFewHolds, AreFew, HasFewHoldsAbove, OneEach, Shown, Replaced, member_of, spans_in, kept_in, no_spans, Has, Handle, Makes, MayMake, no_handle, RequestParent, Setup, id_at, name_at, if_span, span_site, Context, KeyValue, empty_context, LayerSettings, SpanData, data_at_making, after_op, Token, parent_source, lane_context, context_from, new_span_data, data_at, with_span_data, Recording, source_of, no_recording, with_start, with_starts, Kind, length_held, holds_other, Scope, MadeSpan, Attached, no_made_span, HookNew, Effect, Tables, recorded_by, open_part, own_span, made_of, here_at, ◌>>=◌, need, effect_of_call, after_filter_hook, admits_at, lane_in, new_span_data_at, context_around, parent_at, new_effect, span_effect, disabled_effect, scope_at, Fields, all_values, parent_for, AreNamed, MakesNamed, MakesOnly, LetsThrough, Balanced, named_by, opened_by, Views, State, state_of, lane_value, StandsFor, MadeFit, LanesFit, IsKept, Served, IsScope, held_of, guard_of, held_by, site_by, Parts, parent_in, CallsLaw, SameLaw, aside_in}
 use Rattle.span_handles.proofs.ChangedSubscriberLemmas.{seen_before}
 use Rattle.span_script.specs.declared.reply.Reply.TheVariants as reply
 use Rattle.span_script.specs.declared.request.Call.TheVariants as call
@@ -24,9 +24,7 @@ use Rattle.span_script.proofs.steps.CallsLemmas.{has_by}
 use Rattle.span_script.proofs.steps.BalanceLemmas.{held_most}
 use Rattle.span_script.proofs.filter.FilterLemmas.{heard_none}
 use Rattle.span_script.proofs.filter.GateLemmas.{answered}
-use Rattle.trace_base.specs.Gate.{dispatch_on}
-use Rattle.span_handles.specs.Handles.{MayMakeIf, ReplacedIf}
-use Rattle.span_script.proofs.steps.LanesLemmas.{id_seen, name_seen, kept_alike, own_lane}
+use Rattle.span_script.proofs.steps.LanesLemmas.{id_seen, name_seen, kept_alike}
 use Rattle.span_script.proofs.spans.MadeSpansLemmas.{made_held}
 use Rattle.span_script.proofs.steps.ServesLemmas.{serve, known_still, all_same, kept_served}
 use Rattle.span_script.proofs.spans.ClonesLemmas.{the_scope, still_named_more}
@@ -306,37 +304,36 @@ module _ {S : Type 0} (spans : S → Spans) (views : Views S) (attaches : S → 
         keeps_declined = kept_served spans views kept is_whole parts then_parts inv _ _ (serves_declined inv.tables inv.stands) refl (ap (λ (w : Worlds S). length w.subscribers) same) (λ has. subst (λ (w : Worlds S). Has is_whole w parts.dispatch) (sym same) has)
             (subst (λ (w : Worlds S). LanesFit parts.dispatch (kept_in kept w parts.dispatch) (map lane_value parts.lanes)) (sym same) inv.lanes)
 
-    -- let through or not
-    module _ (under : RequestParent) (p : Parent) (found_site site : ℕ) (sited_is : found_site ≡ site) (given : Callsite) (spanned : span_site parts.world.sites site ≡ Some given) (found : parent_for (map held_by parts.handles) under ≡ Some p)
-        (fields : Fields) (values : ValueSet) (valued : all_values given fields ≡ Some values)
-        (made : Handle) (before : Lane) (within : place < length parts.lanes) (seen_is : before ≡ get_or parts.lanes place before) (one : hs' ≡ parts.handles ++ Some made ∷ []) where
+    -- let through or not, as a request names it
+    module _ (under : RequestParent) (parent : Option Parent) (found : parent ≡ parent_for (map held_by parts.handles) under) (site : ℕ) (fields : Fields) (made : Handle × Bool) (one : hs' ≡ parts.handles ++ Some made.0 ∷ [])
+        (before : Lane) (within : place < length parts.lanes) (seen_is : before ≡ get_or parts.lanes place before) (gate : LetsThrough (member_of views.filtered None parts.world parts.dispatch) parts.world.sites before.id site made.1)
+        (did : MakesNamed spans does parts.world new before at parent site fields parts.dispatch made) where
+      abbrev named : AreNamed (span_site parts.world.sites site) parent fields
+      named = did.named
+
+      its_parent : parent_for (map held_by parts.handles) under ≡ Some named.under
+      its_parent = sym found ∙ named.under_is
+
       -- the gate answered by the filter in force
-      its_answer : (enabled : Bool) → LetsThrough (member_of views.filtered None parts.world parts.dispatch) parts.world.sites before.id found_site enabled → (t : Tables) → StandsFor now t → admits_at now.setup t place_id given ≡ enabled
-      its_answer enabled gate t stands =
-          answered spans views parts place before within seen_is found_site given (ap (λ (k : ℕ). slice_get parts.world.sites k) sited_is ∙ site_is parts.world.sites site given spanned) enabled gate t stands
+      its_answer : (enabled : Bool) → made.1 ≡ enabled → (t : Tables) → StandsFor now t → admits_at now.setup t place_id named.given ≡ enabled
+      its_answer enabled is t stands = answered spans views parts place before within seen_is site named.given (site_is parts.world.sites site named.given named.given_is) made.1 gate t stands ∙ is
 
-      serves_let : (enabled : Bool) → LetsThrough (member_of views.filtered None parts.world parts.dispatch) parts.world.sites before.id found_site enabled → MakesOnly spans does enabled parts.world new before at p found_site values (Some parts.dispatch) made
-          → (t : Tables) → StandsFor now t → Served (effect_of_call now.setup t at place (call.New site under fields)) t now then (reply.Made enabled number)
-      serves_let true gate did t stands = serves_made under p site given spanned found fields values valued made before within seen_is (its_answer true gate) one (subst (λ (k : ℕ). Makes spans does parts.world new before at p k values parts.dispatch made) sited_is did) t stands
-      serves_let false gate did t stands = serves_declined under p site given spanned found fields values valued (its_answer false gate) (one ∙ ap (λ (h : Handle). parts.handles ++ Some h ∷ []) did.0) did.1 t stands
+      abbrev Did : Bool → Type 0
+      Did enabled = MakesOnly spans does enabled parts.world new before at named.under site named.values parts.dispatch made.0
 
-      keeps_let : (enabled : Bool) → LetsThrough (member_of views.filtered None parts.world parts.dispatch) parts.world.sites before.id found_site enabled → MakesOnly spans does enabled parts.world new before at p found_site values (Some parts.dispatch) made → IsKept spans views kept is_whole then_parts
-      keeps_let true gate did = keeps_made under p site given spanned found fields values valued made before within seen_is (its_answer true gate) one (subst (λ (k : ℕ). Makes spans does parts.world new before at p k values parts.dispatch made) sited_is did)
-      keeps_let false gate did = keeps_declined under p site given spanned found fields values valued (its_answer false gate) (one ∙ ap (λ (h : Handle). parts.handles ++ Some h ∷ []) did.0) did.1
+      serves_let : (enabled : Bool) → made.1 ≡ enabled → Did enabled → (t : Tables) → StandsFor now t → Served (effect_of_call now.setup t at place (call.New site under fields)) t now then (reply.Made enabled number)
+      serves_let true is it t stands = serves_made under named.under site named.given named.given_is its_parent fields named.values named.values_are made.0 before within seen_is (its_answer true is) one it t stands
+      serves_let false is it t stands = serves_declined under named.under site named.given named.given_is its_parent fields named.values named.values_are (its_answer false is) (one ∙ ap (λ (h : Handle). parts.handles ++ Some h ∷ []) it.0) it.1 t stands
 
-      -- what is done by the lane's own subscriber is done by the pipeline's
-      abbrev ByOwn : Bool → Option ℕ → Type 0
-      ByOwn enabled own = MakesOnly spans does enabled parts.world new before at p found_site values (dispatch_on own parts.world.global) made
+      keeps_let : (enabled : Bool) → made.1 ≡ enabled → Did enabled → IsKept spans views kept is_whole then_parts
+      keeps_let true is it = keeps_made under named.under site named.given named.given_is its_parent fields named.values named.values_are made.0 before within seen_is (its_answer true is) one it
+      keeps_let false is it = keeps_declined under named.under site named.given named.given_is its_parent fields named.values named.values_are (its_answer false is) (one ∙ ap (λ (h : Handle). parts.handles ++ Some h ∷ []) it.0) it.1
 
-      by_own : (enabled : Bool) → ByOwn enabled before.default → ByOwn enabled (Some parts.dispatch)
-      by_own enabled did = subst (λ (o : Option ℕ). ByOwn enabled o) (own_lane spans views kept is_whole parts inv place before within seen_is) did
+      pub serves_new : (t : Tables) → StandsFor now t → Served (effect_of_call now.setup t at place (call.New site under fields)) t now then (reply.Made made.1 number)
+      serves_new t stands = serves_let made.1 refl did.did t stands
 
-      pub serves_new : (enabled : Bool) → LetsThrough (member_of views.filtered None parts.world parts.dispatch) parts.world.sites before.id found_site enabled → ByOwn enabled before.default
-          → (t : Tables) → StandsFor now t → Served (effect_of_call now.setup t at place (call.New site under fields)) t now then (reply.Made enabled number)
-      serves_new enabled gate did t stands = serves_let enabled gate (by_own enabled did) t stands
-
-      pub keeps_new : (enabled : Bool) → LetsThrough (member_of views.filtered None parts.world parts.dispatch) parts.world.sites before.id found_site enabled → ByOwn enabled before.default → IsKept spans views kept is_whole then_parts
-      keeps_new enabled gate did = keeps_let enabled gate (by_own enabled did)
+      pub keeps_new : IsKept spans views kept is_whole then_parts
+      keeps_new = keeps_let made.1 refl did.did
 
 -- what a making requires
 few_if : (o : Option ℕ) (made : List Span) → ((s : ℕ) → HasFewHolds made s) → IfSome o (HasFewHolds made)
@@ -357,12 +354,14 @@ module _ {S : Type 0} (spans : S → Spans) (views : Views S) (kept : S → ℕ 
             (few_if (parent_on (entries_on lane (spans_in spans parts.world parts.dispatch).lanes) p) (spans_in spans parts.world parts.dispatch).made (λ s. let f = inv.stands.fits.few_holds s in omega (arith, f, a, b, few_handles, few_guards)));
       }
 
-  -- the same by the own subscriber of a lane
-  pub make_may_own : (under : RequestParent) (p : Parent) → parent_for (map held_by parts.handles) under ≡ Some p → (own : Option ℕ) → own ≡ Some parts.dispatch → (lane : ℕ) → length parts.handles < 2 ^ 62 → length parts.guards < 2 ^ 62 → MayMakeIf spans is_whole parts.world lane p (dispatch_on own parts.world.global)
-  make_may_own under p found own is lane few_handles few_guards = subst (λ (o : Option ℕ). MayMakeIf spans is_whole parts.world lane p (dispatch_on o parts.world.global)) (sym is) (make_may under p found lane few_handles few_guards)
+  -- where the parent is there
+  pub make_may_named : (under : RequestParent) (parent : Option Parent) → parent ≡ parent_for (map held_by parts.handles) under → (lane : ℕ) → length parts.handles < 2 ^ 62 → length parts.guards < 2 ^ 62 → IfSome parent (λ p. MayMake spans is_whole parts.world lane p parts.dispatch)
+  make_may_named under None found lane few_handles few_guards = tt
+  make_may_named under (Some p) found lane few_handles few_guards = make_may under p (sym found) lane few_handles few_guards
 
-  pub tell_live : (under : RequestParent) (p : Parent) → parent_for (map held_by parts.handles) under ≡ Some p → Has (λ s. IsLiveParent (spans s).made p) parts.world parts.dispatch
-  tell_live under p found = has_by spans no_spans parts.world parts.dispatch (λ (x : Spans). IsLiveParent x.made p) (find_up (state_of spans views parts) inv.tables inv.stands.fits 0 under p found).live_place
+  pub tell_live : (under : RequestParent) (parent : Option Parent) → parent ≡ parent_for (map held_by parts.handles) under → IfSome parent (λ p. Has (λ s. IsLiveParent (spans s).made p) parts.world parts.dispatch)
+  tell_live under None found = tt
+  tell_live under (Some p) found = has_by spans no_spans parts.world parts.dispatch (λ (x : Spans). IsLiveParent x.made p) (find_up (state_of spans views parts) inv.tables inv.stands.fits 0 under p (sym found)).live_place
 
 -- after a refusal for want of memory
 pub made_alike : {S : Type 0} (spans : S → Spans) (views : Views S) (attaches : S → Bool) (kept : S → ℕ → ℕ → ℕ) (is_whole : S → Type 0) (same : S → S → Type 0) → SameLaw spans views attaches kept is_whole same
@@ -377,10 +376,3 @@ made_alike {S} spans views attaches kept is_whole same law parts new hs' handles
     let still = adds_nothing (aside_in views parts.world parts.dispatch) (aside_in views new parts.dispatch) told.2 in
     let state : state_of spans views next ≡ state_of spans views parts = rw (alike.spans_same, sites, told.0, told.1, cached, still.0, still.1, handles) refl in
     (state, λ inv. kept_alike spans views attaches kept is_whole parts next inv state alike)
-
--- the same by the own subscriber of a lane
-pub made_alike_own : {S : Type 0} (spans : S → Spans) (views : Views S) (attaches : S → Bool) (kept : S → ℕ → ℕ → ℕ) (is_whole : S → Type 0) (same : S → S → Type 0) → SameLaw spans views attaches kept is_whole same
-    → (parts : Parts S) (new : Worlds S) (hs' : List (Option Handle)) → hs' ≡ parts.handles → (own : Option ℕ) → own ≡ Some parts.dispatch → ReplacedIf same parts.world new (dispatch_on own parts.world.global)
-    → (state_of spans views (record parts { world = new; handles = hs' }) ≡ state_of spans views parts) × (IsKept spans views kept is_whole parts → IsKept spans views kept is_whole (record parts { world = new; handles = hs' }))
-made_alike_own {S} spans views attaches kept is_whole same law parts new hs' handles own is did =
-    made_alike spans views attaches kept is_whole same law parts new hs' handles (subst (λ (o : Option ℕ). ReplacedIf same parts.world new (dispatch_on o parts.world.global)) is did)

@@ -1,9 +1,10 @@
 -- What calls on the span of a scope keep, whatever their kind.
 use Rattle.std.proofs.Common.{◌≡◌, ℕ, ◌<◌, List, [], ◌∷◌, ◌++◌, length, Bool, Option, None, false, Ok, Err, refl, sym, ap, subst, ◌∙◌, arith, map, ◌==◌, ◌≢◌}
 use Rattle.std.proofs.lemmas.Bool.{true≢false}
-use Rattle.span_script.proofs.Common.{Lane, Worlds, Spans, span_at, SubscriberCall, KeepsAttached, CallLanes, kept_in, Has, Reply, Refusal, Token, list_any, data_at, Recording, Attach, Setup, Scope, Attached, Effect, Tables, after_effect, recorded_by, Resolved, effect_of_call, Views, State, LaneValue, StandsFor, RecordingFits, FilteringFits, AllContextsFit, LanesFit, IsKept, Served, state_of, lane_value, Parts, is_for_memory, ServesResolved, Serves, Measure, measured_by, AddsMeasures, aside_in}
+use Rattle.span_script.proofs.Common.{Lane, Worlds, Spans, span_at, SubscriberCall, KeepsAttached, CallLanes, kept_in, Has, Reply, Refusal, Token, list_any, data_at, Recording, Attach, Setup, Scope, Attached, Effect, Tables, after_effect, recorded_by, Resolved, effect_of_call, Views, State, LaneValue, StandsFor, RecordingFits, FilteringFits, AllContextsFit, LanesFit, IsKept, Served, state_of, lane_value, Parts, is_for_memory, IsRefusal, ServesResolved, Serves, Measure, measured_by, AddsMeasures, aside_in}
 use Rattle.span_script.specs.declared.request.Call.{Call}
 use Rattle.span_script.specs.Fits.{Fits}
+use Rattle.span_script.specs.calls.Refusals.{takes_no_memory}
 use Rattle.span_script.proofs.filter.CounterLemmas.{adds_same, measured}
 use Rattle.span_script.proofs.steps.KnownSpansLemmas.{still_known}
 use Rattle.span_script.proofs.steps.RecordingLemmas.{recording_step}
@@ -34,6 +35,16 @@ serves_refusal resolved takes_none old new given refuses same named = record {
 pub by_view_refused : (at place : ℕ) (request : Call) (given : Refusal) (view k : State) → view ≡ k → ((t : Tables) → StandsFor view t → effect_of_call view.setup t at place request ≡ Err given)
     → (t : Tables) → StandsFor k t → effect_of_call k.setup t at place request ≡ Err given
 by_view_refused at place request given view k is refuses = subst (λ (x : State). (t : Tables) → StandsFor x t → effect_of_call x.setup t at place request ≡ Err given) is refuses
+
+-- and so is any other, and the want of memory, of a call that takes some
+pub by_view_error : (at place : ℕ) (request : Call) (then : State) (given : Refusal) (view k : State) → view ≡ k → takes_no_memory request ≡ false → ((t : Tables) → StandsFor view t → IsRefusal (effect_of_call view.setup t at place request) given) → then ≡ view
+    → Serves k at place request (Err given) then
+by_view_error at place request then given view k is takes refuses same = record {
+  ok = λ t stands. tt;
+  refused = subst (λ (x : State). (t : Tables) → StandsFor x t → IsRefusal (effect_of_call x.setup t at place request) given) is refuses;
+  err = same ∙ is;
+  room = λ none. absurd (true≢false (sym none ∙ takes));
+}
 
 -- what the lanes' contexts have to fit
 abbrev pub AllFit : State → (ℕ → List Attached) → Type 0

@@ -1,55 +1,67 @@
 //! Recording events.
-ghost use Rattle.std.specs.Prelude.{◌<◌, length, OnOk, OnErr};
+ghost use Rattle.std.specs.Prelude.{◌≡◌, ◌<◌, false, length, Some, Err, IfOk, IfErr, IfSome, OnErr};
 ghost use Rattle.trace_base.specs.Conditions.{IsLiveParent};
-ghost use Rattle.trace_base.specs.Gate.{IsInWorld, dispatch_on};
-ghost use Rattle.span_handles.specs.Handles.{HasIf, ReplacedIf};
+ghost use Rattle.trace_base.specs.Gate.{Admits};
+ghost use Rattle.span_handles.specs.Worlds.{Has, Replaced};
 ghost use Rattle.span_script.specs.declared.request.Call.{Call};
-ghost use Rattle.span_script.specs.Slots.{TellsOnly};
+ghost use Rattle.span_script.specs.Fits.{is_for_memory};
+ghost use Rattle.span_script.specs.Setups.{event_site};
+ghost use Rattle.span_script.specs.Slots.{TellsNamed, named_values};
 
-use crate::fields::all_values;
+use crate::fields::named_at;
 use crate::laws;
-use crate::names::{parent_for, site_of};
+use crate::names::parent_for;
 use crate::pipeline::Pipeline;
 use otel_base::list::Items;
-use otel_base::memory::Memory;
 use otel_base::record::Moment;
 use otel_base::text::Text;
-use span_handles::event;
 use span_script::reply::{Refusal, Reply, What};
 use span_script::request::RequestParent;
-use span_stack::admits;
-use trace_base::callsite::{Kind, SiteId};
-use trace_base::field::{Value, ValueSet};
+use trace_base::callsite::Kind;
+use trace_base::dispatcher::Dispatch;
+use trace_base::field::Value;
 use trace_base::lane::Lane;
+use trace_base::passes;
 use trace_base::span::Parent;
 use trace_base::subscriber::Subscriber;
 use trace_base::world::World;
 
-// An event under a parent if it is let through.
-fn tell_if<S: Subscriber>(
-    enabled: bool,
+// Tells an event under a parent if it is let through, and answers whether it was.
+fn tell_at<S: Subscriber>(
     world: &mut World<S>,
+    dispatch: Dispatch,
     lane: &Lane,
     at: Moment,
-    parent: Parent,
-    site: SiteId,
-    values: &ValueSet,
-) -> Result<(), Memory>
-    requires own { IsInWorld world.old lane.now.default }
-    requires site { site < length world.old.sites }
-    requires whole { HasIf S.is_whole world.old (dispatch_on lane.now.default world.old.global) }
-    requires live { HasIf (λ s. IsLiveParent (S.spans s).made parent) world.old
-        (dispatch_on lane.now.default world.old.global) }
-    ensures ok { OnOk result (TellsOnly S.does enabled world.old world.new lane.now at parent site values.now
-        (dispatch_on lane.now.default world.old.global)) }
-    ensures memory_leaves { OnErr result
-        (ReplacedIf S.same world.old world.new (dispatch_on lane.now.default world.old.global)) }
+    site: u64,
+    parent: Option<Parent>,
+    fields: Items<(Text, Value)>,
+) -> Result<bool, Refusal>
+    requires there { dispatch < length world.old.subscribers }
+    requires whole { Has S.is_whole world.old dispatch }
+    requires live { IfSome parent (λ parent.
+        Has (λ s. IsLiveParent (S.spans s).made parent) world.old dispatch) }
+
+    ensures ok { IfOk result (TellsNamed S.does world.old world.new lane.now at parent site fields dispatch) }
+    ensures gate { IfOk result (Admits S.hint S.enables world.old lane.now.id site (Some dispatch)) }
+    ensures refused { IfErr result (λ refusal. is_for_memory refusal ≡ false
+        → named_values (event_site world.old.sites site) parent fields ≡ Err refusal) }
+    ensures leaves { OnErr result (Replaced S.same world.old world.new dispatch) }
 {
-    if enabled {
-        event::dispatch(world, lane, at, parent, site, values)
-    } else {
-        Ok(())
+    let Some(id) = world.site_at(site) else {
+        return Err(Refusal::UnknownName { what: What::Site });
+    };
+    let alloc = world.allocator();
+    let (subscriber, callsite, interest) = world.interest(dispatch, id);
+    let Kind::Event = callsite.kind else {
+        return Err(Refusal::UnknownName { what: What::Site });
+    };
+    let (parent, values) = named_at(alloc, callsite, parent, fields)?;
+    if !passes(interest, subscriber, lane.id, callsite) {
+        return Ok(false);
     }
+    let current = subscriber.current_id(lane.id);
+    subscriber.event(lane, at, parent, current, id, callsite, &values)?;
+    Ok(true)
 }
 
 impl Pipeline {
@@ -68,20 +80,11 @@ impl Pipeline {
     {
         laws::calls();
         laws::same();
+        span_stack::laws::passes();
         span_stack::laws::statics();
-        let Some(found) = site_of(&self.world, Kind::Event, site) else {
-            return Err(Refusal::UnknownName { what: What::Site });
-        };
-        let (id, callsite) = found;
-        let Some(parent) = parent_for(&self.handles, parent) else {
-            return Err(Refusal::UnknownName { what: What::Handle });
-        };
-        let Some(values) = all_values(*self.lanes.allocator(), callsite, fields)? else {
-            return Err(Refusal::UnknownName { what: What::Field });
-        };
+        let parent = parent_for(&self.handles, parent);
         let on = &self.lanes[place as usize];
-        let enabled = admits(&self.world, on, id);
-        tell_if(enabled, &mut self.world, on, at, parent, id, &values)?;
+        let enabled = tell_at(&mut self.world, self.dispatch, on, at, site, parent, fields)?;
         self.moment = at;
         Ok(Reply::Enabled { enabled })
     }

@@ -3,7 +3,6 @@ ghost use Rattle.std.specs.Prelude.{◌<◌, length};
 ghost use Rattle.span_script.specs.declared.request.Call.{Call};
 
 use crate::filters::read_filter;
-use crate::names::site_at;
 use crate::pipeline::Pipeline;
 use otel_base::record::Moment;
 use otel_base::text::Text;
@@ -18,10 +17,10 @@ impl Pipeline {
         requires { place < length self.old.lanes }
         ensures { Serves self.old at place (Call.Enabled site) result self.new }
     {
-        let Some(found) = site_at(&self.world, site) else {
+        let Some(id) = self.world.site_at(site) else {
             return Err(Refusal::UnknownName { what: What::Site });
         };
-        let enabled = admits(&self.world, &self.lanes[place as usize], found.0);
+        let enabled = admits(&self.world, &self.lanes[place as usize], id);
         self.moment = at;
         Ok(Reply::Enabled { enabled })
     }

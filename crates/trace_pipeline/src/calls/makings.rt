@@ -1,53 +1,69 @@
 //! Making spans.
-ghost use Rattle.std.specs.Prelude.{◌<◌, length, IfOk, OnErr};
-ghost use Rattle.trace_base.specs.Gate.{IsInWorld, dispatch_on};
-ghost use Rattle.span_handles.specs.Handles.{MayMakeIf, ReplacedIf};
+ghost use Rattle.std.specs.Prelude.{◌≡◌, ◌<◌, false, length, Some, Err, IfOk, IfErr, IfSome, OnErr};
+ghost use Rattle.trace_base.specs.Gate.{Admits};
+ghost use Rattle.span_handles.specs.Handles.{MayMake};
+ghost use Rattle.span_handles.specs.Worlds.{Replaced};
 ghost use Rattle.span_script.specs.declared.request.Call.{Call};
-ghost use Rattle.span_script.specs.Slots.{MakesOnly};
+ghost use Rattle.span_script.specs.Fits.{is_for_memory};
+ghost use Rattle.span_script.specs.Setups.{span_site};
+ghost use Rattle.span_script.specs.Slots.{MakesNamed, named_values};
 
-use crate::fields::all_values;
+use crate::fields::named_at;
 use crate::laws;
-use crate::names::{check_few_names, parent_for, site_of};
+use crate::names::{check_few_names, parent_for};
 use crate::pipeline::Pipeline;
 use otel_base::list::Items;
-use otel_base::memory::Memory;
 use otel_base::record::Moment;
 use otel_base::text::Text;
 use span_handles::span::Span;
 use span_script::reply::{Refusal, Reply, What};
 use span_script::request::RequestParent;
-use span_stack::admits;
-use trace_base::callsite::{Kind, SiteId};
-use trace_base::field::{Value, ValueSet};
+use trace_base::callsite::Kind;
+use trace_base::dispatcher::Dispatch;
+use trace_base::field::Value;
 use trace_base::lane::Lane;
+use trace_base::passes;
 use trace_base::span::Parent;
 use trace_base::subscriber::Subscriber;
 use trace_base::world::World;
 
-// A new span under a parent if it is let through, else a disabled handle.
-fn make_if<S: Subscriber>(
-    enabled: bool,
+// A new span under a parent if it is let through, else a disabled handle; and whether it was.
+fn make_at<S: Subscriber>(
     world: &mut World<S>,
+    dispatch: Dispatch,
     lane: &Lane,
     at: Moment,
-    parent: Parent,
-    site: SiteId,
-    values: &ValueSet,
-) -> Result<Span, Memory>
-    requires own { IsInWorld world.old lane.now.default }
-    requires site { site < length world.old.sites }
-    requires may { MayMakeIf S.spans S.is_whole world.old lane.now.id parent
-        (dispatch_on lane.now.default world.old.global) }
-    ensures ok { IfOk result (MakesOnly S.spans S.does enabled world.old world.new lane.now at parent site
-        values.now (dispatch_on lane.now.default world.old.global)) }
-    ensures memory_leaves { OnErr result
-        (ReplacedIf S.same world.old world.new (dispatch_on lane.now.default world.old.global)) }
+    site: u64,
+    parent: Option<Parent>,
+    fields: Items<(Text, Value)>,
+) -> Result<(Span, bool), Refusal>
+    requires there { dispatch < length world.old.subscribers }
+    requires may { IfSome parent (λ parent.
+        MayMake S.spans S.is_whole world.old lane.now.id parent dispatch) }
+
+    ensures ok { IfOk result (MakesNamed S.spans S.does world.old world.new lane.now at parent site fields dispatch) }
+    ensures gate { IfOk result (λ made.
+        Admits S.hint S.enables world.old lane.now.id site (Some dispatch) made.1) }
+    ensures refused { IfErr result (λ refusal. is_for_memory refusal ≡ false
+        → named_values (span_site world.old.sites site) parent fields ≡ Err refusal) }
+    ensures leaves { OnErr result (Replaced S.same world.old world.new dispatch) }
 {
-    if enabled {
-        Span::make(world, lane, at, parent, site, values)
-    } else {
-        Ok(Span::none())
+    let Some(id) = world.site_at(site) else {
+        return Err(Refusal::UnknownName { what: What::Site });
+    };
+    let alloc = world.allocator();
+    let (subscriber, callsite, interest) = world.interest(dispatch, id);
+    let Kind::Span = callsite.kind else {
+        return Err(Refusal::UnknownName { what: What::Site });
+    };
+    let (parent, values) = named_at(alloc, callsite, parent, fields)?;
+    if !passes(interest, subscriber, lane.id, callsite) {
+        return Ok((Span::none(), false));
     }
+    let span = Span::make_by(
+        dispatch, subscriber, lane, at, parent, id, callsite, &values,
+    )?;
+    Ok((span, true))
 }
 
 impl Pipeline {
@@ -66,22 +82,21 @@ impl Pipeline {
     {
         laws::calls();
         laws::same();
+        span_stack::laws::passes();
         check_few_names(&self.handles, &self.guards)?;
         let number = self.handles.len() as u64;
-        let Some(found) = site_of(&self.world, Kind::Span, site) else {
-            return Err(Refusal::UnknownName { what: What::Site });
-        };
-        let (id, callsite) = found;
+        let parent = parent_for(&self.handles, parent);
         self.handles.reserve()?;
-        let Some(parent) = parent_for(&self.handles, parent) else {
-            return Err(Refusal::UnknownName { what: What::Handle });
-        };
-        let Some(values) = all_values(*self.lanes.allocator(), callsite, fields)? else {
-            return Err(Refusal::UnknownName { what: What::Field });
-        };
         let on = &self.lanes[place as usize];
-        let enabled = admits(&self.world, on, id);
-        let span = make_if(enabled, &mut self.world, on, at, parent, id, &values)?;
+        let (span, enabled) = make_at(
+            &mut self.world,
+            self.dispatch,
+            on,
+            at,
+            site,
+            parent,
+            fields,
+        )?;
         self.handles.keep(span);
         self.moment = at;
         Ok(Reply::Made {

@@ -2,8 +2,6 @@ use Rattle.std.proofs.Common.{refl}
 use Rattle.trace_run.proofs.Common.{Streams, streams_of}
 use Rattle.trace_run.proofs.SumsLemmas.{carries_made}
 use Rattle.trace_run.proofs.RenamesLemmas.{renames_ids}
-use Rattle.trace_run.specs.declared.invocation.Invocation.TheVariants as invocation
-use Rattle.trace_run.specs.declared.script.Command.TheVariants as command
 use Rattle.trace_run.proofs.script.run_script.Goals as goal
 
 pub returns-in-Make-clause-carries : goal.returns-in-Make-clause-carries
@@ -17,13 +15,4 @@ pub returns-in-Run-clause-renames : goal.returns-in-Run-clause-renames
 returns-in-Run-clause-renames g c =
     let before : Streams = streams_of g.R.Source.remaining g.R.Source.ends g.R.Source.faults g.W.Sink.holds g.W.Sink.faults c.args.source.now c.args.sink.now in
     let now : Streams = streams_of g.R.Source.remaining g.R.Source.ends g.R.Source.faults g.W.Sink.holds g.W.Sink.faults c.run.new.source c.run.new.sink in
-    rw c.in-Run.is (renames_ids (invocation.Script (command.Run c.in-Run.signal)) c.run.result before now c.run.ensures.carries)
-
-pub returns-in-Make-clause-renames : goal.returns-in-Make-clause-renames
-returns-in-Make-clause-renames g c = rw c.in-Make.is (λ is. absurd (cc is))
-
-pub returns-in-Tree-clause-renames : goal.returns-in-Tree-clause-renames
-returns-in-Tree-clause-renames g c = rw c.in-Tree.is (λ is. absurd (cc is))
-
-pub returns-in-Tasks-clause-renames : goal.returns-in-Tasks-clause-renames
-returns-in-Tasks-clause-renames g c = rw c.in-Tasks.is (λ is. absurd (cc is))
+    rw c.in-Run.is (renames_ids c.in-Run.signal c.run.result before now c.run.ensures.carries)

@@ -2,7 +2,7 @@
 use Rattle.std.proofs.Common.{subst, None}
 use Rattle.trace_run.proofs.Common.{lines_of, accepts, accepts_same, TellsTreeOf}
 use Rattle.trace_run.proofs.ScriptsLemmas.{TreeEnds, distinct_finished, tells_tree, tree_accepted, refused_text, refused_flag}
-use Rattle.trace_run.proofs.tree.TreeAllLinesCommand.answer.Goals as goal
+use Rattle.trace_run.proofs.script.tree.TreeAllLinesCommand.answer.Goals as goal
 
 pub tree_text-requires : goal.tree_text-requires
 tree_text-requires c =

@@ -2,7 +2,7 @@ use Rattle.std.proofs.Common.{◌≡◌, List, [], ◌∷◌, ◌++◌, refl, sy
 use Rattle.std.specs.Vec.Iter.{into_iter_items}
 use Rattle.trace_run.proofs.Common.{Request}
 use Rattle.trace_run.proofs.MakingLemmas.{serves_on}
-use Rattle.trace_run.proofs.make.serve_all.Goals as goal
+use Rattle.trace_run.proofs.script.make.serve_all.Goals as goal
 
 pub loop-request-preserved : goal.loop-request-preserved
 loop-request-preserved c h counts =

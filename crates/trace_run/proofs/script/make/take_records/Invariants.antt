@@ -1,7 +1,7 @@
 -- What is counted, and what is to be, are all.
 use Rattle.std.proofs.Common.{◌≡◌, length}
 use Rattle.trace_run.proofs.Common.{without_taken, with_records}
-use Rattle.trace_run.proofs.make.take_records.Given as goal
+use Rattle.trace_run.proofs.script.make.take_records.Given as goal
 
 abbrev pub invariant-loop-finished : goal.invariant-loop-finished
 invariant-loop-finished l = record {

@@ -1,7 +1,7 @@
 use Rattle.std.proofs.Common.{ℕ, sym, ap, subst, ◌∙◌}
 use Rattle.trace_run.proofs.Common.{StandsFor, Setup, tables, with_records}
 use Rattle.trace_run.proofs.MakingLemmas.{served}
-use Rattle.trace_run.proofs.make.serve.Goals as goal
+use Rattle.trace_run.proofs.script.make.serve.Goals as goal
 
 pub returns : goal.returns
 returns c h counts =

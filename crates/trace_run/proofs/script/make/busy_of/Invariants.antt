@@ -2,7 +2,7 @@
 use Rattle.std.proofs.Common.{◌≡◌, ◌+◌, drop}
 use Rattle.std.specs.List.{sum_by}
 use Rattle.trace_run.proofs.Common.{busy_in}
-use Rattle.trace_run.proofs.make.busy_of.Given as goal
+use Rattle.trace_run.proofs.script.make.busy_of.Given as goal
 
 abbrev pub invariant-loop-attribute : goal.invariant-loop-attribute
 invariant-loop-attribute l = l.busy + sum_by busy_in (drop l.attribute-index l.fn.finished.attributes) ≡ sum_by busy_in l.fn.finished.attributes

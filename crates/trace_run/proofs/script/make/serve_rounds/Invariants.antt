@@ -1,6 +1,6 @@
 -- The rounds so far are served.
 use Rattle.trace_run.proofs.Common.{rounds, Counts, ServesRequests}
-use Rattle.trace_run.proofs.make.serve_rounds.Given as goal
+use Rattle.trace_run.proofs.script.make.serve_rounds.Given as goal
 use Rattle.std.proofs.Common.{[]}
 
 abbrev pub invariant-loop-i : goal.invariant-loop-i

@@ -3,7 +3,7 @@ use Rattle.span_script.specs.declared.settings.Settings.{Settings}
 use Rattle.span_script.specs.Admission.{opening_read}
 use Rattle.trace_run.proofs.Common.{StandsFor, setup_by, tables}
 use Rattle.trace_run.proofs.MakingLemmas.{opened, summed}
-use Rattle.trace_run.proofs.make.run_rounds.Goals as goal
+use Rattle.trace_run.proofs.script.make.run_rounds.Goals as goal
 
 pub returns : goal.returns
 returns c =

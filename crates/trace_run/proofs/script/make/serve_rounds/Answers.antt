@@ -1,7 +1,7 @@
 use Rattle.std.proofs.Common.{◌≡◌, ◌+◌, List, [], ◌++◌, sym, ap, ◌∙◌, arith}
 use Rattle.trace_run.proofs.Common.{Request, round, rounds}
 use Rattle.trace_run.proofs.MakingLemmas.{serves_on, rounds_more}
-use Rattle.trace_run.proofs.make.serve_rounds.Goals as goal
+use Rattle.trace_run.proofs.script.make.serve_rounds.Goals as goal
 
 pub loop-i-preserved : goal.loop-i-preserved
 loop-i-preserved c counts =

@@ -1,7 +1,7 @@
 -- The requests so far are served, and those that are left come behind them.
 use Rattle.std.proofs.Common.{◌≡◌, ◌++◌, List}
 use Rattle.trace_run.proofs.Common.{Request, History, Counts, ServesRequests}
-use Rattle.trace_run.proofs.make.serve_all.Given as goal
+use Rattle.trace_run.proofs.script.make.serve_all.Given as goal
 
 abbrev pub invariant-loop-request : goal.invariant-loop-request
 invariant-loop-request l = (h : History) → Counts h l.initial.pipeline l.initial.totals
