@@ -35,9 +35,9 @@ matched_debug_text (given.U128 number) = Some (decimal number)
 matched_debug_text other = None
 
 -- a fixed text is met by a value of that debug text
-abbrev pub is_text : List ℕ → Option (List ℕ) → Bool
-is_text wanted None = false
-is_text wanted (Some text) = bytes_eq wanted text
+abbrev pub is_equal_if_any : List ℕ → Option (List ℕ) → Bool
+is_equal_if_any wanted None = false
+is_equal_if_any wanted (Some text) = bytes_eq wanted text
 
 -- what patterns are held against: a text as it stands, and the debug text of other values
 abbrev pub matched_text : Value → Option (List ℕ)
@@ -54,5 +54,5 @@ abbrev pub meets : ValueMatch → Value → Bool
 meets (Truth wanted) value = meets_truth wanted value
 meets (U64 wanted) value = meets_u64 wanted value
 meets (I64 wanted) value = meets_i64 wanted value
-meets (Debug wanted) value = is_text wanted (matched_debug_text value)
+meets (Debug wanted) value = is_equal_if_any wanted (matched_debug_text value)
 meets (Pat pattern) value = is_matched_if_any pattern (matched_text value)

@@ -13,13 +13,13 @@ use Rattle.env_directives.specs.declared.directive.StaticDirective.{StaticDirect
 use Rattle.env_directives.specs.reading.Separators.{comma_pieces}
 use Rattle.env_directives.specs.orders.StaticOrder.{most_specific_first}
 use Rattle.env_directives.specs.reading.StaticText.{and_then, static_of}
-use Rattle.env_directives.specs.orders.Table.{Table, empty_table, with_added, with_all_added}
+use Rattle.env_directives.specs.orders.Table.{DirectiveTable, empty_table, with_added, with_all_added}
 
-abbrev pub with_static : StaticDirective → Table StaticDirective → Table StaticDirective
+abbrev pub with_static : StaticDirective → DirectiveTable StaticDirective → DirectiveTable StaticDirective
 with_static = with_added most_specific_first (λ d. d.level)
 
-abbrev pub all_added : List StaticDirective → Table StaticDirective → Table StaticDirective
-all_added = with_all_added most_specific_first (λ d. d.level)
+abbrev pub with_statics : List StaticDirective → DirectiveTable StaticDirective → DirectiveTable StaticDirective
+with_statics = with_all_added most_specific_first (λ d. d.level)
 
 -- the directive of a target
 abbrev pub target_directive : List ℕ → LevelFilter → StaticDirective
@@ -33,7 +33,7 @@ abbrev pub default_directive : LevelFilter → StaticDirective
 default_directive level = record { target = None; field_names = []; level = level }
 
 -- the level of the directive without a target
-abbrev pub default_level : Table StaticDirective → Option LevelFilter
+abbrev pub default_level : DirectiveTable StaticDirective → Option LevelFilter
 default_level t = option_map (λ d. d.level) (find (λ d. is_none d.target) t.directives)
 
 -- the targets with their levels, in order
@@ -47,8 +47,8 @@ statics_of [] = Ok []
 statics_of (text ∷ texts) = and_then (static_of text) (λ d. and_then (statics_of texts) (λ ds. Ok (d ∷ ds)))
 
 -- the table that a text spells: one directive between each two commas
-abbrev pub targets_of : List ℕ → Result (Table StaticDirective) ParseError
-targets_of text = and_then (statics_of (comma_pieces text)) (λ ds. Ok (all_added ds empty_table))
+abbrev pub targets_of : List ℕ → Result (DirectiveTable StaticDirective) ParseError
+targets_of text = and_then (statics_of (comma_pieces text)) (λ ds. Ok (with_statics ds empty_table))
 
 -- equal by the order
 abbrev pub same_rule : StaticDirective → StaticDirective → Bool
@@ -62,5 +62,5 @@ abbrev pub same_directive : StaticDirective → StaticDirective → Bool
 same_directive = eq_of_both same_rule same_level
 
 -- the same directives with the same levels, and the same greatest level
-abbrev pub same_targets : Table StaticDirective → Table StaticDirective → Bool
+abbrev pub same_targets : DirectiveTable StaticDirective → DirectiveTable StaticDirective → Bool
 same_targets = eq_of_both (on (λ t. t.directives) (pointwise same_directive)) (eq_by_cmp (on (λ t. greatest_verbosity t.greatest) nat_cmp))

@@ -8,9 +8,9 @@ ghost use Rattle.env_directives.specs.orders.DirectiveOrder.{directive_cmp, Same
 ghost use Rattle.env_directives.specs.reading.Faults.{HasNoLevel, HasEmptyField, HasFault};
 ghost use Rattle.env_directives.specs.reading.Forms.{IsDirective};
 ghost use Rattle.env_directives.specs.printed.Printed.{directive_text, HasNoMinusZero};
-ghost use Rattle.env_directives.specs.reading.Reading.{reading};
-ghost use Rattle.env_directives.specs.orders.Table.{Table, IsTableOf, empty_table, with_all_added};
-ghost use Rattle.env_directives.specs.Targets.{all_added};
+ghost use Rattle.env_directives.specs.reading.Reading.{read_directive};
+ghost use Rattle.env_directives.specs.orders.Table.{DirectiveTable, IsTableOf, empty_table, with_all_added};
+ghost use Rattle.env_directives.specs.Targets.{with_statics};
 ghost use Rattle.env_directives.specs.declared.directive.StaticDirective.{StaticDirective};
 ghost use Rattle.env_directives.specs.declared.directive.ParseError.{ParseError};
 ghost use Rattle.env_directives.specs.declared.directive.ParseError.TheVariants.{Memory as OutOfMemory};
@@ -31,9 +31,9 @@ pub fn readings()
 /// Without patterns a text is read as a directive exactly where it is that directive's by the grammar of forms, and as a
 /// fault exactly where that is its fault, the first from the left.
 pub fn grammar()
-    ensures directive { (text : List ℕ) (d : Directive) → reading false text ≡ Ok d ↔ IsDirective false text d }
+    ensures directive { (text : List ℕ) (d : Directive) → read_directive false text ≡ Ok d ↔ IsDirective false text d }
     ensures fault { (text : List ℕ) (fault : ParseError) → (fault ≢ OutOfMemory)
-        → reading false text ≡ Err fault ↔ HasFault false text fault }
+        → read_directive false text ≡ Err fault ↔ HasFault false text fault }
 {}
 
 /// What a directive prints that was read without patterns is read as that directive again, its level included, unless
@@ -47,13 +47,13 @@ pub fn printing()
 /// the greatest level of all. No other table is that of the same directives.
 pub fn tables<T: Ord + Match>()
     ensures kept { (ds : List T) → IsTableOf T.cmp T.level_of ds (with_all_added T.cmp T.level_of ds empty_table) }
-    ensures one { (ds : List T) (s t : Table T) → IsTableOf T.cmp T.level_of ds s → IsTableOf T.cmp T.level_of ds t → s.directives ≡ t.directives }
+    ensures one { (ds : List T) (s t : DirectiveTable T) → IsTableOf T.cmp T.level_of ds s → IsTableOf T.cmp T.level_of ds t → s.directives ≡ t.directives }
 {}
 
 /// The longest of the added targets that begin a target decides on it, the default where there is none.
 pub fn prefixes()
     ensures { (ds : List StaticDirective) (target : List ℕ) (level : Level)
-        → admits_target (all_added ds empty_table).directives target level ≡ lets_through level (longest_prefix ds target) }
+        → admits_target (with_statics ds empty_table).directives target level ≡ lets_through level (longest_prefix ds target) }
 {}
 
 /// Two directives are equal by the order exactly where they differ in their level at most.

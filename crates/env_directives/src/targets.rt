@@ -15,7 +15,7 @@ ghost use Rattle.env_directives.specs.orders.StaticOrder.{most_specific_first};
 ghost use Rattle.env_directives.specs.printed.StaticPrinted.{comma_joined, static_text};
 ghost use Rattle.env_directives.specs.reading.StaticText.{ReadsOrFails, Fails, static_of};
 ghost use Rattle.env_directives.specs.orders.Table.{empty_table, AddsSome};
-ghost use Rattle.env_directives.specs.Targets.{with_static, all_added, target_directive, pair_directive, default_directive, default_level, pairs, targets_of, same_rule, same_level, same_directive, same_targets};
+ghost use Rattle.env_directives.specs.Targets.{with_static, with_statics, target_directive, pair_directive, default_directive, default_level, pairs, targets_of, same_rule, same_level, same_directive, same_targets};
 
 use crate::directive::set::DirectiveSet;
 use crate::directive::{ParseError, StaticDirective};
@@ -36,10 +36,10 @@ pub struct Targets {
 }
 
 impl Model for Targets {
-    ghost use Rattle.env_directives.specs.orders.Table.{Table};
+    ghost use Rattle.env_directives.specs.orders.Table.{DirectiveTable};
     ghost use Rattle.env_directives.specs.declared.directive.StaticDirective.{StaticDirective};
 
-    ghost Value = { Table StaticDirective };
+    ghost Value = { DirectiveTable StaticDirective };
 
     ghost view = { λ t. t.set };
 }
@@ -100,7 +100,7 @@ impl Targets {
         self,
         pairs: Vec<(String, LevelFilter)>,
     ) -> Result<Targets, (Targets, Memory)>
-        ensures ok { IfOk result (λ t. t ≡ all_added (map pair_directive pairs.items) self) }
+        ensures ok { IfOk result (λ t. t ≡ with_statics (map pair_directive pairs.items) self) }
         ensures memory_keeps { IfErr result (λ e. AddsSome most_specific_first (λ d. d.level) (map pair_directive pairs.items) self e.0) }
     {
         let mut targets = self;
@@ -112,7 +112,7 @@ impl Targets {
 
     /// Sets the levels of several targets in turn. `Memory` keeps those that were set before it.
     pub fn extend(&mut self, pairs: Vec<(String, LevelFilter)>) -> Result<(), Memory>
-        ensures ok { OnOk result (self.new ≡ all_added (map pair_directive pairs.items) self.old) }
+        ensures ok { OnOk result (self.new ≡ with_statics (map pair_directive pairs.items) self.old) }
         ensures memory_keeps { OnErr result (AddsSome most_specific_first (λ d. d.level) (map pair_directive pairs.items) self.old self.new) }
     {
         for (target, level) in pairs {

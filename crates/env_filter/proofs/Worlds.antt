@@ -1,6 +1,6 @@
 -- A filter over a subscriber that takes everything admits by the rule of the gate.
 use Rattle.std.proofs.Common.{◌≡◌, ℕ, Bool, true, false, Option, None, Some, refl, ap, ◌∙◌, ◌&&◌}
-use Rattle.env_filter.proofs.Common.{Callsite, Level, LevelFilter, Worlds, gate, AdmitsFresh, joint_interest, hint_both, FilterWithRoom, plain_filter, AreWhole, interest_in, hint_in, enables_in, gate_is_admitted, layer_or, sometimes, never_enabled, GateFollows, filter_rule, in_place_rule, IsWholeInPlace, EachSubscriber, AdmitsBy}
+use Rattle.env_filter.proofs.Common.{Callsite, Level, LevelFilter, WorldValue, gate, AdmitsFresh, joint_interest, hint_both, FilterWithRoom, plain_filter, IsWholeFilter, interest_in, hint_in, enables_in, gate_is_admitted, layer_or, sometimes, never_enabled, GateFollows, filter_rule, in_place_rule, IsWholeInPlace, EachSubscriber, AdmitsBy}
 use Rattle.trace_base.specs.declared.subscriber.Interest.{Interest}
 use Rattle.trace_base.specs.declared.subscriber.Interest.TheVariants as interests
 
@@ -28,7 +28,7 @@ gate_alone i under h below e takes l a n t =
     ∙ ap (λ (x : Option LevelFilter). gate i x (e && true) l) (hint_alone h)
     ∙ ap (λ (x : Bool). gate i h x l) (and_true e)
 
-pub over_all : (f : FilterWithRoom) (under : Interest) (below : Option LevelFilter) (takes : Bool) (lane : ℕ) (c : Callsite) → under ≡ interests.Always → below ≡ None → takes ≡ true → AreWhole (plain_filter f)
+pub over_all : (f : FilterWithRoom) (under : Interest) (below : Option LevelFilter) (takes : Bool) (lane : ℕ) (c : Callsite) → under ≡ interests.Always → below ≡ None → takes ≡ true → IsWholeFilter (plain_filter f)
     → gate (joint_interest (interest_in (plain_filter f) c) under) (hint_both (Some (hint_in (plain_filter f))) below) (enables_in (plain_filter f) lane c && takes) c.level ≡ filter_rule f lane c
 over_all f under below takes lane c a n t w =
     gate_alone (interest_in (plain_filter f) c) under (Some (hint_in (plain_filter f))) below (enables_in (plain_filter f) lane c) takes c.level a n t ∙ gate_is_admitted (plain_filter f) lane c w
@@ -39,6 +39,6 @@ over_all_in_place None under below takes lane c a n t w = gate_alone interests.S
 over_all_in_place (Some f) under below takes lane c a n t w = over_all f under below takes lane c a n t w
 
 pub admits_by : {S : Type 0} (interest : S → Callsite → Interest) (hint : S → Option LevelFilter) (enables : S → ℕ → Callsite → Bool) (holds : S → Type 0) (rule : S → ℕ → Callsite → Bool) → GateFollows interest hint enables holds rule
-    → (world : Worlds S) (lane site : ℕ) (own : Option ℕ) (answer : Bool) → AdmitsFresh interest hint enables world lane site own answer → EachSubscriber holds world → AdmitsBy rule world lane site own answer
+    → (world : WorldValue S) (lane site : ℕ) (own : Option ℕ) (answer : Bool) → AdmitsFresh interest hint enables world lane site own answer → EachSubscriber holds world → AdmitsBy rule world lane site own answer
 admits_by interest hint enables holds rule law world lane site None answer admits all = admits
 admits_by interest hint enables holds rule law world lane site (Some d) answer admits all = λ s c there at. admits s c there at ∙ law s lane c (all d s there)

@@ -19,7 +19,7 @@ use Rattle.env_directives.specs.declared.env.directive.Directive.{Directive}
 use Rattle.env_directives.specs.declared.env.field.Match.{Match}
 use Rattle.env_directives.specs.Cares.{cares_for_span, is_span}
 use Rattle.env_directives.specs.orders.Choice.{admits}
-use Rattle.env_directives.specs.orders.Table.{Table, more_verbose}
+use Rattle.env_directives.specs.orders.Table.{DirectiveTable, more_verbose}
 use Rattle.env_filter.specs.spans.Watching.{MatchState, new_match_state, with_values, level_of_match, found_in}
 use Rattle.env_filter.specs.declared.watch.Care.{Care}
 use Rattle.env_filter.specs.declared.filter.hooks.Ready.{Ready}
@@ -28,23 +28,23 @@ use Rattle.env_filter.specs.declared.filter.hooks.Ready.{Ready}
 -- and each lane's levels.
 pub record FilterState : Type 0 where
   pub patterns : Bool
-  pub statics : Table StaticDirective
-  pub dynamics : Table Directive
+  pub statics : DirectiveTable StaticDirective
+  pub dynamics : DirectiveTable Directive
   pub spans : ℕ → Option MatchState
   pub lanes : ℕ → List OpenLevel
 
 -- what a filter has: the same, with what it keeps of spans and of lanes in lists, and room
 pub record FilterWithRoom : Type 0 where
   pub patterns : Bool
-  pub statics : Table StaticDirective
-  pub dynamics : Table Directive
-  pub watches : List (ℕ × MatchState)
+  pub statics : DirectiveTable StaticDirective
+  pub dynamics : DirectiveTable Directive
+  pub match_states : List (ℕ × MatchState)
   pub lanes : List (ℕ × LaneLevels)
   pub span_room : ℕ
 
 -- the same without room
 abbrev pub plain_filter : FilterWithRoom → FilterState
-plain_filter s = record { patterns = s.patterns; statics = s.statics; dynamics = s.dynamics; spans = match_state_in s.watches; lanes = levels_in s.lanes }
+plain_filter s = record { patterns = s.patterns; statics = s.statics; dynamics = s.dynamics; spans = match_state_in s.match_states; lanes = levels_in s.lanes }
 
 -- the same tables, with no span and no level
 abbrev pub fresh_filter : FilterState → FilterState
@@ -73,17 +73,17 @@ abbrev pub seen_in : FilterState → KnownSpans
 seen_in f = record { knows = knows_in f; entries = entries_in f }
 
 -- what a hook was allowed to take for granted, and that lanes stay as they are
-abbrev pub Given : FilterState → Hook → Type 0
-Given f (OnNewSpan id lane at parent current callsite values) = knows_in f id ≡ false
-Given f (OnRecord id at callsite values) = Unit {0}
-Given f (OnFollows id from at) = Unit {0}
-Given f (OnEvent reached lane at callsite values) = Unit {0}
-Given f (OnEnter id at before later) = later ≡ before
-Given f (OnExit id at before later) = (later ≡ before) × (knows_in f id ≡ true → 0 < entries_in f before.id id)
-Given f (OnClose id at) = Unit {0}
+abbrev pub AllowsHook : FilterState → Hook → Type 0
+AllowsHook f (OnNewSpan id lane at parent current callsite values) = knows_in f id ≡ false
+AllowsHook f (OnRecord id at callsite values) = Unit {0}
+AllowsHook f (OnFollows id from at) = Unit {0}
+AllowsHook f (OnEvent reached lane at callsite values) = Unit {0}
+AllowsHook f (OnEnter id at before later) = later ≡ before
+AllowsHook f (OnExit id at before later) = (later ≡ before) × (knows_in f id ≡ true → 0 < entries_in f before.id id)
+AllowsHook f (OnClose id at) = Unit {0}
 
 pub record DoesFilter (s : FilterWithRoom) (hook : Hook) (t : FilterWithRoom) : Type 0 where
-  pub given : Given (plain_filter s) hook
+  pub given : AllowsHook (plain_filter s) hook
   pub now : (plain_filter t) ≡ after_hook (plain_filter s) hook
 
 abbrev pub IsReadyFilter : FilterWithRoom → Preparation → Ready → Type 0
@@ -136,7 +136,7 @@ Each P (x ∷ xs) = P x × Each P xs
 abbrev pub IsAtMostLevel : LevelFilter → LevelFilter → Type 0
 IsAtMostLevel most level = greatest_verbosity level ≤ greatest_verbosity most
 
-pub record AreWhole (f : FilterState) : Type 0 where
+pub record IsWholeFilter (f : FilterState) : Type 0 where
   pub statics : Each (λ (d : StaticDirective). IsAtMostLevel f.statics.greatest d.level) f.statics.directives
   pub dynamics : Each (λ (d : Directive). IsAtMostLevel f.dynamics.greatest d.level) f.dynamics.directives
   pub spans : (id : ℕ) → IfSome (f.spans id) (λ w. Each (λ (care : Care). IsAtMostLevel f.dynamics.greatest care.level) w.cares)
@@ -145,6 +145,6 @@ pub record AreWhole (f : FilterState) : Type 0 where
 
 -- A filter that was just made: with its tables alone.
 pub record IsNewFilter (f : FilterState) : Type 0 where
-  pub whole : AreWhole f
+  pub whole : IsWholeFilter f
   pub none : KnowsNone (seen_in f)
   pub alone : f ≡ fresh_filter f

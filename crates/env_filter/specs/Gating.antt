@@ -15,7 +15,7 @@ use Rattle.env_directives.specs.Cares.{cares}
 use Rattle.env_directives.specs.orders.Choice.{admits, lets_through}
 use Rattle.env_directives.specs.orders.Table.{more_verbose}
 use Rattle.env_filter.specs.spans.Levels.{OpenLevel}
-use Rattle.env_filter.specs.Filtering.{FilterState, AreWhole, Each, IsAtMostLevel, is_cared, has_dynamics, interest_in, asks_values, hint_in, levels_admit, enables_in, is_admitted}
+use Rattle.env_filter.specs.Filtering.{FilterState, IsWholeFilter, Each, IsAtMostLevel, is_cared, has_dynamics, interest_in, asks_values, hint_in, levels_admit, enables_in, is_admitted}
 
 within_below : (l : Level) (f most : LevelFilter) → is_within l f ≡ true → IsAtMostLevel most f → is_within l most ≡ true
 within_below l f most is below = let e = leb-true (verbosity l) (greatest_verbosity f) is in le-leb (verbosity l) (greatest_verbosity most) (omega (arith, e, below))
@@ -92,7 +92,7 @@ not_false : (b : Bool) → not b ≡ false → b ≡ true
 not_false true e = refl
 not_false false e = absurd (true≢false e)
 
-none_open : (f : FilterState) (lane : ℕ) (l : Level) → AreWhole f → has_dynamics f ≡ false → levels_admit l (f.lanes lane) ≡ false
+none_open : (f : FilterState) (lane : ℕ) (l : Level) → IsWholeFilter f → has_dynamics f ≡ false → levels_admit l (f.lanes lane) ≡ false
 none_open f lane l w none = elim (cases_Bool (levels_admit l (f.lanes lane))) [
   | inl opens ↦ (
       let empty = eqb-true (length f.dynamics.directives) 0 (not_false (length f.dynamics.directives == 0) none) in
@@ -102,7 +102,7 @@ none_open f lane l w none = elim (cases_Bool (levels_admit l (f.lanes lane))) [
 ]
 
 -- the rule of the gate
-pub gate_is_admitted : (f : FilterState) (lane : ℕ) (c : Callsite) → AreWhole f → gate (interest_in f c) (Some (hint_in f)) (enables_in f lane c) c.level ≡ is_admitted f lane c
+pub gate_is_admitted : (f : FilterState) (lane : ℕ) (c : Callsite) → IsWholeFilter f → gate (interest_in f c) (Some (hint_in f)) (enables_in f lane c) c.level ≡ is_admitted f lane c
 gate_is_admitted f lane c w =
     gate_decides (is_cared f c) (admits f.statics.directives c) (has_dynamics f) (levels_admit c.level (f.lanes lane)) (is_within c.level f.dynamics.greatest) (is_within c.level f.statics.greatest) (hint_in f) c.level
     (λ is. within_hint f c.level (within_below c.level f.statics.greatest (more_verbose f.statics.greatest f.dynamics.greatest) (admitted_within c f.statics.greatest f.statics.directives w.statics is) (first_below f.statics.greatest f.dynamics.greatest)))

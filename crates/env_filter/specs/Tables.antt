@@ -9,7 +9,7 @@ use Rattle.env_directives.specs.declared.env.field.ValueMatch.{ValueMatch}
 use Rattle.env_directives.specs.declared.env.field.ValueMatch.TheVariants.{Bool as Truth, U64, I64, Pat, Debug}
 use Rattle.env_directives.specs.orders.DirectiveOrder.{directive_cmp}
 use Rattle.env_directives.specs.orders.StaticOrder.{most_specific_first}
-use Rattle.env_directives.specs.orders.Table.{Table, empty_table, with_added, with_all_added}
+use Rattle.env_directives.specs.orders.Table.{DirectiveTable, empty_table, with_added, with_all_added}
 use Rattle.env_filter.specs.Filtering.{FilterState, asks_value}
 
 -- a static directive can be judged by a callsite alone: it has no span name and asks for no value
@@ -24,14 +24,14 @@ abbrev pub static_of : Directive → StaticDirective
 static_of d = record { target = d.target; field_names = map (λ field. field.name) d.fields; level = d.level }
 
 -- a table after the static ones of some directives were added in turn
-abbrev pub all_static : List Directive → Table StaticDirective → Table StaticDirective
+abbrev pub all_static : List Directive → DirectiveTable StaticDirective → DirectiveTable StaticDirective
 all_static ds t = with_all_added most_specific_first (λ d. d.level) (map static_of (filter is_static ds)) t
 
 -- the tables of some directives, in the order in which their text gave them
-abbrev pub statics_of : List Directive → Table StaticDirective
+abbrev pub statics_of : List Directive → DirectiveTable StaticDirective
 statics_of ds = all_static ds empty_table
 
-abbrev pub dynamics_of : List Directive → Table Directive
+abbrev pub dynamics_of : List Directive → DirectiveTable Directive
 dynamics_of ds = with_all_added directive_cmp (λ d. d.level) (filter is_dynamic ds) empty_table
 
 -- a pattern as the fixed text of its bytes
@@ -49,27 +49,27 @@ abbrev pub fixed_directive : Directive → Directive
 fixed_directive d = record d { fields = map fixed_field d.fields }
 
 -- a filter with one directive more, which goes to the static ones where it can, else to the dynamic ones
-abbrev pub placed_in : FilterState → Directive → FilterState
-placed_in f d =
+abbrev pub with_in_table : FilterState → Directive → FilterState
+with_in_table f d =
     if is_static d then record f { statics = with_added most_specific_first (λ e. e.level) (static_of d) f.statics }
     else record f { dynamics = with_added directive_cmp (λ e. e.level) d f.dynamics }
 
 -- and where patterns aren't taken, its patterns are fixed texts
 abbrev pub with_directive : FilterState → Directive → FilterState
-with_directive f d = placed_in f (if f.patterns then d else fixed_directive d)
+with_directive f d = with_in_table f (if f.patterns then d else fixed_directive d)
 
 -- a filter with these tables, and no span and no level
-abbrev pub with_tables : Bool → Table StaticDirective → Table Directive → FilterState
+abbrev pub with_tables : Bool → DirectiveTable StaticDirective → DirectiveTable Directive → FilterState
 with_tables patterns statics dynamics = record { patterns = patterns; statics = statics; dynamics = dynamics; spans = λ id. None; lanes = λ lane. [] }
 
 -- whether both tables are empty
-abbrev pub has_none : FilterState → Bool
-has_none f = length f.statics.directives == 0 && length f.dynamics.directives == 0
+abbrev pub has_no_directives : FilterState → Bool
+has_no_directives f = length f.statics.directives == 0 && length f.dynamics.directives == 0
 
 -- a filter that has a default directive, if there is one, where it would have none
 abbrev pub or_default : Option Directive → FilterState → FilterState
 or_default None f = f
-or_default (Some d) f = if has_none f then with_directive f d else f
+or_default (Some d) f = if has_no_directives f then with_directive f d else f
 
 -- the filter of some directives
 abbrev pub filter_of : Bool → Option Directive → List Directive → FilterState

@@ -4,8 +4,8 @@ use Rattle.trace_base.specs.declared.callsite.Callsite.{Callsite}
 use Rattle.trace_base.specs.declared.level.LevelFilter.{LevelFilter}
 use Rattle.trace_base.specs.declared.subscriber.Interest.{Interest}
 use Rattle.trace_base.specs.declared.subscriber.Interest.TheVariants as interests
-use Rattle.trace_base.specs.Gate.{Worlds, gate}
-use Rattle.env_filter.specs.Filtering.{FilterWithRoom, plain_filter, AreWhole, is_admitted}
+use Rattle.trace_base.specs.Gate.{WorldValue, gate}
+use Rattle.env_filter.specs.Filtering.{FilterWithRoom, plain_filter, IsWholeFilter, is_admitted}
 
 -- interest, hint and `enabled` come to a rule, where something holds
 abbrev pub GateFollows : {S : Type 0} → (S → Callsite → Interest) → (S → Option LevelFilter) → (S → ℕ → Callsite → Bool) → (S → Type 0) → (S → ℕ → Callsite → Bool) → Type 0
@@ -28,14 +28,14 @@ in_place_rule (Some f) lane c = filter_rule f lane c
 
 abbrev pub IsWholeInPlace : Option FilterWithRoom → Type 0
 IsWholeInPlace None = Unit {0}
-IsWholeInPlace (Some f) = AreWhole (plain_filter f)
+IsWholeInPlace (Some f) = IsWholeFilter (plain_filter f)
 
 -- each subscriber of a world
-abbrev pub EachSubscriber : {S : Type 0} → (S → Type 0) → Worlds S → Type 0
+abbrev pub EachSubscriber : {S : Type 0} → (S → Type 0) → WorldValue S → Type 0
 EachSubscriber {S} P world = (d : ℕ) (s : S) → slice_get world.subscribers d ≡ Some s → P s
 
 -- the answer for a callsite on a lane: no without a subscriber, else by a rule of its subscriber
-abbrev pub AdmitsBy : {S : Type 0} → (S → ℕ → Callsite → Bool) → Worlds S → ℕ → ℕ → Option ℕ → Bool → Type 0
+abbrev pub AdmitsBy : {S : Type 0} → (S → ℕ → Callsite → Bool) → WorldValue S → ℕ → ℕ → Option ℕ → Bool → Type 0
 AdmitsBy rule world lane site None answer = answer ≡ false
 AdmitsBy {S} rule world lane site (Some dispatch) answer =
     (s : S) (c : Callsite) → slice_get world.subscribers dispatch ≡ Some s → slice_get world.sites site ≡ Some c → answer ≡ rule s lane c

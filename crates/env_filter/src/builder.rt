@@ -179,7 +179,7 @@ impl Builder {
 fn or_default(filter: &mut EnvFilter, directive: &Directive) -> Result<(), Memory>
     ensures { OnOk result (plain_filter filter.new ≡ or_default (Some directive.now) (plain_filter filter.old)) }
 {
-    if filter.has_none() {
+    if filter.has_no_directives() {
         add_copy(filter, directive)
     } else {
         Ok(())

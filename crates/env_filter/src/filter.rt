@@ -60,7 +60,7 @@ impl Model for EnvFilter {
 
     ghost Value = { FilterWithRoom };
 
-    ghost view = { λ f. record { patterns = f.patterns; statics = f.statics; dynamics = f.dynamics; watches = f.spans.entries; lanes = f.lanes.entries; span_room = spare f.spans } };
+    ghost view = { λ f. record { patterns = f.patterns; statics = f.statics; dynamics = f.dynamics; match_states = f.spans.entries; lanes = f.lanes.entries; span_room = spare f.spans } };
 }
 
 impl EnvFilter {
@@ -87,7 +87,7 @@ impl EnvFilter {
         let level = callsite.level;
         (self.has_dynamics()
             && self.dynamics.max_level().lets_through(level)
-            && (self.is_cared(callsite) || self.is_open(lane, level)))
+            && (self.is_cared(callsite) || self.lane_admits(lane, level)))
             || (self.statics.max_level().lets_through(level) && self.statics.enabled(callsite))
     }
 
@@ -136,10 +136,10 @@ impl EnvFilter {
     }
 
     // Whether a level is within one of the lane's levels.
-    fn is_open(&self, lane: u64, level: Level) -> bool
+    fn lane_admits(&self, lane: u64, level: Level) -> bool
         ensures { result ≡ levels_admit level ((plain_filter self.now).lanes lane) }
     {
-        is_open(self.levels(lane), level)
+        levels_admit(self.levels(lane), level)
     }
 }
 
@@ -157,7 +157,7 @@ fn cares(directive: &Directive, callsite: &Callsite) -> bool
     directive::Match::cares_about(directive, callsite)
 }
 
-fn is_open(levels: &[LevelFilter], level: Level) -> bool
+fn levels_admit(levels: &[LevelFilter], level: Level) -> bool
     ensures { result ≡ list_any (λ f. is_within level f) levels.now }
 {
     levels.iter().any(|filter| filter.lets_through(level))

@@ -4,16 +4,16 @@ ghost use Rattle.std.specs.Str.{IsUtf8};
 ghost use Rattle.trace_base.specs.Calls.{SubscriberCall};
 ghost use Rattle.trace_base.specs.Gate.{IsFresh, IsInWorld, dispatch_on};
 ghost use Rattle.trace_base.specs.layers.Hooks.{Hook};
-ghost use Rattle.span_registry.specs.History.{Runs};
+ghost use Rattle.span_registry.specs.History.{CallsLead};
 ghost use Rattle.env_directives.specs.declared.directive.StaticDirective.{StaticDirective};
 ghost use Rattle.env_directives.specs.declared.env.directive.Directive.{Directive};
 ghost use Rattle.env_filter.specs.declared.pieces.Ignored.{Ignored};
 ghost use Rattle.env_filter.specs.texts.Building.{IsFilterOf};
-ghost use Rattle.env_filter.specs.Filtering.{Each, FilterState, plain_filter, AreWhole, IsNewFilter, is_admitted};
+ghost use Rattle.env_filter.specs.Filtering.{Each, FilterState, plain_filter, IsWholeFilter, IsNewFilter, is_admitted};
 ghost use Rattle.env_filter.specs.spans.Histories.{level_by_calls, is_ended, NeverFalls};
 ghost use Rattle.env_filter.specs.texts.Pieces.{ReadsText};
 ghost use Rattle.env_filter.specs.texts.Printing.{HaveNoMinusZero, HaveOwnGreatest, IsReadBack, filter_text, fixed_builder, printed_directives, printed_of, text_of};
-ghost use Rattle.env_filter.specs.Stacked.{HearsCalls, HearsInPlace};
+ghost use Rattle.env_filter.specs.Stacked.{ObservesCalls, ObservesInPlace};
 ghost use Rattle.env_filter.specs.Tables.{dynamics_of, filter_of, statics_of};
 ghost use Rattle.env_filter.specs.Worlds.{GateFollows, TakesAll, filter_rule, in_place_rule, IsWholeInPlace, EachSubscriber, AdmitsBy};
 
@@ -29,7 +29,7 @@ use trace_base::world::World;
 /// Interest, hint and `enabled` together are the rule of the gate.
 pub fn gates()
     ensures { GateFollows ⟦<EnvFilter as Layer>⟧.interest ⟦<EnvFilter as Layer>⟧.hint ⟦<EnvFilter as Layer>⟧.enables
-        (λ f. AreWhole (plain_filter f)) filter_rule }
+        (λ f. IsWholeFilter (plain_filter f)) filter_rule }
 {}
 
 /// While a filter is in force no calls lower the level of a span, and a span that has a level keeps one until it closes.
@@ -67,17 +67,17 @@ pub fn reads_back()
 /// first; so the levels of spans and lanes are what the rules say of these calls.
 pub fn hears<S: Subscriber>()
     ensures { (s : _) (calls : List SubscriberCall) (t : _) → IsNewFilter (plain_filter s.layer)
-        → Runs ⟦<Layered<EnvFilter, S> as Subscriber>⟧.does ⟦<Layered<EnvFilter, S> as Subscriber>⟧.same s calls t
-        → HearsCalls (S.spans s.inner) calls (plain_filter s.layer) (plain_filter t.layer) }
+        → CallsLead ⟦<Layered<EnvFilter, S> as Subscriber>⟧.does ⟦<Layered<EnvFilter, S> as Subscriber>⟧.same_but_room s calls t
+        → ObservesCalls (S.spans s.inner) calls (plain_filter s.layer) (plain_filter t.layer) }
 {}
 
 /// The same of a filter that can be exchanged, from the moment at which it was put in place.
 pub fn hears_in_place<S: Subscriber>()
     ensures { (s : _) (calls : List SubscriberCall) (t : _) (f : FilterState)
         → option_map plain_filter s.layer.inner ≡ Some f → IsNewFilter f
-        → Runs ⟦<Layered<reload::Layer<EnvFilter>, S> as Subscriber>⟧.does
-        ⟦<Layered<reload::Layer<EnvFilter>, S> as Subscriber>⟧.same s calls t
-        → HearsInPlace (S.spans s.inner) calls f t.layer.inner }
+        → CallsLead ⟦<Layered<reload::Layer<EnvFilter>, S> as Subscriber>⟧.does
+        ⟦<Layered<reload::Layer<EnvFilter>, S> as Subscriber>⟧.same_but_room s calls t
+        → ObservesInPlace (S.spans s.inner) calls f t.layer.inner }
 {}
 
 /// A callsite is admitted on a lane by the rule of the gate, where the cache is fresh and the subscriber below takes
@@ -90,7 +90,7 @@ pub fn admits<S: Subscriber>(
     requires site { site < length world.now.sites }
     requires own { IsInWorld world.now lane.now.default }
     requires fresh { IsFresh ⟦<Layered<EnvFilter, S> as Subscriber>⟧.interest world.now }
-    requires whole { EachSubscriber (λ s. AreWhole (plain_filter s.layer)) world.now }
+    requires whole { EachSubscriber (λ s. IsWholeFilter (plain_filter s.layer)) world.now }
     requires below { TakesAll S.interest S.hint S.enables }
     ensures { AdmitsBy (λ s. filter_rule s.layer) world.now lane.now.id site
         (dispatch_on lane.now.default world.now.global) result }

@@ -1,6 +1,6 @@
 //! Where the text of a filter stands: variables, by name.
 ghost use Rattle.std.specs.Prelude.{◌≡◌, List, ℕ, Option, None, Some, IfOk, option_map, string_bytes};
-ghost use Rattle.env_filter.specs.texts.Reading.{KnownVariables, IsToldAt, first_named};
+ghost use Rattle.env_filter.specs.texts.Reading.{KnownVariables, IsReadUnder, first_named};
 
 use otel_base::list::Items;
 use otel_base::memory::Memory;
@@ -16,7 +16,7 @@ pub trait Vars {
 
     /// What stands under a name, if anything does; `std::env::var`.
     fn read(&self, name: &str) -> Result<Option<String>, Memory>
-        ensures { IfOk result (λ read. IsToldAt (told self.now) name.now (option_map string_bytes read)) };
+        ensures { IfOk result (λ read. IsReadUnder (told self.now) name.now (option_map string_bytes read)) };
 }
 
 /// Variables in memory: pairs of names and texts, of which the first with a name counts.

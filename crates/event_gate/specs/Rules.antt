@@ -9,7 +9,7 @@ use Rattle.trace_base.specs.words.Level.{is_within}
 use Rattle.env_directives.specs.declared.directive.ParseError.{ParseError}
 use Rattle.env_directives.specs.declared.env.directive.Directive.{Directive}
 use Rattle.env_directives.specs.orders.Choice.{admits}
-use Rattle.env_directives.specs.reading.Reading.{DirectiveRead, reading}
+use Rattle.env_directives.specs.reading.Reading.{DirectiveRead, read_directive}
 use Rattle.env_directives.specs.reading.Separators.{comma_pieces}
 use Rattle.env_filter.specs.texts.Building.{filter_by}
 use Rattle.env_filter.specs.Filtering.{FilterState, FilterWithRoom, plain_filter, IsNewFilter, is_cared, hint_in}
@@ -27,7 +27,7 @@ directive_read (Err fault) = []
 -- the directive that a piece of a text is; an empty one is none
 abbrev pub directive_in : List ℕ → List Directive
 directive_in [] = []
-directive_in (b ∷ bs) = directive_read (reading false (trim (b ∷ bs)))
+directive_in (b ∷ bs) = directive_read (read_directive false (trim (b ∷ bs)))
 
 -- the directives of a text are those of its pieces, in order
 abbrev pub directives_of : List ℕ → List Directive

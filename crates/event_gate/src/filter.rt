@@ -99,12 +99,12 @@ fn takes(filter: &EnvFilter, callsite: &Callsite) -> bool
 {
     match filter.register_callsite(callsite) {
         Interest::Never => false,
-        Interest::Sometimes => is_hinted(filter, callsite.level) && filter.enabled(0, callsite),
-        Interest::Always => is_hinted(filter, callsite.level),
+        Interest::Sometimes => hint_allows(filter, callsite.level) && filter.enabled(0, callsite),
+        Interest::Always => hint_allows(filter, callsite.level),
     }
 }
 
-fn is_hinted(filter: &EnvFilter, level: Level) -> bool
+fn hint_allows(filter: &EnvFilter, level: Level) -> bool
     ensures { result ≡ is_within level (hint_in (plain_filter filter.now)) }
 {
     match filter.max_level_hint() {

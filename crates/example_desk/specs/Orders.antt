@@ -1,6 +1,6 @@
 -- Orders at a desk: what its functions leave behind, and what an order makes of the stack, with the moment of each call.
 use Rattle.std.specs.Prelude.{◌≡◌, ◌+◌, ◌⊎◌, ℕ, Bool, true, false, List, [], ◌∷◌, Result}
-use Rattle.traced_futures.specs.Programs.{Lane, Current, Ghosts, Worlds, Handle, place_under, MakesAndCloses, EntersAndExits, TellsIfAnswered, TellsWhen, StandsAlone, StandsWith, Ends, Instrumented, Plain, PollsOnce, KeepsFuture, RunsUnder}
+use Rattle.traced_futures.specs.Programs.{Lane, Current, Ghosts, WorldValue, Handle, as_parent, MakesAndCloses, EntersAndExits, TellsIfAnswered, TellsWhen, StandsAlone, StandsWith, Ends, Instrumented, Plain, PollsOnce, KeepsFuture, RunsUnder}
 use Rattle.traced_layer.specs.Programs.{Context, AsksParent, PartCall}
 use Rattle.example_desk.specs.declared.desk.Desk.{Desk}
 use Rattle.example_desk.specs.declared.given.Given.{Given}
@@ -41,7 +41,7 @@ Waits {S} {T} sub given made payment old later new = (Asks sub (given.at + 22) t
 
 -- a payment's span, under which a payment is waited for that nobody has asked for, and an event where it is made
 abbrev pub Pays : {S : Type 0} → Ghosts S → Given → Desk S → Desk S → Type 0
-Pays {S} sub given old new = (made : Bool) × (closed : Worlds S)
+Pays {S} sub given old new = (made : Bool) × (closed : WorldValue S)
     × RunsUnder {T = Plain Payment} sub old.front Current given.sites.pay given.pay (given.at + 20) (given.at + 26) (record { future = record { asked = false } }) (λ payment begun later ended. Waits sub given made payment (record old { world = begun }) later (record new { world = ended })) old.world closed
     × TellsWhen made sub closed new.world new.front (given.at + 27) Current given.sites.paid given.paid
 
@@ -51,7 +51,7 @@ Wraps pack sub given old new = EntersAndExits sub pack (given.at + 35) (given.at
 
 -- a packing's span, a child of the order's
 abbrev pub Packs : {S : Type 0} → Handle → Ghosts S → Given → Desk S → Desk S → Type 0
-Packs order sub given old new = MakesAndCloses sub old.back (place_under order.held) given.sites.pack given.pack (given.at + 30) (given.at + 45) (λ pack begun ended. Wraps pack sub given (record old { world = begun }) (record new { world = ended })) old.world new.world
+Packs order sub given old new = MakesAndCloses sub old.back (as_parent order.held) given.sites.pack given.pack (given.at + 30) (given.at + 45) (λ pack begun ended. Wraps pack sub given (record old { world = begun }) (record new { world = ended })) old.world new.world
 
 -- both, one after the other, each on its lane
 abbrev pub PaysAndPacks : {S : Type 0} → Handle → Ghosts S → Given → Desk S → Desk S → Type 0
@@ -64,4 +64,4 @@ Inside order sub given old new = EntersAndExits sub order (given.at + 10) (given
 -- the order's span, whose parent is set before it starts
 abbrev pub ServesOrder : {S : Type 0} → (S → PartCall → S → Type 0) → Context → Ghosts S → Given → Desk S → Desk S → Type 0
 ServesOrder {S} touches remote sub given old new = MakesAndCloses sub old.front Current given.sites.order given.order given.at (given.at + 60)
-    (λ order begun ended. (asked : Worlds S) × (answer : _) × AsksParent touches begun asked (given.at + 1) remote order.held answer × Inside order sub given (record old { world = asked }) (record new { world = ended })) old.world new.world
+    (λ order begun ended. (asked : WorldValue S) × (answer : _) × AsksParent touches begun asked (given.at + 1) remote order.held answer × Inside order sub given (record old { world = asked }) (record new { world = ended })) old.world new.world

@@ -1,7 +1,7 @@
 -- The lines that tell of directives, and the words that tell of which kind one and a field's value are.
 use Rattle.std.specs.Prelude.{ℕ, List, [], ◌∷◌, ◌++◌, if◌then◌else◌, Bool, ◌||◌, Option, None, Some, is_some, codes, flat_map}
 use Rattle.std.specs.List.{list_any}
-use Rattle.trace_base.specs.words.Level.{filter_text}
+use Rattle.trace_base.specs.words.Level.{level_filter_text}
 use Rattle.env_directives.specs.printed.Printed.{directive_text, match_text}
 use Rattle.env_directives.specs.declared.env.directive.Directive.{Directive}
 use Rattle.env_directives.specs.declared.env.field.Match.{Match}
@@ -45,4 +45,4 @@ field_part field = codes " field " ++ (match_text field ++ (codes " (" ++ (kind_
 -- the line of a directive: its tables, its parts, and how it prints
 abbrev pub directive_line : Directive → List ℕ
 directive_line d = codes "  " ++ (tables_text d ++ (target_part d.target ++ (span_part d.in_span ++ (flat_map field_part d.fields
-    ++ (codes " level " ++ (filter_text d.level ++ (codes ": " ++ (directive_text d ++ codes "\n"))))))))
+    ++ (codes " level " ++ (level_filter_text d.level ++ (codes ": " ++ (directive_text d ++ codes "\n"))))))))

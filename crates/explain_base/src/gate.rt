@@ -1,6 +1,6 @@
 //! The rule of the gate.
 ghost use Rattle.std.specs.Prelude.{◌≡◌};
-ghost use Rattle.trace_base.specs.Gate.{is_hinted, gate};
+ghost use Rattle.trace_base.specs.Gate.{hint_allows, gate};
 
 use trace_base::level::{Level, LevelFilter};
 use trace_base::subscriber::Interest;
@@ -11,13 +11,13 @@ pub fn passes(interest: Interest, hint: Option<LevelFilter>, enabled: bool, leve
 {
     match interest {
         Interest::Never => false,
-        Interest::Sometimes => is_hinted(hint, level) && enabled,
-        Interest::Always => is_hinted(hint, level),
+        Interest::Sometimes => hint_allows(hint, level) && enabled,
+        Interest::Always => hint_allows(hint, level),
     }
 }
 
-fn is_hinted(hint: Option<LevelFilter>, level: Level) -> bool
-    ensures { result ≡ is_hinted hint level }
+fn hint_allows(hint: Option<LevelFilter>, level: Level) -> bool
+    ensures { result ≡ hint_allows hint level }
 {
     match hint {
         None => true,

@@ -3,7 +3,7 @@ use Rattle.std.proofs.Common.{◌≡◌, ℕ, zero, suc, ◌<◌, ◌≤◌, Lis
 use Rattle.std.specs.Prelude.{IfSome}
 use Rattle.std.proofs.lemmas.List.Sums.{sum_by-cons}
 use Rattle.trace_base.specs.declared.lane.Lane.{Lane}
-use Rattle.trace_base.specs.Gate.{Worlds, AreSame}
+use Rattle.trace_base.specs.Gate.{WorldValue, AreSame}
 use Rattle.trace_base.specs.Spans.{Spans}
 use Rattle.span_registry.specs.Registering.{no_spans}
 use Rattle.explain_stack.specs.Order.{Stands}
@@ -27,7 +27,7 @@ module _ {S : Type 0} (same : S → S → Type 0) (first : S) where
 
   pub begins : (spans : S → Spans) (kept : S → ℕ → ℕ → ℕ) (is_whole : S → Type 0) → ((s t : S) → same s t → spans t ≡ spans s) → ((s t : S) → same s t → kept t ≡ kept s) → ((s t : S) → same s t → is_whole s → is_whole t)
       → is_whole first → spans first ≡ no_spans → ((lane number : ℕ) → kept first lane number ≡ 0)
-      → (before : List S) → length before ≡ 0 → (world : Worlds S) → AreSame same (before ++ first ∷ []) world.subscribers → (site_count : ℕ) → site_count ≤ length world.sites
+      → (before : List S) → length before ≡ 0 → (world : WorldValue S) → AreSame same (before ++ first ∷ []) world.subscribers → (site_count : ℕ) → site_count ≤ length world.sites
       → (lane other : Lane) (dispatch : ℕ) → dispatch ≡ length before → lane.default ≡ Some dispatch → other.default ≡ None → (other.id ≡ lane.id → ⊥) → Stands spans kept is_whole dispatch 0 site_count world lane other
   begins spans kept is_whole same_spans same_kept same_whole whole none nothing_kept before empty world are_more site_count declared lane other dispatch is default none_other apart =
       let are : AreSame same (first ∷ []) world.subscribers = subst (λ (xs : List S). AreSame same (xs ++ first ∷ []) world.subscribers) (nothing before empty) are_more in

@@ -2,17 +2,17 @@
 use Rattle.std.proofs.Common.{◌≡◌, ℕ, List, Bool, true, false, Option, Some, None, refl, sym, ap, ◌∙◌, subst}
 use Rattle.std.specs.Prelude.{◌==◌, ◌&&◌, if◌then◌else◌, codes, bytes_eq}
 use Rattle.std.proofs.lemmas.Bool.{eq-eqb, true≢false}
-use Rattle.trace_base.specs.Gate.{Worlds}
+use Rattle.trace_base.specs.Gate.{WorldValue}
 use Rattle.trace_base.specs.Spans.{Spans}
 use Rattle.trace_base.specs.Calls.{SubscriberCall}
-use Rattle.span_handles.specs.Handles.{Handle, Held, IsKnown, no_handle, same_held}
+use Rattle.span_handles.specs.Handles.{Handle, HeldSpan, IsKnown, no_handle, same_held}
 use Rattle.span_handles.specs.Knowing.{KeepsKnown, KeepsOthers}
 use Rattle.explain_stack.specs.declared.handles.Handles.{Handles}
 use Rattle.explain_stack.specs.Order.{IsHeld}
 use Rattle.explain_stack.specs.Places.{AreHeld, IsNoneOf, ClosesNamed, named_at, put_at, handle_named, with_named}
 use Rattle.explain_stack.specs.Puts.{ClosesHeld}
 
-pub none_held : {S : Type 0} (spans : S → Spans) (site_count : ℕ) (world : Worlds S) → IsHeld spans site_count world no_handle
+pub none_held : {S : Type 0} (spans : S → Spans) (site_count : ℕ) (world : WorldValue S) → IsHeld spans site_count world no_handle
 none_held spans site_count world = record { known = tt; site = tt }
 
 some_if : {A : Type 0} (P : A → Type 0) (b : Bool) (x : A) (rest : Option A) (slot : A) → Some slot ≡ (if b then Some x else rest) → P x → (Some slot ≡ rest → P slot) → P slot
@@ -23,7 +23,7 @@ if_holds : {A : Type 0} (P : A → Type 0) (b : Bool) (x y : A) → P x → P y 
 if_holds P true x y here there = here
 if_holds P false x y here there = there
 
-module _ {S : Type 0} (spans : S → Spans) (site_count : ℕ) (world : Worlds S) where
+module _ {S : Type 0} (spans : S → Spans) (site_count : ℕ) (world : WorldValue S) where
   -- the one of a name is held, and all are where one is put
   pub named_held : (name : List ℕ) (handles : Handles) (slot : Handle) → Some slot ≡ handle_named name handles → AreHeld spans site_count world handles → IsHeld spans site_count world slot
   named_held name handles slot is held =
@@ -53,16 +53,16 @@ put_back name slot old left new is taken put =
     put ∙ ap (λ (hs : Handles). with_named name slot hs) taken
     ∙ put_back_at (bytes_eq name (codes "a")) (bytes_eq name (codes "b")) (bytes_eq name (codes "c")) slot old is
 
-module _ {S : Type 0} (spans : S → Spans) (site_count : ℕ) (old new : Worlds S) where
+module _ {S : Type 0} (spans : S → Spans) (site_count : ℕ) (old new : WorldValue S) where
   pub one_held : KeepsKnown spans old new → (handle : Handle) → IsHeld spans site_count old handle → IsHeld spans site_count new handle
   one_held keeps handle held = record { known = keeps handle.held held.known; site = held.site }
 
   pub still_held : KeepsKnown spans old new → (handles : Handles) → AreHeld spans site_count old handles → AreHeld spans site_count new handles
   still_held keeps handles held = record { a = one_held keeps handles.a held.a; b = one_held keeps handles.b held.b; c = one_held keeps handles.c held.c }
 
-  apart_held : (closed held : Held) → KeepsOthers spans old new closed → same_held held closed ≡ false → IsKnown spans old held → IsKnown spans new held
+  apart_held : (closed held : HeldSpan) → KeepsOthers spans old new closed → same_held held closed ≡ false → IsKnown spans old held → IsKnown spans new held
   apart_held closed None keeps apart known = tt
-  apart_held closed (Some h) keeps apart known = keeps.known (Some h) (λ same. absurd (not_apart h (subst (λ (o : Held). same_held (Some h) o ≡ false) (sym same) apart))) known
+  apart_held closed (Some h) keeps apart known = keeps.known (Some h) (λ same. absurd (not_apart h (subst (λ (o : HeldSpan). same_held (Some h) o ≡ false) (sym same) apart))) known
     where
       not_apart : (h : ℕ × ℕ) → same_held (Some h) (Some h) ≡ false → ⊥
       not_apart h e = true≢false (sym (ap (λ (x : Bool). x && (h.1 == h.1)) (eq-eqb h.0 h.0 refl) ∙ eq-eqb h.1 h.1 refl) ∙ e)
@@ -79,6 +79,6 @@ module _ {S : Type 0} (spans : S → Spans) (site_count : ℕ) (old new : Worlds
   closed_held name closed handles left is none keeps held =
       others_held closed keeps left none (subst (λ (hs : Handles). AreHeld spans site_count old hs) (sym is) (put_held spans site_count old name no_handle handles (none_held spans site_count old) held))
 
-pub closes_named : {S : Type 0} (spans : S → Spans) (does : S → SubscriberCall → S → Type 0) (at : ℕ) (name : List ℕ) (closed : Handle) (handles : Handles) (old : Worlds S) (left : Handles) (new : Worlds S) → Some closed ≡ handle_named name handles → left ≡ with_named name no_handle handles
+pub closes_named : {S : Type 0} (spans : S → Spans) (does : S → SubscriberCall → S → Type 0) (at : ℕ) (name : List ℕ) (closed : Handle) (handles : Handles) (old : WorldValue S) (left : Handles) (new : WorldValue S) → Some closed ≡ handle_named name handles → left ≡ with_named name no_handle handles
     → ClosesHeld spans does at old new closed.held → ClosesNamed spans does at name handles old left new
 closes_named spans does at name closed handles old left new was is closes = record { handle = closed; was = was; closed = closes; left_is = is }

@@ -1,7 +1,7 @@
 -- Which steps of a stack make no span and leave lanes.
 use Rattle.std.proofs.Common.{◌≡◌, ℕ, length, Bool, Option, Some, refl, ap, ◌∙◌}
 use Rattle.std.proofs.lemmas.List.{length-set}
-use Rattle.trace_base.specs.Spans.{Spans, next_of}
+use Rattle.trace_base.specs.Spans.{Spans, parent_to_release}
 use Rattle.trace_base.specs.Calls.{SubscriberCall, NewSpan, Records, Follows, Event, Enter, Exit, CloneSpan, TryClose, spans_after_call}
 use Rattle.trace_base.specs.lanes.Contexts.{CallLanes}
 use Rattle.span_handles.specs.Worlds.{Chain, ended, closes}
@@ -51,15 +51,15 @@ module _ {S : Type 0} (spans : S → Spans) (attaches : S → Bool) (kept : S �
 
   chain_made : (at : ℕ) (next : Option ℕ) (s t : S) → Chain spans does at next s t → length (spans t).made ≡ length (spans s).made
   chain_made at _ _ _ (ended s) = refl
-  chain_made at _ _ _ (closes id s m t did rest) = chain_made at (next_of (spans s).made id) m t rest ∙ (quiet_call (TryClose id at) tt).as_many_made s m did
+  chain_made at _ _ _ (closes id s m t did rest) = chain_made at (parent_to_release (spans s).made id) m t rest ∙ (quiet_call (TryClose id at) tt).as_many_made s m did
 
   chain_kept : (at : ℕ) (next : Option ℕ) (s t : S) → Chain spans does at next s t → kept t ≡ kept s
   chain_kept at _ _ _ (ended s) = refl
-  chain_kept at _ _ _ (closes id s m t did rest) = chain_kept at (next_of (spans s).made id) m t rest ∙ (quiet_call (TryClose id at) tt).as_kept s m did
+  chain_kept at _ _ _ (closes id s m t did rest) = chain_kept at (parent_to_release (spans s).made id) m t rest ∙ (quiet_call (TryClose id at) tt).as_kept s m did
 
   chain_whole : (at : ℕ) (next : Option ℕ) (s t : S) → Chain spans does at next s t → is_whole s → is_whole t
   chain_whole at _ _ _ (ended s) w = w
-  chain_whole at _ _ _ (closes id s m t did rest) w = chain_whole at (next_of (spans s).made id) m t rest (keeps_whole s (TryClose id at) m did w)
+  chain_whole at _ _ _ (closes id s m t did rest) w = chain_whole at (parent_to_release (spans s).made id) m t rest (keeps_whole s (TryClose id at) m did w)
 
   pub quiet_chain : (at id : ℕ) → IsQuiet spans kept is_whole (λ s t. Chain spans does at (Some id) s t)
   quiet_chain at id = record {

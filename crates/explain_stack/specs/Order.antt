@@ -1,7 +1,7 @@
 -- What the calls of a scene keep.
 use Rattle.std.specs.Prelude.{◌≡◌, ◌<◌, ◌≤◌, ℕ, length, IfSome}
 use Rattle.trace_base.specs.declared.lane.Lane.{Lane}
-use Rattle.trace_base.specs.Gate.{Worlds, IsInWorld}
+use Rattle.trace_base.specs.Gate.{WorldValue, IsInWorld}
 use Rattle.trace_base.specs.Spans.{Spans}
 use Rattle.span_handles.specs.Handles.{Handle, IsKnown}
 use Rattle.span_handles.specs.Knowing.{KeepsKnown}
@@ -10,7 +10,7 @@ use Rattle.explain_stack.specs.declared.scene.Scene.{Scene}
 
 -- a world with a subscriber of that number, so many callsites and at most so many spans, and two lanes with different ids:
 -- what was attached by entries is attached to both
-pub record Stands {S : Type 0} (spans : S → Spans) (kept : S → ℕ → ℕ → ℕ) (is_whole : S → Type 0) (dispatch span_count site_count : ℕ) (world : Worlds S) (lane other : Lane) : Type 0 where
+pub record Stands {S : Type 0} (spans : S → Spans) (kept : S → ℕ → ℕ → ℕ) (is_whole : S → Type 0) (dispatch span_count site_count : ℕ) (world : WorldValue S) (lane other : Lane) : Type 0 where
   pub there : dispatch < length world.subscribers
   pub whole : HasAll is_whole world
   pub few : HasAll (λ s. length (spans s).made ≤ span_count) world
@@ -31,6 +31,6 @@ pub record KeepsScene {S : Type 0} (spans : S → Spans) (kept : S → ℕ → �
   pub site_count : new.site_count ≡ old.site_count
 
 -- a handle that is known, with a callsite of the world
-pub record IsHeld {S : Type 0} (spans : S → Spans) (site_count : ℕ) (world : Worlds S) (handle : Handle) : Type 0 where
+pub record IsHeld {S : Type 0} (spans : S → Spans) (site_count : ℕ) (world : WorldValue S) (handle : Handle) : Type 0 where
   pub known : IsKnown spans world handle.held
   pub site : IfSome handle.site (λ k. k < site_count)

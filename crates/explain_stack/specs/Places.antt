@@ -1,6 +1,6 @@
 -- Three handles, by their names.
 use Rattle.std.specs.Prelude.{◌≡◌, ℕ, Bool, false, List, Option, Some, None, if◌then◌else◌, codes, bytes_eq}
-use Rattle.trace_base.specs.Gate.{Worlds}
+use Rattle.trace_base.specs.Gate.{WorldValue}
 use Rattle.trace_base.specs.Spans.{Spans}
 use Rattle.trace_base.specs.Calls.{SubscriberCall}
 use Rattle.span_handles.specs.Handles.{Handle, no_handle, same_held}
@@ -30,7 +30,7 @@ pub record IsNoneOf (handles : Handles) (handle : Handle) : Type 0 where
   pub c : same_held handles.c.held handle.held ≡ false
 
 -- all three are known, with callsites of the world
-pub record AreHeld {S : Type 0} (spans : S → Spans) (site_count : ℕ) (world : Worlds S) (handles : Handles) : Type 0 where
+pub record AreHeld {S : Type 0} (spans : S → Spans) (site_count : ℕ) (world : WorldValue S) (handles : Handles) : Type 0 where
   pub a : IsHeld spans site_count world handles.a
   pub b : IsHeld spans site_count world handles.b
   pub c : IsHeld spans site_count world handles.c
@@ -41,7 +41,7 @@ pub record InPlay {S : Type 0} (spans : S → Spans) (kept : S → ℕ → ℕ �
   pub held : AreHeld spans scene.site_count scene.world handles
 
 -- the handle of a name is closed, and a disabled one is left there
-pub record ClosesNamed {S : Type 0} (spans : S → Spans) (does : S → SubscriberCall → S → Type 0) (at : ℕ) (name : List ℕ) (handles : Handles) (old : Worlds S) (left : Handles) (new : Worlds S) : Type 0 where
+pub record ClosesNamed {S : Type 0} (spans : S → Spans) (does : S → SubscriberCall → S → Type 0) (at : ℕ) (name : List ℕ) (handles : Handles) (old : WorldValue S) (left : Handles) (new : WorldValue S) : Type 0 where
   pub handle : Handle
   pub was : Some handle ≡ handle_named name handles
   pub closed : ClosesHeld spans does at old new handle.held

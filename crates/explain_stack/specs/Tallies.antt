@@ -1,7 +1,7 @@
 -- What the calls of a tracer make of one that counts them.
 use Rattle.std.specs.Prelude.{◌≡◌, ℕ, ◌+◌, ◌-◌, ◌^◌, min}
 use Rattle.otel_base.specs.Tracer.{TracerCall, Start, Reserve, Finish}
-use Rattle.otel_base.specs.Recorder.{Records}
+use Rattle.otel_base.specs.Recorder.{DoesRecorder}
 use Rattle.explain_stack.specs.declared.stack.tally.Tally.{Tally}
 
 -- one more, up to the greatest number of 64 bits
@@ -20,7 +20,7 @@ finished_after (Finish span) count = one_more count
 
 -- what it makes of a recorder, and the counts; whether they are told stays
 pub record Tallies (old : Tally) (call : TracerCall) (new : Tally) : Type 0 where
-  pub records : Records old.recorder call new.recorder
+  pub records : DoesRecorder old.recorder call new.recorder
   pub told : new.is_told ≡ old.is_told
   pub reserved : new.reserved ≡ reserved_after call old.reserved
   pub finished : new.finished ≡ finished_after call old.finished

@@ -5,7 +5,7 @@ use Rattle.std.proofs.lemmas.Option.{slice_get_within, slice_get_cases}
 use Rattle.trace_base.specs.declared.lane.Lane.{Lane}
 use Rattle.trace_base.specs.declared.span.Parent.{Parent}
 use Rattle.trace_base.specs.declared.span.Parent.TheVariants as parent
-use Rattle.trace_base.specs.Gate.{Worlds, AreSame, IsInWorld, dispatch_on}
+use Rattle.trace_base.specs.Gate.{WorldValue, AreSame, IsInWorld, dispatch_on}
 use Rattle.trace_base.specs.Spans.{Spans}
 use Rattle.trace_base.specs.Conditions.{AreFew, HasFewHoldsAbove, IsLiveParent}
 use Rattle.span_registry.specs.Registering.{no_spans}
@@ -31,7 +31,7 @@ sum_none f (x ∷ xs) none =
 module _ {S : Type 0} (spans : S → Spans) (kept : S → ℕ → ℕ → ℕ) (is_whole : S → Type 0) where
   -- one more was added
   pub unused_more : (same : S → S → Type 0) → ((s t : S) → same s t → spans t ≡ spans s) → ((s t : S) → same s t → kept t ≡ kept s) → ((s t : S) → same s t → is_whole s → is_whole t)
-      → (old new : Worlds S) (stack : S) → AreSame same (old.subscribers ++ stack ∷ []) new.subscribers → HasAll (IsUnused spans kept is_whole) old → IsUnused spans kept is_whole stack → HasAll (IsUnused spans kept is_whole) new
+      → (old new : WorldValue S) (stack : S) → AreSame same (old.subscribers ++ stack ∷ []) new.subscribers → HasAll (IsUnused spans kept is_whole) old → IsUnused spans kept is_whole stack → HasAll (IsUnused spans kept is_whole) new
   unused_more same same_spans same_kept same_whole old new stack are all unused d t there = elim (slice_get_cases (old.subscribers ++ stack ∷ []) d).1 [
     | inl here ↦ stays here.0 t (are.each d here.0 t here.2 there) (elim (last_or_before old.subscribers stack d here.0 here.2) [
       | inl before ↦ all d here.0 before
@@ -51,13 +51,13 @@ module _ {S : Type 0} (spans : S → Spans) (kept : S → ℕ → ℕ → ℕ) (
     }
 
   -- nothing is kept attached
-  pub none_kept : (world : Worlds S) (lane : Lane) → HasAll (IsUnused spans kept is_whole) world → AreAllAttached kept world lane
+  pub none_kept : (world : WorldValue S) (lane : Lane) → HasAll (IsUnused spans kept is_whole) world → AreAllAttached kept world lane
   none_kept world lane all number =
       let e = sum_none (λ s. kept s lane.id number) world.subscribers (λ d s there. (all d s there).nothing_kept lane.id number) in
       omega (arith, e)
 
   -- a lane whose default is of the world
-  pub starts : (world : Worlds S) (lane : Lane) → HasAll (IsUnused spans kept is_whole) world → IsInWorld world lane.default → IsReady kept is_whole world lane
+  pub starts : (world : WorldValue S) (lane : Lane) → HasAll (IsUnused spans kept is_whole) world → IsInWorld world lane.default → IsReady kept is_whole world lane
   starts world lane all own = record {
     whole = λ d s there. (all d s there).whole;
     still = none_kept world lane all;
@@ -65,7 +65,7 @@ module _ {S : Type 0} (spans : S → Spans) (kept : S → ℕ → ℕ → ℕ) (
   }
 
   -- a span may be made there
-  pub may_make : (world : Worlds S) (lane : ℕ) (parent : Parent) (d : ℕ) → HasAll (IsUnused spans kept is_whole) world → d < length world.subscribers → IsLiveParent [] parent → HasFewHoldsAbove no_spans lane parent
+  pub may_make : (world : WorldValue S) (lane : ℕ) (parent : Parent) (d : ℕ) → HasAll (IsUnused spans kept is_whole) world → d < length world.subscribers → IsLiveParent [] parent → HasFewHoldsAbove no_spans lane parent
       → MayMake spans is_whole world lane parent d
   may_make world lane parent d all there live few = record {
     there = there;
@@ -76,7 +76,7 @@ module _ {S : Type 0} (spans : S → Spans) (kept : S → ℕ → ℕ → ℕ) (
   }
 
   -- the same in a poll under one of them
-  pub room_under : (world : Worlds S) (lane : Lane) (served : Option ℕ) (d : ℕ) → served ≡ Some d → HasAll (IsUnused spans kept is_whole) world → d < length world.subscribers
+  pub room_under : (world : WorldValue S) (lane : Lane) (served : Option ℕ) (d : ℕ) → served ≡ Some d → HasAll (IsUnused spans kept is_whole) world → d < length world.subscribers
       → MayMakeIf spans is_whole world (served_lane served lane).id parent.Current (dispatch_on (served_lane served lane).default world.global)
   room_under world lane served d is all there =
       subst (λ (o : Option ℕ). MayMakeIf spans is_whole world (served_lane o lane).id parent.Current (dispatch_on (served_lane o lane).default world.global)) (sym is) (may_make world lane.id parent.Current d all there tt tt)

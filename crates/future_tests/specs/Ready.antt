@@ -1,7 +1,7 @@
 -- What calls need of a world and a lane.
 use Rattle.std.specs.Prelude.{◌≡◌, ℕ}
 use Rattle.trace_base.specs.declared.lane.Lane.{Lane}
-use Rattle.trace_base.specs.Gate.{Worlds, IsInWorld}
+use Rattle.trace_base.specs.Gate.{WorldValue, IsInWorld}
 use Rattle.trace_base.specs.Spans.{Spans}
 use Rattle.span_registry.specs.Registering.{no_spans}
 use Rattle.span_futures.specs.Lent.{HasAll, AreAllAttached}
@@ -13,7 +13,7 @@ pub record IsUnused {S : Type 0} (spans : S → Spans) (kept : S → ℕ → ℕ
   pub nothing_kept : (lane number : ℕ) → kept s lane number ≡ 0
 
 -- all stacks are whole, what they keep attached to a lane is attached there, and the lane's default is of the world
-pub record IsReady {S : Type 0} (kept : S → ℕ → ℕ → ℕ) (is_whole : S → Type 0) (world : Worlds S) (lane : Lane) : Type 0 where
+pub record IsReady {S : Type 0} (kept : S → ℕ → ℕ → ℕ) (is_whole : S → Type 0) (world : WorldValue S) (lane : Lane) : Type 0 where
   pub whole : HasAll is_whole world
   pub still : AreAllAttached kept world lane
   pub in_world : IsInWorld world lane.default

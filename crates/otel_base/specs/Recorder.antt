@@ -11,7 +11,7 @@ pub record RecorderValue : Type 0 where
   pub finished : List Record
 
 -- what a call makes of a recorder: a start gives the ids of the next number, a reserve adds a spare, a finish needs one, uses it and adds its span at the end
-abbrev pub Records : RecorderValue → TracerCall → RecorderValue → Type 0
-Records old (Start parent given) new = (given ≡ recorder_ids (old.started + 1) parent) × (new ≡ record old { started = old.started + 1 })
-Records old Reserve new = new ≡ record old { spare = old.spare + 1 }
-Records old (Finish span) new = (0 < old.spare) × (new ≡ record old { spare = old.spare - 1; finished = old.finished ++ span ∷ [] })
+abbrev pub DoesRecorder : RecorderValue → TracerCall → RecorderValue → Type 0
+DoesRecorder old (Start parent given) new = (given ≡ recorder_ids (old.started + 1) parent) × (new ≡ record old { started = old.started + 1 })
+DoesRecorder old Reserve new = new ≡ record old { spare = old.spare + 1 }
+DoesRecorder old (Finish span) new = (0 < old.spare) × (new ≡ record old { spare = old.spare - 1; finished = old.finished ++ span ∷ [] })

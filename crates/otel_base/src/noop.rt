@@ -1,6 +1,6 @@
 //! A tracer that keeps nothing.
 ghost use Rattle.std.specs.Prelude.{◌≡◌};
-ghost use Rattle.otel_base.specs.Noop.{Ignores};
+ghost use Rattle.otel_base.specs.Noop.{DoesNoop};
 ghost use Rattle.otel_base.specs.Counts.{noop_counts};
 
 use crate::context::{Context, SpanContext};
@@ -37,7 +37,7 @@ impl Tracer for NoopTracer {
 
     ghost started = { λ _. 0 };
 
-    ghost does = { Ignores };
+    ghost does = { DoesNoop };
 
     ghost counts = { noop_counts };
 

@@ -1,6 +1,6 @@
 //! A recorder: a tracer that numbers the spans it starts and keeps those that finish.
 ghost use Rattle.std.specs.Prelude.{◌≡◌, [], ◌<◌, ◌↔◌, IsSome, length, drop, slice_get};
-ghost use Rattle.otel_base.specs.Recorder.{RecorderValue, Records};
+ghost use Rattle.otel_base.specs.Recorder.{RecorderValue, DoesRecorder};
 ghost use Rattle.otel_base.specs.Counts.{recorder_counts};
 
 use crate::context::{Context, SpanContext};
@@ -72,7 +72,7 @@ impl Tracer for Recorder {
 
     ghost started = { λ r. r.started };
 
-    ghost does = { Records };
+    ghost does = { DoesRecorder };
 
     ghost counts = { recorder_counts };
 

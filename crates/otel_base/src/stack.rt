@@ -14,11 +14,11 @@ pub const MAX_CONTEXTS: usize = 65_534;
 
 /// What an attach gives, and what its detach takes: `opentelemetry::ContextGuard`, which isn't spent by itself.
 /// It has to be spent, by `ContextStack::detach` or by `discard`.
-pub struct Attached {
+pub struct ContextGuard {
     number: u64,
 }
 
-impl Model for Attached {
+impl Model for ContextGuard {
     ghost use Rattle.std.specs.Prelude.{ℕ};
 
     ghost Value = { ℕ };
@@ -26,10 +26,10 @@ impl Model for Attached {
     ghost view = { λ a. a.number };
 }
 
-impl Attached {
+impl ContextGuard {
     /// Spends it and leaves its context attached for good.
     pub fn discard(self) {
-        let Attached { number: _ } = self;
+        let ContextGuard { number: _ } = self;
     }
 }
 
@@ -62,7 +62,7 @@ impl ContextStack {
     }
 
     /// Attaches a context above all others. It is `Full` exactly where 65,534 are live.
-    pub fn attach(&mut self, context: Context) -> Result<Attached, EnterError>
+    pub fn attach(&mut self, context: Context) -> Result<ContextGuard, EnterError>
         ensures ok { IfOk result (λ number. self.new.live ≡ self.old.live ++ (number, context) ∷ []) }
         ensures number { IfOk result (λ number. has_number number self.old.live ≡ false) }
         ensures holds { IfOk result (λ number. has_number number self.new.live ≡ true) }
@@ -81,7 +81,7 @@ impl ContextStack {
             return Err(EnterError::Memory);
         };
         self.items.push((number, context))?;
-        Ok(Attached { number })
+        Ok(ContextGuard { number })
     }
 
     /// Sees to it that the next attach has the memory it needs, whatever is detached until then. It is `Full` exactly
@@ -103,14 +103,14 @@ impl ContextStack {
     }
 
     /// Detaches the context of one attach, whichever stand above it. The cost is that of passing those.
-    pub fn detach(&mut self, attached: Attached)
+    pub fn detach(&mut self, attached: ContextGuard)
         requires { has_number attached self.old.live ≡ true }
         ensures live { self.new.live ≡ without_number attached self.old.live }
         ensures ready { IsReadyToAttach self.old → IsReadyToAttach self.new }
         ensures room { self.old.room ≤ self.new.room }
     {
-        let Attached { number } = attached;
-        let at = place(self.items.as_slice(), number);
+        let ContextGuard { number } = attached;
+        let at = index_of(self.items.as_slice(), number);
         self.items.remove(at);
     }
 
@@ -125,7 +125,7 @@ impl ContextStack {
     }
 
     /// How many contexts are live.
-    pub fn live(&self) -> u64
+    pub fn live_count(&self) -> u64
         ensures value { result ≡ length self.now.live }
         ensures most { result ≤ 65534 }
     {
@@ -146,7 +146,7 @@ fn next_number(items: &[(u64, Context)]) -> Option<u64>
 }
 
 // Where the item with a number stands, searched from the end, since the newest mostly goes first.
-fn place(items: &[(u64, Context)], number: u64) -> usize
+fn index_of(items: &[(u64, Context)], number: u64) -> usize
     requires { has_number number items.now ≡ true }
     ensures within { result < length items.now }
     ensures found { (d : ℕ × Context) → (slice_index_or items.now result d).0 ≡ number }

@@ -10,7 +10,7 @@ pub use Rattle.otel_base.specs.declared.context.Context.{Context}
 pub use Rattle.otel_base.specs.declared.context.SpanContext.{SpanContext}
 pub use Rattle.otel_base.specs.declared.memory.Memory.{Memory}
 pub use Rattle.otel_base.specs.declared.record.Record.{Record}
-pub use Rattle.trace_base.specs.Spans.{Spans, next_of, span_at}
+pub use Rattle.trace_base.specs.Spans.{Spans, parent_to_release, span_at}
 pub use Rattle.trace_base.specs.declared.lane.Lane.{Lane}
 pub use Rattle.trace_base.specs.lanes.Contexts.{AreAttached, attached_as}
 pub use Rattle.trace_base.specs.layers.Hooks.{ForEvent, ForRecord, Hook, KnownSpans, OnClose, OnEnter, OnEvent, OnExit, OnFollows, OnNewSpan, OnRecord}
@@ -23,13 +23,13 @@ pub use Rattle.otel_state.specs.declared.op.OpReply.{OpReply}
 pub use Rattle.otel_state.specs.declared.settings.LayerSettings.{LayerSettings}
 pub use Rattle.otel_state.specs.fields.EventFields.{event_of}
 pub use Rattle.otel_state.specs.fields.FirstAttributes.{first_attributes}
-pub use Rattle.otel_layer.specs.Core.{Core, CoreWithRoom, is_number, is_token, keeps_as, kept_by, seen_in}
+pub use Rattle.otel_layer.specs.Core.{Core, CoreWithRoom, is_attached_as, is_token, keeps_as, kept_by, seen_in}
 pub use Rattle.otel_layer.specs.Counting.{after_counted, counted_events, hook_any}
-pub use Rattle.otel_layer.specs.Parts.{AnswersCallIf, Applies, AppliesIn, AppliesTo, PartCall, Shows, Touches, TouchesFirst, TouchesNone, context_at}
+pub use Rattle.otel_layer.specs.Parts.{AnswersCallIf, Applies, AppliesIn, AppliesTo, PartCall, GivesContext, Touches, TouchesFirst, TouchesNone, context_at}
 pub use Rattle.otel_layer.specs.Ready.{IsReadyOp, IsReadyOtel, with_moment}
-pub use Rattle.otel_layer.specs.Recording.{AttachesOwn, Closes, Detaches, Enters, Exits, Recording, RecordsCall, RecordsChain, RecordsHook, RecordsPart, Stays, closed_started, count_after, data_after, data_started, layer_recording, made_under, no_recording, recording_of, source_of, started_by, started_under, with_applied, with_close, with_entry, with_entry_op, with_exit, with_follow, with_new_recorded, with_start, with_started_link, with_starts, without_closed}
+pub use Rattle.otel_layer.specs.Recording.{AttachesOwnContext, Closes, Detaches, Enters, Exits, Recording, RecordsCall, RecordsChain, RecordsHook, RecordsPart, ChangesNothing, closed_started, count_after, data_after, data_started, layer_recording, with_span_under, no_recording, recording_of, source_of, started_by, with_start_under, with_applied, with_close, with_entry, with_entry_op, with_exit, with_follow, with_new_recorded, with_start, with_started_link, with_starts, without_closed}
 pub use Rattle.otel_layer.specs.laws.RoomLemmas.{step_from_prepared}
-pub use Rattle.otel_layer.specs.Steps.{ClosesSpan, DetachesOwn, DoesHook, EntersLane, EntersSpan, ExitsSpan, FollowsSpan, IfKnown, MakesSpan, Reserves, SameCore, StartsAny, StartsIf, StartsSpan, Step, all_events, lane_context, context_from, new_span_data, parent_source}
-pub use Rattle.otel_layer.specs.Table.{IdsRise, IsKept, MayRise, RisesTo, RoomFor, RoomForLink, all_data, data_at, entry_ids, ids_at, is_id, is_of_id, knows_span, own_or, read_off, update, waiting_context, context_unless_started, with_entry_read, with_op, with_span_data}
+pub use Rattle.otel_layer.specs.Steps.{ClosesSpan, DetachesOwnContext, DoesHook, EntersLane, EntersSpan, ExitsSpan, FollowsSpan, IfKnown, MakesSpan, Reserves, SameCore, StartsIfSome, StartsIf, StartsSpan, Step, all_events, lane_context, context_from, new_span_data, parent_source}
+pub use Rattle.otel_layer.specs.Table.{IdsRise, IsSpanTable, MayRise, RisesTo, RoomFor, RoomForLink, all_data, data_at, entry_ids, ids_at, is_id, is_of_id, knows_span, own_context_or, read_off, update, start_context, context_unless_started, with_entry_read, with_op, with_span_data}
 pub use Rattle.otel_layer.specs.declared.table.Entry.{Entry}
 pub use Rattle.otel_layer.specs.laws.CountsLemmas.{has_if_counted, last_counted, last_passes}

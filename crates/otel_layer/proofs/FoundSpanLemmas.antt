@@ -1,6 +1,6 @@
 -- What each change of a recording makes of the state of any span.
 use Rattle.std.proofs.Common.{◌≡◌, ◌≢◌, ◌<◌, ℕ, suc, zero, ◌+◌, List, [], ◌∷◌, ◌++◌, length, Bool, true, false, Option, Some, None, refl, sym, ap, subst, ◌∙◌, inl, inr, arith, if◌then◌else◌, ◌==◌, unwrap_or}
-use Rattle.otel_layer.proofs.Common.{remove_entry, cases_Bool, cond-true, cond-false, Context, SpanContext, ids_of, recorder_ids, Spans, KnownSpans, InStep, Op, SpanData, after_op, record_of, data_at, knows_span, with_span_data, with_op, waiting_context, context_unless_started, is_id, Recording, started_under, with_start, without_closed, closed_started, with_close, data_after, data_started, started_by, count_after, Closes}
+use Rattle.otel_layer.proofs.Common.{remove_entry, cases_Bool, cond-true, cond-false, Context, SpanContext, ids_of, recorder_ids, Spans, KnownSpans, InStep, Op, SpanData, after_op, record_of, data_at, knows_span, with_span_data, with_op, start_context, context_unless_started, is_id, Recording, with_start_under, with_start, without_closed, closed_started, with_close, data_after, data_started, started_by, count_after, Closes}
 use Rattle.std.proofs.lemmas.Bool.{true≢false, eq-eqb, ne_eqb, eqb-true}
 use Rattle.otel_state.specs.declared.op.Op.TheVariants as ops
 use Rattle.otel_layer.proofs.RecordingHooksLemmas.{untold}
@@ -43,12 +43,12 @@ told_at_op id other at op (e ∷ es) =
 
 -- ---- a start
 
-started_reads : (under : Option Context) (id other at : ℕ) (r : Recording) → data_at other (started_under under id at r).spans ≡ data_started under (other == id) r.started at (data_at other r.spans)
+started_reads : (under : Option Context) (id other at : ℕ) (r : Recording) → data_at other (with_start_under under id at r).spans ≡ data_started under (other == id) r.started at (data_at other r.spans)
 started_reads None id other at r = refl
 started_reads (Some under) id other at r = told_at_op id other at (ops.Start (recorder_ids (r.started + 1) (ids_of under))) r.spans
 
-pub told_at_start : (id other at : ℕ) (r : Recording) → data_at other (with_start id at r).spans ≡ data_started (waiting_context (data_at id r.spans)) (other == id) r.started at (data_at other r.spans)
-told_at_start id other at r = started_reads (waiting_context (data_at id r.spans)) id other at r
+pub told_at_start : (id other at : ℕ) (r : Recording) → data_at other (with_start id at r).spans ≡ data_started (start_context (data_at id r.spans)) (other == id) r.started at (data_at other r.spans)
+told_at_start id other at r = started_reads (start_context (data_at id r.spans)) id other at r
 
 -- ---- a span more, and one less
 
@@ -100,23 +100,23 @@ told_at_next made spans known =
 own_start : (own : Option SpanContext) (id at : ℕ) (r : Recording) (span_data : SpanData) → span_data.own ≡ own → data_at id r.spans ≡ Some span_data
     → (data_at id (with_start id at r).spans ≡ Some (started_by own r.started at span_data)) × ((with_start id at r).started ≡ count_after own r.started)
 own_start (Some own) id at r span_data is found =
-    let under = ap waiting_context found ∙ ap (λ (o : Option SpanContext). context_unless_started o span_data.parent) is in
-    (ap (λ (o : Option Context). data_at id (started_under o id at r).spans) under ∙ found, ap (λ (o : Option Context). (started_under o id at r).started) under)
+    let under = ap start_context found ∙ ap (λ (o : Option SpanContext). context_unless_started o span_data.parent) is in
+    (ap (λ (o : Option Context). data_at id (with_start_under o id at r).spans) under ∙ found, ap (λ (o : Option Context). (with_start_under o id at r).started) under)
 own_start None id at r span_data is found =
-    let under = ap waiting_context found ∙ ap (λ (o : Option SpanContext). context_unless_started o span_data.parent) is in
+    let under = ap start_context found ∙ ap (λ (o : Option SpanContext). context_unless_started o span_data.parent) is in
     let op = ops.Start (recorder_ids (r.started + 1) (ids_of span_data.parent)) in (
-      ap (λ (o : Option Context). data_at id (started_under o id at r).spans) under ∙ told_at_op id id at op r.spans
+      ap (λ (o : Option Context). data_at id (with_start_under o id at r).spans) under ∙ told_at_op id id at op r.spans
           ∙ ap (λ (b : Bool). data_after b at op (data_at id r.spans)) (eq-eqb id id refl) ∙ ap (data_after true at op) found,
-      ap (λ (o : Option Context). (started_under o id at r).started) under,
+      ap (λ (o : Option Context). (with_start_under o id at r).started) under,
     )
 
-other_start : (under : Option Context) (id other at : ℕ) (r : Recording) → other ≢ id → data_at other (started_under under id at r).spans ≡ data_at other r.spans
+other_start : (under : Option Context) (id other at : ℕ) (r : Recording) → other ≢ id → data_at other (with_start_under under id at r).spans ≡ data_at other r.spans
 other_start None id other at r apart = refl
 other_start (Some under) id other at r apart =
     let op = ops.Start (recorder_ids (r.started + 1) (ids_of under)) in
     told_at_op id other at op r.spans ∙ ap (λ (b : Bool). data_after b at op (data_at other r.spans)) (ne_eqb other id apart)
 
-start_rest : (under : Option Context) (id at : ℕ) (r : Recording) → let t = started_under under id at r in (t.finished ≡ r.finished) × (t.tokens ≡ r.tokens) × (t.settings ≡ r.settings) × (t.counting ≡ r.counting)
+start_rest : (under : Option Context) (id at : ℕ) (r : Recording) → let t = with_start_under under id at r in (t.finished ≡ r.finished) × (t.tokens ≡ r.tokens) × (t.settings ≡ r.settings) × (t.counting ≡ r.counting)
 start_rest None id at r = (refl, refl, refl, refl)
 start_rest (Some under) id at r = (refl, refl, refl, refl)
 
@@ -124,7 +124,7 @@ pub closes_span : (id at : ℕ) (r : Recording) (span_data : SpanData) → data_
 closes_span id at r span_data found =
     let s = with_start id at r in
     let own = own_start span_data.own id at r span_data refl found in
-    let rest = start_rest (waiting_context (data_at id r.spans)) id at r in
+    let rest = start_rest (start_context (data_at id r.spans)) id at r in
     let last = started_by span_data.own r.started at span_data in
     let is : with_close id at r ≡ without_closed (Some last) id at s = ap (λ (o : Option SpanData). without_closed o id at s) own.0 in
     record {
@@ -133,5 +133,5 @@ closes_span id at r span_data found =
       tokens = ap (λ (t : Recording). t.tokens) is ∙ rest.1;
       settings = ap (λ (t : Recording). t.settings) is ∙ rest.2;
       counting = ap (λ (t : Recording). t.counting) is ∙ rest.3;
-      others = λ other apart. ap (λ (t : Recording). data_at other t.spans) is ∙ told_at_removed id other s.spans apart ∙ other_start (waiting_context (data_at id r.spans)) id other at r apart;
+      others = λ other apart. ap (λ (t : Recording). data_at other t.spans) is ∙ told_at_removed id other s.spans apart ∙ other_start (start_context (data_at id r.spans)) id other at r apart;
     }

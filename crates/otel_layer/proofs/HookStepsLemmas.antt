@@ -1,10 +1,10 @@
 -- The steps of the hooks, put together.
 use Rattle.std.proofs.Common.{◌≡◌, ℕ, ◌+◌, ◌<◌, ◌^◌, List, length, Bool, true, cond, ◌-◌, Option, Some, None, refl, sym, ap, subst, ◌∙◌, arith, if◌then◌else◌, IfSome, ◌==◌, ◌&&◌, false, option_map}
 use Rattle.std.specs.Prelude.{min, max}
-use Rattle.otel_layer.proofs.Common.{empty_context, remove_entry, and_parts, and_from, cond-true, Context, ids_of, Lane, AreAttached, attached_as, Op, LayerSettings, last_passing, SpanData, Room, HasRoom, after_op, data_at, knows_span, update, with_op, waiting_context, ids_at, is_id, RoomFor, Core, context_at, is_token, is_number, keeps_as, kept_by, StartsIf, StartsSpan, StartsAny, parent_source, lane_context, context_from, new_span_data, MakesSpan, DetachesOwn, EntersLane, EntersSpan, ExitsSpan, ClosesSpan, IfKnown, with_moment, last_passes, last_counted}
+use Rattle.otel_layer.proofs.Common.{empty_context, remove_entry, and_parts, and_from, cond-true, Context, ids_of, Lane, AreAttached, attached_as, Op, LayerSettings, last_passing, SpanData, Room, HasRoom, after_op, data_at, knows_span, update, with_op, start_context, ids_at, is_id, RoomFor, Core, context_at, is_token, is_attached_as, keeps_as, kept_by, StartsIf, StartsSpan, StartsIfSome, parent_source, lane_context, context_from, new_span_data, MakesSpan, DetachesOwnContext, EntersLane, EntersSpan, ExitsSpan, ClosesSpan, IfKnown, with_moment, last_passes, last_counted}
 use Rattle.std.proofs.lemmas.Bool.{eq-eqb, true≢false}
 use Rattle.otel_base.specs.Tracer.{TracerCall}
-use Rattle.otel_base.specs.declared.stack.Attached.{Attached}
+use Rattle.otel_base.specs.declared.stack.ContextGuard.{ContextGuard}
 use Rattle.trace_base.specs.declared.callsite.Callsite.{Callsite}
 use Rattle.trace_base.specs.declared.field.ValueSet.{ValueSet}
 use Rattle.trace_base.specs.declared.span.Parent.{Parent}
@@ -14,32 +14,32 @@ use Rattle.otel_state.specs.States.{with_making}
 use Rattle.otel_layer.specs.declared.layer.tokens.Token.{Token}
 use Rattle.otel_layer.specs.Core.{on_spans}
 use Rattle.otel_layer.specs.Starts.{StartsTo, StartsIn, EntersKnown, FinishesState}
-use Rattle.otel_layer.specs.Steps.{with_added_span, AttachesContext, own_in, with_finish, with_token, without_token}
+use Rattle.otel_layer.specs.Steps.{with_added_span, AttachesContext, own_context_in, with_finish, with_token, without_token}
 use Rattle.otel_layer.proofs.StartsLemmas.{started_in, found_at, removed_update, update_unknown}
 
 -- a start among the spans is one of the layer
 pub starts_core : {T : Type 0} (does : T → TracerCall → T → Type 0) (c d : Core T) (id at : ℕ) → StartsIn does id at c.spans c.tracer d.tracer d.spans → d ≡ record c { tracer = d.tracer; spans = d.spans } → StartsSpan does id at c d
-starts_core {T} does c d id at starts rest = by (waiting_context (data_at id c.spans)) starts
+starts_core {T} does c d id at starts rest = by (start_context (data_at id c.spans)) starts
   where
     by : (o : Option Context) → StartsTo does o (λ given. with_op id at (ops.Start given) c.spans) c.spans c.tracer d.tracer d.spans → StartsIf does o id at c d
     by None h = rest ∙ ap (λ (s : T). let x : Core T = record c { tracer = s; spans = d.spans } in x) h.0 ∙ ap (λ (xs : List (ℕ × SpanData)). let x : Core T = record c { spans = xs } in x) h.1
     by (Some under) h = (h.0, h.1, rest ∙ ap (λ (xs : List (ℕ × SpanData)). let x : Core T = record c { tracer = d.tracer; spans = xs } in x) h.2)
 
 pub makes : {T : Type 0} (does : T → TracerCall → T → Type 0) (c between d : Core T) (id : ℕ) (lane : Lane) (at : ℕ) (parent : Parent) (current : Option ℕ) (callsite : Callsite) (values : ValueSet) (source : Option ℕ) (active : Bool) (context : Context) (span_data : SpanData)
-    → active ≡ c.settings.activation → source ≡ parent_source active parent current → StartsAny does source at c between → context ≡ context_from between.spans (lane_context lane parent) source
+    → active ≡ c.settings.activation → source ≡ parent_source active parent current → StartsIfSome does source at c between → context ≡ context_from between.spans (lane_context lane parent) source
     → span_data ≡ new_span_data callsite lane values context at c.settings c.counting → length c.spans < c.reserved → c.span_count + 1 < 2 ^ 62 → between.settings ≡ c.settings
-    → StartsAny does (if between.settings.eager then Some id else None) at (with_added_span id span_data between) d → MakesSpan does c id lane at parent current callsite values d
+    → StartsIfSome does (if between.settings.eager then Some id else None) at (with_added_span id span_data between) d → MakesSpan does c id lane at parent current callsite values d
 makes {T} does c between d id lane at parent current callsite values source active context span_data is_active is_source starts is_context is_data spare few same begins =
     let from = is_source ∙ ap (λ (b : Bool). parent_source b parent current) is_active in
     record {
       between = between;
       spare = spare;
       few = few;
-      starts = subst (λ (o : Option ℕ). StartsAny does o at c between) from starts;
+      starts = subst (λ (o : Option ℕ). StartsIfSome does o at c between) from starts;
       added = with_added_span id span_data between;
       rest = ap (λ (t : SpanData). with_added_span id t between)
           (is_data ∙ ap (λ (x : Context). new_span_data callsite lane values x at c.settings c.counting) (is_context ∙ ap (λ (o : Option ℕ). context_from between.spans (lane_context lane parent) o) from));
-      begins = subst (λ (s : LayerSettings). StartsAny does (if s.eager then Some id else None) at (with_added_span id span_data between) d) same begins;
+      begins = subst (λ (s : LayerSettings). StartsIfSome does (if s.eager then Some id else None) at (with_added_span id span_data between) d) same begins;
     }
 
 -- a new span that gets its parent and its moment after what its fields write
@@ -56,7 +56,7 @@ with_started tracer spans c = record c { tracer = tracer; spans = spans }
 pub same_started : {T : Type 0} (c : Core T) (tracer : T) (spans : List (ℕ × SpanData)) → tracer ≡ c.tracer → spans ≡ c.spans → with_started tracer spans c ≡ c
 same_started {T} c tracer spans s xs = ap (λ (x : T). with_started x spans c) s ∙ ap (λ (ys : List (ℕ × SpanData)). with_started c.tracer ys c) xs
 
-pub enters_active : {T : Type 0} (does : T → TracerCall → T → Type 0) (c d : Core T) (id at : ℕ) (before later : Lane) (tracer : T) (spans : List (ℕ × SpanData)) (own : Context) (attached : Attached)
+pub enters_active : {T : Type 0} (does : T → TracerCall → T → Type 0) (c d : Core T) (id at : ℕ) (before later : Lane) (tracer : T) (spans : List (ℕ × SpanData)) (own : Context) (attached : ContextGuard)
     → c.settings.activation ≡ true → EntersKnown does id at c.spans c.tracer tracer spans own → AttachesContext own before later (Some attached)
     → d ≡ with_token (record { lane = later.id; id = id; attached = Some attached }) (with_started tracer spans c) → EntersSpan does c id at before later d
 enters_active {T} does c d id at before later tracer spans own attached active enters lane rest =
@@ -64,8 +64,8 @@ enters_active {T} does c d id at before later tracer spans own attached active e
     record {
       between = between;
       attached = Some attached;
-      starts = subst (λ (b : Bool). StartsAny does (if b then Some id else None) at c between) (sym active) (starts_core does c between id at enters.starts refl);
-      lane = subst (λ (b : Bool). EntersLane b (own_in between id) before later (Some attached)) (sym active) (subst (λ (x : Context). AttachesContext x before later (Some attached)) enters.own_is lane);
+      starts = subst (λ (b : Bool). StartsIfSome does (if b then Some id else None) at c between) (sym active) (starts_core does c between id at enters.starts refl);
+      lane = subst (λ (b : Bool). EntersLane b (own_context_in between id) before later (Some attached)) (sym active) (subst (λ (x : Context). AttachesContext x before later (Some attached)) enters.own_is lane);
       rest = rest ∙ ap (λ (xs : List (ℕ × SpanData)). with_token (record { lane = later.id; id = id; attached = Some attached }) (with_started tracer xs c)) enters.rest
           ∙ ap (λ (l : ℕ). with_token (record { lane = l; id = id; attached = Some attached }) (with_started tracer (with_op id at ops.Enter enters.between) c)) lane.keeps.id;
     }
@@ -75,17 +75,17 @@ pub enters_still : {T : Type 0} (does : T → TracerCall → T → Type 0) (c d 
 enters_still {T} does c d id at lane still rest = record {
   between = c;
   attached = None;
-  starts = subst (λ (b : Bool). StartsAny does (if b then Some id else None) at c c) (sym still) refl;
-  lane = subst (λ (b : Bool). EntersLane b (own_in c id) lane lane None) (sym still) (refl, refl);
+  starts = subst (λ (b : Bool). StartsIfSome does (if b then Some id else None) at c c) (sym still) refl;
+  lane = subst (λ (b : Bool). EntersLane b (own_context_in c id) lane lane None) (sym still) (refl, refl);
   rest = rest;
 }
 
 -- an exit, once the op is applied
 pub exits : {T : Type 0} (c between d : Core T) (id at : ℕ) (before later : Lane) → between ≡ on_spans (with_op id at ops.Exit) c
-    → (token : Token) × (last_passing (is_token before.id id) between.tokens ≡ Some token) × DetachesOwn (if between.settings.activation then token.attached else None) before later × (d ≡ without_token before.id id between)
+    → (token : Token) × (last_passing (is_token before.id id) between.tokens ≡ Some token) × DetachesOwnContext (if between.settings.activation then token.attached else None) before later × (d ≡ without_token before.id id between)
     → ExitsSpan c id at before later d
 exits {T} c between d id at before later is left =
-    let l = subst (λ (x : Core T). (token : Token) × (last_passing (is_token before.id id) x.tokens ≡ Some token) × DetachesOwn (if x.settings.activation then token.attached else None) before later × (d ≡ without_token before.id id x)) is left in
+    let l = subst (λ (x : Core T). (token : Token) × (last_passing (is_token before.id id) x.tokens ≡ Some token) × DetachesOwnContext (if x.settings.activation then token.attached else None) before later × (d ≡ without_token before.id id x)) is left in
     record { token = l.0; last = l.1; leaves = l.2; rest = l.3 }
 
 -- what an exit detaches is attached
@@ -94,7 +94,7 @@ kept_still None tokens token id lane is still last = tt
 kept_still (Some n) tokens token id lane is still last =
     let parts = and_parts (token.lane == lane.id) (token.id == id) (last_passes (is_token lane.id id) tokens token last) in
     let count = last_counted (is_token lane.id id) (keeps_as lane.id n) tokens token last in
-    let one = ap (λ (o : Option ℕ). cond {A = ℕ} (token.lane == lane.id && is_number n o) 1 0) is ∙ cond-true {A = ℕ} (token.lane == lane.id && n == n) 1 0 (and_from (token.lane == lane.id) (n == n) parts.0 (eq-eqb n n refl)) in
+    let one = ap (λ (o : Option ℕ). cond {A = ℕ} (token.lane == lane.id && is_attached_as n o) 1 0) is ∙ cond-true {A = ℕ} (token.lane == lane.id && n == n) 1 0 (and_from (token.lane == lane.id) (n == n) parts.0 (eq-eqb n n refl)) in
     let h = still n in
     omega (arith, count, one, h)
 

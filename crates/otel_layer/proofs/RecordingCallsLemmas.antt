@@ -1,22 +1,22 @@
 -- What the calls of a stack make of what its layer over a recorder keeps.
 use Rattle.std.proofs.Common.{◌≡◌, ◌<◌, ℕ, List, [], ◌∷◌, ◌++◌, length, Bool, true, false, Option, Some, None, slice_get, refl, sym, ap, subst, ◌∙◌, inl, inr, arith, ◌==◌, if◌then◌else◌, fold}
 use Rattle.std.specs.Option.{option_map_or}
-use Rattle.otel_layer.proofs.Common.{cases_eq, cases_Bool, cond-true, cond-false, Context, RecorderValue, has_number, without_number, empty_context, Lane, Hook, Spans, next_of, span_at, DoesBoth, InStep, seen_before, seen_later, last_passing, Core, CoreWithRoom, is_token, seen_in, PartCall, Applies, Shows, Touches, TouchesFirst, TouchesNone, IfKnown, SameCore, DoesHook, all_events, data_at, knows_span, own_or, Recording, recording_of, no_recording, with_starts, source_of, with_entry, with_exit, with_close, AttachesOwn, Detaches, Enters, Exits, Stays, RecordsCall, RecordsChain, RecordsPart, layer_recording}
+use Rattle.otel_layer.proofs.Common.{cases_eq, cases_Bool, cond-true, cond-false, Context, RecorderValue, has_number, without_number, empty_context, Lane, Hook, Spans, parent_to_release, span_at, DoesBoth, InStep, seen_before, seen_later, last_passing, Core, CoreWithRoom, is_token, seen_in, PartCall, Applies, GivesContext, Touches, TouchesFirst, TouchesNone, IfKnown, SameCore, DoesHook, all_events, data_at, knows_span, own_context_or, Recording, recording_of, no_recording, with_starts, source_of, with_entry, with_exit, with_close, AttachesOwnContext, Detaches, Enters, Exits, ChangesNothing, RecordsCall, RecordsChain, RecordsPart, layer_recording}
 use Rattle.std.proofs.lemmas.Bool.{true≢false, eq-eqb, ne_eqb}
-use Rattle.otel_base.specs.Recorder.{Records as RecordsBy}
-use Rattle.trace_base.specs.Gate.{Worlds}
+use Rattle.otel_base.specs.Recorder.{DoesRecorder as RecordsBy}
+use Rattle.trace_base.specs.Gate.{WorldValue}
 use Rattle.trace_base.specs.Calls.{SubscriberCall, NewSpan, Records, Follows, Event, Enter, Exit, CloneSpan, TryClose, spans_after_call}
 use Rattle.trace_base.specs.Conditions.{Allowed}
 use Rattle.span_registry.specs.declared.layered.Layered.{Layered}
 use Rattle.span_registry.specs.Layering.{both_allowed, both_shows}
 use Rattle.span_registry.specs.Registering.{RegistryValue, DoesRegistry}
-use Rattle.span_handles.specs.Worlds.{Replaced, member_of, Chain, ended, closes, all_released, releases, closed_in, no_spans}
+use Rattle.span_handles.specs.Worlds.{Replaced, read_subscriber, Chain, ended, closes, all_released, releases, closed_in, no_spans}
 use Rattle.otel_layer.proofs.FoundSpanLemmas.{told_at_next}
 use Rattle.otel_layer.proofs.RecordingHooksLemmas.{room_recording, start_recording, hook_recording}
 
 -- ---- a lane with the same id and contexts
 
-attaches_from : (active : Bool) (own : Context) (between before later : Lane) (attached : Option ℕ) → between.contexts.live ≡ before.contexts.live → AttachesOwn active own between later attached → AttachesOwn active own before later attached
+attaches_from : (active : Bool) (own : Context) (between before later : Lane) (attached : Option ℕ) → between.contexts.live ≡ before.contexts.live → AttachesOwnContext active own between later attached → AttachesOwnContext active own before later attached
 attaches_from true own between before later attached e h = record {
   number = h.number;
   is = h.is;
@@ -32,7 +32,7 @@ detaches_from (Some number) between before later e h = h ∙ ap (without_number 
 enters_from : (r : Recording) (id at : ℕ) (between before later : Lane) (t : Recording) → between.id ≡ before.id → between.contexts.live ≡ before.contexts.live → Enters r id at between later t → Enters r id at before later t
 enters_from r id at between before later t i e h = record {
   attached = h.attached;
-  lane = attaches_from r.settings.activation (own_or empty_context (data_at id (with_starts (source_of r.settings.activation id) at r).spans)) between before later h.attached e h.lane;
+  lane = attaches_from r.settings.activation (own_context_or empty_context (data_at id (with_starts (source_of r.settings.activation id) at r).spans)) between before later h.attached e h.lane;
   is = h.is ∙ ap (λ (lane : ℕ). with_entry id lane at h.attached r) i;
 }
 
@@ -96,8 +96,8 @@ both_recording s l (TryClose id at) t m d =
 -- ---- worlds
 
 module _ {S : Type 0} (spans : S → Spans) (does : S → SubscriberCall → S → Type 0) (read : S → Recording) (reads : (s : S) (call : SubscriberCall) (t : S) → does s call t → RecordsCall (spans s) (read s) call (read t)) where
-  pub call_recording : (old new : Worlds S) (dispatch : ℕ) (call : SubscriberCall) → Replaced (λ s t. does s call t) old new dispatch
-      → RecordsCall (member_of spans no_spans old dispatch) (member_of read no_recording old dispatch) call (member_of read no_recording new dispatch)
+  pub call_recording : (old new : WorldValue S) (dispatch : ℕ) (call : SubscriberCall) → Replaced (λ s t. does s call t) old new dispatch
+      → RecordsCall (read_subscriber spans no_spans old dispatch) (read_subscriber read no_recording old dispatch) call (read_subscriber read no_recording new dispatch)
   call_recording old new dispatch call r =
       let R : S → S → Type 0 = λ s t. does s call t in
       rw (seen_before R old new dispatch r spans no_spans, seen_before R old new dispatch r read no_recording, seen_later R old new dispatch r read no_recording) (reads r.before call r.later r.did)
@@ -107,7 +107,7 @@ module _ {S : Type 0} (spans : S → Spans) (does : S → SubscriberCall → S �
     chained _ _ _ (ended s) x is = subst (λ (z : Spans). RecordsChain at None z (spans s) (read s) (read s)) (sym is) (record { chain = all_released (spans s); is = refl })
     chained _ _ _ (closes id s m t did rest) x is =
         subst (λ (z : Spans). RecordsChain at (Some id) z (spans t) (read s) (read t)) (sym is)
-        (let next = next_of (spans s).made id in
+        (let next = parent_to_release (spans s).made id in
         let x' = spans_after_call (spans s) (TryClose id at) in
         let more = chained next m t rest x' (sym (shows s (TryClose id at) m did)) in
         let says = reads s (TryClose id at) m did in
@@ -126,8 +126,8 @@ module _ {S : Type 0} (spans : S → Spans) (does : S → SubscriberCall → S �
           ];
         })
 
-    pub chain_recording : (old new : Worlds S) (dispatch id : ℕ) → Replaced (λ s t. Chain spans does at (Some id) s t) old new dispatch
-        → RecordsChain at (Some id) (member_of spans no_spans old dispatch) (member_of spans no_spans new dispatch) (member_of read no_recording old dispatch) (member_of read no_recording new dispatch)
+    pub chain_recording : (old new : WorldValue S) (dispatch id : ℕ) → Replaced (λ s t. Chain spans does at (Some id) s t) old new dispatch
+        → RecordsChain at (Some id) (read_subscriber spans no_spans old dispatch) (read_subscriber spans no_spans new dispatch) (read_subscriber read no_recording old dispatch) (read_subscriber read no_recording new dispatch)
     chain_recording old new dispatch id r =
         let R : S → S → Type 0 = λ s t. Chain spans does at (Some id) s t in
         rw (seen_before R old new dispatch r spans no_spans, seen_later R old new dispatch r spans no_spans, seen_before R old new dispatch r read no_recording, seen_later R old new dispatch r read no_recording)
@@ -153,20 +153,20 @@ stack_shows : (s : Stack) (call : SubscriberCall) (t : Stack) → StackDoes s ca
 stack_shows s call t d =
     both_shows spans_of DoesRegistry outer same_layer active s.inner t.inner s.layer t.layer call (λ c h. h.shows) d
 
-pub stack_chain : (at : ℕ) (old new : Worlds Stack) (dispatch id : ℕ) → Replaced (λ s t. Chain stack_spans StackDoes at (Some id) s t) old new dispatch
-    → RecordsChain at (Some id) (member_of stack_spans no_spans old dispatch) (member_of stack_spans no_spans new dispatch) (member_of layer_recording no_recording old dispatch) (member_of layer_recording no_recording new dispatch)
+pub stack_chain : (at : ℕ) (old new : WorldValue Stack) (dispatch id : ℕ) → Replaced (λ s t. Chain stack_spans StackDoes at (Some id) s t) old new dispatch
+    → RecordsChain at (Some id) (read_subscriber stack_spans no_spans old dispatch) (read_subscriber stack_spans no_spans new dispatch) (read_subscriber layer_recording no_recording old dispatch) (read_subscriber layer_recording no_recording new dispatch)
 stack_chain at old new dispatch id r = chain_recording stack_spans StackDoes layer_recording layered_recording stack_allowed stack_shows at old new dispatch id r
 
 -- room is taken
-pub same_recording : (old new : Worlds Stack) (dispatch : ℕ) → Replaced (λ s t. (t.inner ≡ s.inner) × same_layer s.layer t.layer) old new dispatch
-    → member_of layer_recording no_recording new dispatch ≡ member_of layer_recording no_recording old dispatch
+pub same_recording : (old new : WorldValue Stack) (dispatch : ℕ) → Replaced (λ s t. (t.inner ≡ s.inner) × same_layer s.layer t.layer) old new dispatch
+    → read_subscriber layer_recording no_recording new dispatch ≡ read_subscriber layer_recording no_recording old dispatch
 same_recording old new dispatch r =
     let R : Stack → Stack → Type 0 = λ s t. (t.inner ≡ s.inner) × same_layer s.layer t.layer in
     seen_later R old new dispatch r layer_recording no_recording ∙ room_recording r.before.layer.core r.later.layer.core r.did.1 ∙ sym (seen_before R old new dispatch r layer_recording no_recording)
 
 -- no span is known yet under the id of the next one
-pub next_untold : (world : Worlds Stack) (dispatch : ℕ) (s : Stack) → slice_get world.subscribers dispatch ≡ Some s → InStep s.inner.spans (seen_in s.layer.core)
-    → data_at (length (member_of stack_spans no_spans world dispatch).made) (member_of layer_recording no_recording world dispatch).spans ≡ None
+pub next_untold : (world : WorldValue Stack) (dispatch : ℕ) (s : Stack) → slice_get world.subscribers dispatch ≡ Some s → InStep s.inner.spans (seen_in s.layer.core)
+    → data_at (length (read_subscriber stack_spans no_spans world dispatch).made) (read_subscriber layer_recording no_recording world dispatch).spans ≡ None
 next_untold world dispatch s there step =
     let spans = ap (λ (o : Option Stack). option_map_or stack_spans o no_spans) there in
     let own = ap (λ (o : Option Stack). option_map_or layer_recording o no_recording) there in
@@ -175,13 +175,13 @@ next_untold world dispatch s there step =
 -- a call from outside
 part_recording : (c : Core RecorderValue) (call : PartCall) (d : Core RecorderValue) → Touches RecordsBy c call d → RecordsPart (recording_of c) call (recording_of d)
 part_recording c (Applies id at op answer) d h = (h.1, ap recording_of h.2)
-part_recording c (Shows id at answer) d h = (start_recording id at c d h.0, h.1)
+part_recording c (GivesContext id at answer) d h = (start_recording id at c d h.0, h.1)
 
 abbrev StackTouches : Stack → PartCall → Stack → Type 0
 StackTouches s call t = TouchesFirst true (λ (l : CoreWithRoom RecorderValue) (c : PartCall) (m : CoreWithRoom RecorderValue). Touches RecordsBy l.core c m.core) (λ (x : RegistryValue) (c : PartCall) (y : RegistryValue). TouchesNone x c y) s.layer s.inner call t.layer t.inner
 
-pub asks_recording : (old new : Worlds Stack) (dispatch : ℕ) (call : PartCall) → Replaced (λ s t. StackTouches s call t) old new dispatch
-    → RecordsPart (member_of layer_recording no_recording old dispatch) call (member_of layer_recording no_recording new dispatch)
+pub asks_recording : (old new : WorldValue Stack) (dispatch : ℕ) (call : PartCall) → Replaced (λ s t. StackTouches s call t) old new dispatch
+    → RecordsPart (read_subscriber layer_recording no_recording old dispatch) call (read_subscriber layer_recording no_recording new dispatch)
 asks_recording old new dispatch call r =
     let R : Stack → Stack → Type 0 = λ s t. StackTouches s call t in
     rw (seen_before R old new dispatch r layer_recording no_recording, seen_later R old new dispatch r layer_recording no_recording) (part_recording r.before.layer.core call r.later.layer.core r.did.0)

@@ -1,9 +1,9 @@
 -- What the hooks of a layer over a recorder make of what it keeps.
 use Rattle.std.proofs.Common.{◌≡◌, ℕ, suc, zero, ◌+◌, List, [], ◌∷◌, ◌++◌, Bool, true, false, Option, Some, None, refl, sym, ap, subst, ◌∙◌, inl, inr, if◌then◌else◌, is_some}
-use Rattle.otel_layer.proofs.Common.{remove_entry, cases_Bool, Context, SpanContext, Record, ids_of, RecorderValue, recorder_ids, without_number, empty_context, Lane, Hook, OnNewSpan, OnRecord, OnFollows, OnEvent, OnEnter, OnExit, OnClose, SpanData, record_of, Core, Reserves, SameCore, StartsIf, StartsSpan, StartsAny, parent_source, MakesSpan, FollowsSpan, EntersLane, DetachesOwn, EntersSpan, ExitsSpan, ClosesSpan, IfKnown, all_events, Step, DoesHook, data_at, knows_span, with_op, waiting_context, context_unless_started, own_or, is_id, Recording, recording_of, with_applied, started_under, with_start, with_starts, made_under, with_new_recorded, with_started_link, with_follow, source_of, with_entry_op, with_entry, without_closed, closed_started, with_close, AttachesOwn, Detaches, Enters, Exits, Stays, RecordsHook}
+use Rattle.otel_layer.proofs.Common.{remove_entry, cases_Bool, Context, SpanContext, Record, ids_of, RecorderValue, recorder_ids, without_number, empty_context, Lane, Hook, OnNewSpan, OnRecord, OnFollows, OnEvent, OnEnter, OnExit, OnClose, SpanData, record_of, Core, Reserves, SameCore, StartsIf, StartsSpan, StartsIfSome, parent_source, MakesSpan, FollowsSpan, EntersLane, DetachesOwnContext, EntersSpan, ExitsSpan, ClosesSpan, IfKnown, all_events, Step, DoesHook, data_at, knows_span, with_op, start_context, context_unless_started, own_context_or, is_id, Recording, recording_of, with_applied, with_start_under, with_start, with_starts, with_span_under, with_new_recorded, with_started_link, with_follow, source_of, with_entry_op, with_entry, without_closed, closed_started, with_close, AttachesOwnContext, Detaches, Enters, Exits, ChangesNothing, RecordsHook}
 use Rattle.std.proofs.lemmas.Map.Made.{is_some-lookup}
 use Rattle.std.proofs.lemmas.Bool.{true≢false}
-use Rattle.otel_base.specs.Recorder.{Records as RecordsBy}
+use Rattle.otel_base.specs.Recorder.{DoesRecorder as RecordsBy}
 use Rattle.otel_state.specs.declared.op.Op.TheVariants as ops
 
 -- ---- room
@@ -23,7 +23,7 @@ room_recording c d h =
 
 -- ---- starts
 
-if_recording : (under : Option Context) (id at : ℕ) (c d : Core RecorderValue) → StartsIf RecordsBy under id at c d → recording_of d ≡ started_under under id at (recording_of c)
+if_recording : (under : Option Context) (id at : ℕ) (c d : Core RecorderValue) → StartsIf RecordsBy under id at c d → recording_of d ≡ with_start_under under id at (recording_of c)
 if_recording None id at c d h = ap recording_of h
 if_recording (Some under) id at c d h =
     ap recording_of h.2
@@ -31,19 +31,19 @@ if_recording (Some under) id at c d h =
     ∙ ap (λ (own : SpanContext). let x : Recording = record (recording_of c) { started = c.tracer.started + 1; spans = with_op id at (ops.Start own) c.spans } in x) h.1.0
 
 pub start_recording : (id at : ℕ) (c d : Core RecorderValue) → StartsSpan RecordsBy id at c d → recording_of d ≡ with_start id at (recording_of c)
-start_recording id at c d h = if_recording (waiting_context (data_at id c.spans)) id at c d h
+start_recording id at c d h = if_recording (start_context (data_at id c.spans)) id at c d h
 
-starts_recording : (o : Option ℕ) (at : ℕ) (c d : Core RecorderValue) → StartsAny RecordsBy o at c d → recording_of d ≡ with_starts o at (recording_of c)
+starts_recording : (o : Option ℕ) (at : ℕ) (c d : Core RecorderValue) → StartsIfSome RecordsBy o at c d → recording_of d ≡ with_starts o at (recording_of c)
 starts_recording None at c d h = ap recording_of h
 starts_recording (Some id) at c d h = start_recording id at c d h
 
 -- ---- lanes
 
-attaches : (active : Bool) (own : Context) (before later : Lane) (attached : Option ℕ) → EntersLane active own before later attached → AttachesOwn active own before later attached
+attaches : (active : Bool) (own : Context) (before later : Lane) (attached : Option ℕ) → EntersLane active own before later attached → AttachesOwnContext active own before later attached
 attaches true own before later attached h = record { number = h.number; is = h.is; fresh = h.fresh; live = h.live }
 attaches false own before later attached h = (ap (λ (l : Lane). l.contexts.live) h.0, h.1)
 
-detaches : (o : Option ℕ) (before later : Lane) → DetachesOwn o before later → Detaches o before later
+detaches : (o : Option ℕ) (before later : Lane) → DetachesOwnContext o before later → Detaches o before later
 detaches None before later h = ap (λ (l : Lane). l.contexts.live) h
 detaches (Some number) before later h = h.live
 
@@ -53,8 +53,8 @@ enters c d id at before later h =
     let between = starts_recording (source_of active id) at c h.between h.starts in
     record {
       attached = h.attached;
-      lane = subst (λ (r : Recording). AttachesOwn active (own_or empty_context (data_at id r.spans)) before later h.attached) between
-          (attaches active (own_or empty_context (data_at id h.between.spans)) before later h.attached h.lane);
+      lane = subst (λ (r : Recording). AttachesOwnContext active (own_context_or empty_context (data_at id r.spans)) before later h.attached) between
+          (attaches active (own_context_or empty_context (data_at id h.between.spans)) before later h.attached h.lane);
       is = ap recording_of h.rest ∙ ap (λ (r : Recording). with_entry_op id before.id at h.attached r) between;
     }
 
@@ -66,7 +66,7 @@ exits c d id at before later h = record {
   is = ap recording_of h.rest;
 }
 
-stays : (c d : Core RecorderValue) (before later : Lane) → (d ≡ c) × (later ≡ before) → Stays (recording_of c) before later (recording_of d)
+stays : (c d : Core RecorderValue) (before later : Lane) → (d ≡ c) × (later ≡ before) → ChangesNothing (recording_of c) before later (recording_of d)
 stays c d before later h = (ap recording_of h.0, ap (λ (l : Lane). l.contexts.live) h.1)
 
 -- ---- a close
@@ -89,7 +89,7 @@ closes_known c d id at h =
 closes_unknown : (o : Option SpanData) (r : Recording) (id at : ℕ) → o ≡ data_at id r.spans → o ≡ None → with_close id at r ≡ r
 closes_unknown o r id at is none =
     let gone = sym is ∙ none in
-    ap (λ (t : Option SpanData). closed_started id at (started_under (waiting_context t) id at r)) gone ∙ ap (λ (t : Option SpanData). without_closed t id at r) gone
+    ap (λ (t : Option SpanData). closed_started id at (with_start_under (start_context t) id at r)) gone ∙ ap (λ (t : Option SpanData). without_closed t id at r) gone
 
 -- ---- all hooks
 
@@ -97,7 +97,7 @@ step_recording : (c : Core RecorderValue) (hook : Hook) (d : Core RecorderValue)
 step_recording c (OnNewSpan id lane at parent current callsite values) d h =
     let source = parent_source c.settings.activation parent current in
     starts_recording (source_of c.settings.eager id) at h.added d h.begins
-    ∙ ap (with_starts (source_of c.settings.eager id) at) (ap recording_of h.rest ∙ ap (made_under source id lane at parent callsite values c.settings c.counting) (starts_recording source at c h.between h.starts))
+    ∙ ap (with_starts (source_of c.settings.eager id) at) (ap recording_of h.rest ∙ ap (with_span_under source id lane at parent callsite values c.settings c.counting) (starts_recording source at c h.between h.starts))
 step_recording c (OnRecord id at callsite values) d h = ap recording_of h
 step_recording c (OnFollows id from at) d h = ap recording_of h.rest ∙ ap (with_started_link id from at) (start_recording from at c h.between h.starts)
 step_recording c (OnEvent None lane at callsite values) d h = ap recording_of h

@@ -2,7 +2,7 @@
 use Rattle.std.proofs.Common.{◌≡◌, ℕ, suc, zero, ◌+◌, ◌-◌, ◌<◌, ◌≤◌, List, [], ◌∷◌, ◌++◌, length, Bool, true, false, cond, get_or, take, drop, length-append, Option, Some, None, refl, sym, ap, subst, ◌∙◌, arith, inl, inr, IfSome, filter, ◌&&◌, ◌==◌, nat_lt, is_some}
 use Rattle.std.specs.Bool.{then_some}
 use Rattle.std.specs.List.{position}
-use Rattle.otel_layer.proofs.Common.{remove_entry, cases_Bool, cond-true, cond-false, Entry, IdsRise, MayRise, RisesTo, IsKept, is_of_id, is_id, entry_ids, with_entry_read, all_data, knows_span, SpanData, StateValue}
+use Rattle.otel_layer.proofs.Common.{remove_entry, cases_Bool, cond-true, cond-false, Entry, IdsRise, MayRise, RisesTo, IsSpanTable, is_of_id, is_id, entry_ids, with_entry_read, all_data, knows_span, SpanData, StateValue}
 use Rattle.std.proofs.lemmas.Bool.{lt-ltb, ltb-true, ltb-false, ne_eqb, eq-eqb}
 use Rattle.std.proofs.lemmas.List.{map-append}
 use Rattle.std.proofs.lemmas.List.Sums.{position_or_len_is}
@@ -34,7 +34,7 @@ filtered_rise test xs h = λ is. filtered test 0 xs (h is)
 ids_added : (xs : List Entry) (e : Entry) → entry_ids (xs ++ e ∷ []) ≡ entry_ids xs ++ e.id ∷ []
 ids_added xs e = map-append (λ (x : Entry). x.id) xs (e ∷ [])
 
-pub added_kept : (rising rises : Bool) (known : ℕ) (old new : List Entry) (e : Entry) (state : StateValue) → new ≡ old ++ e ∷ [] → e.state ≡ Some state → (rises ≡ true → RisesTo e.id old) → IsKept rising known old → IsKept rises (known + 1) new
+pub added_kept : (rising rises : Bool) (known : ℕ) (old new : List Entry) (e : Entry) (state : StateValue) → new ≡ old ++ e ∷ [] → e.state ≡ Some state → (rises ≡ true → RisesTo e.id old) → IsSpanTable rising known old → IsSpanTable rises (known + 1) new
 added_kept rising rises known old new e state is there young h =
     let long = ap (λ (es : List (ℕ × SpanData)). length es) (ap (λ (xs : List Entry). all_data xs) is ∙ read_added (λ s. s.span_data) old e ∙ ap (λ (o : Option StateValue). all_data old ++ with_entry_read e.id (λ s. s.span_data) o []) there) in
     let counts = h.counts in
@@ -183,16 +183,16 @@ whole_kept (suc n) (x ∷ xs) ys e = ap (λ (zs : List Entry). x ∷ zs) (whole_
 
 -- ---- a table whose entries keep their ids
 
-pub kept_whole : (rising : Bool) (known len : ℕ) (old now : List Entry) → length now ≡ len → entry_ids now ≡ entry_ids old → length (all_data now) ≡ length (all_data old) → IsKept rising known old → IsKept rising known (take len (now ++ drop (length now) old))
+pub kept_whole : (rising : Bool) (known len : ℕ) (old now : List Entry) → length now ≡ len → entry_ids now ≡ entry_ids old → length (all_data now) ≡ length (all_data old) → IsSpanTable rising known old → IsSpanTable rising known (take len (now ++ drop (length now) old))
 kept_whole rising known len old now as_many same count h =
-    subst (λ (xs : List Entry). IsKept rising known xs) (sym (whole_kept len now (drop (length now) old) as_many)) (record {
+    subst (λ (xs : List Entry). IsSpanTable rising known xs) (sym (whole_kept len now (drop (length now) old) as_many)) (record {
       rises = same_rise rising old now same h.rises;
       counts = h.counts ∙ sym count;
     })
 
 -- one is taken out, and the gaps may be closed
 pub removed_kept : (rising : Bool) (known id len : ℕ) (old now new : List Entry) → length now ≡ len → entry_ids now ≡ entry_ids old → all_data now ≡ remove_entry (is_id id) (all_data old) → knows_span id (all_data old) ≡ true
-    → all_data new ≡ all_data (take len (now ++ drop (length now) old)) → (MayRise true (take len (now ++ drop (length now) old)) → MayRise true new) → IsKept rising known old → IsKept rising (known - 1) new
+    → all_data new ≡ all_data (take len (now ++ drop (length now) old)) → (MayRise true (take len (now ++ drop (length now) old)) → MayRise true new) → IsSpanTable rising known old → IsSpanTable rising (known - 1) new
 removed_kept rising known id len old now new as_many same rest there span_data rise h =
     let whole = whole_kept len now (drop (length now) old) as_many in
     let a = ap (λ (es : List (ℕ × SpanData)). length es) (span_data ∙ ap (λ (xs : List Entry). all_data xs) whole ∙ rest) in

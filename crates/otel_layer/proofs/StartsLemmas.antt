@@ -1,6 +1,6 @@
 -- What a start, an entry or a close of one state makes of all spans.
 use Rattle.std.proofs.Common.{◌≡◌, ℕ, List, [], ◌∷◌, length, Bool, true, false, Option, Some, None, refl, sym, ap, subst, ◌∙◌, inl, inr, if◌then◌else◌, ◌==◌, unwrap_or, option_map, is_some}
-use Rattle.otel_layer.proofs.Common.{cases_Bool, cond-true, cond-false, or_parts, remove_entry, Context, SpanData, after_op, data_at, update, with_op, with_span_data, knows_span, waiting_context, own_or, is_id, empty_context, Core, StartsAny, StartsIf, context_at}
+use Rattle.otel_layer.proofs.Common.{cases_Bool, cond-true, cond-false, or_parts, remove_entry, Context, SpanData, after_op, data_at, update, with_op, with_span_data, knows_span, start_context, own_context_or, is_id, empty_context, Core, StartsIfSome, StartsIf, context_at}
 use Rattle.std.proofs.lemmas.Bool.{eq-eqb}
 use Rattle.std.proofs.lemmas.Map.Made.{is_some-lookup}
 use Rattle.otel_base.specs.Tracer.{TracerCall}
@@ -113,20 +113,20 @@ module _ {T : Type 0} (does : T → TracerCall → T → Type 0) (id at : ℕ) (
 
   pub started_in : (now : List (ℕ × SpanData)) (span_data begun : SpanData) → data_at id spans ≡ Some span_data → now ≡ update id (λ _. begun) spans → StartsState does at span_data s t begun → StartsIn does id at spans s t now
   started_in now span_data begun is changed h =
-      subst (λ (o : Option SpanData). StartsTo does (waiting_context o) (λ given. with_op id at (ops.Start given) spans) spans s t now) (sym is) (started_by (waiting_context (Some span_data)) now span_data begun is changed h)
+      subst (λ (o : Option SpanData). StartsTo does (start_context o) (λ given. with_op id at (ops.Start given) spans) spans s t now) (sym is) (started_by (start_context (Some span_data)) now span_data begun is changed h)
 
   pub shown_in : (now : List (ℕ × SpanData)) (span_data begun : SpanData) → data_at id spans ≡ Some span_data → now ≡ update id (λ _. begun) spans → Some (record { span = begun.own }) ≡ context_at (data_at id now)
   shown_in now span_data begun is changed = sym (ap (λ (xs : List (ℕ × SpanData)). context_at (data_at id xs)) changed ∙ ap context_at (found_at id (λ _. begun) spans span_data is))
 
   pub unstarted : data_at id spans ≡ None → StartsIn does id at spans s s spans
-  unstarted is = subst (λ (o : Option SpanData). StartsTo does (waiting_context o) (λ given. with_op id at (ops.Start given) spans) spans s s spans) (sym is) (refl, refl)
+  unstarted is = subst (λ (o : Option SpanData). StartsTo does (start_context o) (λ given. with_op id at (ops.Start given) spans) spans s s spans) (sym is) (refl, refl)
 
   count_by : (o : Option Context) (now : List (ℕ × SpanData)) → StartsTo does o (λ given. with_op id at (ops.Start given) spans) spans s t now → length now ≡ length spans
   count_by None now h = ap (λ (xs : List (ℕ × SpanData)). length xs) h.1
   count_by (Some under) now h = ap (λ (xs : List (ℕ × SpanData)). length xs) h.2 ∙ updated_count id (λ x. after_op x at (ops.Start h.0)) spans
 
   pub started_count : (now : List (ℕ × SpanData)) → StartsIn does id at spans s t now → length now ≡ length spans
-  started_count now h = count_by (waiting_context (data_at id spans)) now h
+  started_count now h = count_by (start_context (data_at id spans)) now h
 
   pub entered_in : (now : List (ℕ × SpanData)) (span_data begun entered : SpanData) (own : Context) → data_at id spans ≡ Some span_data → now ≡ update id (λ _. entered) spans → StartsState does at span_data s t begun
       → entered ≡ after_op begun at ops.Enter → own ≡ record { span = begun.own } → EntersKnown does id at spans s t now own
@@ -134,7 +134,7 @@ module _ {T : Type 0} (does : T → TracerCall → T → Type 0) (id at : ℕ) (
     known = known id spans span_data is;
     between = update id (λ _. begun) spans;
     starts = started_in (update id (λ _. begun) spans) span_data begun is refl starts;
-    own_is = shown ∙ sym (ap (λ (o : Option SpanData). own_or empty_context o) (found_at id (λ _. begun) spans span_data is));
+    own_is = shown ∙ sym (ap (λ (o : Option SpanData). own_context_or empty_context o) (found_at id (λ _. begun) spans span_data is));
     rest = changed ∙ ap (λ (x : SpanData). update id (λ _. x) spans) enters ∙ sym (update_twice id (λ _. begun) (λ x. after_op x at ops.Enter) spans);
   }
 
@@ -153,6 +153,6 @@ module _ {T : Type 0} (does : T → TracerCall → T → Type 0) (c d : Core T) 
         (ap (λ (x : SpanData). with_span_data id x c.spans) h.2 ∙ sym (added_update id (λ x. after_op x at (ops.Start h.0)) span_data c.spans not)),
   )
 
-  pub added_early : (eager : Bool) → StartsEarly does eager at span_data c.tracer d.tracer begun → StartsAny does (if eager then Some id else None) at (with_added_span id span_data c) d
-  added_early true h = subst (λ (o : Option SpanData). StartsIf does (waiting_context o) id at (with_added_span id span_data c) d) (sym (added_at id span_data c.spans not)) (added_by (waiting_context (Some span_data)) h)
+  pub added_early : (eager : Bool) → StartsEarly does eager at span_data c.tracer d.tracer begun → StartsIfSome does (if eager then Some id else None) at (with_added_span id span_data c) d
+  added_early true h = subst (λ (o : Option SpanData). StartsIf does (start_context o) id at (with_added_span id span_data c) d) (sym (added_at id span_data c.spans not)) (added_by (start_context (Some span_data)) h)
   added_early false h = rest ∙ ap (λ (s : T). with_added_span id begun (with_tracer s c)) h.0 ∙ ap (λ (x : SpanData). with_added_span id x c) h.1

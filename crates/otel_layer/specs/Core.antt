@@ -6,7 +6,7 @@ use Rattle.trace_base.specs.layers.Hooks.{KnownSpans}
 use Rattle.otel_state.specs.declared.settings.LayerSettings.{LayerSettings}
 use Rattle.otel_state.specs.States.{SpanData, Room}
 use Rattle.otel_layer.specs.declared.layer.tokens.Token.{Token}
-use Rattle.otel_layer.specs.Table.{is_id, waiting_in}
+use Rattle.otel_layer.specs.Table.{is_id, unstarted_count}
 
 -- a layer: the spans that it knows, its open entries, its tracer, for how many finishes it has reserved room there, how
 -- many spans were made, its settings, and whether a close tells how many events were counted
@@ -33,16 +33,16 @@ on_spans f c = record c { spans = f c.spans }
 abbrev pub with_tracer : {T : Type 0} → T → Core T → Core T
 with_tracer tracer c = record c { tracer = tracer }
 
-abbrev pub set_in : {T : Type 0} → (LayerSettings → LayerSettings) → Core T → Core T
-set_in f c = record c { settings = f c.settings }
+abbrev pub with_settings_by : {T : Type 0} → (LayerSettings → LayerSettings) → Core T → Core T
+with_settings_by f c = record c { settings = f c.settings }
 
 -- a layer that knows no span
 abbrev pub new_core : {T : Type 0} → T → LayerSettings → Core T
 new_core tracer settings = record { spans = []; tokens = []; tracer = tracer; reserved = 0; span_count = 0; settings = settings; counting = false }
 
 -- the same layer over another tracer, with which nothing is reserved
-abbrev pub with_other : {T U : Type 0} → Core T → U → Core U
-with_other c tracer = record { spans = c.spans; tokens = c.tokens; tracer = tracer; reserved = 0; span_count = c.span_count; settings = c.settings; counting = c.counting }
+abbrev pub with_other_tracer : {T U : Type 0} → Core T → U → Core U
+with_other_tracer c tracer = record { spans = c.spans; tokens = c.tokens; tracer = tracer; reserved = 0; span_count = c.span_count; settings = c.settings; counting = c.counting }
 
 -- the entry is of the span on the lane
 abbrev pub is_token : ℕ → ℕ → Token → Bool
@@ -52,13 +52,13 @@ is_token lane id token = token.lane == lane && token.id == id
 abbrev pub entries_by : List Token → ℕ → ℕ → ℕ
 entries_by tokens lane id = count_by (is_token lane id) tokens
 
-abbrev pub is_number : ℕ → Option ℕ → Bool
-is_number number None = false
-is_number number (Some n) = n == number
+abbrev pub is_attached_as : ℕ → Option ℕ → Bool
+is_attached_as number None = false
+is_attached_as number (Some n) = n == number
 
 -- the entry keeps the attach of a number on the lane
 abbrev pub keeps_as : ℕ → ℕ → Token → Bool
-keeps_as lane number token = token.lane == lane && is_number number token.attached
+keeps_as lane number token = token.lane == lane && is_attached_as number token.attached
 
 -- with activation what entries attached is kept, without it nothing
 abbrev pub kept_by : Bool → List Token → ℕ → ℕ → ℕ
@@ -79,7 +79,7 @@ seen_in c = seen_by (keys_of c.spans) c.tokens
 pub record IsWholeCore {T : Type 0} (spare started : T → ℕ) (c : Core T) : Type 0 where
   pub spares : c.reserved ≤ spare c.tracer
   pub rooms : length c.spans ≤ c.reserved
-  pub budget : started c.tracer + waiting_in c.spans ≤ 2 ^ 62 + c.span_count
+  pub budget : started c.tracer + unstarted_count c.spans ≤ 2 ^ 62 + c.span_count
   pub few : c.span_count < 2 ^ 62
 
 -- what was whole is whole

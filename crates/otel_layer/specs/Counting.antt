@@ -11,20 +11,20 @@ use Rattle.otel_state.specs.declared.settings.LayerSettings.{LayerSettings}
 use Rattle.otel_state.specs.fields.EventFields.{event_of}
 use Rattle.otel_state.specs.States.{SpanData, after_op}
 use Rattle.otel_layer.specs.Core.{Core}
-use Rattle.otel_layer.specs.laws.HookLemmas.{KeepsOwn, all_keep_own}
+use Rattle.otel_layer.specs.laws.HookLemmas.{StartsNoSpan, all_keep_own}
 use Rattle.otel_layer.specs.laws.RoomLemmas.{same_core_does}
-use Rattle.otel_layer.specs.Steps.{Events, SameCore, Step, DoesHook, all_events}
+use Rattle.otel_layer.specs.Steps.{EventEffect, SameCore, Step, DoesHook, all_events}
 
 -- an event is counted, and applied after that if it is taken
 abbrev pub after_counted : Bool → ℕ → Op → SpanData → SpanData
 after_counted is_taken at op span_data = if is_taken then after_op (after_op span_data at ops.Counted) at op else after_op span_data at ops.Counted
 
 -- what events make of their spans, where a filter decides by lane and callsite which it takes
-abbrev pub counted_events : (ℕ → Callsite → Bool) → Events
+abbrev pub counted_events : (ℕ → Callsite → Bool) → EventEffect
 counted_events enables settings lane at callsite values span_data = after_counted (enables lane callsite) at (event_of callsite values settings at) span_data
 
 -- the same where a filter may be given: without one each event is applied, and none is counted
-abbrev pub events_by : {F : Type 0} → (F → ℕ → Callsite → Bool) → Option F → Events
+abbrev pub events_by : {F : Type 0} → (F → ℕ → Callsite → Bool) → Option F → EventEffect
 events_by enables None = all_events
 events_by enables (Some filter) = counted_events (enables filter)
 
@@ -38,11 +38,11 @@ counted_own : (is_taken : Bool) (settings : LayerSettings) (at : ℕ) (callsite 
 counted_own true settings at callsite values span_data = refl
 counted_own false settings at callsite values span_data = refl
 
-pub events_keep_own : {F : Type 0} (enables : F → ℕ → Callsite → Bool) (filter : Option F) → KeepsOwn (events_by enables filter)
+pub events_keep_own : {F : Type 0} (enables : F → ℕ → Callsite → Bool) (filter : Option F) → StartsNoSpan (events_by enables filter)
 events_keep_own enables None = all_keep_own
 events_keep_own enables (Some filter) = λ settings lane at callsite values span_data. counted_own (enables filter lane callsite) settings at callsite values span_data
 
-pub counted_does : {T F : Type 0} (does : T → TracerCall → T → Type 0) (events : F → Events) (c d : Core T) (hook : Hook) (e : Core T) (f g h : F) → SameCore does c d × (g ≡ f)
+pub counted_does : {T F : Type 0} (does : T → TracerCall → T → Type 0) (events : F → EventEffect) (c d : Core T) (hook : Hook) (e : Core T) (f g h : F) → SameCore does c d × (g ≡ f)
     → DoesHook does (events g) d hook e × (h ≡ g) → DoesHook does (events f) c hook e × (h ≡ f)
 counted_does does events c d hook e f g h same did =
     (subst (λ x. DoesHook does (events x) c hook e) same.1 (same_core_does does (events g) c d hook e same.0 did.0), did.1 ∙ same.1)
@@ -57,7 +57,7 @@ IsNoEvent (OnEnter id at before later) = Unit {0}
 IsNoEvent (OnExit id at before later) = Unit {0}
 IsNoEvent (OnClose id at) = Unit {0}
 
-step_any : {T : Type 0} (does : T → TracerCall → T → Type 0) (events others : Events) (c : Core T) (hook : Hook) (d : Core T) → IsNoEvent hook → Step does events c hook d → Step does others c hook d
+step_any : {T : Type 0} (does : T → TracerCall → T → Type 0) (events others : EventEffect) (c : Core T) (hook : Hook) (d : Core T) → IsNoEvent hook → Step does events c hook d → Step does others c hook d
 step_any does events others c (OnEvent reached lane at callsite values) d no_event h = absurd no_event
 step_any does events others c (OnNewSpan id lane at parent current callsite values) d no_event h = h
 step_any does events others c (OnRecord id at callsite values) d no_event h = h
@@ -66,5 +66,5 @@ step_any does events others c (OnEnter id at before later) d no_event h = h
 step_any does events others c (OnExit id at before later) d no_event h = h
 step_any does events others c (OnClose id at) d no_event h = h
 
-pub hook_any : {T : Type 0} (does : T → TracerCall → T → Type 0) (events others : Events) (c : Core T) (hook : Hook) (d : Core T) → IsNoEvent hook → DoesHook does events c hook d → DoesHook does others c hook d
+pub hook_any : {T : Type 0} (does : T → TracerCall → T → Type 0) (events others : EventEffect) (c : Core T) (hook : Hook) (d : Core T) → IsNoEvent hook → DoesHook does events c hook d → DoesHook does others c hook d
 hook_any does events others c hook d no_event h = record { prepared = h.prepared; room = h.room; step = step_any does events others h.prepared hook d no_event h.step }

@@ -10,14 +10,14 @@ use Rattle.otel_state.specs.declared.op.Op.{Op}
 use Rattle.otel_state.specs.declared.op.Op.TheVariants as ops
 use Rattle.otel_state.specs.declared.op.OpReply.{OpReply}
 use Rattle.otel_state.specs.States.{SpanData, reply, is_growing}
-use Rattle.otel_layer.specs.Table.{data_at, with_op, waiting_context}
+use Rattle.otel_layer.specs.Table.{data_at, with_op, start_context}
 use Rattle.otel_layer.specs.Core.{Core}
 use Rattle.otel_layer.specs.Steps.{StartsSpan}
 
 -- the calls, with their answers: an op of a span, and the own context of one
 pub data PartCall : Type 0 where
   Applies : (id at : ℕ) → (op : Op) → (answer : Option (Result OpReply Memory)) → PartCall
-  Shows : (id at : ℕ) → (answer : Option Context) → PartCall
+  GivesContext : (id at : ℕ) → (answer : Option Context) → PartCall
 
 -- the ops that come from outside
 abbrev pub IsOutside : Op → Type 0
@@ -54,19 +54,19 @@ context_at (Some span_data) = Some (record { span = span_data.own })
 -- an op is applied to the span's state; a span that is shown starts
 abbrev pub Touches : {T : Type 0} → (T → TracerCall → T → Type 0) → Core T → PartCall → Core T → Type 0
 Touches does c (Applies id at op answer) d = IsOutside op × AppliesIn c.spans id at op answer d.spans × (d ≡ record c { spans = d.spans })
-Touches does c (Shows id at answer) d = StartsSpan does id at c d × (answer ≡ context_at (data_at id d.spans))
+Touches does c (GivesContext id at answer) d = StartsSpan does id at c d × (answer ≡ context_at (data_at id d.spans))
 
 -- ---- what is told
 
 -- the span starts under a context, if there is one to start under
-abbrev pub ShowsIn : Option Context → List (ℕ × SpanData) → ℕ → ℕ → Option Context → List (ℕ × SpanData) → Type 0
-ShowsIn None spans id at answer now = (now ≡ spans) × (answer ≡ context_at (data_at id now))
-ShowsIn (Some under) spans id at answer now = (given : SpanContext) × (now ≡ with_op id at (ops.Start given) spans) × (answer ≡ context_at (data_at id now))
+abbrev pub GivesContextIn : Option Context → List (ℕ × SpanData) → ℕ → ℕ → Option Context → List (ℕ × SpanData) → Type 0
+GivesContextIn None spans id at answer now = (now ≡ spans) × (answer ≡ context_at (data_at id now))
+GivesContextIn (Some under) spans id at answer now = (given : SpanContext) × (now ≡ with_op id at (ops.Start given) spans) × (answer ≡ context_at (data_at id now))
 
 -- the spans after a call, where they are told
 abbrev pub AnswersCall : List (ℕ × SpanData) → PartCall → List (ℕ × SpanData) → Type 0
 AnswersCall spans (Applies id at op answer) now = AppliesIn spans id at op answer now
-AnswersCall spans (Shows id at answer) now = ShowsIn (waiting_context (data_at id spans)) spans id at answer now
+AnswersCall spans (GivesContext id at answer) now = GivesContextIn (start_context (data_at id spans)) spans id at answer now
 
 abbrev pub AnswersCallIf : Option (List (ℕ × SpanData)) → PartCall → Option (List (ℕ × SpanData)) → Type 0
 AnswersCallIf None call now = now ≡ None
@@ -77,7 +77,7 @@ AnswersCallIf (Some spans) call now = (later : List (ℕ × SpanData)) × (now �
 -- nothing is answered
 abbrev pub IsUnanswered : PartCall → Type 0
 IsUnanswered (Applies id at op answer) = answer ≡ None
-IsUnanswered (Shows id at answer) = answer ≡ None
+IsUnanswered (GivesContext id at answer) = answer ≡ None
 
 -- without a layer nothing is answered or changed
 abbrev pub TouchesNone : {S : Type 0} → S → PartCall → S → Type 0

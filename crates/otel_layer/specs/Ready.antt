@@ -35,11 +35,11 @@ with_moment at op = op
 
 -- an op, with the room that it needs
 abbrev pub IsReadyOp : {T : Type 0} → CoreWithRoom T → ℕ → Op → Ready → Type 0
-IsReadyOp s id wanted (ready.Happened op) = (op.value ≡ wanted) × RoomFor id op.value s.rooms
+IsReadyOp s id wanted (ready.PreparedOp op) = (op.value ≡ wanted) × RoomFor id op.value s.rooms
 IsReadyOp s id wanted _ = ⊥
 
 abbrev pub IsReadyOtel : {T : Type 0} → CoreWithRoom T → Preparation → Ready → Type 0
-IsReadyOtel s (ForNewSpan lane callsite values) (ready.Made state) = IsReadyState s lane callsite values state.value
+IsReadyOtel s (ForNewSpan lane callsite values) (ready.NewState state) = IsReadyState s lane callsite values state.value
 IsReadyOtel s (ForNewSpan lane callsite values) _ = ⊥
 IsReadyOtel s (ForRecord id callsite values) r = IsReadyOp s id (ops.Update (span_update callsite values s.core.settings)) r
 IsReadyOtel s (ForFollows id from) r = RoomForLink id s.rooms

@@ -13,12 +13,12 @@ use Rattle.trace_base.specs.declared.field.ValueSet.{ValueSet}
 use Rattle.trace_base.specs.declared.lane.Lane.{Lane}
 use Rattle.trace_base.specs.declared.span.Parent.{Parent}
 use Rattle.trace_base.specs.Calls.{SubscriberCall, NewSpan, Records, Follows, Event, Enter, Exit, CloneSpan, TryClose}
-use Rattle.trace_base.specs.Gate.{Worlds}
+use Rattle.trace_base.specs.Gate.{WorldValue}
 use Rattle.trace_base.specs.layers.Hooks.{Hook, OnNewSpan, OnRecord, OnFollows, OnEvent, OnEnter, OnExit, OnClose}
 use Rattle.trace_base.specs.Spans.{Spans, span_at, entries_on, current_of, parent_on, without_last}
 use Rattle.span_registry.specs.declared.layered.Layered.{Layered}
 use Rattle.span_registry.specs.Registering.{RegistryValue}
-use Rattle.span_handles.specs.Worlds.{member_of, ReleasesChain, closed_in}
+use Rattle.span_handles.specs.Worlds.{read_subscriber, ReleasesChain, closed_in}
 use Rattle.otel_state.specs.declared.op.Op.{Op}
 use Rattle.otel_state.specs.declared.op.Op.TheVariants as ops
 use Rattle.otel_state.specs.declared.settings.LayerSettings.{LayerSettings}
@@ -29,9 +29,9 @@ use Rattle.otel_state.specs.Stack.{last_passing}
 use Rattle.otel_state.specs.States.{SpanData, after_op, record_of}
 use Rattle.otel_layer.specs.declared.layer.tokens.Token.{Token}
 use Rattle.otel_layer.specs.Core.{Core, CoreWithRoom, is_token}
-use Rattle.otel_layer.specs.Parts.{PartCall, Applies, Shows, AppliesIn, context_at}
+use Rattle.otel_layer.specs.Parts.{PartCall, Applies, GivesContext, AppliesIn, context_at}
 use Rattle.otel_layer.specs.Steps.{IfKnown, parent_source, lane_context, context_from, new_span_data, with_link}
-use Rattle.otel_layer.specs.Table.{data_at, knows_span, with_span_data, with_op, waiting_context, own_or, ids_at, is_id}
+use Rattle.otel_layer.specs.Table.{data_at, knows_span, with_span_data, with_op, start_context, own_context_or, ids_at, is_id}
 
 -- the spans that are known, with what each has come to, the open entries, how many spans the recorder has started, the
 -- finished ones that weren't taken, and the settings
@@ -62,16 +62,16 @@ abbrev pub with_applied : ℕ → ℕ → Op → Recording → Recording
 with_applied id at op r = record r { spans = with_op id at op r.spans }
 
 -- a span starts under a context as the recorder's next one
-abbrev pub started_under : Option Context → ℕ → ℕ → Recording → Recording
-started_under None id at r = r
-started_under (Some under) id at r = record r {
+abbrev pub with_start_under : Option Context → ℕ → ℕ → Recording → Recording
+with_start_under None id at r = r
+with_start_under (Some under) id at r = record r {
   started = r.started + 1;
   spans = with_op id at (ops.Start (recorder_ids (r.started + 1) (ids_of under))) r.spans;
 }
 
 -- a span starts, if it is known and hasn't
 abbrev pub with_start : ℕ → ℕ → Recording → Recording
-with_start id at r = started_under (waiting_context (data_at id r.spans)) id at r
+with_start id at r = with_start_under (start_context (data_at id r.spans)) id at r
 
 -- the span that is named starts, if one is
 abbrev pub with_starts : Option ℕ → ℕ → Recording → Recording
@@ -83,8 +83,8 @@ abbrev pub source_of : Bool → ℕ → Option ℕ
 source_of on id = if on then Some id else None
 
 -- a span is made, after the one started that gives its parent's context
-abbrev pub made_under : Option ℕ → ℕ → Lane → ℕ → Parent → Callsite → ValueSet → LayerSettings → Bool → Recording → Recording
-made_under source id lane at parent callsite values settings counting r = record r {
+abbrev pub with_span_under : Option ℕ → ℕ → Lane → ℕ → Parent → Callsite → ValueSet → LayerSettings → Bool → Recording → Recording
+with_span_under source id lane at parent callsite values settings counting r = record r {
   spans = with_span_data id (new_span_data callsite lane values (context_from r.spans (lane_context lane parent) source) at settings counting) r.spans;
 }
 
@@ -92,7 +92,7 @@ made_under source id lane at parent callsite values settings counting r = record
 abbrev pub with_new_recorded : ℕ → Lane → ℕ → Parent → Option ℕ → Callsite → ValueSet → Recording → Recording
 with_new_recorded id lane at parent current callsite values r =
     let source = parent_source r.settings.activation parent current in
-    with_starts (source_of r.settings.eager id) at (made_under source id lane at parent callsite values r.settings r.counting (with_starts source at r))
+    with_starts (source_of r.settings.eager id) at (with_span_under source id lane at parent callsite values r.settings r.counting (with_starts source at r))
 
 -- a span is linked to another, which is started
 abbrev pub with_started_link : ℕ → ℕ → ℕ → Recording → Recording
@@ -145,9 +145,9 @@ pub record AttachesAs (own : Context) (before later : Lane) (attached : Option �
   pub live : later.contexts.live ≡ before.contexts.live ++ (number, own) ∷ []
 
 -- with activation the span's own context is attached to the lane
-abbrev pub AttachesOwn : Bool → Context → Lane → Lane → Option ℕ → Type 0
-AttachesOwn true own before later attached = AttachesAs own before later attached
-AttachesOwn false own before later attached = (later.contexts.live ≡ before.contexts.live) × (attached ≡ None)
+abbrev pub AttachesOwnContext : Bool → Context → Lane → Lane → Option ℕ → Type 0
+AttachesOwnContext true own before later attached = AttachesAs own before later attached
+AttachesOwnContext false own before later attached = (later.contexts.live ≡ before.contexts.live) × (attached ≡ None)
 
 -- what an entry attached is detached
 abbrev pub Detaches : Option ℕ → Lane → Lane → Type 0
@@ -156,7 +156,7 @@ Detaches (Some number) before later = later.contexts.live ≡ without_number num
 
 pub record Enters (r : Recording) (id at : ℕ) (before later : Lane) (t : Recording) : Type 0 where
   pub attached : Option ℕ
-  pub lane : AttachesOwn r.settings.activation (own_or empty_context (data_at id (with_starts (source_of r.settings.activation id) at r).spans)) before later attached
+  pub lane : AttachesOwnContext r.settings.activation (own_context_or empty_context (data_at id (with_starts (source_of r.settings.activation id) at r).spans)) before later attached
   pub is : t ≡ with_entry id before.id at attached r
 
 pub record Exits (r : Recording) (id at : ℕ) (before later : Lane) (t : Recording) : Type 0 where
@@ -166,8 +166,8 @@ pub record Exits (r : Recording) (id at : ℕ) (before later : Lane) (t : Record
   pub is : t ≡ with_exit id before.id at r
 
 -- nothing happens
-abbrev pub Stays : Recording → Lane → Lane → Recording → Type 0
-Stays r before later t = (t ≡ r) × (later.contexts.live ≡ before.contexts.live)
+abbrev pub ChangesNothing : Recording → Lane → Lane → Recording → Type 0
+ChangesNothing r before later t = (t ≡ r) × (later.contexts.live ≡ before.contexts.live)
 
 -- ---- all hooks and all calls
 
@@ -176,8 +176,8 @@ RecordsHook r (OnNewSpan id lane at parent current callsite values) t = t ≡ wi
 RecordsHook r (OnRecord id at callsite values) t = t ≡ with_applied id at (ops.Update (span_update callsite values r.settings)) r
 RecordsHook r (OnFollows id from at) t = t ≡ with_follow id from at r
 RecordsHook r (OnEvent reached lane at callsite values) t = t ≡ with_event reached at callsite values r
-RecordsHook r (OnEnter id at before later) t = IfKnown (knows_span id r.spans) (Enters r id at before later t) (Stays r before later t)
-RecordsHook r (OnExit id at before later) t = IfKnown (knows_span id r.spans) (Exits r id at before later t) (Stays r before later t)
+RecordsHook r (OnEnter id at before later) t = IfKnown (knows_span id r.spans) (Enters r id at before later t) (ChangesNothing r before later t)
+RecordsHook r (OnExit id at before later) t = IfKnown (knows_span id r.spans) (Exits r id at before later t) (ChangesNothing r before later t)
 RecordsHook r (OnClose id at) t = t ≡ with_close id at r
 
 -- a call is its hook; a release is one where the span closes
@@ -199,7 +199,7 @@ pub record RecordsChain (at : ℕ) (next : Option ℕ) (x y : Spans) (before lat
 -- a call from outside: an op is applied, or a span starts whose own context is shown
 abbrev pub RecordsPart : Recording → PartCall → Recording → Type 0
 RecordsPart r (Applies id at op answer) t = AppliesIn r.spans id at op answer t.spans × (t ≡ record r { spans = t.spans })
-RecordsPart r (Shows id at answer) t = (t ≡ with_start id at r) × (answer ≡ context_at (data_at id t.spans))
+RecordsPart r (GivesContext id at answer) t = (t ≡ with_start id at r) × (answer ≡ context_at (data_at id t.spans))
 
 -- ---- the stack
 
@@ -209,10 +209,10 @@ layer_recording s = recording_of s.layer.core
 
 -- worlds whose subscribers are such stacks
 abbrev pub RecordingWorlds : Type 0
-RecordingWorlds = Worlds (Layered (CoreWithRoom RecorderValue) RegistryValue)
+RecordingWorlds = WorldValue (Layered (CoreWithRoom RecorderValue) RegistryValue)
 
 abbrev pub recording_in : RecordingWorlds → ℕ → Recording
-recording_in world dispatch = member_of layer_recording no_recording world dispatch
+recording_in world dispatch = read_subscriber layer_recording no_recording world dispatch
 
 -- ---- the state of any span
 

@@ -7,7 +7,7 @@ use Rattle.otel_base.specs.Tracer.{TracerCall, Start, Finish}
 use Rattle.otel_state.specs.declared.op.Op.TheVariants as ops
 use Rattle.otel_state.specs.States.{SpanData, after_op, record_of}
 use Rattle.otel_base.specs.Stack.{empty_context}
-use Rattle.otel_layer.specs.Table.{data_at, knows_span, waiting_context, own_or, with_op}
+use Rattle.otel_layer.specs.Table.{data_at, knows_span, start_context, own_context_or, with_op}
 
 -- a start under a context, if there is one to start under, with what the ids that are given make of it
 abbrev pub StartsTo : {T S : Type 0} → (T → TracerCall → T → Type 0) → Option Context → (SpanContext → S) → S → T → T → S → Type 0
@@ -16,11 +16,11 @@ StartsTo does (Some under) begun old s t now = (given : SpanContext) × does s (
 
 -- a state starts, if it hasn't
 abbrev pub StartsState : {T : Type 0} → (T → TracerCall → T → Type 0) → ℕ → SpanData → T → T → SpanData → Type 0
-StartsState does at span_data s t now = StartsTo does (waiting_context (Some span_data)) (λ given. after_op span_data at (ops.Start given)) span_data s t now
+StartsState does at span_data s t now = StartsTo does (start_context (Some span_data)) (λ given. after_op span_data at (ops.Start given)) span_data s t now
 
 -- that of a span among others, if it is known
 abbrev pub StartsIn : {T : Type 0} → (T → TracerCall → T → Type 0) → ℕ → ℕ → List (ℕ × SpanData) → T → T → List (ℕ × SpanData) → Type 0
-StartsIn does id at spans s t now = StartsTo does (waiting_context (data_at id spans)) (λ given. with_op id at (ops.Start given) spans) spans s t now
+StartsIn does id at spans s t now = StartsTo does (start_context (data_at id spans)) (λ given. with_op id at (ops.Start given) spans) spans s t now
 
 -- a new state starts where spans start early
 abbrev pub StartsEarly : {T : Type 0} → (T → TracerCall → T → Type 0) → Bool → ℕ → SpanData → T → T → SpanData → Type 0
@@ -32,7 +32,7 @@ pub record EntersKnown {T : Type 0} (does : T → TracerCall → T → Type 0) (
   pub known : knows_span id spans ≡ true
   pub between : List (ℕ × SpanData)
   pub starts : StartsIn does id at spans s t between
-  pub own_is : own ≡ own_or empty_context (data_at id between)
+  pub own_is : own ≡ own_context_or empty_context (data_at id between)
   pub rest : now ≡ with_op id at ops.Enter between
 
 -- nothing changes where it isn't known

@@ -22,7 +22,7 @@ use Rattle.otel_state.specs.fields.SpanFields.{span_update}
 use Rattle.otel_state.specs.Stack.{last_passing}
 use Rattle.otel_state.specs.States.{SpanData, data_at_making, after_op, record_of}
 use Rattle.otel_layer.specs.declared.layer.tokens.Token.{Token}
-use Rattle.otel_layer.specs.Table.{data_at, knows_span, with_span_data, update, with_op, waiting_context, own_or, ids_at, is_id}
+use Rattle.otel_layer.specs.Table.{data_at, knows_span, with_span_data, update, with_op, start_context, own_context_or, ids_at, is_id}
 use Rattle.otel_layer.specs.Core.{Core, on_spans, is_token}
 
 -- ---- room
@@ -47,12 +47,12 @@ StartsIf does (Some under) id at c d =
     (given : SpanContext) × does c.tracer (Start (ids_of under) given) d.tracer × (d ≡ record c { tracer = d.tracer; spans = with_op id at (ops.Start given) c.spans })
 
 abbrev pub StartsSpan : {T : Type 0} → (T → TracerCall → T → Type 0) → ℕ → ℕ → Core T → Core T → Type 0
-StartsSpan does id at c d = StartsIf does (waiting_context (data_at id c.spans)) id at c d
+StartsSpan does id at c d = StartsIf does (start_context (data_at id c.spans)) id at c d
 
 -- the span that is named starts, if one is
-abbrev pub StartsAny : {T : Type 0} → (T → TracerCall → T → Type 0) → Option ℕ → ℕ → Core T → Core T → Type 0
-StartsAny does None at c d = d ≡ c
-StartsAny does (Some id) at c d = StartsSpan does id at c d
+abbrev pub StartsIfSome : {T : Type 0} → (T → TracerCall → T → Type 0) → Option ℕ → ℕ → Core T → Core T → Type 0
+StartsIfSome does None at c d = d ≡ c
+StartsIfSome does (Some id) at c d = StartsSpan does id at c d
 
 -- ---- a making
 
@@ -71,7 +71,7 @@ lane_context lane parent.Current = last_context empty_context lane.contexts.live
 
 abbrev pub context_from : List (ℕ × SpanData) → Context → Option ℕ → Context
 context_from spans other None = other
-context_from spans other (Some id) = own_or other (data_at id spans)
+context_from spans other (Some id) = own_context_or other (data_at id spans)
 
 -- a span that was just made: its first attributes, then what its fields write
 abbrev pub new_span_data : Callsite → Lane → ValueSet → Context → ℕ → LayerSettings → Bool → SpanData
@@ -89,10 +89,10 @@ pub record MakesSpan {T : Type 0} (does : T → TracerCall → T → Type 0) (c 
   pub between : Core T
   pub spare : length c.spans < c.reserved
   pub few : c.span_count + 1 < 2 ^ 62
-  pub starts : StartsAny does (parent_source c.settings.activation parent current) at c between
+  pub starts : StartsIfSome does (parent_source c.settings.activation parent current) at c between
   pub added : Core T
   pub rest : added ≡ with_added_span id (new_span_data callsite lane values (context_from between.spans (lane_context lane parent) (parent_source c.settings.activation parent current)) at c.settings c.counting) between
-  pub begins : StartsAny does (if c.settings.eager then Some id else None) at added d
+  pub begins : StartsIfSome does (if c.settings.eager then Some id else None) at added d
 
 -- ---- follows
 
@@ -102,23 +102,23 @@ with_link id at None spans = spans
 with_link id at (Some context) spans = with_op id at (ops.Link (record { context = context; attributes = [] })) spans
 
 -- a span is linked to another one's own context
-abbrev pub linked_to : ℕ → ℕ → ℕ → List (ℕ × SpanData) → List (ℕ × SpanData)
-linked_to id from at spans = with_link id at (ids_at (data_at from spans)) spans
+abbrev pub with_link_to : ℕ → ℕ → ℕ → List (ℕ × SpanData) → List (ℕ × SpanData)
+with_link_to id from at spans = with_link id at (ids_at (data_at from spans)) spans
 
 -- the followed span starts, and the other is linked to it
 pub record FollowsSpan {T : Type 0} (does : T → TracerCall → T → Type 0) (c : Core T) (id from at : ℕ) (d : Core T) : Type 0 where
   pub between : Core T
   pub starts : StartsSpan does from at c between
-  pub rest : d ≡ on_spans (linked_to id from at) between
+  pub rest : d ≡ on_spans (with_link_to id from at) between
 
 -- ---- events
 
 -- what an event makes of the span that it reaches, by settings, lane, moment, callsite and values
-abbrev pub Events : Type 0
-Events = LayerSettings → ℕ → ℕ → Callsite → ValueSet → SpanData → SpanData
+abbrev pub EventEffect : Type 0
+EventEffect = LayerSettings → ℕ → ℕ → Callsite → ValueSet → SpanData → SpanData
 
 -- each event is told to its span
-abbrev pub all_events : Events
+abbrev pub all_events : EventEffect
 all_events settings lane at callsite values span_data = after_op span_data at (event_of callsite values settings at)
 
 -- ---- entries and exits
@@ -136,9 +136,9 @@ pub record DetachesContext (number : ℕ) (before later : Lane) : Type 0 where
   pub attached : 0 < attached_as number before
   pub live : later.contexts.live ≡ without_number number before.contexts.live
 
-abbrev pub DetachesOwn : Option ℕ → Lane → Lane → Type 0
-DetachesOwn None before later = later ≡ before
-DetachesOwn (Some number) before later = DetachesContext number before later
+abbrev pub DetachesOwnContext : Option ℕ → Lane → Lane → Type 0
+DetachesOwnContext None before later = later ≡ before
+DetachesOwnContext (Some number) before later = DetachesContext number before later
 
 -- with activation the span's own context is attached
 abbrev pub EntersLane : Bool → Context → Lane → Lane → Option ℕ → Type 0
@@ -146,8 +146,8 @@ EntersLane true own before later attached = AttachesContext own before later att
 EntersLane false own before later attached = (later ≡ before) × (attached ≡ None)
 
 -- the own context of a span, the empty one where it isn't known
-abbrev pub own_in : {T : Type 0} → Core T → ℕ → Context
-own_in c id = own_or empty_context (data_at id c.spans)
+abbrev pub own_context_in : {T : Type 0} → Core T → ℕ → Context
+own_context_in c id = own_context_or empty_context (data_at id c.spans)
 
 -- one open entry more, and the last one of a span on a lane taken off
 abbrev pub with_token : {T : Type 0} → Token → Core T → Core T
@@ -160,15 +160,15 @@ without_token lane id c = record c { tokens = without_last (is_token lane id) c.
 pub record EntersSpan {T : Type 0} (does : T → TracerCall → T → Type 0) (c : Core T) (id at : ℕ) (before later : Lane) (d : Core T) : Type 0 where
   pub between : Core T
   pub attached : Option ℕ
-  pub starts : StartsAny does (if c.settings.activation then Some id else None) at c between
-  pub lane : EntersLane c.settings.activation (own_in between id) before later attached
+  pub starts : StartsIfSome does (if c.settings.activation then Some id else None) at c between
+  pub lane : EntersLane c.settings.activation (own_context_in between id) before later attached
   pub rest : d ≡ record between { spans = with_op id at ops.Enter between.spans; tokens = between.tokens ++ record { lane = before.id; id = id; attached = attached } ∷ [] }
 
 -- an exit takes off the span's last entry on the lane, and with activation detaches what that attached
 pub record ExitsSpan {T : Type 0} (c : Core T) (id at : ℕ) (before later : Lane) (d : Core T) : Type 0 where
   pub token : Token
   pub last : last_passing (is_token before.id id) c.tokens ≡ Some token
-  pub leaves : DetachesOwn (if c.settings.activation then token.attached else None) before later
+  pub leaves : DetachesOwnContext (if c.settings.activation then token.attached else None) before later
   pub rest : d ≡ record c { spans = with_op id at ops.Exit c.spans; tokens = without_last (is_token before.id id) c.tokens }
 
 -- ---- a close
@@ -202,7 +202,7 @@ ExitsIfKnown c id at before later d = IfKnown (knows_span id c.spans) (ExitsSpan
 abbrev pub ClosesIfKnown : {T : Type 0} → (T → TracerCall → T → Type 0) → Core T → ℕ → ℕ → Core T → Type 0
 ClosesIfKnown does c id at d = IfKnown (knows_span id c.spans) (ClosesSpan does c id at d) (d ≡ c)
 
-abbrev pub Step : {T : Type 0} → (T → TracerCall → T → Type 0) → Events → Core T → Hook → Core T → Type 0
+abbrev pub Step : {T : Type 0} → (T → TracerCall → T → Type 0) → EventEffect → Core T → Hook → Core T → Type 0
 Step does events c (OnNewSpan id lane at parent current callsite values) d = MakesSpan does c id lane at parent current callsite values d
 Step does events c (OnRecord id at callsite values) d = d ≡ on_spans (with_op id at (ops.Update (span_update callsite values c.settings))) c
 Step does events c (OnFollows id from at) d = FollowsSpan does c id from at d
@@ -213,7 +213,7 @@ Step does events c (OnExit id at before later) d = ExitsIfKnown c id at before l
 Step does events c (OnClose id at) d = ClosesIfKnown does c id at d
 
 -- a hook, whatever room was taken before
-pub record DoesHook {T : Type 0} (does : T → TracerCall → T → Type 0) (events : Events) (c : Core T) (hook : Hook) (d : Core T) : Type 0 where
+pub record DoesHook {T : Type 0} (does : T → TracerCall → T → Type 0) (events : EventEffect) (c : Core T) (hook : Hook) (d : Core T) : Type 0 where
   pub prepared : Core T
   pub room : SameCore does c prepared
   pub step : Step does events prepared hook d

@@ -65,27 +65,27 @@ abbrev pub with_op : ℕ → ℕ → Op → List (ℕ × SpanData) → List (ℕ
 with_op id at op spans = update id (λ span_data. after_op span_data at op) spans
 
 -- how many spans haven't started
-abbrev pub one_waiting : Option SpanContext → ℕ
-one_waiting None = 1
-one_waiting (Some own) = 0
+abbrev pub one_if_unstarted : Option SpanContext → ℕ
+one_if_unstarted None = 1
+one_if_unstarted (Some own) = 0
 
-abbrev pub waiting_in : List (ℕ × SpanData) → ℕ
-waiting_in [] = 0
-waiting_in (e ∷ es) = one_waiting e.1.own + waiting_in es
+abbrev pub unstarted_count : List (ℕ × SpanData) → ℕ
+unstarted_count [] = 0
+unstarted_count (e ∷ es) = one_if_unstarted e.1.own + unstarted_count es
 
 -- the context that a span will start under, if it is known and hasn't started
 abbrev pub context_unless_started : Option SpanContext → Context → Option Context
 context_unless_started None context = Some context
 context_unless_started (Some own) context = None
 
-abbrev pub waiting_context : Option SpanData → Option Context
-waiting_context None = None
-waiting_context (Some span_data) = context_unless_started span_data.own span_data.parent
+abbrev pub start_context : Option SpanData → Option Context
+start_context None = None
+start_context (Some span_data) = context_unless_started span_data.own span_data.parent
 
 -- the own context of a span, the other one where it isn't known
-abbrev pub own_or : Context → Option SpanData → Context
-own_or other None = other
-own_or other (Some span_data) = record { span = span_data.own }
+abbrev pub own_context_or : Context → Option SpanData → Context
+own_context_or other None = other
+own_context_or other (Some span_data) = record { span = span_data.own }
 
 -- the ids of a span, if it is known
 abbrev pub ids_at : Option SpanData → Option SpanContext
@@ -114,6 +114,6 @@ abbrev pub RisesTo : ℕ → List Entry → Type 0
 RisesTo id entries = IdsRise 0 (entry_ids entries ++ id ∷ [])
 
 -- what a table says of its entries: whether the ids rise, and how many aren't gaps
-pub record IsKept (rising : Bool) (known : ℕ) (entries : List Entry) : Type 0 where
+pub record IsSpanTable (rising : Bool) (known : ℕ) (entries : List Entry) : Type 0 where
   pub rises : MayRise rising entries
   pub counts : known ≡ length (all_data entries)

@@ -40,11 +40,11 @@ impl<T: Tracer> OpenTelemetryLayer<T> {
         ensures filter { result.filter ≡ Some filter }
         ensures whole { StaysWhole T.spare T.started self.core result.inner.core }
     {
-        self.counting_by(Some(filter))
+        self.with_counting_if(Some(filter))
     }
 
     /// The same layer, counting events if a filter is given for that.
-    pub fn counting_by<F: Filter>(self, filter: Option<F>) -> FilteredOpenTelemetryLayer<T, F>
+    pub fn with_counting_if<F: Filter>(self, filter: Option<F>) -> FilteredOpenTelemetryLayer<T, F>
         ensures inner { result.inner ≡ record self { core = counting_core (is_some filter) self.core } }
         ensures filter { result.filter ≡ filter }
         ensures whole { StaysWhole T.spare T.started self.core result.inner.core }
@@ -93,7 +93,7 @@ impl<T: Tracer, F: Filter + Drop> FilteredOpenTelemetryLayer<T, F> {
         ensures filter { result.filter ≡ Some filter }
     {
         let FilteredOpenTelemetryLayer { inner, filter: _ } = self;
-        inner.counting_by(Some(filter))
+        inner.with_counting_if(Some(filter))
     }
 }
 

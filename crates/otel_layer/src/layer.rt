@@ -1,7 +1,7 @@
 //! The layer and its settings.
 ghost use Rattle.std.specs.Prelude.{◌≡◌, ◌≤◌, ◌^◌, [], length};
 ghost use Rattle.otel_state.specs.Settings.{default_settings};
-ghost use Rattle.otel_layer.specs.Core.{new_core, set_in, with_other, IsWholeCore, StaysWhole};
+ghost use Rattle.otel_layer.specs.Core.{new_core, with_settings_by, with_other_tracer, IsWholeCore, StaysWhole};
 ghost use Rattle.otel_layer.specs.Counting.{counting_core};
 ghost use Rattle.otel_layer.specs.lending.Lending.{LendsTracer};
 ghost use Rattle.std.specs.Borrow.{sem};
@@ -91,7 +91,7 @@ impl<T: Tracer + Drop> OpenTelemetryLayer<T> {
     /// close the spans that it knows only if there are none.
     pub fn with_tracer<U: Tracer>(self, tracer: U) -> OpenTelemetryLayer<U>
         requires { U.started tracer ≤ 2 ^ 62 }
-        ensures core { result.core ≡ with_other self.core tracer }
+        ensures core { result.core ≡ with_other_tracer self.core tracer }
         ensures whole { IsWholeCore T.spare T.started self.core → self.core.spans ≡ []
             → IsWholeCore U.spare U.started result.core }
     {
@@ -144,7 +144,7 @@ impl<T: Tracer> OpenTelemetryLayer<T> {
     /// Sets whether an error among the fields of a span or an event is told as an exception too;
     /// `OpenTelemetryLayer::with_error_fields_to_exceptions`.
     pub fn with_error_fields_to_exceptions(mut self, on: bool) -> OpenTelemetryLayer<T>
-        ensures core { result.core ≡ set_in (λ s. record s { error_fields_to_exceptions = on }) self.core }
+        ensures core { result.core ≡ with_settings_by (λ s. record s { error_fields_to_exceptions = on }) self.core }
         ensures whole { StaysWhole T.spare T.started self.core result.core }
     {
         self.settings.error_fields_to_exceptions = on;
@@ -154,7 +154,7 @@ impl<T: Tracer> OpenTelemetryLayer<T> {
     /// Sets whether an error among the fields of an event is told as an exception of the span;
     /// `OpenTelemetryLayer::with_error_records_to_exceptions`.
     pub fn with_error_records_to_exceptions(mut self, on: bool) -> OpenTelemetryLayer<T>
-        ensures core { result.core ≡ set_in (λ s. record s { error_records_to_exceptions = on }) self.core }
+        ensures core { result.core ≡ with_settings_by (λ s. record s { error_records_to_exceptions = on }) self.core }
         ensures whole { StaysWhole T.spare T.started self.core result.core }
     {
         self.settings.error_records_to_exceptions = on;
@@ -164,7 +164,7 @@ impl<T: Tracer> OpenTelemetryLayer<T> {
     /// Sets whether the special error of an event makes it an exception;
     /// `OpenTelemetryLayer::with_error_events_to_exceptions`.
     pub fn with_error_events_to_exceptions(mut self, on: bool) -> OpenTelemetryLayer<T>
-        ensures core { result.core ≡ set_in (λ s. record s { error_events_to_exceptions = on }) self.core }
+        ensures core { result.core ≡ with_settings_by (λ s. record s { error_events_to_exceptions = on }) self.core }
         ensures whole { StaysWhole T.spare T.started self.core result.core }
     {
         self.settings.error_events_to_exceptions = on;
@@ -174,7 +174,7 @@ impl<T: Tracer> OpenTelemetryLayer<T> {
     /// Sets whether the special error of an event is an error of its span;
     /// `OpenTelemetryLayer::with_error_events_to_status`.
     pub fn with_error_events_to_status(mut self, on: bool) -> OpenTelemetryLayer<T>
-        ensures core { result.core ≡ set_in (λ s. record s { error_events_to_status = on }) self.core }
+        ensures core { result.core ≡ with_settings_by (λ s. record s { error_events_to_status = on }) self.core }
         ensures whole { StaysWhole T.spare T.started self.core result.core }
     {
         self.settings.error_events_to_status = on;
@@ -184,7 +184,7 @@ impl<T: Tracer> OpenTelemetryLayer<T> {
     /// Sets whether spans and events tell the file, module and line of their callsite;
     /// `OpenTelemetryLayer::with_location`.
     pub fn with_location(mut self, on: bool) -> OpenTelemetryLayer<T>
-        ensures core { result.core ≡ set_in (λ s. record s { location = on }) self.core }
+        ensures core { result.core ≡ with_settings_by (λ s. record s { location = on }) self.core }
         ensures whole { StaysWhole T.spare T.started self.core result.core }
     {
         self.settings.location = on;
@@ -193,7 +193,7 @@ impl<T: Tracer> OpenTelemetryLayer<T> {
 
     /// Sets whether closes tell busy and idle times; `OpenTelemetryLayer::with_tracked_inactivity`.
     pub fn with_tracked_inactivity(mut self, on: bool) -> OpenTelemetryLayer<T>
-        ensures core { result.core ≡ set_in (λ s. record s { inactivity = on }) self.core }
+        ensures core { result.core ≡ with_settings_by (λ s. record s { inactivity = on }) self.core }
         ensures whole { StaysWhole T.spare T.started self.core result.core }
     {
         self.settings.inactivity = on;
@@ -202,7 +202,7 @@ impl<T: Tracer> OpenTelemetryLayer<T> {
 
     /// Sets whether spans tell the lane on which they are made; `OpenTelemetryLayer::with_threads`.
     pub fn with_threads(mut self, on: bool) -> OpenTelemetryLayer<T>
-        ensures core { result.core ≡ set_in (λ s. record s { threads = on }) self.core }
+        ensures core { result.core ≡ with_settings_by (λ s. record s { threads = on }) self.core }
         ensures whole { StaysWhole T.spare T.started self.core result.core }
     {
         self.settings.threads = on;
@@ -211,7 +211,7 @@ impl<T: Tracer> OpenTelemetryLayer<T> {
 
     /// Sets whether spans tell their level; `OpenTelemetryLayer::with_level`.
     pub fn with_level(mut self, on: bool) -> OpenTelemetryLayer<T>
-        ensures core { result.core ≡ set_in (λ s. record s { level = on }) self.core }
+        ensures core { result.core ≡ with_settings_by (λ s. record s { level = on }) self.core }
         ensures whole { StaysWhole T.spare T.started self.core result.core }
     {
         self.settings.level = on;
@@ -220,7 +220,7 @@ impl<T: Tracer> OpenTelemetryLayer<T> {
 
     /// Sets whether spans tell their target; `OpenTelemetryLayer::with_target`.
     pub fn with_target(mut self, on: bool) -> OpenTelemetryLayer<T>
-        ensures core { result.core ≡ set_in (λ s. record s { target = on }) self.core }
+        ensures core { result.core ≡ with_settings_by (λ s. record s { target = on }) self.core }
         ensures whole { StaysWhole T.spare T.started self.core result.core }
     {
         self.settings.target = on;
@@ -229,7 +229,7 @@ impl<T: Tracer> OpenTelemetryLayer<T> {
 
     /// Sets whether a span starts at its making.
     pub fn with_eager_start(mut self, on: bool) -> OpenTelemetryLayer<T>
-        ensures core { result.core ≡ set_in (λ s. record s { eager = on }) self.core }
+        ensures core { result.core ≡ with_settings_by (λ s. record s { eager = on }) self.core }
         ensures whole { StaysWhole T.spare T.started self.core result.core }
     {
         self.settings.eager = on;
@@ -238,7 +238,7 @@ impl<T: Tracer> OpenTelemetryLayer<T> {
 
     /// Sets whether an entry attaches its span's context to the lane; `OpenTelemetryLayer::with_context_activation`.
     pub fn with_context_activation(mut self, on: bool) -> OpenTelemetryLayer<T>
-        ensures core { result.core ≡ set_in (λ s. record s { activation = on }) self.core }
+        ensures core { result.core ≡ with_settings_by (λ s. record s { activation = on }) self.core }
         ensures whole { StaysWhole T.spare T.started self.core result.core }
     {
         self.settings.activation = on;

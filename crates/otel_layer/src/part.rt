@@ -3,7 +3,7 @@ ghost use Rattle.std.specs.Prelude.{◌≡◌, ◌||◌, ◌^◌, ◌<◌, if◌
 ghost use Rattle.std.proofs.Common.{refl};
 ghost use Rattle.std.proofs.lemmas.Bool.{true≢false};
 ghost use Rattle.otel_state.specs.States.{SpanData};
-ghost use Rattle.otel_layer.specs.Parts.{PartCall, Applies, Shows, IsOutside, Touches, TouchesNone, TouchesFirst, AnswersCallIf, IsUnanswered, StaysLayer, StaysStack};
+ghost use Rattle.otel_layer.specs.Parts.{PartCall, Applies, GivesContext, IsOutside, Touches, TouchesNone, TouchesFirst, AnswersCallIf, IsUnanswered, StaysLayer, StaysStack};
 ghost use Rattle.otel_layer.specs.laws.CallsLemmas.{touches_tell, core_stays, layer_can_start, first_tells, first_none, first_has, first_stay, layered_is, still_layer, still_stack};
 ghost use Rattle.span_registry.specs.Layering.{kept_same, or_same, whole_both, in_step_same};
 
@@ -52,7 +52,7 @@ pub trait OtelPart {
     /// span, which of one that hears every call means that the span isn't live (`live` of span_laws).
     fn otel_context(&mut self, id: Id, at: u64) -> Option<Context>
         requires { can_start self.old }
-        ensures { touches self.old (Shows id at result) self.new };
+        ensures { touches self.old (GivesContext id at result) self.new };
 
     /// Without a layer nothing is answered, and nothing changes.
     ghost none: { (s : Self) (call : PartCall) (t : Self) → touches s call t → has s ≡ false → IsUnanswered call × (t ≡ s) };

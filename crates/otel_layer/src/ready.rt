@@ -9,11 +9,11 @@ use otel_state::state::SpanState;
 #[derive(Drop)]
 pub enum Ready {
     /// The state of a new span.
-    Made { state: Box<SpanState> },
+    NewState { state: Box<SpanState> },
     /// The op of fields, or that of an event without its moment.
-    Happened { op: Box<Op> },
+    PreparedOp { op: Box<Op> },
     /// All room is in the layer.
-    Light,
+    Nothing,
 }
 
 // The op of an event at another moment.

@@ -2,13 +2,13 @@
 //! nothing.
 ghost use Rattle.std.specs.Prelude.{◌≡◌, ◌≢◌, ◌==◌, if◌then◌else◌, ℕ, List, Option, None, Some, length, slice_get};
 ghost use Rattle.std.specs.Map.{remove_entry};
-ghost use Rattle.trace_base.specs.Gate.{Worlds};
+ghost use Rattle.trace_base.specs.Gate.{WorldValue};
 ghost use Rattle.trace_base.specs.Calls.{SubscriberCall};
-ghost use Rattle.span_handles.specs.Worlds.{Replaced, Alike, Chain, spans_in};
+ghost use Rattle.span_handles.specs.Worlds.{Replaced, KeepsPlainData, Chain, spans_in};
 ghost use Rattle.otel_state.specs.declared.op.Op.{Op};
 ghost use Rattle.otel_state.specs.States.{SpanData};
 ghost use Rattle.otel_layer.specs.Parts.{PartCall};
-ghost use Rattle.otel_layer.specs.Table.{data_at, with_op, with_span_data, waiting_context, is_id};
+ghost use Rattle.otel_layer.specs.Table.{data_at, with_op, with_span_data, start_context, is_id};
 ghost use Rattle.otel_layer.specs.Recording.{RecordingWorlds, Recording, RecordsCall, RecordsChain, RecordsPart, recording_in};
 ghost use Rattle.otel_layer.specs.Recording.{with_start, with_close, data_after, data_started, Closes};
 
@@ -33,7 +33,7 @@ pub fn calls()
 /// Spare room is nothing that is kept.
 pub fn same()
     ensures { (old new : RecordingWorlds) (dispatch : ℕ)
-        → Replaced ⟦<PlainRecordedStack as Subscriber>⟧.same old new dispatch
+        → Replaced ⟦<PlainRecordedStack as Subscriber>⟧.same_but_room old new dispatch
         → recording_in new dispatch ≡ recording_in old dispatch }
 {}
 
@@ -52,7 +52,7 @@ pub fn states()
     ensures op { (id other at : ℕ) (op : Op) (spans : List (ℕ × SpanData))
         → data_at other (with_op id at op spans) ≡ data_after (other == id) at op (data_at other spans) }
     ensures start { (id other at : ℕ) (r : Recording) → data_at other (with_start id at r).spans
-        ≡ data_started (waiting_context (data_at id r.spans)) (other == id) r.started at (data_at other r.spans) }
+        ≡ data_started (start_context (data_at id r.spans)) (other == id) r.started at (data_at other r.spans) }
     ensures made { (id other : ℕ) (span_data : SpanData) (spans : List (ℕ × SpanData)) → data_at id spans ≡ None
         → data_at other (with_span_data id span_data spans) ≡ (if other == id then Some span_data else data_at other spans) }
     ensures removed { (id other : ℕ) (spans : List (ℕ × SpanData)) → other ≢ id
@@ -78,7 +78,7 @@ pub fn asks()
 
 /// A call from outside leaves the plain data of every subscriber.
 pub fn asks_leave_spans<S: OtelSubscriber>()
-    ensures { (old new : Worlds S) (dispatch : ℕ) (call : PartCall)
+    ensures { (old new : WorldValue S) (dispatch : ℕ) (call : PartCall)
         → Replaced (λ s t. S.touches s call t) old new dispatch
-        → Alike S.spans S.attaches S.kept S.is_whole old new dispatch }
+        → KeepsPlainData S.spans S.attaches S.kept S.is_whole old new dispatch }
 {}

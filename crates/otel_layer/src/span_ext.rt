@@ -3,10 +3,10 @@ ghost use Rattle.std.specs.Prelude.{◌≡◌, ◌<◌, ℕ, true, false, [], le
 ghost use Rattle.otel_base.specs.Ids.{is_valid};
 ghost use Rattle.otel_state.specs.declared.op.Op.TheVariants as ops;
 ghost use Rattle.span_handles.specs.Worlds.{Has, Replaced};
-ghost use Rattle.span_handles.specs.Handles.{Held, HasOn};
+ghost use Rattle.span_handles.specs.Handles.{HeldSpan, HasOn};
 ghost use Rattle.span_handles.specs.Entries.{IsThere};
-ghost use Rattle.otel_layer.specs.Parts.{Applies, Shows, IsOutside};
-ghost use Rattle.otel_layer.specs.Asking.{AppliesOn, AsksDone, AsksParent, ShowsOn, AsksContext};
+ghost use Rattle.otel_layer.specs.Parts.{Applies, GivesContext, IsOutside};
+ghost use Rattle.otel_layer.specs.Asking.{AppliesOn, AsksDone, AsksParent, GivesContextOn, AsksContext};
 ghost use Rattle.otel_layer.specs.Asking.{link_of, event_at, done_answer, parent_answer};
 
 use crate::part::OtelPart;
@@ -28,7 +28,7 @@ use trace_base::world::World;
 /// disabled handle, and one over a stack that has no such layer, changes nothing.
 pub trait OpenTelemetrySpanExt {
     /// The span that it is a handle of, if it is enabled.
-    ghost held: { Self → Held };
+    ghost held: { Self → HeldSpan };
 
     /// Sets the parent of the span; `SpanDisabled` on a disabled handle, `LayerNotFound` where the stack shows no layer or
     /// that doesn't know the span, and `AlreadyStarted` once the span has started. A layer that hears every call knows
@@ -156,7 +156,7 @@ impl OpenTelemetrySpanExt for Span {
     }
 
     fn context<S: Subscriber + OtelPart>(&self, world: &mut World<S>, at: u64) -> Context {
-        match show(self, world, at) {
+        match start_for_context(self, world, at) {
             Some(context) => context,
             None => Context::empty(),
         }
@@ -239,10 +239,10 @@ fn apply_in<S: Subscriber + OtelPart>(
 }
 
 // Starts the span of a handle, if it is enabled, and answers its own context.
-fn show<S: Subscriber + OtelPart>(span: &Span, world: &mut World<S>, at: u64) -> Option<Context>
+fn start_for_context<S: Subscriber + OtelPart>(span: &Span, world: &mut World<S>, at: u64) -> Option<Context>
     requires there { IsThere world.old span.now.held }
     requires can_start { HasOn (λ s id. S.can_start s) world.old span.now.held }
-    ensures { ShowsOn S.touches world.old world.new at span.now.held result }
+    ensures { GivesContextOn S.touches world.old world.new at span.now.held result }
 {
     match held_by(span) {
         Some((id, dispatch)) => get_otel_context(id, dispatch, world, at),
@@ -261,7 +261,7 @@ pub fn get_otel_context<S: Subscriber + OtelPart>(
 ) -> Option<Context>
     requires there { dispatch < length world.old.subscribers }
     requires can_start { Has (λ s. S.can_start s) world.old dispatch }
-    ensures { Replaced (λ s t. S.touches s (Shows id at result) t) world.old world.new dispatch }
+    ensures { Replaced (λ s t. S.touches s (GivesContext id at result) t) world.old world.new dispatch }
 {
     world.subscriber_mut(dispatch).otel_context(id, at)
 }

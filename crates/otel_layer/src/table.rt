@@ -40,13 +40,13 @@ pub(crate) struct Table {
 impl Model for Table {
     ghost use Rattle.std.specs.Prelude.{◌-◌, length, vec_capacity};
     ghost use Rattle.otel_layer.specs.Parts.{AppliesIn, context_at};
-    ghost use Rattle.otel_layer.specs.Table.{SpanTableValue, span_table_value, IsKept};
+    ghost use Rattle.otel_layer.specs.Table.{SpanTableValue, span_table_value, IsSpanTable};
 
     ghost Value = { SpanTableValue };
 
     ghost view = { λ t. span_table_value t.entries.items (vec_capacity t.entries - length t.entries.items) };
 
-    ghost invariant = { λ t. IsKept t.rising t.known t.entries.items };
+    ghost invariant = { λ t. IsSpanTable t.rising t.known t.entries.items };
 }
 
 impl Table {
@@ -130,7 +130,7 @@ impl Table {
     }
 
     // Counts an event, and tells it to its span where it is taken, in room that was reserved.
-    pub(crate) fn count(&mut self, id: Id, at: u64, op: Op, is_taken: bool)
+    pub(crate) fn count_event(&mut self, id: Id, at: u64, op: Op, is_taken: bool)
         requires { RoomFor id op self.old.rooms }
         ensures { self.new.spans ≡ update id (after_counted is_taken at op) self.old.spans }
     {

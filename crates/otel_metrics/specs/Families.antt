@@ -12,14 +12,14 @@ abbrev pub text_behind : List ℕ → List ℕ → Option (List ℕ)
 text_behind front text = if starts_with eqb text front then Some (drop (length front) text) else None
 
 -- the family, where the text has its front, else what else is read
-abbrev pub or_else : Family → Option (List ℕ) → Option (Family × List ℕ) → Option (Family × List ℕ)
-or_else family None other = other
-or_else family (Some rest) other = Some (family, rest)
+abbrev pub family_or : Family → Option (List ℕ) → Option (Family × List ℕ) → Option (Family × List ℕ)
+family_or family None other = other
+family_or family (Some rest) other = Some (family, rest)
 
 -- the family that a field's name begins with, and what stands behind it
 unfoldable pub family_of : List ℕ → Option (Family × List ℕ)
-family_of name = or_else Gauge (text_behind (codes "gauge.") name) (or_else MonotonicCounter (text_behind (codes "monotonic_counter.") name)
-    (or_else Counter (text_behind (codes "counter.") name) (or_else Histogram (text_behind (codes "histogram.") name) None)))
+family_of name = family_or Gauge (text_behind (codes "gauge.") name) (family_or MonotonicCounter (text_behind (codes "monotonic_counter.") name)
+    (family_or Counter (text_behind (codes "counter.") name) (family_or Histogram (text_behind (codes "histogram.") name) None)))
 
 abbrev pub is_of_family : List ℕ → Bool
 is_of_family name = is_some (family_of name)

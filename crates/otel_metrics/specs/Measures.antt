@@ -24,24 +24,24 @@ if_short n a = if nat_lt n (2 ^ 63) then Some a else None
 -- ---- numbers
 
 -- what a number from 0 on is to an instrument of a family
-abbrev pub natural_measured : Family → ℕ → Option (MetricKind × ℤ)
-natural_measured Gauge n = Some (GaugeU64, pos n)
-natural_measured MonotonicCounter n = Some (CounterU64, pos n)
-natural_measured Counter n = if_short n (UpDownCounterI64, pos n)
-natural_measured Histogram n = Some (HistogramU64, pos n)
+abbrev pub natural_measure : Family → ℕ → Option (MetricKind × ℤ)
+natural_measure Gauge n = Some (GaugeU64, pos n)
+natural_measure MonotonicCounter n = Some (CounterU64, pos n)
+natural_measure Counter n = if_short n (UpDownCounterI64, pos n)
+natural_measure Histogram n = Some (HistogramU64, pos n)
 
 -- what a signed number is to one: a monotonic counter doesn't fall, and no signed number is one of a histogram
-abbrev pub signed_measured : Family → ℤ → Option (MetricKind × ℤ)
-signed_measured Gauge z = Some (GaugeI64, z)
-signed_measured MonotonicCounter (pos n) = Some (CounterU64, pos n)
-signed_measured MonotonicCounter (negsuc n) = None
-signed_measured Counter z = Some (UpDownCounterI64, z)
-signed_measured Histogram z = None
+abbrev pub signed_measure : Family → ℤ → Option (MetricKind × ℤ)
+signed_measure Gauge z = Some (GaugeI64, z)
+signed_measure MonotonicCounter (pos n) = Some (CounterU64, pos n)
+signed_measure MonotonicCounter (negsuc n) = None
+signed_measure Counter z = Some (UpDownCounterI64, z)
+signed_measure Histogram z = None
 
-abbrev pub number_measured : Family → Value → Option (MetricKind × ℤ)
-number_measured family (given.U64 n) = natural_measured family n
-number_measured family (given.I64 z) = signed_measured family z
-number_measured family _ = None
+abbrev pub number_measure : Family → Value → Option (MetricKind × ℤ)
+number_measure family (given.U64 n) = natural_measure family n
+number_measure family (given.I64 z) = signed_measure family z
+number_measure family _ = None
 
 abbrev pub number_named : List ℕ → MetricKind × ℤ → Number
 number_named name n = record { kind = n.0; name = name; value = n.1 }
@@ -49,24 +49,24 @@ number_named name n = record { kind = n.0; name = name; value = n.1 }
 -- the number of a field of a family
 abbrev pub number_of : Option (Family × List ℕ) → Value → Option Number
 number_of None value = None
-number_of (Some family) value = option_map (number_named family.1) (number_measured family.0 value)
+number_of (Some family) value = option_map (number_named family.1) (number_measure family.0 value)
 
 -- ---- attributes
 
 -- a number is an attribute where no instrument takes it for its name
-abbrev pub natural_kept : Option Family → ℕ → Option OtelValue
-natural_kept None n = if_short n (told.I64 (pos n))
-natural_kept (Some family) n = None
+abbrev pub natural_as_attribute : Option Family → ℕ → Option OtelValue
+natural_as_attribute None n = if_short n (told.I64 (pos n))
+natural_as_attribute (Some family) n = None
 
-abbrev pub signed_kept : Option Family → ℤ → Option OtelValue
-signed_kept None z = Some (told.I64 z)
-signed_kept (Some Histogram) z = Some (told.I64 z)
-signed_kept (Some family) z = None
+abbrev pub signed_as_attribute : Option Family → ℤ → Option OtelValue
+signed_as_attribute None z = Some (told.I64 z)
+signed_as_attribute (Some Histogram) z = Some (told.I64 z)
+signed_as_attribute (Some family) z = None
 
 -- all else is an attribute as it is, or by its text
 abbrev pub value_as_attribute : Option Family → Value → Option OtelValue
-value_as_attribute family (given.U64 n) = natural_kept family n
-value_as_attribute family (given.I64 z) = signed_kept family z
+value_as_attribute family (given.U64 n) = natural_as_attribute family n
+value_as_attribute family (given.I64 z) = signed_as_attribute family z
 value_as_attribute family (given.Bool b) = Some (told.Bool b)
 value_as_attribute family (given.Str text) = Some (told.Str text)
 value_as_attribute family (given.Debug text) = Some (told.Str text)

@@ -92,7 +92,7 @@ impl Layer for MetricsLayer {
 
     ghost is_whole = { λ s. Unit {0} };
 
-    ghost same = { λ s t. t.measures ≡ s.measures };
+    ghost same_but_room = { λ s t. t.measures ≡ s.measures };
 
     ghost does = { λ s hook t. AddsMeasuresOf s hook t × LeavesLanes hook };
 

@@ -2,7 +2,7 @@
 ghost use Rattle.std.specs.Prelude.{◌≡◌, ◌++◌, IfOk, OnOk, slice_get, option_map};
 ghost use Rattle.std.specs.Option.{option_copied};
 ghost use Rattle.otel_metrics.specs.Families.{family_of};
-ghost use Rattle.otel_metrics.specs.Measures.{number_measured, natural_measured, signed_measured, number_of, number_at, value_as_attribute, natural_kept, signed_kept, attribute_in, attribute_of, attribute_at, numbers, attributes};
+ghost use Rattle.otel_metrics.specs.Measures.{number_measure, natural_measure, signed_measure, number_of, number_at, value_as_attribute, natural_as_attribute, signed_as_attribute, attribute_in, attribute_of, attribute_at, numbers, attributes};
 
 use crate::family::{Family, family_alone, family_of};
 use crate::measure::MetricKind;
@@ -73,25 +73,25 @@ fn number_of(
     let Some((family, rest)) = family else {
         return Ok(None);
     };
-    let Some((kind, value)) = number_told(family, value) else {
+    let Some((kind, value)) = number_measure(family, value) else {
         return Ok(None);
     };
     let name = Text::from_str(alloc, rest)?;
     Ok(Some(Number { kind, name, value }))
 }
 
-fn number_told(family: Family, value: &Value) -> Option<(MetricKind, i128)>
-    ensures { result ≡ number_measured family value.now }
+fn number_measure(family: Family, value: &Value) -> Option<(MetricKind, i128)>
+    ensures { result ≡ number_measure family value.now }
 {
     match value {
-        Value::U64(number) => natural_told(family, *number),
+        Value::U64(number) => natural_measure(family, *number),
         Value::I64(number) => signed_measure(family, *number),
         _ => None,
     }
 }
 
-fn natural_told(family: Family, number: u64) -> Option<(MetricKind, i128)>
-    ensures { result ≡ natural_measured family number }
+fn natural_measure(family: Family, number: u64) -> Option<(MetricKind, i128)>
+    ensures { result ≡ natural_measure family number }
 {
     let value = i128::from(number);
     match family {
@@ -104,7 +104,7 @@ fn natural_told(family: Family, number: u64) -> Option<(MetricKind, i128)>
 }
 
 fn signed_measure(family: Family, number: i64) -> Option<(MetricKind, i128)>
-    ensures { result ≡ signed_measured family number }
+    ensures { result ≡ signed_measure family number }
 {
     let value = i128::from(number);
     match family {
@@ -163,14 +163,14 @@ fn attribute_in(
 ) -> Result<Option<KeyValue>, Memory>
     ensures { IfOk result (λ attribute. attribute ≡ attribute_in family name.now value.now) }
 {
-    let Some(value) = value_kept(alloc, family, value)? else {
+    let Some(value) = value_as_attribute(alloc, family, value)? else {
         return Ok(None);
     };
     let key = name.clone()?;
     Ok(Some(KeyValue { key, value }))
 }
 
-fn value_kept(
+fn value_as_attribute(
     alloc: Global,
     family: Option<Family>,
     value: &Value,
@@ -178,8 +178,8 @@ fn value_kept(
     ensures { IfOk result (λ v. v ≡ value_as_attribute family value.now) }
 {
     Ok(match value {
-        Value::U64(number) => natural_kept(family, *number),
-        Value::I64(number) => signed_kept(family, *number),
+        Value::U64(number) => natural_as_attribute(family, *number),
+        Value::I64(number) => signed_as_attribute(family, *number),
         Value::Bool(truth) => Some(OtelValue::Bool(*truth)),
         Value::Str(text) | Value::Debug(text) => Some(OtelValue::Str(text.clone()?)),
         Value::I128(number) => { Some(OtelValue::Str(Text::from(format!(in alloc; "{number}")?))) }
@@ -188,8 +188,8 @@ fn value_kept(
     })
 }
 
-fn natural_kept(family: Option<Family>, number: u64) -> Option<OtelValue>
-    ensures { result ≡ natural_kept family number }
+fn natural_as_attribute(family: Option<Family>, number: u64) -> Option<OtelValue>
+    ensures { result ≡ natural_as_attribute family number }
 {
     match family {
         None if number < 1 << 63 => Some(OtelValue::I64(number as i64)),
@@ -197,8 +197,8 @@ fn natural_kept(family: Option<Family>, number: u64) -> Option<OtelValue>
     }
 }
 
-fn signed_kept(family: Option<Family>, number: i64) -> Option<OtelValue>
-    ensures { result ≡ signed_kept family number }
+fn signed_as_attribute(family: Option<Family>, number: i64) -> Option<OtelValue>
+    ensures { result ≡ signed_as_attribute family number }
 {
     match family {
         None | Some(Family::Histogram) => Some(OtelValue::I64(number)),

@@ -52,12 +52,12 @@ one_bounded busy entries made_at last at left d later most bounded false false =
 later_moment : (last at : ℕ) → last ≤ GREATEST → (last ≤ moment last at) × (moment last at ≤ GREATEST)
 later_moment last at most = (omega (arith, most), omega arith)
 
-all_bounded : (span_data : SpanData) (ops : List TimedOp) → Bounded span_data.busy span_data.entries span_data.made_at span_data.last span_data.left
-    → Bounded (fold after_stamped span_data ops).busy (fold after_stamped span_data ops).entries (fold after_stamped span_data ops).made_at (fold after_stamped span_data ops).last (fold after_stamped span_data ops).left
+all_bounded : (span_data : SpanData) (ops : List TimedOp) → Bounded span_data.busy span_data.entries span_data.made_at span_data.last span_data.left_at
+    → Bounded (fold after_stamped span_data ops).busy (fold after_stamped span_data ops).entries (fold after_stamped span_data ops).made_at (fold after_stamped span_data ops).last (fold after_stamped span_data ops).left_at
 all_bounded span_data [] bounded = bounded
 all_bounded span_data (op ∷ ops) bounded =
     let later = later_moment span_data.last op.at bounded.is_moment in
-    all_bounded (after_stamped span_data op) ops (one_bounded span_data.busy span_data.entries span_data.made_at span_data.last (moment span_data.last op.at) span_data.left (deed op.op) later.0 later.1 bounded (deed op.op).exits (deed op.op).enters)
+    all_bounded (after_stamped span_data op) ops (one_bounded span_data.busy span_data.entries span_data.made_at span_data.last (moment span_data.last op.at) span_data.left_at (deed op.op) later.0 later.1 bounded (deed op.op).exits (deed op.op).enters)
 
 -- ---- a span that was entered and has no open entry was left
 
@@ -115,7 +115,7 @@ reached making ops order shut =
     let busy = busy_all start ops in_order ∙ ap (λ n. 0 + busy_of n ops) within in
     let left = ap (λ l. unwrap_or l making.made_at) (left_all start ops in_order) in
     let kept = constant (λ t. t.made_at) (λ t op. refl) start ops in
-    let left_made = ap (λ n. unwrap_or (fold after_stamped start ops).left n) kept in
+    let left_made = ap (λ n. unwrap_or (fold after_stamped start ops).left_at n) kept in
     omega (arith, reach, busy, left, kept, left_made)
 
 pub tells_times : (making : Making) (ops : List TimedOp) (closed : ℕ) → IsTrue making.inactivity → MomentsRise making.made_at ops → open_by 0 ops ≡ 0

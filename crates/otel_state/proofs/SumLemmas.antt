@@ -15,7 +15,7 @@ use Rattle.otel_state.specs.Opening.{before_start, own_of, last_or, name_of, kin
 use Rattle.otel_state.specs.Statuses.{statuses_written, greatest_status, status_of}
 use Rattle.otel_state.specs.Times.{open_after, open_by, gap, busy_from, busy_of, exit_in, last_exit, MomentsRise}
 use Rattle.otel_state.specs.Content.{Making, attributes_of, events_of, links_of, counted_of, content}
-use Rattle.otel_state.specs.States.{SpanData, data_at_making, moment, unless_started, first_start, with_all, with_one, after_op, after_stamped, Stands, AppendsOp, IsReadOff, reply, reply_after, record_of}
+use Rattle.otel_state.specs.States.{SpanData, data_at_making, moment, unless_started, first_start, with_all, with_one, after_op, after_stamped, Represents, AppendsOp, IsReadOff, reply, reply_after, record_of}
 
 -- a field that each op changes by itself
 pub folded : {B : Type 0} (field : SpanData → B) (step : B → TimedOp → B) → ((span_data : SpanData) (op : TimedOp) → field (after_stamped span_data op) ≡ step (field span_data) op)
@@ -135,14 +135,14 @@ pub first_within : (last : ℕ) (ops : List TimedOp) → MomentsRise last ops �
 first_within last [] order = order
 first_within last (op ∷ ops) order = let within = first_within op.at ops order.1 in omega (arith, order.0, within)
 
-pub left_all : (span_data : SpanData) (ops : List TimedOp) → MomentsRise span_data.last ops → (fold after_stamped span_data ops).left ≡ fold (λ _ at. Some at) span_data.left (filter_map exit_in ops)
+pub left_all : (span_data : SpanData) (ops : List TimedOp) → MomentsRise span_data.last ops → (fold after_stamped span_data ops).left_at ≡ fold (λ _ at. Some at) span_data.left_at (filter_map exit_in ops)
 left_all span_data [] order = refl
 left_all span_data (op ∷ ops) order =
     let is = moment_is span_data.last op.at order.0 (first_within op.at ops order.1) in
     left_all (after_stamped span_data op) ops (subst (λ n. MomentsRise n ops) (sym is) order.1) ∙ by_exit (deed op.op).exits is
   where
-    by_exit : (exits : Bool) → moment span_data.last op.at ≡ op.at → fold (λ _ at. Some at) (if exits then Some (moment span_data.last op.at) else span_data.left) (filter_map exit_in ops)
-        ≡ fold (λ _ at. Some at) span_data.left (cons_option (if exits then Some op.at else None) (filter_map exit_in ops))
+    by_exit : (exits : Bool) → moment span_data.last op.at ≡ op.at → fold (λ _ at. Some at) (if exits then Some (moment span_data.last op.at) else span_data.left_at) (filter_map exit_in ops)
+        ≡ fold (λ _ at. Some at) span_data.left_at (cons_option (if exits then Some op.at else None) (filter_map exit_in ops))
     by_exit true is = ap (λ n. fold (λ _ at. Some at) (Some n) (filter_map exit_in ops)) is
     by_exit false is = refl
 
@@ -162,7 +162,7 @@ busy_is made_at within busy ops is same = let here = ap (λ n. busy_from 0 n ops
 
 the_record : (span_data : SpanData) (making : Making) (ops : List TimedOp) (closed : ℕ) → span_data.name ≡ name_of making.name ops → span_data.kind ≡ kind_of ops → span_data.parent ≡ parent_context_of making.parent ops → span_data.made_at ≡ making.made_at
     → span_data.counting ≡ making.counting → span_data.inactivity ≡ making.inactivity → span_data.own ≡ own_of ops → span_data.attributes ≡ making.first ++ attributes_of ops → span_data.events ≡ events_of ops → span_data.links ≡ links_of ops
-    → span_data.status ≡ status_of ops → span_data.counted ≡ counted_of ops → span_data.busy ≡ busy_of making.made_at ops → span_data.left ≡ last_exit ops → record_of span_data closed ≡ content making ops closed
+    → span_data.status ≡ status_of ops → span_data.counted ≡ counted_of ops → span_data.busy ≡ busy_of making.made_at ops → span_data.left_at ≡ last_exit ops → record_of span_data closed ≡ content making ops closed
 the_record span_data making ops closed name kind parent made_at counting inactivity own attributes events links status counted busy left =
     simp (name, kind, parent, made_at, counting, inactivity, own, attributes, events, links, status, counted, busy, left, append_assoc) refl
 
@@ -183,7 +183,7 @@ entries_is span_data making ops stands = ap (λ (t : SpanData). t.entries) stand
 pub reply_is : (span_data : SpanData) (op : Op) → IsReadOff (λ _ ops. reply_after (own_of ops) op) span_data (reply span_data op)
 reply_is span_data op making ops stands = ap (λ (own : Option SpanContext). reply_after own op) (own_is span_data making ops stands)
 
-pub content_is : (making : Making) (ops : List TimedOp) (span_data : SpanData) (closed : ℕ) → Stands making ops span_data → MomentsRise making.made_at ops → record_of span_data closed ≡ content making ops closed
+pub content_is : (making : Making) (ops : List TimedOp) (span_data : SpanData) (closed : ℕ) → Represents making ops span_data → MomentsRise making.made_at ops → record_of span_data closed ≡ content making ops closed
 content_is making ops span_data closed stands order =
     let start = data_at_making making in
     let made_at = first_within making.made_at ops order in

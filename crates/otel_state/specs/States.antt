@@ -41,7 +41,7 @@ pub record SpanData : Type 0 where
   pub entries : ℕ
   pub last : ℕ
   pub busy : ℕ
-  pub left : Option ℕ
+  pub left_at : Option ℕ
 
 -- how many attributes, events and links more need no memory; the attributes of the close aren't counted
 pub record Room : Type 0 where
@@ -72,7 +72,7 @@ data_at_making making = record {
   entries = 0;
   last = min making.made_at GREATEST;
   busy = 0;
-  left = None;
+  left_at = None;
 }
 
 -- ---- one op more
@@ -119,7 +119,7 @@ after_deed span_data d =
       status = greatest_status span_data.status (statuses_written d);
       counted = if d.counts then min (span_data.counted + 1) GREATEST else span_data.counted;
       entries = open_after span_data.entries d;
-      left = if d.exits then Some span_data.last else span_data.left;
+      left_at = if d.exits then Some span_data.last else span_data.left_at;
     }
 
 abbrev pub after_op : SpanData → ℕ → Op → SpanData
@@ -131,28 +131,28 @@ abbrev pub after_stamped : SpanData → TimedOp → SpanData
 after_stamped span_data op = after_op span_data op.at op.op
 
 -- a state stands for a making and the ops since
-abbrev pub Stands : Making → List TimedOp → SpanData → Type 0
-Stands making ops span_data = span_data ≡ fold after_stamped (data_at_making making) ops
+abbrev pub Represents : Making → List TimedOp → SpanData → Type 0
+Represents making ops span_data = span_data ≡ fold after_stamped (data_at_making making) ops
 
 -- a state stands for one op more, whatever making and ops it stood for
 abbrev pub AppendsOp : ℕ → Op → SpanData → SpanData → Type 0
-AppendsOp at op before now = (making : Making) (ops : List TimedOp) → Stands making ops before → Stands making (ops ++ record { at = at; op = op } ∷ []) now
+AppendsOp at op before now = (making : Making) (ops : List TimedOp) → Represents making ops before → Represents making (ops ++ record { at = at; op = op } ∷ []) now
 
 -- a value is read off the making and the ops that a state stands for
 abbrev pub IsReadOff : {A : Type 0} → (Making → List TimedOp → A) → SpanData → A → Type 0
-IsReadOff read span_data value = (making : Making) (ops : List TimedOp) → Stands making ops span_data → value ≡ read making ops
+IsReadOff read span_data value = (making : Making) (ops : List TimedOp) → Represents making ops span_data → value ≡ read making ops
 
 -- a state gets the parent and the moment of its making anew, and no time has passed since
 abbrev pub with_making : Context → ℕ → SpanData → SpanData
-with_making parent made_at span_data = record span_data { parent = parent; made_at = made_at; last = min made_at GREATEST; busy = 0; left = None }
+with_making parent made_at span_data = record span_data { parent = parent; made_at = made_at; last = min made_at GREATEST; busy = 0; left_at = None }
 
 -- a state that stood for a making and no ops stands for the same making with another parent and moment, and no ops
 abbrev pub BeginsAt : Context → ℕ → SpanData → SpanData → Type 0
-BeginsAt parent made_at before now = (making : Making) → Stands making [] before → Stands (record making { parent = parent; made_at = made_at }) [] now
+BeginsAt parent made_at before now = (making : Making) → Represents making [] before → Represents (record making { parent = parent; made_at = made_at }) [] now
 
 -- a record is the content of the making and the ops that a state stands for, where moments don't fall
 abbrev pub IsContent : ℕ → SpanData → Record → Type 0
-IsContent at span_data result = (making : Making) (ops : List TimedOp) → Stands making ops span_data → MomentsRise making.made_at ops → result ≡ content making ops at
+IsContent at span_data result = (making : Making) (ops : List TimedOp) → Represents making ops span_data → MomentsRise making.made_at ops → result ≡ content making ops at
 
 -- ---- answers
 
@@ -188,7 +188,7 @@ room_after room d = record {
 }
 
 -- there still is so much room
-pub record Keeps (room now : Room) : Type 0 where
+pub record KeepsRoom (room now : Room) : Type 0 where
   pub attributes : room.attributes ≤ now.attributes
   pub events : room.events ≤ now.events
   pub links : room.links ≤ now.links
@@ -203,9 +203,9 @@ record_of span_data closed = record {
   context = ids_or_zeros span_data.own;
   parent = parent_id (ids_of span_data.parent);
   start = span_data.made_at;
-  end = end_of span_data.left closed;
+  end = end_of span_data.left_at closed;
   attributes = span_data.attributes ++ closing_count span_data.counting span_data.counted
-      ++ closing_times span_data.inactivity span_data.busy (idle_of span_data.left span_data.made_at span_data.busy);
+      ++ closing_times span_data.inactivity span_data.busy (idle_of span_data.left_at span_data.made_at span_data.busy);
   events = span_data.events;
   links = span_data.links;
   status = span_data.status;
@@ -214,7 +214,7 @@ record_of span_data closed = record {
 -- ---- what always holds of what is kept
 
 -- times are moments in order, a count is within its type, and the close has its room
-pub record IsInTime (counted entries busy last : ℕ) (left : Option ℕ) (length closing capacity : ℕ) : Type 0 where
+pub record IsSoundState (counted entries busy last : ℕ) (left : Option ℕ) (length closing capacity : ℕ) : Type 0 where
   pub is_within : busy ≤ last
   pub is_moment : last ≤ GREATEST
   pub is_past : IfSome left (λ l. l ≤ last)

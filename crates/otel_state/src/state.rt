@@ -7,7 +7,7 @@ ghost use Rattle.otel_state.specs.Deeds.{deed, no_deed, written_by};
 ghost use Rattle.otel_state.specs.Opening.{own_of, parent_context_of};
 ghost use Rattle.otel_state.specs.Statuses.{greatest_status, error_in};
 ghost use Rattle.otel_state.specs.Times.{open_by};
-ghost use Rattle.otel_state.specs.States.{after_time, unless_started, with_all, after_deed, after_op, reply, reply_after, is_growing, record_of, with_making, room_after, Stands, AppendsOp, BeginsAt, IsReadOff, IsContent, HasRoom, Keeps};
+ghost use Rattle.otel_state.specs.States.{after_time, unless_started, with_all, after_deed, after_op, reply, reply_after, is_growing, record_of, with_making, room_after, Represents, AppendsOp, BeginsAt, IsReadOff, IsContent, HasRoom, KeepsRoom};
 
 use crate::closing::{add_count, add_times, closing_room};
 use crate::op::{Op, OpReply, SetParentError};
@@ -40,7 +40,7 @@ pub struct SpanState {
     entries: u64,
     last: u64,
     busy: u64,
-    left: Option<u64>,
+    left_at: Option<u64>,
 }
 
 // What ops may change until the span starts.
@@ -54,7 +54,7 @@ struct Opening {
 impl Model for SpanState {
     ghost use Rattle.std.specs.Prelude.{◌-◌, length, vec_capacity};
     ghost use Rattle.otel_state.specs.Content.{closing_room};
-    ghost use Rattle.otel_state.specs.States.{StateValue, IsInTime};
+    ghost use Rattle.otel_state.specs.States.{StateValue, IsSoundState};
 
     ghost Value = { StateValue };
 
@@ -75,7 +75,7 @@ impl Model for SpanState {
         entries = s.entries;
         last = s.last;
         busy = s.busy;
-        left = s.left;
+        left_at = s.left_at;
       };
       room = record {
         attributes = vec_capacity s.attributes - length s.attributes.items - closing_room s.counting s.inactivity;
@@ -84,7 +84,7 @@ impl Model for SpanState {
       };
     } };
 
-    ghost invariant = { λ s. IsInTime s.counted s.entries s.busy s.last s.left (length s.attributes.items) (closing_room s.counting s.inactivity) (vec_capacity s.attributes) };
+    ghost invariant = { λ s. IsSoundState s.counted s.entries s.busy s.last s.left_at (length s.attributes.items) (closing_room s.counting s.inactivity) (vec_capacity s.attributes) };
 }
 
 impl SpanState {
@@ -99,7 +99,7 @@ impl SpanState {
         counting: bool,
         inactivity: bool,
     ) -> Result<SpanState, Memory>
-        ensures { IfOk result (λ state. Stands (record {
+        ensures { IfOk result (λ state. Represents (record {
           name = name.now;
           parent = parent;
           made_at = made_at;
@@ -129,7 +129,7 @@ impl SpanState {
             entries: 0,
             last: made_at.min(GREATEST),
             busy: 0,
-            left: None,
+            left_at: None,
         })
     }
 
@@ -175,8 +175,8 @@ impl SpanState {
         ensures had_room { HasRoom self.old.room op → IsOk result }
 
         // Room that the op doesn't fill stays.
-        ensures rest { OnOk result (Keeps (room_after self.old.room (deed op)) self.new.room) }
-        ensures keeps { OnErr result (Keeps self.old.room self.new.room) }
+        ensures rest { OnOk result (KeepsRoom (room_after self.old.room (deed op)) self.new.room) }
+        ensures keeps { OnErr result (KeepsRoom self.old.room self.new.room) }
     {
         let answer = self.answer(&op);
         self.reserve(&op)?;
@@ -189,9 +189,9 @@ impl SpanState {
         requires room { HasRoom self.old.room op }
         ensures span_data { self.new.span_data ≡ after_op self.old.span_data at op }
         ensures room { is_growing op ≡ false → self.new.room ≡ self.old.room }
-        ensures rest { Keeps (room_after self.old.room (deed op)) self.new.room }
+        ensures rest { KeepsRoom (room_after self.old.room (deed op)) self.new.room }
     {
-        self.pass(at);
+        self.pass_time(at);
         match op {
             Op::Update { update } => self.put_update(update),
             Op::Event {
@@ -221,13 +221,13 @@ impl SpanState {
             Op::Enter => self.entries = one_more(self.entries),
             Op::Exit => {
                 self.entries = self.entries.saturating_sub(1);
-                self.left = Some(self.last);
+                self.left_at = Some(self.last);
             }
         }
     }
 
     // Time passes up to a moment.
-    fn pass(&mut self, at: Moment)
+    fn pass_time(&mut self, at: Moment)
         ensures span_data { self.new.span_data ≡ after_time self.old.span_data at }
         ensures room { self.new.room ≡ self.old.room }
     {
@@ -241,7 +241,7 @@ impl SpanState {
     fn put_update(&mut self, update: Update)
         requires { length update.attributes ≤ self.old.room.attributes }
         ensures span_data { self.new.span_data ≡ after_deed self.old.span_data (written_by update) }
-        ensures rest { Keeps (room_after self.old.room (written_by update)) self.new.room }
+        ensures rest { KeepsRoom (room_after self.old.room (written_by update)) self.new.room }
     {
         let Update {
             name,
@@ -310,7 +310,7 @@ impl SpanState {
     fn put_attributes(&mut self, attributes: Items<KeyValue>)
         requires { length attributes ≤ self.old.room.attributes }
         ensures span_data { self.new.span_data ≡ record self.old.span_data { attributes = with_all self.old.span_data.attributes attributes } }
-        ensures rest { Keeps (room_after self.old.room (record no_deed { attributes = attributes })) self.new.room }
+        ensures rest { KeepsRoom (room_after self.old.room (record no_deed { attributes = attributes })) self.new.room }
     {
         let mut attributes = attributes.into_vec();
         match self.attributes.append(&mut attributes) {
@@ -322,7 +322,7 @@ impl SpanState {
     fn put_attribute(&mut self, pair: KeyValue)
         requires { 1 ≤ self.old.room.attributes }
         ensures span_data { self.new.span_data ≡ record self.old.span_data { attributes = self.old.span_data.attributes ++ pair ∷ [] } }
-        ensures rest { Keeps (room_after self.old.room (record no_deed { attributes = pair ∷ [] })) self.new.room }
+        ensures rest { KeepsRoom (room_after self.old.room (record no_deed { attributes = pair ∷ [] })) self.new.room }
     {
         match self.attributes.push(pair) {
             Ok(()) => {}
@@ -333,7 +333,7 @@ impl SpanState {
     fn put_event(&mut self, event: OtelEvent)
         requires { 1 ≤ self.old.room.events }
         ensures span_data { self.new.span_data ≡ record self.old.span_data { events = self.old.span_data.events ++ event ∷ [] } }
-        ensures rest { Keeps (room_after self.old.room (record no_deed { event = Some event })) self.new.room }
+        ensures rest { KeepsRoom (room_after self.old.room (record no_deed { event = Some event })) self.new.room }
     {
         match self.events.push(event) {
             Ok(()) => {}
@@ -344,7 +344,7 @@ impl SpanState {
     fn put_link(&mut self, link: Link)
         requires { 1 ≤ self.old.room.links }
         ensures span_data { self.new.span_data ≡ record self.old.span_data { links = self.old.span_data.links ++ link ∷ [] } }
-        ensures rest { Keeps (room_after self.old.room (record no_deed { link = Some link })) self.new.room }
+        ensures rest { KeepsRoom (room_after self.old.room (record no_deed { link = Some link })) self.new.room }
     {
         match self.links.push(link) {
             Ok(()) => {}
@@ -363,7 +363,7 @@ impl SpanState {
         self.made_at = made_at;
         self.last = made_at.min(GREATEST);
         self.busy = 0;
-        self.left = None;
+        self.left_at = None;
     }
 
     /// What an op will answer.
@@ -386,7 +386,7 @@ impl SpanState {
     /// isn't the room yet. For two ops `reserve_room` takes the room at once.
     pub fn reserve(&mut self, op: &Op) -> Result<(), Memory>
         ensures room { OnOk result (HasRoom self.new.room op.now) }
-        ensures keeps { Keeps self.old.room self.new.room }
+        ensures keeps { KeepsRoom self.old.room self.new.room }
         ensures memory { OnErr result (IsTrue (is_growing op.now)) }
         ensures had_room { HasRoom self.old.room op.now → IsOk result }
         ensures leaves { self.new.span_data ≡ self.old.span_data }
@@ -416,7 +416,7 @@ impl SpanState {
         ensures attributes { OnOk result (attributes ≤ self.new.room.attributes) }
         ensures events { OnOk result (events ≤ self.new.room.events) }
         ensures links { OnOk result (links ≤ self.new.room.links) }
-        ensures keeps { Keeps self.old.room self.new.room }
+        ensures keeps { KeepsRoom self.old.room self.new.room }
         ensures had_room { attributes ≤ self.old.room.attributes → events ≤ self.old.room.events
             → links ≤ self.old.room.links → attributes + 3 < 2 ^ 64 → IsOk result }
         ensures leaves { self.new.span_data ≡ self.old.span_data }
@@ -440,10 +440,10 @@ impl SpanState {
     fn into_record(self, at: Moment) -> Record
         ensures { result ≡ record_of self.span_data at }
     {
-        let idle = idle(self.left, self.made_at, self.busy);
+        let idle = idle(self.left_at, self.made_at, self.busy);
         let context = self.own.unwrap_or(SpanContext { trace: 0, span: 0 });
         let parent = self.opening.parent.span_context().parent_id();
-        let end = self.left.unwrap_or(at);
+        let end = self.left_at.unwrap_or(at);
         let mut attributes = self.attributes;
         add_count(
             &mut attributes,

@@ -3,6 +3,7 @@
 mod faults;
 mod measures;
 mod objects;
+mod polled_tasks;
 mod scripts;
 mod steps;
 mod whole_runs;

@@ -16,8 +16,8 @@ pub use Rattle.otel_state.specs.States.{SpanData, after_op, after_time, after_de
 pub use Rattle.otel_state.specs.declared.op.Op.{Op}
 pub use Rattle.otel_state.specs.declared.settings.LayerSettings.{LayerSettings}
 pub use Rattle.otel_state.specs.declared.times.TheConstants.{GREATEST}
-pub use Rattle.otel_layer.specs.Recording.{Recording, closed_started, source_of, started_under, with_applied, with_close, with_start, with_starts, without_closed}
-pub use Rattle.otel_layer.specs.Table.{data_at, is_id, own_or, update, waiting_context, context_unless_started, with_op}
+pub use Rattle.otel_layer.specs.Recording.{Recording, closed_started, source_of, with_start_under, with_applied, with_close, with_start, with_starts, without_closed}
+pub use Rattle.otel_layer.specs.Table.{data_at, is_id, own_context_or, update, start_context, context_unless_started, with_op}
 pub use Rattle.span_script.specs.Effects.{effect_of, effect_of_call, is_bad_moment}
 pub use Rattle.span_script.specs.Outcomes.{followed_by, history_from, history_of, outcome_of, records_from, refusal_at}
 pub use Rattle.span_script.specs.Setups.{Setup, event_site, span_site}

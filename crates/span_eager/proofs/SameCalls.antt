@@ -1,6 +1,6 @@
 -- What a request changes where spans start at their making is what it changes where they don't, with other ids.
 use Rattle.std.proofs.Common.{◌≡◌, ℕ, zero, suc, ◌≤◌, ◌==◌, ◌&&◌, List, [], ◌∷◌, length, map, fold, min, max, Bool, true, false, Option, Some, None, Ok, Err, IfSome, refl, sym, ap, subst, subst₂, ◌∙◌, arith, if◌then◌else◌, is_some, option_map, slice_get, option_and_then, not}
-use Rattle.span_eager.proofs.Common.{AllByRecursion, length-map, slice_get-map, Context, SpanContext, is_valid, ids_of, Op, LayerSettings, GREATEST, deed, SpanData, Recording, source_of, with_start, with_starts, data_at, waiting_context, own_or, current_of, Reply, Refusal, Request, Setup, span_site, event_site, Here, here_at, Resolved, refuse_if, ◌>>=◌, need, op_on, ops_on, ops_effect, effect_of_call, is_bad_moment, effect_of, scope_at, disabled_effect, parent_at, last_attached, context_around, lane_in, span_effect, new_effect, clone_effect, drop_effect, is_borrowed, current_scope, scope_or_current, exchange_effect, Scope, SpanOp, MadeSpan, EntryOf, Attached, HookNew, Tables, slot_at, own_span, site_of, scope_of, made_of, begun_by, quiet_effect, lazy_setup, IsSettled, is_far, gives_far, ids_by, context_by, reply_by}
+use Rattle.span_eager.proofs.Common.{AllByRecursion, length-map, slice_get-map, Context, SpanContext, is_valid, ids_of, Op, LayerSettings, GREATEST, deed, SpanData, Recording, source_of, with_start, with_starts, data_at, start_context, own_context_or, current_of, Reply, Refusal, Request, Setup, span_site, event_site, Here, here_at, Resolved, refuse_if, ◌>>=◌, need, op_on, ops_on, ops_effect, effect_of_call, is_bad_moment, effect_of, scope_at, disabled_effect, parent_at, last_attached, context_around, lane_in, span_effect, new_effect, clone_effect, drop_effect, is_borrowed, current_scope, scope_or_current, exchange_effect, Scope, SpanOp, MadeSpan, EntryOf, Attached, HookNew, Tables, slot_at, own_span, site_of, scope_of, made_of, begun_by, quiet_effect, lazy_setup, IsSettled, is_far, gives_far, ids_by, context_by, reply_by}
 use Rattle.std.specs.Option.{option_to_list}
 use Rattle.env_directives.specs.orders.Choice.{admits}
 use Rattle.otel_base.specs.declared.value.KeyValue.{KeyValue}
@@ -113,7 +113,7 @@ module _ (f : Ids) (setup : Setup) (eager : setup.layer.eager ≡ true) (t : Tab
 
   -- ---- contexts
 
-  own_by : (s : ℕ) (e l : Option SpanData) (d c : Context) → SameAt f.new s at e l → ((m : SpanData) → l ≡ Some m → (ids : SpanContext) × (m.own ≡ Some ids)) → d ≡ context_by f.new c → own_or d e ≡ context_by f.new (own_or c l)
+  own_by : (s : ℕ) (e l : Option SpanData) (d c : Context) → SameAt f.new s at e l → ((m : SpanData) → l ≡ Some m → (ids : SpanContext) × (m.own ≡ Some ids)) → d ≡ context_by f.new c → own_context_or d e ≡ context_by f.new (own_context_or c l)
   own_by s None None d c alike started same = same
   own_by s None (Some m) d c alike started same = absurd alike
   own_by s (Some e) None d c alike started same = absurd alike
@@ -126,12 +126,12 @@ module _ (f : Ids) (setup : Setup) (eager : setup.layer.eager ≡ true) (t : Tab
       own_is ids is = subst (λ (o : Option SpanContext). IfSome o (λ ids. ids_by f.new ids ≡ early_ids f.new s m.parent)) is alike.own_is
 
   context_alike : (pending : List ℕ) (s : ℕ) (d c : Context) → SameRecording f setup.layer (length t.spans) at pending r (with_start s at t.recording) → d ≡ context_by f.new c
-      → own_or d (data_at s (with_start s at r).spans) ≡ context_by f.new (own_or c (data_at s (with_start s at t.recording).spans))
+      → own_context_or d (data_at s (with_start s at r).spans) ≡ context_by f.new (own_context_or c (data_at s (with_start s at t.recording).spans))
   context_alike pending s d c same others =
       let now = with_start s at t.recording in
-      ap (λ (x : Recording). own_or d (data_at s x.spans)) (early_stays f setup.layer (length t.spans) at at s pending r now same)
+      ap (λ (x : Recording). own_context_or d (data_at s x.spans)) (early_stays f setup.layer (length t.spans) at at s pending r now same)
       ∙ own_by s (data_at s r.spans) (data_at s now.spans) d c (same_at f.new at r.spans now.spans s same.spans)
-      (λ m found. has_started f setup.layer s at t.recording m (waiting_context (data_at s t.recording.spans)) refl found) others
+      (λ m found. has_started f setup.layer s at t.recording m (start_context (data_at s t.recording.spans)) refl found) others
 
   -- ---- handles
 
@@ -283,7 +283,7 @@ module _ (f : Ids) (setup : Setup) (eager : setup.layer.eager ≡ true) (t : Tab
     record { at_is = refl; begins = refl; made = tt; starts_none = (refl, tt) },
   )
     where
-      waits_not : is_some (waiting_context (data_at s r.spans)) ≡ is_some (waiting_context (data_at s t.recording.spans))
+      waits_not : is_some (start_context (data_at s r.spans)) ≡ is_some (start_context (data_at s t.recording.spans))
       waits_not =
           ap (λ (o : Option Context). is_some o) (none_waits f setup.layer s at (data_at s r.spans) (data_at s t.recording.spans) (same_at f.new at r.spans t.recording.spans s (ready refl).0.1.spans))
           ∙ sym (ready refl).1.0
@@ -312,7 +312,7 @@ module _ (f : Ids) (setup : Setup) (eager : setup.layer.eager ≡ true) (t : Tab
   made_agrees c l values d x (Some s) pending same ready =
       let now = with_start s at t.recording in
       let still = early_stays f setup.layer (length t.spans) at at s pending r now ready in
-      told_alike c l values (own_or d (data_at s (with_start s at r).spans)) (own_or x (data_at s now.spans)) (with_start s at r).settings now.settings (with_start s at r).counting now.counting
+      told_alike c l values (own_context_or d (data_at s (with_start s at r).spans)) (own_context_or x (data_at s now.spans)) (with_start s at r).settings now.settings (with_start s at r).counting now.counting
       (context_alike pending s d x ready same)
       (ap (λ (y : Recording). y.settings) still ∙ ready.e_settings) ready.l_settings
       (ap (λ (y : Recording). y.counting) still ∙ ready.counting)

@@ -1,6 +1,6 @@
 -- The same of all that is recorded: what a start, a making, an op and a close make of it.
 use Rattle.std.proofs.Common.{◌≡◌, ℕ, suc, ◌+◌, ◌≤◌, ◌==◌, ◌&&◌, ◌||◌, List, [], ◌∷◌, ◌++◌, length, map, fold, Bool, true, false, Option, Some, None, refl, sym, ap, ap₂, subst, ◌∙◌, arith, inl, inr, append_assoc, is_some, option_map}
-use Rattle.span_eager.proofs.Common.{AllByRecursion, cases_Bool, map-append, Context, SpanContext, Record, ids_of, recorder_ids, is_in, Op, LayerSettings, GREATEST, Deed, deed, SpanData, first_start, after_op, record_of, Recording, with_applied, started_under, with_start, without_closed, closed_started, with_close, data_at, update, with_op, waiting_context, context_unless_started, SpanOp, if_waiting, starting, starts_from, closes_from, settles, IsSettled, record_by}
+use Rattle.span_eager.proofs.Common.{AllByRecursion, cases_Bool, map-append, Context, SpanContext, Record, ids_of, recorder_ids, is_in, Op, LayerSettings, GREATEST, Deed, deed, SpanData, first_start, after_op, record_of, Recording, with_applied, with_start_under, with_start, without_closed, closed_started, with_close, data_at, update, with_op, start_context, context_unless_started, SpanOp, if_waiting, starting, starts_from, closes_from, settles, IsSettled, record_by}
 use Rattle.std.proofs.lemmas.Bool.{eq-eqb, eqb-true, true≢false}
 use Rattle.std.proofs.lemmas.List.{length-append}
 use Rattle.otel_base.specs.declared.record.SpanKind.{SpanKind}
@@ -70,7 +70,7 @@ module _ (f : Ids) (layer : LayerSettings) where
 
   -- ---- a start
 
-  pub none_waits : (s at : ℕ) (e l : Option SpanData) → SameAt f.new s at e l → waiting_context e ≡ None
+  pub none_waits : (s at : ℕ) (e l : Option SpanData) → SameAt f.new s at e l → start_context e ≡ None
   none_waits s at None None same = refl
   none_waits s at None (Some l) same = refl
   none_waits s at (Some e) None same = absurd same
@@ -79,21 +79,21 @@ module _ (f : Ids) (layer : LayerSettings) where
   -- where spans start early a later start does nothing
   pub early_stays : (n at later s : ℕ) (pending : List ℕ) (e l : Recording) → Same n at pending e l → with_start s later e ≡ e
   early_stays n at later s pending e l same =
-      ap (λ (under : Option Context). started_under under s later e) (none_waits s at (data_at s e.spans) (data_at s l.spans) (same_at f.new at e.spans l.spans s same.spans))
+      ap (λ (under : Option Context). with_start_under under s later e) (none_waits s at (data_at s e.spans) (data_at s l.spans) (same_at f.new at e.spans l.spans s same.spans))
 
   waiting : (own : Option SpanContext) (parent under : Context) → context_unless_started own parent ≡ Some under → (own ≡ None) × (parent ≡ under)
   waiting None parent under is = (refl, cc is)
   waiting (Some ids) parent under is = absurd (cc is)
 
-  by_waits : (n at s : ℕ) (pending : List ℕ) (e l : Recording) (w : Option Context) → waiting_context (data_at s l.spans) ≡ w → at ≤ GREATEST
-      → Same n at (if_waiting w s ++ pending) e l → Same n at pending e (started_under w s at l)
+  by_waits : (n at s : ℕ) (pending : List ℕ) (e l : Recording) (w : Option Context) → start_context (data_at s l.spans) ≡ w → at ≤ GREATEST
+      → Same n at (if_waiting w s ++ pending) e l → Same n at pending e (with_start_under w s at l)
   by_waits n at s pending e l None is within same = same
   by_waits n at s pending e l (Some under) is within same =
       let named : f.new (l.started + 1) ≡ suc s = ap (λ (c : ℕ). f.new (c + 1)) same.count ∙ f.placed same.front pending s same.order_is in
       let op = ops.Start (recorder_ids (l.started + 1) (ids_of under)) in record {
         spans = subst (λ (es : List (ℕ × SpanData)). SameSpans f.new at es (with_op s at op l.spans)) (update_same s e.spans)
             (same_update f.new at e.spans l.spans s (λ (t : SpanData). t) (λ (t : SpanData). after_op t at op) same.spans (λ d m found alike. (
-            let w = waiting m.own m.parent under (sym (ap waiting_context found) ∙ is) in
+            let w = waiting m.own m.parent under (sym (ap start_context found) ∙ is) in
             subst (λ (p : Context). SameTold f.new s at d (after_op m at (ops.Start (recorder_ids (l.started + 1) (ids_of p))))) w.1
             (start_alike f s at l.started d m w.0 named within alike))));
         below = below_update n s (λ (t : SpanData). after_op t at op) l.spans same.below;
@@ -108,7 +108,7 @@ module _ (f : Ids) (layer : LayerSettings) where
       }
 
   pub start_same : (n at s : ℕ) (pending : List ℕ) (e l : Recording) → at ≤ GREATEST → Same n at (starting s l ++ pending) e l → Same n at pending e (with_start s at l)
-  start_same n at s pending e l within same = by_waits n at s pending e l (waiting_context (data_at s l.spans)) refl within same
+  start_same n at s pending e l within same = by_waits n at s pending e l (start_context (data_at s l.spans)) refl within same
 
   pub starts_same : (n at : ℕ) (ss pending : List ℕ) (e l : Recording) → at ≤ GREATEST → Same n at (starts_from at l ss ++ pending) e l
       → Same n at pending (fold (λ r s. with_start s at r) e ss) (fold (λ r s. with_start s at r) l ss)
@@ -128,11 +128,11 @@ module _ (f : Ids) (layer : LayerSettings) where
       let told_e = told_by f.new told in
       let ids = early_ids f.new n told.parent in
       let unknown : data_at n e.spans ≡ None = unknown_by f.new n at (data_at n e.spans) (data_at n l.spans) (same_at f.new at e.spans l.spans n same.spans) (next_unknown n l.spans same.below) in
-      let under : waiting_context (data_at n (e.spans ++ (n, told_e) ∷ [])) ≡ Some told_e.parent = ap waiting_context (pushed_told n told_e e.spans unknown) ∙ ap (λ (o : Option SpanContext). context_unless_started o told_e.parent) waits_now in
+      let under : start_context (data_at n (e.spans ++ (n, told_e) ∷ [])) ≡ Some told_e.parent = ap start_context (pushed_told n told_e e.spans unknown) ∙ ap (λ (o : Option SpanContext). context_unless_started o told_e.parent) waits_now in
       let more = record e { spans = e.spans ++ (n, told_e) ∷ [] } in
       let next : e.started + 1 ≡ suc n = (let made = same.made in omega (arith, made)) in
       let after : with_start n at more ≡ record e { started = suc n; spans = e.spans ++ (n, after_op told_e at (ops.Start ids)) ∷ [] } =
-      ap (λ (u : Option Context). started_under u n at more) under
+      ap (λ (u : Option Context). with_start_under u n at more) under
       ∙ (λ i. record e { started = next i; spans = with_op n at (ops.Start (recorder_ids (next i) (ids_of told_e.parent))) (e.spans ++ (n, told_e) ∷ []) })
       ∙ ap (λ (xs : List (ℕ × SpanData)). record e { started = suc n; spans = xs }) (pushed_update n (λ (t : SpanData). after_op t at (ops.Start ids)) told_e e.spans unknown) in
       subst (λ (r : Recording). Same (suc n) at pending r (record l { spans = l.spans ++ (n, told) ∷ [] })) (sym after) (record {
@@ -165,8 +165,8 @@ module _ (f : Ids) (layer : LayerSettings) where
 
   quiet_by : (r : Recording) (d : SpanOp) (m : SpanData) → data_at d.span r.spans ≡ Some m → IsSettled r d → Quiet m.own (deed d.op)
   quiet_by r d m found settled waits_now =
-      none_settled (deed d.op) (and_true (settles (deed d.op)) (is_some (waiting_context (data_at d.span r.spans)))
-      (ap (λ (o : Option SpanData). is_some (waiting_context o)) found ∙ ap (λ (o : Option SpanContext). is_some (context_unless_started o m.parent)) waits_now) settled)
+      none_settled (deed d.op) (and_true (settles (deed d.op)) (is_some (start_context (data_at d.span r.spans)))
+      (ap (λ (o : Option SpanData). is_some (start_context o)) found ∙ ap (λ (o : Option SpanContext). is_some (context_unless_started o m.parent)) waits_now) settled)
 
   pub op_same : (n at : ℕ) (pending : List ℕ) (e l : Recording) (d : SpanOp) → at ≤ GREATEST → (deed d.op).own ≡ None → IsSettled l d → Same n at pending e l
       → Same n at pending (with_applied d.span at (op_by f.new d.op) e) (with_applied d.span at d.op l)
@@ -185,13 +185,13 @@ module _ (f : Ids) (layer : LayerSettings) where
   }
 
   -- an op that is no start leaves who waits
-  stays_waiting : (q s at : ℕ) (op : Op) (xs : List (ℕ × SpanData)) → (deed op).own ≡ None → is_some (waiting_context (data_at q (with_op s at op xs))) ≡ is_some (waiting_context (data_at q xs))
+  stays_waiting : (q s at : ℕ) (op : Op) (xs : List (ℕ × SpanData)) → (deed op).own ≡ None → is_some (start_context (data_at q (with_op s at op xs))) ≡ is_some (start_context (data_at q xs))
   stays_waiting q s at op xs isnt = elim (cases_Bool (q == s)) [
     | inl same ↦ (
         let is = eqb_is q s same in
-        subst (λ (p : ℕ). is_some (waiting_context (data_at p (with_op s at op xs))) ≡ is_some (waiting_context (data_at p xs))) (sym is)
-        (ap (λ (o : Option SpanData). is_some (waiting_context o)) (updated_told s (λ (t : SpanData). after_op t at op) xs) ∙ by_told (data_at s xs)))
-    | inr other ↦ ap (λ (o : Option SpanData). is_some (waiting_context o)) (others_told q s (λ (t : SpanData). after_op t at op) xs other)
+        subst (λ (p : ℕ). is_some (start_context (data_at p (with_op s at op xs))) ≡ is_some (start_context (data_at p xs))) (sym is)
+        (ap (λ (o : Option SpanData). is_some (start_context o)) (updated_told s (λ (t : SpanData). after_op t at op) xs) ∙ by_told (data_at s xs)))
+    | inr other ↦ ap (λ (o : Option SpanData). is_some (start_context o)) (others_told q s (λ (t : SpanData). after_op t at op) xs other)
   ]
     where
       eqb_is : (a b : ℕ) → (a == b) ≡ true → a ≡ b
@@ -201,7 +201,7 @@ module _ (f : Ids) (layer : LayerSettings) where
       some_by None p r = refl
       some_by (Some o) p r = refl
 
-      by_told : (o : Option SpanData) → is_some (waiting_context (option_map (λ (t : SpanData). after_op t at op) o)) ≡ is_some (waiting_context o)
+      by_told : (o : Option SpanData) → is_some (start_context (option_map (λ (t : SpanData). after_op t at op) o)) ≡ is_some (start_context o)
       by_told None = refl
       by_told (Some t) = ap (λ (o : Option SpanContext). is_some (context_unless_started o (after_op t at op).parent)) (ap (first_start t.own) isnt) ∙ some_by t.own (after_op t at op).parent t.parent
 
@@ -220,7 +220,7 @@ module _ (f : Ids) (layer : LayerSettings) where
 
   -- ---- closes
 
-  shut_started : (ss : List ℕ) (w : Option Context) (s at : ℕ) (l : Recording) → Shut ss l.spans → Shut ss (started_under w s at l).spans
+  shut_started : (ss : List ℕ) (w : Option Context) (s at : ℕ) (l : Recording) → Shut ss l.spans → Shut ss (with_start_under w s at l).spans
   shut_started ss None s at l shut q there = shut q there
   shut_started ss (Some under) s at l shut q there = elim (cases_Bool (q == s)) [
     | inl same ↦ (
@@ -235,8 +235,8 @@ module _ (f : Ids) (layer : LayerSettings) where
       same_entries (Some t) = refl
 
   -- what a start leaves has started
-  pub has_started : (s at : ℕ) (l : Recording) (m : SpanData) (w : Option Context) → waiting_context (data_at s l.spans) ≡ w → data_at s (started_under w s at l).spans ≡ Some m → (ids : SpanContext) × (m.own ≡ Some ids)
-  has_started s at l m None is found = by_own m.own (sym (ap waiting_context found) ∙ is)
+  pub has_started : (s at : ℕ) (l : Recording) (m : SpanData) (w : Option Context) → start_context (data_at s l.spans) ≡ w → data_at s (with_start_under w s at l).spans ≡ Some m → (ids : SpanContext) × (m.own ≡ Some ids)
+  has_started s at l m None is found = by_own m.own (sym (ap start_context found) ∙ is)
     where
       by_own : (own : Option SpanContext) → context_unless_started own m.parent ≡ None → (ids : SpanContext) × (own ≡ Some ids)
       by_own None isnt = absurd (cc isnt)
@@ -248,7 +248,7 @@ module _ (f : Ids) (layer : LayerSettings) where
       own_is : (given : SpanContext) (t : SpanData) → option_map (λ (t : SpanData). after_op t at (ops.Start given)) (Some t) ≡ Some m → first_start t.own (Some given) ≡ m.own
       own_is given t found = ap own_in found
 
-      by_told : (given : SpanContext) (o : Option SpanData) → waiting_context o ≡ Some under → option_map (λ (t : SpanData). after_op t at (ops.Start given)) o ≡ Some m → (ids : SpanContext) × (m.own ≡ Some ids)
+      by_told : (given : SpanContext) (o : Option SpanData) → start_context o ≡ Some under → option_map (λ (t : SpanData). after_op t at (ops.Start given)) o ≡ Some m → (ids : SpanContext) × (m.own ≡ Some ids)
       by_told given None is found = absurd (cc is)
       by_told given (Some t) is found = (given, sym (own_is given t found) ∙ ap (λ (o : Option SpanContext). first_start o (Some given)) (waiting t.own t.parent under is).0)
 
@@ -276,13 +276,13 @@ module _ (f : Ids) (layer : LayerSettings) where
   close_same n at s ss pending e l within there shut same =
       let now = with_start s at l in
       let started = start_same n at s pending e l within same in
-      let shut_now = shut_started ss (waiting_context (data_at s l.spans)) s at l shut s there in
+      let shut_now = shut_started ss (start_context (data_at s l.spans)) s at l shut s there in
       subst (λ (r : Recording). Same n at pending (closed_started s at r) (closed_started s at now)) (sym (early_stays n at at s (starting s l ++ pending) e l same))
       (closed_same n at s pending e now (data_at s e.spans) (data_at s now.spans) (same_at f.new at e.spans now.spans s started.spans)
-      (λ t found. (has_started s at l t (waiting_context (data_at s l.spans)) refl found, sym (ap entries_in found) ∙ shut_now)) started)
+      (λ t found. (has_started s at l t (start_context (data_at s l.spans)) refl found, sym (ap entries_in found) ∙ shut_now)) started)
 
   shut_closed : (ss : List ℕ) (s at : ℕ) (l : Recording) → is_in s ss ≡ false → Shut ss l.spans → Shut ss (with_close s at l).spans
-  shut_closed ss s at l out shut = let now = with_start s at l in by_told (data_at s now.spans) (shut_started ss (waiting_context (data_at s l.spans)) s at l shut)
+  shut_closed ss s at l out shut = let now = with_start s at l in by_told (data_at s now.spans) (shut_started ss (start_context (data_at s l.spans)) s at l shut)
     where
       by_told : (o : Option SpanData) → Shut ss (with_start s at l).spans → Shut ss (without_closed o s at (with_start s at l)).spans
       by_told None now = now

@@ -4,7 +4,7 @@ use Rattle.std.specs.List.{AllByRecursion}
 use Rattle.otel_base.specs.declared.record.Record.{Record}
 use Rattle.otel_state.specs.Deeds.{Deed, deed}
 use Rattle.otel_layer.specs.Recording.{Recording}
-use Rattle.otel_layer.specs.Table.{data_at, waiting_context}
+use Rattle.otel_layer.specs.Table.{data_at, start_context}
 use Rattle.span_script.specs.declared.reply.Reply.{Reply}
 use Rattle.span_script.specs.declared.request.Call.{Call}
 use Rattle.span_script.specs.declared.request.Call.TheVariants as call
@@ -39,7 +39,7 @@ settles d = is_some d.name || is_some d.kind || is_some d.parent
 
 -- an op that does isn't done to a span that hasn't started
 abbrev pub IsSettled : Recording → SpanOp → Type 0
-IsSettled r d = (settles (deed d.op) && is_some (waiting_context (data_at d.span r.spans))) ≡ false
+IsSettled r d = (settles (deed d.op) && is_some (start_context (data_at d.span r.spans))) ≡ false
 
 -- no op of an effect is, the making's own left aside
 abbrev pub AreSettled : Tables → History → Type 0

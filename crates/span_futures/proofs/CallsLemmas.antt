@@ -1,6 +1,6 @@
 -- What calls of moments up to one came to, put together.
 use Rattle.std.proofs.Common.{◌≡◌, ℕ, List, [], ◌∷◌, ◌++◌, Option, Some, None, sym, subst, ◌∙◌, arith, inl, inr, slice_get}
-use Rattle.span_futures.proofs.Common.{cases_eq, Lane, Worlds, SubscriberCall, Enter, Exit, Replaced, Held, ReplacedOn, now_there}
+use Rattle.span_futures.proofs.Common.{cases_eq, Lane, WorldValue, SubscriberCall, Enter, Exit, Replaced, HeldSpan, ReplacedOn, now_there}
 use Rattle.std.proofs.lemmas.List.Elements.{All-nil, All-cons, All-append}
 use Rattle.span_futures.specs.Calling.{WorldChange, Calls, IsCallBy, IsBy, DoesChange, DoesAll, IsCalledBy, CallsBy}
 use Rattle.span_futures.proofs.KeptLemmas.{others_same}
@@ -38,18 +38,18 @@ module _ {S : Type 0} (does : S → SubscriberCall → S → Type 0) (besides : 
   }
 
   -- nothing happened
-  pub calls_none : (world : Worlds S) → CallsBy does besides same last world world
+  pub calls_none : (world : WorldValue S) → CallsBy does besides same last world world
   calls_none world d s there = (s, there, called_same s s (same_refl s))
 
   -- one thing after another
-  pub calls_then : (old world new : Worlds S) → CallsBy does besides same last old world → CallsBy does besides same last world new → CallsBy does besides same last old new
+  pub calls_then : (old world new : WorldValue S) → CallsBy does besides same last old world → CallsBy does besides same last world new → CallsBy does besides same last old new
   calls_then old world new first second d s there =
       let one = first d s there in
       let two = second d one.0 one.1 in
       (two.0, two.1, called_then s one.0 two.0 one.2 two.2)
 
   -- one subscriber was called
-  pub calls_one : (R : S → S → Type 0) (old new : Worlds S) (dispatch : ℕ) → ((s t : S) → R s t → IsCalledBy does besides same last s t) → Replaced R old new dispatch → CallsBy does besides same last old new
+  pub calls_one : (R : S → S → Type 0) (old new : WorldValue S) (dispatch : ℕ) → ((s t : S) → R s t → IsCalledBy does besides same last s t) → Replaced R old new dispatch → CallsBy does besides same last old new
   calls_one R old new dispatch step r d s there = elim (cases_eq d dispatch) [
     | inl here ↦ (
         let at_old : slice_get old.subscribers dispatch ≡ Some s = subst (λ (k : ℕ). slice_get old.subscribers k ≡ Some s) here there in (
@@ -63,24 +63,24 @@ module _ {S : Type 0} (does : S → SubscriberCall → S → Type 0) (besides : 
     the_same x y e = cc e
 
   -- a call was made on a handle
-  pub calls_on : (R : ℕ → S → S → Type 0) (old new : Worlds S) (held : Held) → ((id : ℕ) (s t : S) → R id s t → IsCalledBy does besides same last s t) → ReplacedOn R old new held → CallsBy does besides same last old new
-  calls_on R old new None step r = subst (λ (w : Worlds S). CallsBy does besides same last old w) (sym r) (calls_none old)
+  pub calls_on : (R : ℕ → S → S → Type 0) (old new : WorldValue S) (held : HeldSpan) → ((id : ℕ) (s t : S) → R id s t → IsCalledBy does besides same last s t) → ReplacedOn R old new held → CallsBy does besides same last old new
+  calls_on R old new None step r = subst (λ (w : WorldValue S). CallsBy does besides same last old w) (sym r) (calls_none old)
   calls_on R old new (Some h) step r = calls_one (R h.1) old new h.0 (step h.1) r
 
   -- a handle's span was entered, or that was refused
-  pub calls_enter : (old new : Worlds S) (before later : Lane) (held : Held) → ReplacedOn (λ id s t. does s (Enter id last before later) t) old new held → CallsBy does besides same last old new
+  pub calls_enter : (old new : WorldValue S) (before later : Lane) (held : HeldSpan) → ReplacedOn (λ id s t. does s (Enter id last before later) t) old new held → CallsBy does besides same last old new
   calls_enter old new before later held r =
       calls_on (λ id s t. does s (Enter id last before later) t) old new held (λ id s t did. called_once s (Enter id last before later) t (omega arith) did) r
 
-  pub calls_refused : (old new : Worlds S) (held : Held) → ReplacedOn (λ id s t. same s t) old new held → CallsBy does besides same last old new
+  pub calls_refused : (old new : WorldValue S) (held : HeldSpan) → ReplacedOn (λ id s t. same s t) old new held → CallsBy does besides same last old new
   calls_refused old new held r = calls_on (λ id s t. same s t) old new held (λ id s t room. called_same s t room) r
 
-  calls_exit : (old new : Worlds S) (before later : Lane) (held : Held) → ReplacedOn (λ id s t. does s (Exit id last before later) t) old new held → CallsBy does besides same last old new
+  calls_exit : (old new : WorldValue S) (before later : Lane) (held : HeldSpan) → ReplacedOn (λ id s t. does s (Exit id last before later) t) old new held → CallsBy does besides same last old new
   calls_exit old new before later held r =
       calls_on (λ id s t. does s (Exit id last before later) t) old new held (λ id s t did. called_once s (Exit id last before later) t (omega arith) did) r
 
   -- a poll between an entry and its exit
-  pub calls_inside : (held : Held) (old world left new : Worlds S) (before lane left_lane later : Lane) → ReplacedOn (λ id s t. does s (Enter id last before lane) t) old world held
+  pub calls_inside : (held : HeldSpan) (old world left new : WorldValue S) (before lane left_lane later : Lane) → ReplacedOn (λ id s t. does s (Enter id last before lane) t) old world held
       → CallsBy does besides same last world left → ReplacedOn (λ id s t. does s (Exit id last left_lane later) t) left new held → CallsBy does besides same last old new
   calls_inside held old world left new before lane left_lane later entered polled exited =
       calls_then old left new (calls_then old world left (calls_enter old world before lane held entered) polled) (calls_exit left new left_lane later held exited)

@@ -1,7 +1,7 @@
 -- What is done to subscribers while something is polled, and the moments of that.
 use Rattle.std.specs.Prelude.{◌≡◌, ◌≤◌, ℕ, List, [], ◌∷◌, Some, slice_get}
 use Rattle.std.specs.List.{All}
-use Rattle.trace_base.specs.Gate.{Worlds}
+use Rattle.trace_base.specs.Gate.{WorldValue}
 use Rattle.trace_base.specs.Calls.{SubscriberCall, NewSpan, Records, Follows, Event, Enter, Exit, CloneSpan, TryClose}
 
 -- a call of a subscriber, or something that is done to it beside its calls, at a moment
@@ -41,6 +41,6 @@ pub record IsCalledBy {S : Type 0} (does : S → SubscriberCall → S → Type 0
   pub runs : DoesAll does besides same s changes t
 
 -- Each subscriber of a world is there later on, as such changes made it. Of subscribers that came nothing is said.
-abbrev pub CallsBy : {S : Type 0} → (S → SubscriberCall → S → Type 0) → (ℕ → S → S → Type 0) → (S → S → Type 0) → ℕ → Worlds S → Worlds S → Type 0
+abbrev pub CallsBy : {S : Type 0} → (S → SubscriberCall → S → Type 0) → (ℕ → S → S → Type 0) → (S → S → Type 0) → ℕ → WorldValue S → WorldValue S → Type 0
 CallsBy {S} does besides same last old new = (dispatch : ℕ) (s : S) → slice_get old.subscribers dispatch ≡ Some s
     → (t : S) × (slice_get new.subscribers dispatch ≡ Some t) × IsCalledBy does besides same last s t

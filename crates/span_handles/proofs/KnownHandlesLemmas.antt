@@ -1,6 +1,6 @@
 -- Which handles a world goes on to know.
 use Rattle.std.proofs.Common.{◌≡◌, ℕ, zero, suc, ◌+◌, ◌<◌, List, [], ◌∷◌, length, Option, Some, None, Result, Ok, Err, refl, sym, ap, subst, ◌∙◌, arith, inl, inr, slice_get, slice_set, OnOk, OnErr}
-use Rattle.span_handles.proofs.Common.{cases_eq, ValueSet, Lane, Parent, Worlds, Spans, entries_on, parent_on, SubscriberCall, NewSpan, CloneSpan, spans_after_call, with_new_span, Allowed, HasOwnHold, IsSound, parent_live, new_own, clone_own, Has, Replaced, Chain, Held, IsKnown, IsKnownBeside, KeepsKnown, KeepsHandles, KeepsOthers, GainsOne, LosesOne, IsNoClose}
+use Rattle.span_handles.proofs.Common.{cases_eq, ValueSet, Lane, Parent, WorldValue, Spans, entries_on, parent_on, SubscriberCall, NewSpan, CloneSpan, spans_after_call, with_new_span, Allowed, HasOwnHold, IsSound, parent_live, new_own, clone_own, Has, Replaced, Chain, HeldSpan, IsKnown, IsKnownBeside, KeepsKnown, KeepsHandles, KeepsOthers, GainsOne, LosesOne, IsNoClose}
 use Rattle.trace_base.specs.declared.callsite.Callsite.{Callsite}
 use Rattle.span_handles.proofs.OwnHoldsLemmas.{OwnBeside, held_more, call_own, chain_own}
 use Rattle.span_handles.proofs.ChangedSubscriberLemmas.{as_many, now_there}
@@ -13,7 +13,7 @@ get_other (x ∷ xs) zero (suc k) y apart = refl
 get_other (x ∷ xs) (suc n) zero y apart = refl
 get_other (x ∷ xs) (suc n) (suc k) y apart = get_other xs n k y (λ e. apart (ap (λ (i : ℕ). suc i) e))
 
-module _ {S : Type 0} (spans : S → Spans) (R : S → S → Type 0) (old new : Worlds S) (dispatch : ℕ) (r : Replaced R old new dispatch) where
+module _ {S : Type 0} (spans : S → Spans) (R : S → S → Type 0) (old new : WorldValue S) (dispatch : ℕ) (r : Replaced R old new dispatch) where
   the_later : (s : S) → slice_get new.subscribers dispatch ≡ Some s → r.later ≡ s
   the_later s there = (let e : ◌≡◌ {A = Option S} (Some r.later) (Some s) = sym (now_there R old new dispatch r) ∙ there in cc e)
 
@@ -25,7 +25,7 @@ module _ {S : Type 0} (spans : S → Spans) (R : S → S → Type 0) (old new : 
     elim (cases_eq d dispatch) [
       | inl here ↦ subst (λ (k : ℕ). Has (λ s. Q s q) new k) (sym here)
           (λ s there. subst (λ (t : S). Q t q) (the_later s there) (step here (known.1 r.before (ap (slice_get old.subscribers) here ∙ r.there))))
-      | inr other ↦ λ s there. rest other s (known.1 s (sym (ap (λ (w : Worlds S). slice_get w.subscribers d) r.others ∙ get_other old.subscribers dispatch d r.later other) ∙ there))
+      | inr other ↦ λ s there. rest other s (known.1 s (sym (ap (λ (w : WorldValue S). slice_get w.subscribers d) r.others ∙ get_other old.subscribers dispatch d r.later other) ∙ there))
     ],
   )
 
@@ -35,34 +35,34 @@ module _ {S : Type 0} (spans : S → Spans) (R : S → S → Type 0) (old new : 
   beside_by n m d q step same = known_by (λ s k. OwnBeside n (spans s) k) (λ s k. OwnBeside m (spans s) k) d q step (λ other s own. subst (λ (k : ℕ). OwnBeside k (spans s) q) (sym (same other)) own)
 
 -- a handle is known beside none, and beside some it is known
-pub beside_none : {S : Type 0} (spans : S → Spans) (world : Worlds S) (held : Held) → IsKnown spans world held → IsKnownBeside spans 0 world held
+pub beside_none : {S : Type 0} (spans : S → Spans) (world : WorldValue S) (held : HeldSpan) → IsKnown spans world held → IsKnownBeside spans 0 world held
 beside_none spans world None known = tt
 beside_none spans world (Some h) known = (known.0, λ s there. (let own = known.1 s there in omega (arith, own)))
 
-pub known_beside : {S : Type 0} (spans : S → Spans) (others : ℕ) (world : Worlds S) (held : Held) → IsKnownBeside spans others world held → IsKnown spans world held
+pub known_beside : {S : Type 0} (spans : S → Spans) (others : ℕ) (world : WorldValue S) (held : HeldSpan) → IsKnownBeside spans others world held → IsKnown spans world held
 known_beside spans others world None known = tt
 known_beside spans others world (Some h) known = (known.0, λ s there. (let own = known.1 s there in omega (arith, own)))
 
 -- so what holds beside any number of others holds of known handles
-module _ {S : Type 0} (spans : S → Spans) (old new : Worlds S) where
-  all_kept : ((others : ℕ) (held : Held) → IsKnownBeside spans others old held → IsKnownBeside spans others new held) → KeepsHandles spans old new
+module _ {S : Type 0} (spans : S → Spans) (old new : WorldValue S) where
+  all_kept : ((others : ℕ) (held : HeldSpan) → IsKnownBeside spans others old held → IsKnownBeside spans others new held) → KeepsHandles spans old new
   all_kept beside = record { known = λ held known. known_beside spans 0 new held (beside 0 held (beside_none spans old held known)); beside = beside }
 
-  others_kept : (closed : Held) → ((others : ℕ) (held : Held) → (held ≡ closed → ⊥) → IsKnownBeside spans others old held → IsKnownBeside spans others new held) → KeepsOthers spans old new closed
+  others_kept : (closed : HeldSpan) → ((others : ℕ) (held : HeldSpan) → (held ≡ closed → ⊥) → IsKnownBeside spans others old held → IsKnownBeside spans others new held) → KeepsOthers spans old new closed
   others_kept closed beside = record { known = λ held apart known. known_beside spans 0 new held (beside 0 held apart (beside_none spans old held known)); beside = beside }
 
-  one_gained : (held : Held) → ((others : ℕ) → IsKnownBeside spans others old held → IsKnownBeside spans (others + 1) new held) → GainsOne spans old new held
+  one_gained : (held : HeldSpan) → ((others : ℕ) → IsKnownBeside spans others old held → IsKnownBeside spans (others + 1) new held) → GainsOne spans old new held
   one_gained held more = record { first = λ known. more 0 (beside_none spans old held known); more = more }
 
-  one_lost : (held : Held) → ((others : ℕ) → IsKnownBeside spans (others + 1) old held → IsKnownBeside spans others new held) → LosesOne spans old new held
+  one_lost : (held : HeldSpan) → ((others : ℕ) → IsKnownBeside spans (others + 1) old held → IsKnownBeside spans others new held) → LosesOne spans old new held
   one_lost held fewer = record { last = λ known. known_beside spans 0 new held (fewer 0 known); fewer = fewer }
 
 -- one after the other
-pub handles_trans : {S : Type 0} (spans : S → Spans) (old now new : Worlds S) → KeepsHandles spans old now → KeepsHandles spans now new → KeepsHandles spans old new
+pub handles_trans : {S : Type 0} (spans : S → Spans) (old now new : WorldValue S) → KeepsHandles spans old now → KeepsHandles spans now new → KeepsHandles spans old new
 handles_trans spans old now new first second = record { known = λ held known. second.known held (first.known held known); beside = λ others held known. second.beside others held (first.beside others held known) }
 
-module _ {S : Type 0} (spans : S → Spans) (same : S → S → Type 0) (same_spans : (s t : S) → same s t → spans t ≡ spans s) (old new : Worlds S) (dispatch : ℕ) (r : Replaced same old new dispatch) where
-  same_beside : (n : ℕ) (held : Held) → IsKnownBeside spans n old held → IsKnownBeside spans n new held
+module _ {S : Type 0} (spans : S → Spans) (same : S → S → Type 0) (same_spans : (s t : S) → same s t → spans t ≡ spans s) (old new : WorldValue S) (dispatch : ℕ) (r : Replaced same old new dispatch) where
+  same_beside : (n : ℕ) (held : HeldSpan) → IsKnownBeside spans n old held → IsKnownBeside spans n new held
   same_beside n None known = tt
   same_beside n (Some h) known = beside_by spans same old new dispatch r n n h.0 h.1 (λ here own. subst (λ (x : Spans). OwnBeside n x h.1) (sym (same_spans r.before r.later r.did)) own) (λ other. refl) known
 
@@ -74,36 +74,36 @@ module _ {S : Type 0} (spans : S → Spans) (same : S → S → Type 0) (same_sp
 
 module _ {S : Type 0} (spans : S → Spans) (does : S → SubscriberCall → S → Type 0) (sound : (s : S) (call : SubscriberCall) (t : S) → does s call t → IsSound (spans s))
     (allowed : (s : S) (call : SubscriberCall) (t : S) → does s call t → Allowed (spans s) call) (shows : (s : S) (call : SubscriberCall) (t : S) → does s call t → spans t ≡ spans_after_call (spans s) call) where
-  call_beside : (old new : Worlds S) (dispatch : ℕ) (call : SubscriberCall) → Replaced (λ s t. does s call t) old new dispatch → IsNoClose call → (n : ℕ) (held : Held) → IsKnownBeside spans n old held → IsKnownBeside spans n new held
+  call_beside : (old new : WorldValue S) (dispatch : ℕ) (call : SubscriberCall) → Replaced (λ s t. does s call t) old new dispatch → IsNoClose call → (n : ℕ) (held : HeldSpan) → IsKnownBeside spans n old held → IsKnownBeside spans n new held
   call_beside old new dispatch call r kind n None known = tt
   call_beside old new dispatch call r kind n (Some h) known =
       let R : S → S → Type 0 = λ s t. does s call t in
       beside_by spans R old new dispatch r n n h.0 h.1
       (λ here own. subst (λ (x : Spans). OwnBeside n x h.1) (sym (shows r.before call r.later r.did)) (call_own n (spans r.before) call h.1 (sound r.before call r.later r.did) (allowed r.before call r.later r.did) kind own)) (λ other. refl) known
 
-  pub handles_call : (old new : Worlds S) (dispatch : ℕ) (call : SubscriberCall) → Replaced (λ s t. does s call t) old new dispatch → IsNoClose call → KeepsHandles spans old new
+  pub handles_call : (old new : WorldValue S) (dispatch : ℕ) (call : SubscriberCall) → Replaced (λ s t. does s call t) old new dispatch → IsNoClose call → KeepsHandles spans old new
   handles_call old new dispatch call r kind = all_kept spans old new (call_beside old new dispatch call r kind)
 
-  pub keeps_call : (old new : Worlds S) (dispatch : ℕ) (call : SubscriberCall) → Replaced (λ s t. does s call t) old new dispatch → IsNoClose call → KeepsKnown spans old new
+  pub keeps_call : (old new : WorldValue S) (dispatch : ℕ) (call : SubscriberCall) → Replaced (λ s t. does s call t) old new dispatch → IsNoClose call → KeepsKnown spans old new
   keeps_call old new dispatch call r kind = (handles_call old new dispatch call r kind).known
 
   -- of a span with one hold more
-  pub gains_call : (old new : Worlds S) (dispatch id : ℕ) → Replaced (λ s t. does s (CloneSpan id) t) old new dispatch → GainsOne spans old new (Some (dispatch, id))
+  pub gains_call : (old new : WorldValue S) (dispatch id : ℕ) → Replaced (λ s t. does s (CloneSpan id) t) old new dispatch → GainsOne spans old new (Some (dispatch, id))
   gains_call old new dispatch id r =
       let R : S → S → Type 0 = λ s t. does s (CloneSpan id) t in
       one_gained spans old new (Some (dispatch, id)) (λ n. beside_by spans R old new dispatch r n (n + 1) dispatch id
       (λ here own. subst (λ (x : Spans). OwnBeside (n + 1) x id) (sym (shows r.before (CloneSpan id) r.later r.did)) (held_more n (spans r.before) id own)) (λ other. absurd (other refl)))
 
   -- a call that may have been refused
-  pub handles_result : (same : S → S → Type 0) → ((s t : S) → same s t → spans t ≡ spans s) → {T E : Type 0} (old : Worlds S) (dispatch : ℕ) (s t : S) (call : SubscriberCall) → slice_get old.subscribers dispatch ≡ Some s
+  pub handles_result : (same : S → S → Type 0) → ((s t : S) → same s t → spans t ≡ spans s) → {T E : Type 0} (old : WorldValue S) (dispatch : ℕ) (s t : S) (call : SubscriberCall) → slice_get old.subscribers dispatch ≡ Some s
       → (result : Result T E) → OnOk result (does s call t) → IsNoClose call → OnErr result (same s t) → KeepsHandles spans old (record old { subscribers = slice_set old.subscribers dispatch t })
   handles_result same same_spans old dispatch s t call there (Ok x) did kind left = handles_call old (record old { subscribers = slice_set old.subscribers dispatch t }) dispatch call (record { before = s; later = t; there = there; did = did; others = refl }) kind
   handles_result same same_spans old dispatch s t call there (Err e) did kind left = handles_same spans same same_spans old (record old { subscribers = slice_set old.subscribers dispatch t }) dispatch (record { before = s; later = t; there = there; did = left; others = refl })
 
 -- a chain of closes, from a span on
 module _ {S : Type 0} (spans : S → Spans) (does : S → SubscriberCall → S → Type 0) (allowed : (s : S) (call : SubscriberCall) (t : S) → does s call t → Allowed (spans s) call)
-    (shows : (s : S) (call : SubscriberCall) (t : S) → does s call t → spans t ≡ spans_after_call (spans s) call) (old new : Worlds S) (dispatch at id : ℕ) (r : Replaced (λ s t. Chain spans does at (Some id) s t) old new dispatch) where
-  apart_beside : (n : ℕ) (held : Held) → (held ≡ Some (dispatch, id) → ⊥) → IsKnownBeside spans n old held → IsKnownBeside spans n new held
+    (shows : (s : S) (call : SubscriberCall) (t : S) → does s call t → spans t ≡ spans_after_call (spans s) call) (old new : WorldValue S) (dispatch at id : ℕ) (r : Replaced (λ s t. Chain spans does at (Some id) s t) old new dispatch) where
+  apart_beside : (n : ℕ) (held : HeldSpan) → (held ≡ Some (dispatch, id) → ⊥) → IsKnownBeside spans n old held → IsKnownBeside spans n new held
   apart_beside n None apart known = tt
   apart_beside n (Some h) apart known =
       let R : S → S → Type 0 = λ s t. Chain spans does at (Some id) s t in
@@ -124,7 +124,7 @@ module _ {S : Type 0} (spans : S → Spans) (does : S → SubscriberCall → S �
 -- a handle just made is known, and so is a copy
 module _ {S : Type 0} (spans : S → Spans) (does : S → SubscriberCall → S → Type 0) (sound : (s : S) (call : SubscriberCall) (t : S) → does s call t → IsSound (spans s))
     (allowed : (s : S) (call : SubscriberCall) (t : S) → does s call t → Allowed (spans s) call) (shows : (s : S) (call : SubscriberCall) (t : S) → does s call t → spans t ≡ spans_after_call (spans s) call)
-    (old new : Worlds S) (dispatch id : ℕ) (there : dispatch < length old.subscribers) where
+    (old new : WorldValue S) (dispatch id : ℕ) (there : dispatch < length old.subscribers) where
   pub made_known : (lane : Lane) (at : ℕ) (parent : Parent) (site : ℕ) (callsite : Callsite) (values : ValueSet)
       → Replaced (λ s t. (id ≡ length (spans s).made) × does s (NewSpan lane at parent site callsite values) t) old new dispatch → IsKnown spans new (Some (dispatch, id))
   made_known lane at parent site callsite values r =

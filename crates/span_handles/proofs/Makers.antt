@@ -2,15 +2,15 @@
 use Rattle.std.proofs.Common.{◌≡◌, ◌<◌, ℕ, length, Result, Ok, Err, IfOk, OnErr, Some, refl, sym, subst, slice_get, slice_set}
 use Rattle.otel_base.specs.declared.memory.Memory.{Memory}
 use Rattle.trace_base.specs.declared.callsite.Callsite.{Callsite}
-use Rattle.span_handles.proofs.Common.{ValueSet, Lane, Parent, Worlds, Spans, SubscriberCall, NewSpan, Handle, IsKnown, Replaced, Allowed, IsSound, spans_after_call}
+use Rattle.span_handles.proofs.Common.{ValueSet, Lane, Parent, WorldValue, Spans, SubscriberCall, NewSpan, Handle, IsKnown, Replaced, Allowed, IsSound, spans_after_call}
 use Rattle.span_handles.proofs.KnownHandlesLemmas.{made_known, handles_call, handles_same}
 use Rattle.span_handles.specs.Handles.{Makes}
 use Rattle.span_handles.specs.Makers.{MakesBy, MakesHandle}
 
-module _ {S : Type 0} (spans : S → Spans) (does : S → SubscriberCall → S → Type 0) (old : Worlds S) (dispatch : ℕ) (s t : S) (there : slice_get old.subscribers dispatch ≡ Some s)
+module _ {S : Type 0} (spans : S → Spans) (does : S → SubscriberCall → S → Type 0) (old : WorldValue S) (dispatch : ℕ) (s t : S) (there : slice_get old.subscribers dispatch ≡ Some s)
     (lane : Lane) (at : ℕ) (parent : Parent) (site : ℕ) (callsite : Callsite) (is : slice_get old.sites site ≡ Some callsite) (values : ValueSet) where
   -- the world afterwards
-  abbrev pub with_it : Worlds S
+  abbrev pub with_it : WorldValue S
   with_it = record old { subscribers = slice_set old.subscribers dispatch t }
 
   pub makes_by : (handle : Handle) → MakesBy spans does s t lane at parent site callsite values dispatch handle → Makes spans does old with_it lane at parent site values dispatch handle

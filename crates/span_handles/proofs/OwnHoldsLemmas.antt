@@ -1,6 +1,6 @@
 -- Which holds a span has beside those of its entries and its open children, after each call.
 use Rattle.std.proofs.Common.{◌≡◌, ℕ, ◌+◌, ◌<◌, List, [], ◌∷◌, ◌++◌, Bool, true, false, cond, Option, Some, None, refl, sym, ap, subst, ◌∙◌, arith, inl, inr, ◌==◌, IfSome}
-use Rattle.span_handles.proofs.Common.{cases_Bool, cases_eq, cond-true, cond-false, get_or_append_left, Span, Spans, no_span, span_at, entries_on, is_in, times_in, is_child_of, is_open_child, open_child_count, bound_holds, with_hold, less_hold, without_hold, parent_on, next_of, SubscriberCall, NewSpan, Records, Follows, Event, Enter, Exit, CloneSpan, TryClose, spans_after_call, with_new_span, with_span_entry, with_span_exit, Allowed, IsLive, HasOwnHold, MayExit, IsSound, parent_live, exit_live, count_push, made_if_held, children_set, keeps_children, less_last, less_more, less_holds, holds_set, holds_other, Chain, ended, closes, IsNoClose}
+use Rattle.span_handles.proofs.Common.{cases_Bool, cases_eq, cond-true, cond-false, get_or_append_left, Span, Spans, no_span, span_at, entries_on, is_in, times_in, is_child_of, is_open_child, open_child_count, bound_holds, with_hold, span_without_hold, without_hold, parent_on, parent_to_release, SubscriberCall, NewSpan, Records, Follows, Event, Enter, Exit, CloneSpan, TryClose, spans_after_call, with_new_span, with_span_entry, with_span_exit, Allowed, IsLive, HasOwnHold, MayExit, IsSound, parent_live, exit_live, count_push, made_if_held, children_set, keeps_children, less_last, less_more, less_holds, holds_set, holds_other, Chain, ended, closes, IsNoClose}
 use Rattle.std.proofs.lemmas.Bool.{eq-eqb, ne_eqb, eqb-true}
 use Rattle.trace_base.proofs.HoldMoveLemmas.{entry_moves, exit_moves}
 
@@ -24,7 +24,7 @@ exited_children x id lane q may =
           let fewer = less_holds was in
           let parent = ap (λ (s : Span). s.parent) (less_more was (λ e. omega (arith, e, more))) in
           ap (λ (made : List Span). open_child_count made q) (cond-true {A = List Span} (times_in id ids == 1) (without_hold x.made id) x.made last)
-          ∙ keeps_children x.made id (less_hold was) (made_if_held x.made id (omega (arith, more))) parent (omega (arith, more)) (omega (arith, more, fewer)) q)
+          ∙ keeps_children x.made id (span_without_hold was) (made_if_held x.made id (omega (arith, more))) parent (omega (arith, more)) (omega (arith, more, fewer)) q)
       | inr again ↦ ap (λ (made : List Span). open_child_count made q) (cond-false {A = List Span} (times_in id ids == 1) (without_hold x.made id) x.made again)
     ]
 
@@ -98,10 +98,10 @@ pub record OwnUnder (n : ℕ) (next : Option ℕ) (x : Spans) (q : ℕ) : Type 0
   pub more : next ≡ Some q → OwnBeside (n + 1) x q
 
 -- a release of another span
-release_other : (n : ℕ) (x : Spans) (id q : ℕ) → HasOwnHold x id → (q ≡ id → ⊥) → OwnBeside n x q → OwnUnder n (next_of x.made id) (record x { made = without_hold x.made id }) q
+release_other : (n : ℕ) (x : Spans) (id q : ℕ) → HasOwnHold x id → (q ≡ id → ⊥) → OwnBeside n x q → OwnUnder n (parent_to_release x.made id) (record x { made = without_hold x.made id }) q
 release_other n x id q mine other own =
     let was = span_at x.made id in
-    let now : Span = less_hold was in
+    let now : Span = span_without_hold was in
     let within = made_if_held x.made id (omega (arith, mine)) in
     let write = children_set x.made id now q within in
     let h = holds_other x.made id now q other in
@@ -109,7 +109,7 @@ release_other n x id q mine other own =
       | inl last ↦ (
           let isnt : is_open_child q now ≡ false = ap (is_open_child q) (less_last was last) in
           let b = cond-false {A = ℕ} (is_open_child q now) 1 0 isnt in
-          let next : next_of x.made id ≡ was.parent = cond-true {A = Option ℕ} (was.holds == 1) was.parent None (eq-eqb was.holds 1 last) in
+          let next : parent_to_release x.made id ≡ was.parent = cond-true {A = Option ℕ} (was.holds == 1) was.parent None (eq-eqb was.holds 1 last) in
           record {
             own = omega (arith, write, h, b, own);
             more = λ e. (
@@ -121,7 +121,7 @@ release_other n x id q mine other own =
       | inr several ↦ (
           let fewer = less_holds was in
           let same = keeps_children x.made id now within (ap (λ (s : Span). s.parent) (less_more was several)) (omega (arith, mine)) (omega (arith, mine, several, fewer)) q in
-          let none : next_of x.made id ≡ None = cond-false {A = Option ℕ} (was.holds == 1) was.parent None (ne_eqb was.holds 1 several) in
+          let none : parent_to_release x.made id ≡ None = cond-false {A = Option ℕ} (was.holds == 1) was.parent None (ne_eqb was.holds 1 several) in
           record {
             own = omega (arith, same, h, own);
             more = λ e. (let no : None ≡ Some q = sym none ∙ e in absurd (cc no));
@@ -129,16 +129,16 @@ release_other n x id q mine other own =
     ]
 
 -- a release of the span itself, which has another hold of its own
-release_same : (n : ℕ) (x : Spans) (id : ℕ) → OwnBeside (n + 1) x id → OwnUnder n (next_of x.made id) (record x { made = without_hold x.made id }) id
+release_same : (n : ℕ) (x : Spans) (id : ℕ) → OwnBeside (n + 1) x id → OwnUnder n (parent_to_release x.made id) (record x { made = without_hold x.made id }) id
 release_same n x id own =
     let was = span_at x.made id in
-    let now : Span = less_hold was in
+    let now : Span = span_without_hold was in
     let within = made_if_held x.made id (omega (arith, own)) in
     let fewer = less_holds was in
     let several : was.holds ≡ 1 → ⊥ = λ e. omega (arith, e, own) in
     let same = keeps_children x.made id now within (ap (λ (s : Span). s.parent) (less_more was several)) (omega (arith, own)) (omega (arith, own, fewer)) id in
     let h = holds_set x.made id now within id refl in
-    let none : next_of x.made id ≡ None = cond-false {A = Option ℕ} (was.holds == 1) was.parent None (ne_eqb was.holds 1 several) in
+    let none : parent_to_release x.made id ≡ None = cond-false {A = Option ℕ} (was.holds == 1) was.parent None (ne_eqb was.holds 1 several) in
     record {
       own = omega (arith, same, h, fewer, own);
       more = λ e. (let no : None ≡ Some id = sym none ∙ e in absurd (cc no));
@@ -150,7 +150,7 @@ module _ {S : Type 0} (spans : S → Spans) (does : S → SubscriberCall → S �
   chain_own n _ _ _ (ended s) q under = under.own
   chain_own n _ _ _ (closes id s m t did rest) q under =
       let now = shows s (TryClose id at) m did in
-      let next = next_of (spans s).made id in
+      let next = parent_to_release (spans s).made id in
       chain_own n next m t rest q (subst (λ (x : Spans). OwnUnder n next x q) (sym now) (elim (cases_eq q id) [
         | inl here ↦ subst (λ (k : ℕ). OwnUnder n next (record (spans s) { made = without_hold (spans s).made id }) k) (sym here)
             (release_same n (spans s) id (subst (λ (k : ℕ). OwnBeside (n + 1) (spans s) k) here (under.more (ap (λ (k : ℕ). Some k) (sym here)))))

@@ -1,8 +1,8 @@
 -- What is known inside a span, and what its exit needs.
 use Rattle.std.proofs.Common.{◌≡◌, ℕ, ◌+◌, ◌<◌, List, [], ◌∷◌, ◌++◌, Bool, Some, None, refl, sym, ap, subst, ◌∙◌, arith, inl, inr, ◌==◌}
-use Rattle.span_handles.proofs.Common.{cases_Bool, cond-true, cond-false, Lane, Worlds, Span, Spans, span_at, entries_on, is_in, times_in, with_hold, SubscriberCall, Enter, with_span_entry, spans_after_call, HasOwnHold, MayExit, AreAttached, KeepsAttached, CallLanes, attached_as, count_push, any_if_counted, with_same, made_if_held, first_if_in, first_with, in_push_same, keeps_children, holds_set, Has, Replaced, Held, IsKnown, HasOn}
+use Rattle.span_handles.proofs.Common.{cases_Bool, cond-true, cond-false, Lane, WorldValue, Span, Spans, span_at, entries_on, is_in, times_in, with_hold, SubscriberCall, Enter, with_span_entry, spans_after_call, HasOwnHold, MayExit, AreAttached, KeepsAttached, CallLanes, attached_as, count_push, any_if_counted, with_same, made_if_held, first_if_in, first_with, in_push_same, keeps_children, holds_set, Has, Replaced, HeldSpan, IsKnown, HasOn}
 use Rattle.std.proofs.lemmas.Bool.{eq-eqb}
-use Rattle.span_handles.specs.Entries.{IsThere, IsOpenOn, IsStillOn, BeginsInside, Keeps}
+use Rattle.span_handles.specs.Entries.{IsThere, IsOpenOn, IsAttachedOn, BeginsInside, KeepsEntry}
 use Rattle.span_handles.proofs.ChangedSubscriberLemmas.{now_there, as_many}
 
 -- a span that is entered keeps its own holds
@@ -51,14 +51,14 @@ still_entered kept now a b same keeps_all still number =
     omega (arith, k, s, x, y, z)
 
 -- from what holds of the subscriber before to what holds of the one after
-moves : {S : Type 0} (R : S → S → Type 0) (old new : Worlds S) (dispatch : ℕ) (r : Replaced R old new dispatch) (P Q : S → Type 0) → ((s t : S) → R s t → P s → Q t) → Has P old dispatch → Has Q new dispatch
+moves : {S : Type 0} (R : S → S → Type 0) (old new : WorldValue S) (dispatch : ℕ) (r : Replaced R old new dispatch) (P Q : S → Type 0) → ((s t : S) → R s t → P s → Q t) → Has P old dispatch → Has Q new dispatch
 moves {S} R old new dispatch r P Q step has s there =
     let e : Some r.later ≡ Some s = sym (now_there R old new dispatch r) ∙ there in
     let same : r.later ≡ s = cc e in
     subst Q same (step r.before r.later r.did (has r.before r.there))
 
 -- what an exit needs
-pub record MayEnd {S : Type 0} (spans : S → Spans) (kept : S → ℕ → ℕ → ℕ) (is_whole : S → Type 0) (held : Held) (world : Worlds S) (lane : Lane) : Type 0 where
+pub record MayEnd {S : Type 0} (spans : S → Spans) (kept : S → ℕ → ℕ → ℕ) (is_whole : S → Type 0) (held : HeldSpan) (world : WorldValue S) (lane : Lane) : Type 0 where
   pub there : IsThere world held
   pub whole : HasOn (λ s id. is_whole s) world held
   pub may : HasOn (λ s id. MayExit (spans s) id lane.id) world held
@@ -67,8 +67,8 @@ pub record MayEnd {S : Type 0} (spans : S → Spans) (kept : S → ℕ → ℕ �
 module _ {S : Type 0} (spans : S → Spans) (attaches : S → Bool) (kept : S → ℕ → ℕ → ℕ) (is_whole : S → Type 0) (does : S → SubscriberCall → S → Type 0)
     (shows : (s : S) (call : SubscriberCall) (t : S) → does s call t → spans t ≡ spans_after_call (spans s) call) (lanes : (s : S) (call : SubscriberCall) (t : S) → does s call t → CallLanes (attaches s) (kept s) call (kept t))
     (keeps_whole : (s : S) (call : SubscriberCall) (t : S) → does s call t → is_whole s → is_whole t)
-    (at : ℕ) (old world later : Worlds S) (before lane left : Lane) where
-  pub may_end : (held : Held) → IsKnown spans old held → HasOn (λ s id. is_whole s) old held → IsStillOn kept before old held → BeginsInside does at held old before world lane → Keeps spans kept is_whole held world lane later left → MayEnd spans kept is_whole held later left
+    (at : ℕ) (old world later : WorldValue S) (before lane left : Lane) where
+  pub may_end : (held : HeldSpan) → IsKnown spans old held → HasOn (λ s id. is_whole s) old held → IsAttachedOn kept before old held → BeginsInside does at held old before world lane → KeepsEntry spans kept is_whole held world lane later left → MayEnd spans kept is_whole held later left
   may_end None known whole still begins keep = record { there = tt; whole = tt; may = tt; still = tt }
   may_end (Some h) known whole still begins keep =
       let call : SubscriberCall = Enter h.1 at before lane in
@@ -82,7 +82,7 @@ module _ {S : Type 0} (spans : S → Spans) (attaches : S → Bool) (kept : S �
       let open_inside : IsOpenOn spans lane.id world (Some h) = moves R old world h.0 r is_whole (λ s. 0 < times_in h.1 (entries_on lane.id (spans s).lanes)) (λ s t d w.
       subst (λ (l : ℕ). 0 < times_in h.1 (entries_on l (spans t).lanes)) (sym (lanes s call t d).0.id)
       (subst (λ (x : Spans). 0 < times_in h.1 (entries_on before.id x.lanes)) (sym (shows s call t d)) (open_entered (spans s) h.1 before.id))) whole in
-      let still_inside : IsStillOn kept lane world (Some h) = moves R old world h.0 r (λ s. AreAttached (kept s) before) (λ s. AreAttached (kept s) lane) (λ s t d st. still_entered (kept s) (kept t) before lane (lanes s call t d).0.id (lanes s call t d).1 st) still in
+      let still_inside : IsAttachedOn kept lane world (Some h) = moves R old world h.0 r (λ s. AreAttached (kept s) before) (λ s. AreAttached (kept s) lane) (λ s t d st. still_entered (kept s) (kept t) before lane (lanes s call t d).0.id (lanes s call t d).1 st) still in
       let known_later = keep.known known_inside in
       let open_later = keep.open_still open_inside in
       record {

@@ -1,6 +1,6 @@
 -- What a layer makes of a chain of closes: of each span that closes, in their order, and of no other.
 use Rattle.std.proofs.Common.{◌≡◌, ℕ, List, [], ◌∷◌, Option, Some, None, refl, sym, ap, subst, ◌∙◌, inl, inr, ◌==◌, fold}
-use Rattle.span_handles.proofs.Common.{cases_eq, cond-true, cond-false, Worlds, Spans, next_of, span_at, SubscriberCall, TryClose, spans_after_call, Allowed, Replaced, member_of, Chain, ended, closes, all_released, releases, closed_in, no_spans, ToldChain, ChangesByCloses}
+use Rattle.span_handles.proofs.Common.{cases_eq, cond-true, cond-false, WorldValue, Spans, parent_to_release, span_at, SubscriberCall, TryClose, spans_after_call, Allowed, Replaced, read_subscriber, Chain, ended, closes, all_released, releases, closed_in, no_spans, ChainChangesRead, ChangesByCloses}
 use Rattle.std.proofs.lemmas.Bool.{eq-eqb, ne_eqb}
 use Rattle.span_handles.proofs.ChangedSubscriberLemmas.{seen_before, seen_later}
 
@@ -8,11 +8,11 @@ module _ {S A : Type 0} (spans : S → Spans) (does : S → SubscriberCall → S
     (allowed : (s : S) (call : SubscriberCall) (t : S) → does s call t → Allowed (spans s) call) (shows : (s : S) (call : SubscriberCall) (t : S) → does s call t → spans t ≡ spans_after_call (spans s) call)
     (read : S → A) (none : A) (close : A → ℕ → A)
     (tells : ChangesByCloses spans does read close) (at : ℕ) where
-  told_chain : (next : Option ℕ) (s t : S) → Chain spans does at next s t → (x : Spans) → x ≡ spans s → ToldChain close next x (spans t) (read s) (read t)
-  told_chain _ _ _ (ended s) x is = subst (λ (z : Spans). ToldChain close None z (spans s) (read s) (read s)) (sym is) (record { chain = all_released (spans s); told = refl })
+  told_chain : (next : Option ℕ) (s t : S) → Chain spans does at next s t → (x : Spans) → x ≡ spans s → ChainChangesRead close next x (spans t) (read s) (read t)
+  told_chain _ _ _ (ended s) x is = subst (λ (z : Spans). ChainChangesRead close None z (spans s) (read s) (read s)) (sym is) (record { chain = all_released (spans s); told = refl })
   told_chain _ _ _ (closes id s m t did rest) x is =
-      subst (λ (z : Spans). ToldChain close (Some id) z (spans t) (read s) (read t)) (sym is)
-      (let next = next_of (spans s).made id in
+      subst (λ (z : Spans). ChainChangesRead close (Some id) z (spans t) (read s) (read t)) (sym is)
+      (let next = parent_to_release (spans s).made id in
       let x' = spans_after_call (spans s) (TryClose id at) in
       let more = told_chain next m t rest x' (sym (shows s (TryClose id at) m did)) in
       let says = tells s id at m did in
@@ -26,8 +26,8 @@ module _ {S A : Type 0} (spans : S → Spans) (does : S → SubscriberCall → S
         ];
       })
 
-  pub told_world : (old new : Worlds S) (dispatch id : ℕ) → Replaced (λ s t. Chain spans does at (Some id) s t) old new dispatch
-      → ToldChain close (Some id) (member_of spans no_spans old dispatch) (member_of spans no_spans new dispatch) (member_of read none old dispatch) (member_of read none new dispatch)
+  pub told_world : (old new : WorldValue S) (dispatch id : ℕ) → Replaced (λ s t. Chain spans does at (Some id) s t) old new dispatch
+      → ChainChangesRead close (Some id) (read_subscriber spans no_spans old dispatch) (read_subscriber spans no_spans new dispatch) (read_subscriber read none old dispatch) (read_subscriber read none new dispatch)
   told_world old new dispatch id r =
       let R : S → S → Type 0 = λ s t. Chain spans does at (Some id) s t in
       rw (seen_before R old new dispatch r spans no_spans, seen_later R old new dispatch r spans no_spans, seen_before R old new dispatch r read none, seen_later R old new dispatch r read none) (told_chain (Some id) r.before r.later r.did (spans r.before) refl)

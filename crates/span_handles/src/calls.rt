@@ -31,7 +31,7 @@ pub(crate) fn make_if<S: Subscriber>(
 ) -> Result<Span, Memory>
     requires site { site < length world.old.sites }
     requires may { MayMakeIf S.spans S.is_whole world.old lane.now.id parent dispatch }
-    ensures makes { MakesHandle S.spans S.does S.same world.old world.new lane.now at parent site values.now
+    ensures makes { MakesHandle S.spans S.does S.same_but_room world.old world.new lane.now at parent site values.now
         dispatch result }
 {
     match dispatch {
@@ -52,7 +52,7 @@ pub(crate) fn make<S: Subscriber>(
 ) -> Result<Span, Memory>
     requires site { site < length world.old.sites }
     requires may { MayMake S.spans S.is_whole world.old lane.now.id parent dispatch }
-    ensures makes { MakesHandle S.spans S.does S.same world.old world.new lane.now at parent site values.now
+    ensures makes { MakesHandle S.spans S.does S.same_but_room world.old world.new lane.now at parent site values.now
         (Some dispatch) result }
 {
     let (subscriber, callsite) = world.subscriber_and_site(dispatch, site);
@@ -148,7 +148,7 @@ pub(crate) fn record<S: Subscriber>(
         (RecordsAt S.does world.old world.new at values.now (Some (dispatch, id))
         (slice_get world.old.sites site)) }
     ensures keeps { KeepsHandles S.spans world.old world.new }
-    ensures memory_leaves { OnErr result (Replaced S.same world.old world.new dispatch) }
+    ensures memory_leaves { OnErr result (Replaced S.same_but_room world.old world.new dispatch) }
 {
     let (subscriber, callsite) = world.subscriber_and_site(dispatch, site);
     subscriber.record(id, at, callsite, values)
@@ -169,7 +169,7 @@ pub(crate) fn follow<S: Subscriber>(
     ensures did { OnOk result
         (Replaced (λ s t. S.does s (Follows id from at) t) world.old world.new dispatch) }
     ensures keeps { KeepsHandles S.spans world.old world.new }
-    ensures memory_leaves { OnErr result (Replaced S.same world.old world.new dispatch) }
+    ensures memory_leaves { OnErr result (Replaced S.same_but_room world.old world.new dispatch) }
 {
     world
         .subscriber_mut(dispatch)

@@ -7,7 +7,7 @@ ghost use Rattle.trace_base.specs.lanes.Contexts.{AreAttached, KeepsLive};
 ghost use Rattle.span_handles.specs.Worlds.{Has, Replaced};
 ghost use Rattle.span_handles.specs.Handles.{IsKnown, HasOn, ReplacedOn};
 ghost use Rattle.span_handles.specs.Knowing.{KeepsHandles};
-ghost use Rattle.span_handles.specs.Entries.{IsThere, LeavesLane, MeetsFullLane};
+ghost use Rattle.span_handles.specs.Entries.{IsThere, KeepsLaneButRoom, MeetsFullLane};
 
 use crate::span::Span;
 use otel_base::enter_error::EnterError;
@@ -26,9 +26,9 @@ pub struct Entry {
 }
 
 impl Model for Entry {
-    ghost use Rattle.span_handles.specs.Handles.{Held};
+    ghost use Rattle.span_handles.specs.Handles.{HeldSpan};
 
-    ghost Value = { Held };
+    ghost Value = { HeldSpan };
 
     ghost view = { λ e. e.held };
 }
@@ -78,8 +78,8 @@ impl Span {
         ensures disabled { self.now.held ≡ None → IsOk result }
 
         // A refused entry leaves the world and the lane as they are, but for room.
-        ensures leaves { OnErr result (ReplacedOn (λ id s t. S.same s t) world.old world.new self.now.held) }
-        ensures lane_leaves { OnErr result (LeavesLane lane.old lane.new) }
+        ensures leaves { OnErr result (ReplacedOn (λ id s t. S.same_but_room s t) world.old world.new self.now.held) }
+        ensures lane_leaves { OnErr result (KeepsLaneButRoom lane.old lane.new) }
         ensures full { result ≡ Err Full → MeetsFullLane S.activates world.old lane.old self.now.held }
         ensures full_refused { MeetsFullLane S.activates world.old lane.old self.now.held → IsErr result }
     {
@@ -137,8 +137,8 @@ fn enter<S: Subscriber>(
     ensures did { OnOk result
         (Replaced (λ s t. S.does s (Enter id at lane.old lane.new) t) world.old world.new dispatch) }
     ensures keeps { KeepsHandles S.spans world.old world.new }
-    ensures leaves { OnErr result (Replaced S.same world.old world.new dispatch) }
-    ensures lane_leaves { OnErr result (LeavesLane lane.old lane.new) }
+    ensures leaves { OnErr result (Replaced S.same_but_room world.old world.new dispatch) }
+    ensures lane_leaves { OnErr result (KeepsLaneButRoom lane.old lane.new) }
     ensures full { result ≡ Err Full → MeetsFullLane S.activates world.old lane.old (Some (dispatch, id)) }
     ensures full_refused { MeetsFullLane S.activates world.old lane.old (Some (dispatch, id)) → IsErr result }
 {

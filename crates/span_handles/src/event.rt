@@ -33,7 +33,7 @@ pub fn dispatch<S: Subscriber>(
     ensures did { OnOk result (TellsEventIf S.does world.old world.new lane.now at parent site values.now
         (dispatch_on lane.now.default world.old.global)) }
     ensures memory_leaves { OnErr result
-        (ReplacedIf S.same world.old world.new (dispatch_on lane.now.default world.old.global)) }
+        (ReplacedIf S.same_but_room world.old world.new (dispatch_on lane.now.default world.old.global)) }
 {
     match get_default(world, lane) {
         Some(dispatch) => tell(world, dispatch, lane, at, parent, site, values),
@@ -56,7 +56,7 @@ fn tell<S: Subscriber>(
     requires whole { Has S.is_whole world.old dispatch }
     requires live { Has (λ s. IsLiveParent (S.spans s).made parent) world.old dispatch }
     ensures did { OnOk result (TellsEvent S.does world.old world.new lane.now at parent site values.now dispatch) }
-    ensures memory_leaves { OnErr result (Replaced S.same world.old world.new dispatch) }
+    ensures memory_leaves { OnErr result (Replaced S.same_but_room world.old world.new dispatch) }
 {
     let (subscriber, callsite) = world.subscriber_and_site(dispatch, site);
     let current = subscriber.current_id(lane.id);

@@ -6,7 +6,7 @@ ghost use Rattle.trace_base.specs.Conditions.{HasFewHolds, MayExit};
 ghost use Rattle.trace_base.specs.lanes.Contexts.{AreAttached};
 ghost use Rattle.span_handles.specs.Handles.{Handle, IsKnown, HasOn, ReplacedOn, id_of};
 ghost use Rattle.span_handles.specs.Knowing.{KeepsHandles};
-ghost use Rattle.span_handles.specs.Entries.{IsThere, IsStillOn, BeginsInside, Keeps, LeavesLane, MeetsFullLane};
+ghost use Rattle.span_handles.specs.Entries.{IsThere, IsAttachedOn, BeginsInside, KeepsEntry, KeepsLaneButRoom, MeetsFullLane};
 
 use crate::entry::Entry;
 use crate::span::Span;
@@ -78,8 +78,8 @@ impl Span {
         ensures disabled { self.now.held ≡ None → IsOk result }
 
         // A refused entry leaves the world and the lane as they are, but for room.
-        ensures leaves { OnErr result (ReplacedOn (λ id s t. S.same s t) world.old world.new self.now.held) }
-        ensures lane_leaves { OnErr result (LeavesLane lane.old lane.new) }
+        ensures leaves { OnErr result (ReplacedOn (λ id s t. S.same_but_room s t) world.old world.new self.now.held) }
+        ensures lane_leaves { OnErr result (KeepsLaneButRoom lane.old lane.new) }
         ensures full { result ≡ Err Full → MeetsFullLane S.activates world.old lane.old self.now.held }
         ensures full_refused { MeetsFullLane S.activates world.old lane.old self.now.held → IsErr result }
     {
@@ -115,8 +115,8 @@ impl Span {
 
         // A refused entry hands the handle back, and leaves the world and the lane as they are, but for room.
         ensures back { IfErr result (λ refused. refused.0 ≡ self) }
-        ensures leaves { OnErr result (ReplacedOn (λ id s t. S.same s t) world.old world.new self.held) }
-        ensures lane_leaves { OnErr result (LeavesLane lane.old lane.new) }
+        ensures leaves { OnErr result (ReplacedOn (λ id s t. S.same_but_room s t) world.old world.new self.held) }
+        ensures lane_leaves { OnErr result (KeepsLaneButRoom lane.old lane.new) }
         ensures full { IfErr result
             (λ refused. refused.1 ≡ Full → MeetsFullLane S.activates world.old lane.old self.held) }
         ensures full_refused { MeetsFullLane S.activates world.old lane.old self.held → IsErr result }
@@ -147,14 +147,14 @@ impl Span {
         requires known { IsKnown S.spans world.old self.now.held }
         requires whole { HasOn (λ s id. S.is_whole s) world.old self.now.held }
         requires few_holds { HasOn (λ s id. HasFewHolds (S.spans s).made id) world.old self.now.held }
-        requires still { IsStillOn S.kept lane.old world.old self.now.held }
+        requires still { IsAttachedOn S.kept lane.old world.old self.now.held }
 
         // The closure finds the span entered, and leaves it so that it can be exited.
         requires callable { (w : _) (l : _) → BeginsInside S.does at self.now.held world.old lane.old w.now l.now
             → F.pre f w l }
         requires keeps { (w : _) (l : _) (r : T) (t : _) (m : _)
             → BeginsInside S.does at self.now.held world.old lane.old w.now l.now → F.post f w l r t m
-            → Keeps S.spans S.kept S.is_whole self.now.held w.now l.now t.now m.now }
+            → KeepsEntry S.spans S.kept S.is_whole self.now.held w.now l.now t.now m.now }
 
         ensures ok { IfOk result
             (λ answer. (w : _) × (l : _) × (t : _) × (m : _)
@@ -169,8 +169,8 @@ impl Span {
             → KeepsHandles S.spans w.now t.now) → KeepsHandles S.spans world.old world.new }
         ensures disabled { self.now.held ≡ None → IsOk result }
 
-        ensures leaves { OnErr result (ReplacedOn (λ id s t. S.same s t) world.old world.new self.now.held) }
-        ensures lane_leaves { OnErr result (LeavesLane lane.old lane.new) }
+        ensures leaves { OnErr result (ReplacedOn (λ id s t. S.same_but_room s t) world.old world.new self.now.held) }
+        ensures lane_leaves { OnErr result (KeepsLaneButRoom lane.old lane.new) }
         ensures full { result ≡ Err Full → MeetsFullLane S.activates world.old lane.old self.now.held }
         ensures full_refused { MeetsFullLane S.activates world.old lane.old self.now.held → IsErr result }
     {

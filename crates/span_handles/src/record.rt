@@ -35,7 +35,7 @@ impl Span {
         ensures known { IsKnown S.spans world.new self.now.held }
         ensures keeps { KeepsHandles S.spans world.old world.new }
         ensures memory_leaves { OnErr result
-            (ReplacedOn (λ id s t. S.same s t) world.old world.new self.now.held) }
+            (ReplacedOn (λ id s t. S.same_but_room s t) world.old world.new self.now.held) }
     {
         let Some(found) = self.field(world, field) else {
             return Ok(self);
@@ -69,7 +69,7 @@ impl Span {
         ensures known { IsKnown S.spans world.new self.now.held }
         ensures keeps { KeepsHandles S.spans world.old world.new }
         ensures memory_leaves { OnErr result
-            (ReplacedOn (λ id s t. S.same s t) world.old world.new self.now.held) }
+            (ReplacedOn (λ id s t. S.same_but_room s t) world.old world.new self.now.held) }
     {
         match (&self.held, &self.site) {
             (Some((dispatch, id)), Some(site)) => {
@@ -100,7 +100,7 @@ impl Span {
         ensures known { IsKnown S.spans world.new self.now.held }
         ensures keeps { KeepsHandles S.spans world.old world.new }
         ensures memory_leaves { OnErr result
-            (ReplacedOn (λ id s t. S.same s t) world.old world.new self.now.held) }
+            (ReplacedOn (λ id s t. S.same_but_room s t) world.old world.new self.now.held) }
     {
         if let Some((dispatch, id)) = &self.held {
             if let Some((_, from)) = &from.held {

@@ -5,7 +5,7 @@ ghost use Rattle.trace_base.specs.Gate.{IsInWorld, dispatch_on};
 ghost use Rattle.trace_base.specs.Calls.{CloneSpan};
 ghost use Rattle.trace_base.specs.Conditions.{AreFew, HasFewHolds, HasFewHoldsAbove, IsLiveParent};
 ghost use Rattle.span_handles.specs.Worlds.{Has, Chain};
-ghost use Rattle.span_handles.specs.Handles.{Handle, no_handle, id_of, same_held, IsKnown, HasOn, HasIf, IsSite, IsOf, ReplacedOn, MayMake, MayMakeIf, place_under, IsCurrent, callsite_in, field_in, ClosesOn};
+ghost use Rattle.span_handles.specs.Handles.{Handle, no_handle, id_of, same_held, IsKnown, HasOn, HasIf, IsSite, IsOf, ReplacedOn, MayMake, MayMakeIf, as_parent, IsCurrent, callsite_in, field_in, ClosesOn};
 ghost use Rattle.span_handles.specs.Knowing.{KeepsHandles, KeepsOthers, GainsOne, LosesOne};
 ghost use Rattle.span_handles.specs.Makers.{MakesBy, MakesHandle};
 
@@ -51,7 +51,7 @@ impl Span {
         requires site { site < length world.old.sites }
         requires may { MayMakeIf S.spans S.is_whole world.old lane.now.id parent.Current
             (dispatch_on lane.now.default world.old.global) }
-        ensures makes { MakesHandle S.spans S.does S.same world.old world.new lane.now at parent.Current site
+        ensures makes { MakesHandle S.spans S.does S.same_but_room world.old world.new lane.now at parent.Current site
             values.now (dispatch_on lane.now.default world.old.global) result }
     {
         let dispatch = get_default(world, lane);
@@ -70,7 +70,7 @@ impl Span {
         requires site { site < length world.old.sites }
         requires may { MayMakeIf S.spans S.is_whole world.old lane.now.id parent.Root
             (dispatch_on lane.now.default world.old.global) }
-        ensures makes { MakesHandle S.spans S.does S.same world.old world.new lane.now at parent.Root site
+        ensures makes { MakesHandle S.spans S.does S.same_but_room world.old world.new lane.now at parent.Root site
             values.now (dispatch_on lane.now.default world.old.global) result }
     {
         let dispatch = get_default(world, lane);
@@ -89,9 +89,9 @@ impl Span {
         requires own { IsInWorld world.old lane.now.default }
         requires of_dispatch { IfSome (dispatch_on lane.now.default world.old.global) (IsOf parent.now.held) }
         requires site { site < length world.old.sites }
-        requires may { MayMakeIf S.spans S.is_whole world.old lane.now.id (place_under parent.now.held)
+        requires may { MayMakeIf S.spans S.is_whole world.old lane.now.id (as_parent parent.now.held)
             (dispatch_on lane.now.default world.old.global) }
-        ensures makes { MakesHandle S.spans S.does S.same world.old world.new lane.now at (place_under parent.now.held) site
+        ensures makes { MakesHandle S.spans S.does S.same_but_room world.old world.new lane.now at (as_parent parent.now.held) site
             values.now (dispatch_on lane.now.default world.old.global) result }
     {
         let dispatch = get_default(world, lane);
@@ -111,7 +111,7 @@ impl Span {
         requires site { site < length world.old.sites }
         requires may { MayMakeIf S.spans S.is_whole world.old lane.now.id parent
             (dispatch_on lane.now.default world.old.global) }
-        ensures makes { MakesHandle S.spans S.does S.same world.old world.new lane.now at parent site
+        ensures makes { MakesHandle S.spans S.does S.same_but_room world.old world.new lane.now at parent site
             values.now (dispatch_on lane.now.default world.old.global) result }
     {
         let dispatch = get_default(world, lane);
@@ -129,7 +129,7 @@ impl Span {
     ) -> Result<Span, Memory>
         requires site { site < length world.old.sites }
         requires may { MayMake S.spans S.is_whole world.old lane.now.id parent.Current dispatch }
-        ensures makes { MakesHandle S.spans S.does S.same world.old world.new lane.now at parent.Current site
+        ensures makes { MakesHandle S.spans S.does S.same_but_room world.old world.new lane.now at parent.Current site
             values.now (Some dispatch) result }
     {
         make(world, dispatch, lane, at, Parent::Current, site, values)
@@ -146,7 +146,7 @@ impl Span {
     ) -> Result<Span, Memory>
         requires site { site < length world.old.sites }
         requires may { MayMake S.spans S.is_whole world.old lane.now.id parent.Root dispatch }
-        ensures makes { MakesHandle S.spans S.does S.same world.old world.new lane.now at parent.Root site
+        ensures makes { MakesHandle S.spans S.does S.same_but_room world.old world.new lane.now at parent.Root site
             values.now (Some dispatch) result }
     {
         make(world, dispatch, lane, at, Parent::Root, site, values)
@@ -164,9 +164,9 @@ impl Span {
     ) -> Result<Span, Memory>
         requires of_dispatch { IsOf parent.now.held dispatch }
         requires site { site < length world.old.sites }
-        requires may { MayMake S.spans S.is_whole world.old lane.now.id (place_under parent.now.held)
+        requires may { MayMake S.spans S.is_whole world.old lane.now.id (as_parent parent.now.held)
             dispatch }
-        ensures makes { MakesHandle S.spans S.does S.same world.old world.new lane.now at (place_under parent.now.held) site
+        ensures makes { MakesHandle S.spans S.does S.same_but_room world.old world.new lane.now at (as_parent parent.now.held) site
             values.now (Some dispatch) result }
     {
         make(world, dispatch, lane, at, parent.as_parent(), site, values)
@@ -190,7 +190,7 @@ impl Span {
         requires few_holds { HasFewHoldsAbove (S.spans subscriber.old) lane.now.id parent }
         ensures ok { IfOk result (MakesBy S.spans S.does subscriber.old subscriber.new lane.now at parent site
             callsite.now values.now dispatch) }
-        ensures memory_leaves { OnErr result (S.same subscriber.old subscriber.new) }
+        ensures memory_leaves { OnErr result (S.same_but_room subscriber.old subscriber.new) }
     {
         let current = subscriber.current_id(lane.id);
         let id = subscriber.new_span(lane, at, parent, current, site, callsite, values)?;
@@ -391,7 +391,7 @@ impl Span {
 
     /// The parent that it is to a child: a disabled handle makes a root.
     pub fn as_parent(&self) -> Parent
-        ensures { result ≡ place_under self.now.held }
+        ensures { result ≡ as_parent self.now.held }
     {
         match &self.held {
             Some((_, id)) => Parent::Of(*id),

@@ -13,7 +13,7 @@ pub use Rattle.otel_base.specs.declared.context.SpanContext.{SpanContext}
 pub use Rattle.otel_base.specs.declared.record.Record.{Record}
 pub use Rattle.trace_base.proofs.EntryLemmas.{any_if_counted, count_cons, count_push, counted_if_any, length_held, made_if_held}
 pub use Rattle.trace_base.proofs.HoldLemmas.{current_in, holds_other, holds_set, in_push, in_push_same, less_holds, times_without}
-pub use Rattle.trace_base.specs.Spans.{Span, Spans, current_of, entries_on, with_hold_of_child, is_in, less_hold, next_of, no_span, parent_on, span_at, times_in, with_hold, without_hold, without_last}
+pub use Rattle.trace_base.specs.Spans.{Span, Spans, current_of, entries_on, with_hold_of_child, is_in, span_without_hold, parent_to_release, no_span, parent_on, span_at, times_in, with_hold, without_hold, without_last}
 pub use Rattle.trace_base.specs.declared.callsite.Callsite.{Callsite}
 pub use Rattle.trace_base.specs.declared.field.ValueSet.{ValueSet}
 pub use Rattle.trace_base.specs.declared.lane.Lane.{Lane}
@@ -27,7 +27,7 @@ pub use Rattle.otel_state.specs.Content.{Making, attributes_of, closing_count, c
 pub use Rattle.otel_state.specs.Deeds.{Deed, TimedOp, deed}
 pub use Rattle.otel_state.specs.Laws.{TellsTimes, was_entered}
 pub use Rattle.otel_state.specs.Opening.{before_start, is_start, last_or, own_of, parent_context_of}
-pub use Rattle.otel_state.specs.States.{SpanData, Stands, after_op, after_stamped, data_at_making, first_start, record_of, unless_started, with_all}
+pub use Rattle.otel_state.specs.States.{SpanData, Represents, after_op, after_stamped, data_at_making, first_start, record_of, unless_started, with_all}
 pub use Rattle.otel_state.specs.Times.{MomentsRise, busy_of, idle_of, last_exit, open_by}
 pub use Rattle.otel_state.specs.declared.op.Op.{Op}
 pub use Rattle.otel_state.specs.declared.settings.LayerSettings.{LayerSettings}
@@ -36,9 +36,9 @@ pub use Rattle.otel_state.specs.fields.EventFields.{event_of}
 pub use Rattle.otel_state.specs.fields.FirstAttributes.{first_attributes}
 pub use Rattle.otel_state.specs.fields.SpanFields.{span_update}
 pub use Rattle.otel_layer.proofs.FoundSpanLemmas.{told_at_made, told_at_op, told_at_removed}
-pub use Rattle.otel_layer.specs.Recording.{Enters, Exits, Recording, RecordsCall, RecordsChain, RecordsPart, Stays, data_after, made_under, source_of, started_under, with_applied, with_close, with_entry, with_event, with_exit, with_follow, with_new_recorded, with_start, with_starts, without_closed}
+pub use Rattle.otel_layer.specs.Recording.{Enters, Exits, Recording, RecordsCall, RecordsChain, RecordsPart, ChangesNothing, data_after, with_span_under, source_of, with_start_under, with_applied, with_close, with_entry, with_event, with_exit, with_follow, with_new_recorded, with_start, with_starts, without_closed}
 pub use Rattle.otel_layer.specs.Steps.{IfKnown, context_from, new_span_data, parent_source, with_link}
-pub use Rattle.otel_layer.specs.Table.{data_at, ids_at, is_id, knows_span, own_or, waiting_context, context_unless_started, with_span_data}
+pub use Rattle.otel_layer.specs.Table.{data_at, ids_at, is_id, knows_span, own_context_or, start_context, context_unless_started, with_span_data}
 pub use Rattle.span_script.proofs.runs.RunLemmas.{goes_on_with, records_push, stays_with}
 pub use Rattle.span_script.proofs.spans.OpenCountLemmas.{range_more}
 pub use Rattle.span_script.proofs.spans.OpenSpansLemmas.{any_counted, pick, slot_open}

@@ -3,7 +3,7 @@ use Rattle.std.specs.Prelude.{◌≡◌, ℕ, Bool, nat_lt, is_some, count_by}
 use Rattle.std.specs.Map.{keys_of}
 use Rattle.trace_base.specs.layers.Hooks.{one_if}
 use Rattle.trace_base.specs.Spans.{Spans, span_at}
-use Rattle.otel_layer.specs.Parts.{PartCall, Applies, Shows}
+use Rattle.otel_layer.specs.Parts.{PartCall, Applies, GivesContext}
 use Rattle.otel_layer.specs.Recording.{Recording}
 use Rattle.otel_layer.specs.Table.{is_id}
 
@@ -22,4 +22,4 @@ KeepsLive spans r = (id : ℕ) → state_count r id ≡ one_if (is_live spans id
 -- a call from outside is answered exactly where its span is live
 abbrev pub IsAnsweredLive : Spans → PartCall → Type 0
 IsAnsweredLive spans (Applies id at op answer) = is_some answer ≡ is_live spans id
-IsAnsweredLive spans (Shows id at answer) = is_some answer ≡ is_live spans id
+IsAnsweredLive spans (GivesContext id at answer) = is_some answer ≡ is_live spans id

@@ -5,7 +5,7 @@ use Rattle.otel_base.specs.declared.context.Context.{Context}
 use Rattle.otel_base.specs.declared.record.Record.{Record}
 use Rattle.otel_base.specs.Stack.{empty_context}
 use Rattle.otel_layer.specs.Recording.{with_start}
-use Rattle.otel_layer.specs.Table.{own_or, data_at}
+use Rattle.otel_layer.specs.Table.{own_context_or, data_at}
 use Rattle.otel_state.specs.Content.{Making}
 use Rattle.otel_state.specs.fields.FirstAttributes.{first_attributes}
 use Rattle.otel_state.specs.fields.SpanFields.{span_update}
@@ -40,7 +40,7 @@ is_making setup t request = asks_admitted setup t (here_at setup t request.at re
 -- the own context of a span, which has started by then, if one is named; else the one that was attached last to the lane of an id
 abbrev pub context_of_lane : Tables → ℕ → ℕ → Option ℕ → Context
 context_of_lane t at id None = last_attached empty_context (t.contexts id)
-context_of_lane t at id (Some s) = own_or (last_attached empty_context (t.contexts id)) (data_at s (with_start s at t.recording).spans)
+context_of_lane t at id (Some s) = own_context_or (last_attached empty_context (t.contexts id)) (data_at s (with_start s at t.recording).spans)
 
 -- The context that a new span is put under: none's for a root, the own one of an explicit parent, and for a contextual span that
 -- of the lane: with activation the one that was attached last, without it that of the current span.

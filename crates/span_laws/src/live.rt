@@ -3,7 +3,7 @@
 ghost use Rattle.std.specs.Prelude.{ℕ, Bool, List, Option, Some};
 ghost use Rattle.otel_base.specs.declared.record.Record.{Record};
 ghost use Rattle.trace_base.specs.Calls.{SubscriberCall};
-ghost use Rattle.trace_base.specs.Gate.{Worlds};
+ghost use Rattle.trace_base.specs.Gate.{WorldValue};
 ghost use Rattle.trace_base.specs.Spans.{Spans};
 ghost use Rattle.span_handles.specs.Worlds.{Replaced, spans_in, no_spans};
 ghost use Rattle.otel_state.specs.declared.settings.LayerSettings.{LayerSettings};
@@ -21,11 +21,11 @@ use trace_base::subscriber::Subscriber;
 /// are taken.
 pub fn keeps<S: Subscriber>()
     ensures begins { (settings : LayerSettings) (counting : Bool) → KeepsLive no_spans (new_recording settings counting) }
-    ensures call { (old new : Worlds S) (dispatch : ℕ) (call : SubscriberCall) (counter : Option FilterState)
+    ensures call { (old new : WorldValue S) (dispatch : ℕ) (call : SubscriberCall) (counter : Option FilterState)
         (r t : Recording) → Replaced (λ s t. S.does s call t) old new dispatch
         → RecordsCallBy counter (spans_in S.spans old dispatch) r call t
         → KeepsLive (spans_in S.spans old dispatch) r → KeepsLive (spans_in S.spans new dispatch) t }
-    ensures layer_call { (old new : Worlds S) (dispatch : ℕ) (call : SubscriberCall) (r t : Recording)
+    ensures layer_call { (old new : WorldValue S) (dispatch : ℕ) (call : SubscriberCall) (r t : Recording)
         → Replaced (λ s t. S.does s call t) old new dispatch → RecordsCall (spans_in S.spans old dispatch) r call t
         → KeepsLive (spans_in S.spans old dispatch) r → KeepsLive (spans_in S.spans new dispatch) t }
     ensures chain { (x y : Spans) (at id : ℕ) (r t : Recording) → RecordsChain at (Some id) x y r t

@@ -9,9 +9,9 @@ pub use Rattle.trace_base.proofs.Sound.{current_live, exit_live, next_own, paren
 pub use Rattle.trace_base.specs.Calls.{CloneSpan, Enter, Event, Exit, Follows, NewSpan, Records, SubscriberCall, TryClose, spans_after_call, with_new_span, with_span_entry, with_span_exit}
 pub use Rattle.trace_base.specs.Conditions.{Allowed, HasFewHolds, HasOwnHold, IsLive, IsLiveParent, MayExit}
 pub use Rattle.trace_base.specs.Sound.{IsSound, OneEach}
-pub use Rattle.trace_base.specs.Spans.{Entries, Span, Spans, current_from, current_of, entered_lane_count, entries_on, is_child_of, is_in, is_open_child, less_hold, next_of, no_span, parent_on, span_at, times_in, with_entries, with_hold, with_hold_of_child, without_hold, without_last}
+pub use Rattle.trace_base.specs.Spans.{Entries, Span, Spans, current_from, current_of, entered_lane_count, entries_on, is_child_of, is_in, is_open_child, span_without_hold, parent_to_release, no_span, parent_on, span_at, times_in, with_entries, with_hold, with_hold_of_child, without_hold, without_last}
 pub use Rattle.trace_base.specs.layers.Hooks.{KnownSpans, one_if}
 pub use Rattle.span_registry.specs.Firsts.{firsts_from, firsts_of}
 pub use Rattle.span_registry.specs.Registering.{RegistryValue, StandsAt, no_lane, no_spans}
 pub use Rattle.span_registry.specs.Stepping.{in_step_start, left_at_close}
-pub use Rattle.span_registry.specs.Tabling.{IsTabled, SlotTableValue, SlotValue, is_live, live_span_count, no_slot, place_in, slot_table_value, slot_value_at, span_in, span_of, spans_to}
+pub use Rattle.span_registry.specs.Tabling.{IsSlotTable, SlotTableValue, SlotValue, is_live, live_span_count, no_slot, place_in, slot_table_value, slot_value_at, span_in, span_in_slot, spans_to}

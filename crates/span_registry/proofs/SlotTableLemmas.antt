@@ -1,6 +1,6 @@
 -- The table of spans after one change.
 use Rattle.std.proofs.Common.{◌≡◌, ℕ, zero, suc, ◌+◌, ◌-◌, ◌<◌, ◌≤◌, List, [], ◌∷◌, ◌++◌, length, take, max, cond, get_or, set, Option, Some, None, refl, sym, ap, subst, ◌∙◌, arith, inl, inr, ◌⊎◌, if◌then◌else◌, ◌==◌, IfSome}
-use Rattle.span_registry.proofs.Common.{cases_eq, cases_lt, cond-true, cond-false, length_push, get_or_past, get_or_push, get_or_append_left, set-append_left, sum_by-set, get_or-le-sum_by, Span, no_span, span_at, with_hold_of_child, IsLive, HasFewHolds, count_push, made_if_held, SlotValue, no_slot, slot_value_at, span_of, span_in, spans_to, is_live, live_span_count, SlotTableValue, slot_table_value, IsTabled}
+use Rattle.span_registry.proofs.Common.{cases_eq, cases_lt, cond-true, cond-false, length_push, get_or_past, get_or_push, get_or_append_left, set-append_left, sum_by-set, get_or-le-sum_by, Span, no_span, span_at, with_hold_of_child, IsLive, HasFewHolds, count_push, made_if_held, SlotValue, no_slot, slot_value_at, span_in_slot, span_in, spans_to, is_live, live_span_count, SlotTableValue, slot_table_value, IsSlotTable}
 use Rattle.std.proofs.lemmas.Bool.{eq-eqb, ne_eqb, lt-ltb}
 use Rattle.std.proofs.lemmas.List.{length-set, length-take-le, get_or-set_same, get_or-set_other, get_or-take, ext_get_or}
 use Rattle.std.proofs.Math.Nat.{max-eq_left, max-eq_right}
@@ -37,11 +37,11 @@ set_to n f g id x within here others =
       | inr other ↦ read_to n g k w ∙ others k other ∙ sym (read_to n f k w) ∙ sym (get_or-set_other (spans_to n f) id k x no_span other)
     ])
 
-none_there : (slots : List SlotValue) (place : Option ℕ) → ((p : ℕ) → place ≡ Some p → ⊥) → span_of slots place ≡ no_span
+none_there : (slots : List SlotValue) (place : Option ℕ) → ((p : ℕ) → place ≡ Some p → ⊥) → span_in_slot slots place ≡ no_span
 none_there slots None absent = refl
 none_there slots (Some p) absent = absurd (absent p refl)
 
-module _ (count : ℕ) (places : ℕ → Option ℕ) (slots : List SlotValue) (free : List ℕ) (room : ℕ) (t : IsTabled count places slots free room) where
+module _ (count : ℕ) (places : ℕ → Option ℕ) (slots : List SlotValue) (free : List ℕ) (room : ℕ) (t : IsSlotTable count places slots free room) where
   pub read : (id : ℕ) → span_at (spans_to count (span_in places slots)) id ≡ span_in places slots id
   read id = elim (cases_lt id count) [
     | inl within ↦ read_to count (span_in places slots) id within
@@ -51,10 +51,10 @@ module _ (count : ℕ) (places : ℕ → Option ℕ) (slots : List SlotValue) (f
   ]
 
   pub read_none : (id : ℕ) → places id ≡ None → span_at (spans_to count (span_in places slots)) id ≡ no_span
-  read_none id none = read id ∙ ap (span_of slots) none
+  read_none id none = read id ∙ ap (span_in_slot slots) none
 
   pub read_some : (id p : ℕ) → places id ≡ Some p → span_at (spans_to count (span_in places slots)) id ≡ (slot_value_at slots p).span
-  read_some id p is = read id ∙ ap (span_of slots) is
+  read_some id p is = read id ∙ ap (span_in_slot slots) is
 
   -- another span has another slot
   apart_from : (id p q s : ℕ) → places id ≡ Some p → (q ≡ id → ⊥) → places q ≡ Some s → s ≡ p → ⊥
@@ -68,7 +68,7 @@ module _ (count : ℕ) (places : ℕ → Option ℕ) (slots : List SlotValue) (f
       let e = ap (λ (j : ℕ). (slot_value_at slots j).span.holds) same in
       omega (arith, held, none, e)
 
-  others_set : (id p : ℕ) (x : SlotValue) (q : ℕ) → places id ≡ Some p → (q ≡ id → ⊥) → (o : Option ℕ) → places q ≡ o → span_of (set slots p x) o ≡ span_of slots o
+  others_set : (id p : ℕ) (x : SlotValue) (q : ℕ) → places id ≡ Some p → (q ≡ id → ⊥) → (o : Option ℕ) → places q ≡ o → span_in_slot (set slots p x) o ≡ span_in_slot slots o
   others_set id p x q is other None there = refl
   others_set id p x q is other (Some s) there = ap (λ (y : SlotValue). y.span) (get_or-set_other slots p s x no_slot (apart_from id p q s is other there))
 
@@ -77,10 +77,10 @@ module _ (count : ℕ) (places : ℕ → Option ℕ) (slots : List SlotValue) (f
   made_set id p x is =
       let at = t.known id p is in
       set_to count (span_in places slots) (span_in places (set slots p x)) id x.span at.made
-      (ap (span_of (set slots p x)) is ∙ ap (λ (y : SlotValue). y.span) (get_or-set_same slots p x no_slot at.within))
+      (ap (span_in_slot (set slots p x)) is ∙ ap (λ (y : SlotValue). y.span) (get_or-set_same slots p x no_slot at.within))
       (λ q other. others_set id p x q is other (places q) refl)
 
-  pub tabled_set : (id p : ℕ) (x : SlotValue) → places id ≡ Some p → x.id ≡ (slot_value_at slots p).id → 0 < x.span.holds → IsTabled count places (set slots p x) free room
+  pub tabled_set : (id p : ℕ) (x : SlotValue) → places id ≡ Some p → x.id ≡ (slot_value_at slots p).id → 0 < x.span.holds → IsSlotTable count places (set slots p x) free room
   tabled_set id p x is same live =
       let at = t.known id p is in
       let long = length-set slots p x in
@@ -131,8 +131,8 @@ module _ (count : ℕ) (places : ℕ → Option ℕ) (slots : List SlotValue) (f
   made_gone id p x now is gone =
       let at = t.known id p is in
       set_to count (span_in places slots) (span_in now (set slots p x)) id no_span at.made
-      (ap (span_of (set slots p x)) (gone id ∙ cond-true {A = Option ℕ} (id == id) None (places id) (eq-eqb id id refl)))
-      (λ q other. ap (span_of (set slots p x)) (others_gone id p x now q is gone other) ∙ others_set id p x q is other (places q) refl)
+      (ap (span_in_slot (set slots p x)) (gone id ∙ cond-true {A = Option ℕ} (id == id) None (places id) (eq-eqb id id refl)))
+      (λ q other. ap (span_in_slot (set slots p x)) (others_gone id p x now q is gone other) ∙ others_set id p x q is other (places q) refl)
 
   -- a live span's slot is one that isn't free
   pub some_room : (id p : ℕ) → places id ≡ Some p → length free < room
@@ -147,7 +147,7 @@ module _ (count : ℕ) (places : ℕ → Option ℕ) (slots : List SlotValue) (f
       omega (arith, one, a, c, e)
 
   pub tabled_gone : (id p : ℕ) (x : SlotValue) (now : ℕ → Option ℕ) → places id ≡ Some p → ((k : ℕ) → now k ≡ (if id == k then None else places k)) → x.span.holds ≡ 0
-      → IsTabled count now (set slots p x) (free ++ p ∷ []) room
+      → IsSlotTable count now (set slots p x) (free ++ p ∷ []) room
   tabled_gone id p x now is gone none =
       let at = t.known id p is in
       let long = length-set slots p x in
@@ -222,7 +222,7 @@ placed_new slots free left x none still =
       newer = inr still;
     }
 
-module _ (count : ℕ) (places : ℕ → Option ℕ) (slots : List SlotValue) (free : List ℕ) (room : ℕ) (t : IsTabled count places slots free room) where
+module _ (count : ℕ) (places : ℕ → Option ℕ) (slots : List SlotValue) (free : List ℕ) (room : ℕ) (t : IsSlotTable count places slots free room) where
   placed_free : (left : List ℕ) (p : ℕ) (x : SlotValue) → 0 < length free → p ≡ get_or free (length free - 1) 0 → left ≡ take (length free - 1) free → Placed slots (set slots p x) free left p x
   placed_free left p x some is so =
       let last = t.freed (length free - 1) (omega (arith, some)) in
@@ -250,7 +250,7 @@ module _ (count : ℕ) (places : ℕ → Option ℕ) (slots : List SlotValue) (f
   here_more p now put = put count ∙ cond-true {A = Option ℕ} (count == count) (Some p) (places count) (eq-eqb count count refl)
 
   module _ (now_slots : List SlotValue) (left : List ℕ) (p : ℕ) (x : SlotValue) (now : ℕ → Option ℕ) (placed : Placed slots now_slots free left p x) (put : (k : ℕ) → now k ≡ (if count == k then Some p else places k)) where
-    kept_more : (q : ℕ) → q < count → (o : Option ℕ) → places q ≡ o → span_of now_slots o ≡ span_of slots o
+    kept_more : (q : ℕ) → q < count → (o : Option ℕ) → places q ≡ o → span_in_slot now_slots o ≡ span_in_slot slots o
     kept_more q below None there = refl
     kept_more q below (Some s) there =
         let at = t.known q s there in
@@ -258,8 +258,8 @@ module _ (count : ℕ) (places : ℕ → Option ℕ) (slots : List SlotValue) (f
 
     pub made_more : spans_to (count + 1) (span_in now now_slots) ≡ spans_to count (span_in places slots) ++ x.span ∷ []
     made_more =
-        let front = agree_to count (span_in places slots) (span_in now now_slots) (λ k below. ap (span_of now_slots) (others_more p now k put (λ e. omega (arith, e, below))) ∙ kept_more k below (places k) refl) in
-        let last : span_in now now_slots count ≡ x.span = ap (span_of now_slots) (here_more p now put) ∙ ap (λ (y : SlotValue). y.span) placed.here in
+        let front = agree_to count (span_in places slots) (span_in now now_slots) (λ k below. ap (span_in_slot now_slots) (others_more p now k put (λ e. omega (arith, e, below))) ∙ kept_more k below (places k) refl) in
+        let last : span_in now now_slots count ≡ x.span = ap (span_in_slot now_slots) (here_more p now put) ∙ ap (λ (y : SlotValue). y.span) placed.here in
         one_more count (span_in now now_slots) ∙ ap (λ (l : List Span). l ++ span_in now now_slots count ∷ []) front ∙ ap (λ (s : Span). spans_to count (span_in places slots) ++ s ∷ []) last
 
     live_more : 0 < x.span.holds → live_span_count (spans_to (count + 1) (span_in now now_slots)) ≡ live_span_count (spans_to count (span_in places slots)) + 1
@@ -269,7 +269,7 @@ module _ (count : ℕ) (places : ℕ → Option ℕ) (slots : List SlotValue) (f
         let one = cond-true {A = ℕ} (is_live x.span) 1 0 (lt-ltb 0 x.span.holds live) in
         omega (arith, all, pushed, one)
 
-    pub tabled_more : (bigger : ℕ) → x.id ≡ count → 0 < x.span.holds → length now_slots ≤ bigger → IsTabled (count + 1) now now_slots left bigger
+    pub tabled_more : (bigger : ℕ) → x.id ≡ count → 0 < x.span.holds → length now_slots ≤ bigger → IsSlotTable (count + 1) now now_slots left bigger
     tabled_more bigger named live enough = record {
       known = λ q s there. elim (cases_eq q count) [
         | inl here ↦ (
@@ -320,7 +320,7 @@ module _ (count : ℕ) (places : ℕ → Option ℕ) (slots : List SlotValue) (f
 same_tabled : (a b : List Span) (m n : ℕ) → a ≡ b → m ≡ n → ◌≡◌ {A = SlotTableValue} (record { made = a; slots = m }) (record { made = b; slots = n })
 same_tabled a b m n e f = ap (λ (x : List Span). let t : SlotTableValue = record { made = x; slots = m } in t) e ∙ ap (λ (k : ℕ). let t : SlotTableValue = record { made = b; slots = k } in t) f
 
-module _ (count : ℕ) (places : ℕ → Option ℕ) (slots : List SlotValue) (free : List ℕ) (room : ℕ) (t : IsTabled count places slots free room) (v : SlotTableValue) (is_view : slot_table_value count places slots ≡ v) where
+module _ (count : ℕ) (places : ℕ → Option ℕ) (slots : List SlotValue) (free : List ℕ) (room : ℕ) (t : IsSlotTable count places slots free room) (v : SlotTableValue) (is_view : slot_table_value count places slots ≡ v) where
   pub shown_none : (id : ℕ) → places id ≡ None → span_at v.made id ≡ no_span
   shown_none id none = ap (λ (w : SlotTableValue). span_at w.made id) (sym is_view) ∙ read_none count places slots free room t id none
 
@@ -344,18 +344,18 @@ module _ (count : ℕ) (places : ℕ → Option ℕ) (slots : List SlotValue) (f
       (made_gone count places slots free room t id p x now is gone ∙ ap (λ (s : Span). set (spans_to count (span_in places slots)) id s) so ∙ ap (λ (w : SlotTableValue). set w.made id y) is_view) (length-set slots p x ∙ ap (λ (w : SlotTableValue). w.slots) is_view)
 
 -- the same places and slots, and room that has grown
-pub tabled_same : (count : ℕ) (places now : ℕ → Option ℕ) (slots slots' : List SlotValue) (free free' : List ℕ) (room bigger : ℕ) → IsTabled count places slots free room → ((q : ℕ) → now q ≡ places q) → slots' ≡ slots → free' ≡ free → room ≤ bigger → IsTabled count now slots' free' bigger
+pub tabled_same : (count : ℕ) (places now : ℕ → Option ℕ) (slots slots' : List SlotValue) (free free' : List ℕ) (room bigger : ℕ) → IsSlotTable count places slots free room → ((q : ℕ) → now q ≡ places q) → slots' ≡ slots → free' ≡ free → room ≤ bigger → IsSlotTable count now slots' free' bigger
 tabled_same count places now slots slots' free free' room bigger t same es ef more =
-    subst (λ (ss : List SlotValue). IsTabled count now ss free' bigger) (sym es) (subst (λ (fs : List ℕ). IsTabled count now slots fs bigger) (sym ef) (record {
+    subst (λ (ss : List SlotValue). IsSlotTable count now ss free' bigger) (sym es) (subst (λ (fs : List ℕ). IsSlotTable count now slots fs bigger) (sym ef) (record {
       known = λ id p is. t.known id p (sym (same id) ∙ is);
       freed = t.freed;
       apart = t.apart;
-      counted = ap (λ (l : List Span). length free + live_span_count l) (agree_to count (span_in places slots) (span_in now slots) (λ k below. ap (span_of slots) (same k))) ∙ t.counted;
+      counted = ap (λ (l : List Span). length free + live_span_count l) (agree_to count (span_in places slots) (span_in now slots) (λ k below. ap (span_in_slot slots) (same k))) ∙ t.counted;
       enough = (let e = t.enough in omega (arith, e, more));
     }))
 
 -- a span more, in the slot that was chosen and filled
-pub filled : (count : ℕ) (places : ℕ → Option ℕ) (slots now : List SlotValue) (free left : List ℕ) (room : ℕ) (p : ℕ) (x : SlotValue) → IsTabled count places slots free room
+pub filled : (count : ℕ) (places : ℕ → Option ℕ) (slots now : List SlotValue) (free left : List ℕ) (room : ℕ) (p : ℕ) (x : SlotValue) → IsSlotTable count places slots free room
     → (0 < length free → p ≡ get_or free (length free - 1) 0) → (length free ≡ 0 → p ≡ length slots) → (0 < length free → now ≡ set slots (get_or free (length free - 1) 0) x) → (length free ≡ 0 → now ≡ slots ++ x ∷ []) → left ≡ take (length free - 1) free
     → Placed slots now free left p x
 filled count places slots now free left room p x t used new set_used pushed so =
@@ -385,9 +385,9 @@ few_push made new None live few = tt
 few_push made new (Some p) live few = (let e = ap (λ (s : Span). s.holds) (get_or_append_left made (new ∷ []) no_span p (made_if_held made p live)) in omega (arith, e, few))
 
 -- a span more in the slot that was chosen and filled: the table, its spans and its slots
-pub pushed : (count : ℕ) (places now : ℕ → Option ℕ) (slots now_slots : List SlotValue) (free left : List ℕ) (room r bigger p : ℕ) (x : SlotValue) (v : SlotTableValue) → IsTabled count places slots free room → slot_table_value count places slots ≡ v → Placed slots now_slots free left p x
+pub pushed : (count : ℕ) (places now : ℕ → Option ℕ) (slots now_slots : List SlotValue) (free left : List ℕ) (room r bigger p : ℕ) (x : SlotValue) (v : SlotTableValue) → IsSlotTable count places slots free room → slot_table_value count places slots ≡ v → Placed slots now_slots free left p x
     → ((k : ℕ) → now k ≡ (if count == k then Some p else places k)) → x.id ≡ count → 0 < x.span.holds → room ≤ r → (length free ≡ 0 → length slots + 1 ≤ r) → bigger ≡ r
-    → IsTabled (count + 1) now now_slots left bigger × (spans_to (count + 1) (span_in now now_slots) ≡ v.made ++ x.span ∷ []) × (length now_slots ≡ max v.slots (live_span_count (spans_to (count + 1) (span_in now now_slots))))
+    → IsSlotTable (count + 1) now now_slots left bigger × (spans_to (count + 1) (span_in now now_slots) ≡ v.made ++ x.span ∷ []) × (length now_slots ≡ max v.slots (live_span_count (spans_to (count + 1) (span_in now now_slots))))
 pushed count places now slots now_slots free left room r bigger p x v t is_view placed put named live grown made_room is =
     let b = placed.balance in
     let l = placed.longer in

@@ -1,6 +1,6 @@
 -- What the calls so far say of the spans, one call more at a time.
 use Rattle.std.proofs.Common.{◌≡◌, ℕ, ◌+◌, ◌-◌, ◌<◌, List, [], ◌∷◌, ◌++◌, length, Bool, true, false, cond, count_by, get_or, set, Option, Some, None, refl, sym, ap, subst, ◌∙◌, arith, inl, inr, if◌then◌else◌, ◌==◌, nat_lt, IfSome}
-use Rattle.span_registry.proofs.Common.{cases_eq, cases_lt, cond-true, cond-false, length_push, get_or_past, get_or_push, get_or_append_left, fold-append, Span, Entries, Spans, no_span, span_at, entries_on, with_entries, is_in, times_in, entered_lane_count, is_child_of, without_last, with_hold, less_hold, without_hold, with_hold_of_child, parent_on, next_of, SubscriberCall, NewSpan, Records, Follows, Event, Enter, Exit, CloneSpan, TryClose, spans_after_call, with_new_span, with_span_entry, with_span_exit, Allowed, IsLive, one_if, count_push, made_if_held, length_held, with_same, with_other, less_last, less_more, less_holds, holds_set, holds_other, IsSound, OneEach, parent_live, exit_live, sound_entered, sound_exited, sound_call, no_spans}
+use Rattle.span_registry.proofs.Common.{cases_eq, cases_lt, cond-true, cond-false, length_push, get_or_past, get_or_push, get_or_append_left, fold-append, Span, Entries, Spans, no_span, span_at, entries_on, with_entries, is_in, times_in, entered_lane_count, is_child_of, without_last, with_hold, span_without_hold, without_hold, with_hold_of_child, parent_on, parent_to_release, SubscriberCall, NewSpan, Records, Follows, Event, Enter, Exit, CloneSpan, TryClose, spans_after_call, with_new_span, with_span_entry, with_span_exit, Allowed, IsLive, one_if, count_push, made_if_held, length_held, with_same, with_other, less_last, less_more, less_holds, holds_set, holds_other, IsSound, OneEach, parent_live, exit_live, sound_entered, sound_exited, sound_call, no_spans}
 use Rattle.std.proofs.lemmas.Bool.{eq-eqb, ne_eqb, lt-ltb, le-ltb}
 use Rattle.std.proofs.lemmas.List.{length-set, append_assoc, append-nil, get_or-set_same, get_or-set_other}
 use Rattle.trace_base.specs.declared.lane.Lane.{Lane}
@@ -8,7 +8,7 @@ use Rattle.trace_base.specs.declared.span.Parent.{Parent}
 use Rattle.trace_base.specs.declared.callsite.Callsite.{Callsite}
 use Rattle.trace_base.specs.declared.field.ValueSet.{ValueSet}
 use Rattle.trace_base.proofs.HoldMoveLemmas.{entry_moves, exit_moves}
-use Rattle.span_registry.specs.History.{Runs, entries_after, entries_by_calls, ParentAndSite, no_parent_and_site, span_made_by, made_from, spans_made_by_calls, parent_and_site_of, is_clone, is_release, AreSpansOf}
+use Rattle.span_registry.specs.History.{CallsLead, entries_after, entries_by_calls, ParentAndSite, no_parent_and_site, span_made_by, spans_made_from, spans_made_by_calls, parent_and_site_of, is_clone, is_release, AreSpansOf}
 
 -- a span is what it was made with, or closed
 record Fits (m : ParentAndSite) (s : Span) : Type 0 where
@@ -23,9 +23,9 @@ fits_none m s e =
 fits_more : (m : ParentAndSite) (s : Span) (n : ℕ) → 0 < s.holds → 0 < n → Fits m s → Fits m (record s { holds = n })
 fits_more m s n some more fits = record { live = λ _. ap (λ (t : Span). record t { holds = n }) (fits.live some); closed = λ none. absurd (omega (arith, none, more)) }
 
-fits_less : (m : ParentAndSite) (s : Span) → 0 < s.holds → Fits m s → Fits m (less_hold s)
+fits_less : (m : ParentAndSite) (s : Span) → 0 < s.holds → Fits m s → Fits m (span_without_hold s)
 fits_less m s some fits = elim (cases_eq s.holds 1) [
-  | inl last ↦ fits_none m (less_hold s) (less_last s last)
+  | inl last ↦ fits_none m (span_without_hold s) (less_last s last)
   | inr more ↦ subst (Fits m) (sym (less_more s more)) (fits_more m s (s.holds - 1) some (omega (arith, some, more)) fits)
 ]
 
@@ -39,7 +39,7 @@ fits_held : (T : ℕ → ParentAndSite) (made : List Span) (id : ℕ) → IsLive
 fits_held T made id live fits = fits_set T made id (record (span_at made id) { holds = (span_at made id).holds + 1 }) (made_if_held made id live) (fits_more (T id) (span_at made id) ((span_at made id).holds + 1) live (omega arith) (fits id)) fits
 
 fits_released : (T : ℕ → ParentAndSite) (made : List Span) (id : ℕ) → IsLive made id → ((q : ℕ) → Fits (T q) (span_at made q)) → (q : ℕ) → Fits (T q) (span_at (without_hold made id) q)
-fits_released T made id live fits = fits_set T made id (less_hold (span_at made id)) (made_if_held made id live) (fits_less (T id) (span_at made id) live (fits id)) fits
+fits_released T made id live fits = fits_set T made id (span_without_hold (span_at made id)) (made_if_held made id live) (fits_less (T id) (span_at made id) live (fits id)) fits
 
 fits_if : (T : ℕ → ParentAndSite) (b : Bool) (xs ys : List Span) → ((q : ℕ) → Fits (T q) (span_at xs q)) → ((q : ℕ) → Fits (T q) (span_at ys q)) → (q : ℕ) → Fits (T q) (span_at (if b then xs else ys) q)
 fits_if T true xs ys f g q = f q
@@ -65,12 +65,12 @@ fits_push ms m made long fits q =
     ]
 
 -- the makings of one call more
-made_push : (before calls : List SubscriberCall) (call : SubscriberCall) → made_from before (calls ++ call ∷ []) ≡ made_from before calls ++ span_made_by (before ++ calls) call
+made_push : (before calls : List SubscriberCall) (call : SubscriberCall) → spans_made_from before (calls ++ call ∷ []) ≡ spans_made_from before calls ++ span_made_by (before ++ calls) call
 made_push before [] call = append-nil (span_made_by before call) ∙ ap (λ (xs : List SubscriberCall). span_made_by xs call) (sym (append-nil before))
 made_push before (c ∷ calls) call =
     ap (λ (ms : List ParentAndSite). span_made_by before c ++ ms) (made_push (before ++ c ∷ []) calls call)
-    ∙ sym (append_assoc (span_made_by before c) (made_from (before ++ c ∷ []) calls) (span_made_by ((before ++ c ∷ []) ++ calls) call))
-    ∙ ap (λ (xs : List SubscriberCall). span_made_by before c ++ made_from (before ++ c ∷ []) calls ++ span_made_by xs call) (append_assoc before (c ∷ []) calls)
+    ∙ sym (append_assoc (span_made_by before c) (spans_made_from (before ++ c ∷ []) calls) (span_made_by ((before ++ c ∷ []) ++ calls) call))
+    ∙ ap (λ (xs : List SubscriberCall). span_made_by before c ++ spans_made_from (before ++ c ∷ []) calls ++ span_made_by xs call) (append_assoc before (c ∷ []) calls)
 
 entries_push : (lane : ℕ) (before : List SubscriberCall) (call : SubscriberCall) → entries_by_calls lane (before ++ call ∷ []) ≡ entries_after lane (entries_by_calls lane before) call
 entries_push lane before call = fold-append (entries_after lane) [] before (call ∷ [])
@@ -79,7 +79,7 @@ told_fits : (calls : List SubscriberCall) (x : Spans) → AreSpansOf calls x →
 told_fits calls x told q = record { live = told.live q; closed = told.closed q }
 
 -- the next to be released after a close is the parent that the span was made under
-next_told : (m : ParentAndSite) (made : List Span) (id : ℕ) → Fits m (span_at made id) → (span_at made id).holds ≡ 1 → next_of made id ≡ m.parent
+next_told : (m : ParentAndSite) (made : List Span) (id : ℕ) → Fits m (span_at made id) → (span_at made id).holds ≡ 1 → parent_to_release made id ≡ m.parent
 next_told m made id fits last =
     cond-true {A = Option ℕ} ((span_at made id).holds == 1) (span_at made id).parent None (eq-eqb (span_at made id).holds 1 last)
     ∙ ap (λ (s : Span). s.parent) (fits.live (omega (arith, last)))
@@ -263,7 +263,7 @@ told_call before (CloneSpan id) x sound allowed told =
 told_call before (TryClose id at) x sound allowed told =
     let live : 0 < (span_at x.made id).holds = omega (arith, allowed) in
     let within = made_if_held x.made id live in
-    let now : Span = less_hold (span_at x.made id) in
+    let now : Span = span_without_hold (span_at x.made id) in
     let fewer = less_holds (span_at x.made id) in
     told_step before (TryClose id at) x (record x { made = without_hold x.made id }) refl (length-set x.made id _)
     (λ q. elim (cases_eq q id) [
@@ -298,7 +298,7 @@ sound_none = record { bound = λ id. omega arith; older = λ id p e. absurd (cc 
 -- all calls, one after another
 module _ {S : Type 0} (spans : S → Spans) (does : S → SubscriberCall → S → Type 0) (same : S → S → Type 0) (same_spans : (s t : S) → same s t → spans t ≡ spans s)
     (allowed : (s : S) (call : SubscriberCall) (t : S) → does s call t → Allowed (spans s) call) (shows : (s : S) (call : SubscriberCall) (t : S) → does s call t → spans t ≡ spans_after_call (spans s) call) where
-  told_calls : (before : List SubscriberCall) (s : S) (calls : List SubscriberCall) (t : S) → IsSound (spans s) → AreSpansOf before (spans s) → Runs does same s calls t → AreSpansOf (before ++ calls) (spans t)
+  told_calls : (before : List SubscriberCall) (s : S) (calls : List SubscriberCall) (t : S) → IsSound (spans s) → AreSpansOf before (spans s) → CallsLead does same s calls t → AreSpansOf (before ++ calls) (spans t)
   told_calls before s [] t sound told runs =
       subst (λ (cs : List SubscriberCall). AreSpansOf cs (spans t)) (sym (append-nil before)) (subst (AreSpansOf before) (sym (same_spans s t runs)) told)
   told_calls before s (call ∷ calls) t sound told runs =
@@ -309,5 +309,5 @@ module _ {S : Type 0} (spans : S → Spans) (does : S → SubscriberCall → S �
       (told_calls (before ++ call ∷ []) m calls t (subst IsSound (sym is) (sound_call (spans s) call sound may))
       (subst (AreSpansOf (before ++ call ∷ [])) (sym is) (told_call before call (spans s) sound may told)) runs.2)
 
-  pub history : (s : S) (calls : List SubscriberCall) (t : S) → spans s ≡ no_spans → Runs does same s calls t → AreSpansOf calls (spans t)
+  pub history : (s : S) (calls : List SubscriberCall) (t : S) → spans s ≡ no_spans → CallsLead does same s calls t → AreSpansOf calls (spans t)
   history s calls t none runs = told_calls [] s calls t (subst IsSound (sym none) sound_none) (subst (AreSpansOf []) (sym none) told_none) runs

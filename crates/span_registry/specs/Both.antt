@@ -62,8 +62,8 @@ joint_interest interests.Never inner = interests.Never
 joint_interest interests.Sometimes inner = interests.Sometimes
 joint_interest interests.Always inner = inner
 
-abbrev pub picked_both : (Callsite → Interest) → (Callsite → Interest) → Callsite → Interest
-picked_both layer inner = λ c. joint_interest (layer c) (inner c)
+abbrev pub interest_both : (Callsite → Interest) → (Callsite → Interest) → Callsite → Interest
+interest_both layer inner = λ c. joint_interest (layer c) (inner c)
 
 -- the greater of both hints, and the one where the other part has none
 abbrev pub greater : LevelFilter → LevelFilter → LevelFilter

@@ -22,31 +22,31 @@ pub record AtClose {A : Type 0} (hears : A → Hook → A → Type 0) (a : A) (h
   pub open_still : (holds ≡ 1 → ⊥) → b ≡ a
 
 -- what a call makes of something that hears hooks: what the hook of that call makes of it
-abbrev pub HearsCall : {A : Type 0} → (A → Hook → A → Type 0) → Spans → A → SubscriberCall → A → Type 0
-HearsCall hears spans a (NewSpan lane at parent site callsite values) b = hears a (OnNewSpan (length spans.made) lane at parent (current_of (entries_on lane.id spans.lanes)) callsite values) b
-HearsCall hears spans a (Records id at callsite values) b = hears a (OnRecord id at callsite values) b
-HearsCall hears spans a (Follows id from at) b = hears a (OnFollows id from at) b
-HearsCall hears spans a (Event lane at parent site callsite values) b = hears a (OnEvent (parent_on (entries_on lane.id spans.lanes) parent) lane at callsite values) b
-HearsCall hears spans a (Enter id at before later) b = OnLane hears a (OnEnter id at) before.id b
-HearsCall hears spans a (Exit id at before later) b = OnLane hears a (OnExit id at) before.id b
-HearsCall hears spans a (CloneSpan id) b = b ≡ a
-HearsCall hears spans a (TryClose id at) b = AtClose hears a (OnClose id at) (span_at spans.made id).holds b
+abbrev pub ObservesCall : {A : Type 0} → (A → Hook → A → Type 0) → Spans → A → SubscriberCall → A → Type 0
+ObservesCall hears spans a (NewSpan lane at parent site callsite values) b = hears a (OnNewSpan (length spans.made) lane at parent (current_of (entries_on lane.id spans.lanes)) callsite values) b
+ObservesCall hears spans a (Records id at callsite values) b = hears a (OnRecord id at callsite values) b
+ObservesCall hears spans a (Follows id from at) b = hears a (OnFollows id from at) b
+ObservesCall hears spans a (Event lane at parent site callsite values) b = hears a (OnEvent (parent_on (entries_on lane.id spans.lanes) parent) lane at callsite values) b
+ObservesCall hears spans a (Enter id at before later) b = OnLane hears a (OnEnter id at) before.id b
+ObservesCall hears spans a (Exit id at before later) b = OnLane hears a (OnExit id at) before.id b
+ObservesCall hears spans a (CloneSpan id) b = b ≡ a
+ObservesCall hears spans a (TryClose id at) b = AtClose hears a (OnClose id at) (span_at spans.made id).holds b
 
 -- something that is told keeps being told, and what is not told stays so
-abbrev pub StaysTold : {A : Type 0} → (A → A → Type 0) → Option A → Option A → Type 0
-StaysTold R None now = now ≡ None
-StaysTold {A} R (Some a) now = (b : A) × (now ≡ Some b) × R a b
+abbrev pub StaysPresent : {A : Type 0} → (A → A → Type 0) → Option A → Option A → Type 0
+StaysPresent R None now = now ≡ None
+StaysPresent {A} R (Some a) now = (b : A) × (now ≡ Some b) × R a b
 
 -- what the layer tells, else what the subscriber below it does
-abbrev pub told_first : {A : Type 0} → Option A → Option A → Option A
-told_first None inner = inner
-told_first (Some outer) inner = Some outer
+abbrev pub outer_or_inner : {A : Type 0} → Option A → Option A → Option A
+outer_or_inner None inner = inner
+outer_or_inner (Some outer) inner = Some outer
 
 module _ {S L A : Type 0} (hears : A → Hook → A → Type 0) (spans : S → Spans) (inner : S → SubscriberCall → S → Type 0) (outer : L → Hook → L → Type 0) (same : L → L → Type 0) (attaches : L → Bool) where
   -- a layer that tells something hears the hook of each call
   outer_told : (s t : S) (l m : L) (call : SubscriberCall) (sa : Bool) (sk tk : ℕ → ℕ → ℕ) (a : A) (now : Option A)
-      → ((c : SubscriberCall) → inner s c t → CallLanes sa sk c tk) → ((h : Hook) → outer l h m → StaysTold (λ x y. hears x h y) (Some a) now) → (same l m → now ≡ Some a)
-      → DoesBoth spans inner outer same attaches s l call t m → StaysTold (λ x y. HearsCall hears (spans s) x call y) (Some a) now
+      → ((c : SubscriberCall) → inner s c t → CallLanes sa sk c tk) → ((h : Hook) → outer l h m → StaysPresent (λ x y. hears x h y) (Some a) now) → (same l m → now ≡ Some a)
+      → DoesBoth spans inner outer same attaches s l call t m → StaysPresent (λ x y. ObservesCall hears (spans s) x call y) (Some a) now
   outer_told s t l m (NewSpan lane at parent site callsite values) sa sk tk a now lanes so ss d = so _ d.1
   outer_told s t l m (Records id at callsite values) sa sk tk a now lanes so ss d = so _ d.1
   outer_told s t l m (Follows id from at) sa sk tk a now lanes so ss d = so _ d.1
@@ -78,8 +78,8 @@ module _ {S L A : Type 0} (hears : A → Hook → A → Type 0) (spans : S → S
 
   -- what the subscriber below hears at its call it hears at the call
   inner_heard : (s t : S) (l m : L) (call : SubscriberCall) (told now : Option A)
-      → ((c : SubscriberCall) → inner s c t → StaysTold (λ x y. HearsCall hears (spans s) x c y) told now)
-      → DoesBoth spans inner outer same attaches s l call t m → StaysTold (λ x y. HearsCall hears (spans s) x call y) told now
+      → ((c : SubscriberCall) → inner s c t → StaysPresent (λ x y. ObservesCall hears (spans s) x c y) told now)
+      → DoesBoth spans inner outer same attaches s l call t m → StaysPresent (λ x y. ObservesCall hears (spans s) x call y) told now
   inner_heard s t l m (NewSpan lane at parent site callsite values) told now si d = si _ d.0
   inner_heard s t l m (Records id at callsite values) told now si d = si _ d.0
   inner_heard s t l m (Follows id from at) told now si d = si _ d.0
@@ -97,11 +97,11 @@ module _ {S L A : Type 0} (hears : A → Hook → A → Type 0) (spans : S → S
   -- what a stack tells hears each call
   pub both_told : (s t : S) (l m : L) (call : SubscriberCall) (sa : Bool) (sk tk : ℕ → ℕ → ℕ) (o o' i i' : Option A)
       → ((c : SubscriberCall) → inner s c t → CallLanes sa sk c tk)
-      → ((h : Hook) → outer l h m → StaysTold (λ x y. hears x h y) o o') → (same l m → o' ≡ o)
-      → ((c : SubscriberCall) → inner s c t → StaysTold (λ x y. HearsCall hears (spans s) x c y) i i')
-      → DoesBoth spans inner outer same attaches s l call t m → StaysTold (λ x y. HearsCall hears (spans s) x call y) (told_first o i) (told_first o' i')
+      → ((h : Hook) → outer l h m → StaysPresent (λ x y. hears x h y) o o') → (same l m → o' ≡ o)
+      → ((c : SubscriberCall) → inner s c t → StaysPresent (λ x y. ObservesCall hears (spans s) x c y) i i')
+      → DoesBoth spans inner outer same attaches s l call t m → StaysPresent (λ x y. ObservesCall hears (spans s) x call y) (outer_or_inner o i) (outer_or_inner o' i')
   both_told s t l m call sa sk tk None o' i i' lanes so ss si d =
-      subst (λ (x : Option A). StaysTold (λ x y. HearsCall hears (spans s) x call y) i (told_first x i')) (sym (outer_untold s t l m call o' so ss d)) (inner_heard s t l m call i i' si d)
+      subst (λ (x : Option A). StaysPresent (λ x y. ObservesCall hears (spans s) x call y) i (outer_or_inner x i')) (sym (outer_untold s t l m call o' so ss d)) (inner_heard s t l m call i i' si d)
   both_told s t l m call sa sk tk (Some a) o' i i' lanes so ss si d =
       let h = outer_told s t l m call sa sk tk a o' lanes so ss d in
-      (h.0, ap (λ (x : Option A). told_first x i') h.1, h.2)
+      (h.0, ap (λ (x : Option A). outer_or_inner x i') h.1, h.2)

@@ -13,7 +13,7 @@ use Rattle.trace_base.specs.Conditions.{Allowed}
 use Rattle.trace_base.specs.layers.Hooks.{Hook, OnNewSpan, OnFollows, OnEvent, OnEnter, OnExit, KnownSpans, Sees, HookLanes}
 use Rattle.trace_base.specs.lanes.Contexts.{attached_as, attached_on, KeepsAttached, KeepsLane, KeepsLive, CallLanes}
 use Rattle.std.proofs.lemmas.List.{length-set}
-use Rattle.span_registry.specs.Both.{DoesBoth, EntersBoth, InStep, IsWholeBoth, picked_both, hint_both, enables_both, activates_both}
+use Rattle.span_registry.specs.Both.{DoesBoth, EntersBoth, InStep, IsWholeBoth, interest_both, hint_both, enables_both, activates_both}
 use Rattle.span_registry.specs.Stepping.{in_step, tracks_new, tracks_record, tracks_follows, tracks_event, tracks_enter, tracks_exit, tracks_close, tracks_quiet, sees_quiet}
 
 -- what a call does after room was taken
@@ -225,9 +225,9 @@ whole_both P P' Q Q' x y a b sa sa' la la' p q step e f w = record {
   one_attaches = ap (λ c. c && sa') f ∙ ap (λ c. la && c) e ∙ w.one_attaches;
 }
 
-pub gate_both : (li li' si si' : Callsite → Interest) (lh lh' sh sh' : Option LevelFilter) → (si' ≡ si) × (sh' ≡ sh) → (li' ≡ li) × (lh' ≡ lh) → (picked_both li' si' ≡ picked_both li si) × (hint_both lh' sh' ≡ hint_both lh sh)
+pub gate_both : (li li' si si' : Callsite → Interest) (lh lh' sh sh' : Option LevelFilter) → (si' ≡ si) × (sh' ≡ sh) → (li' ≡ li) × (lh' ≡ lh) → (interest_both li' si' ≡ interest_both li si) × (hint_both lh' sh' ≡ hint_both lh sh)
 gate_both li li' si si' lh lh' sh sh' s l = (
-  ap (λ (f : Callsite → Interest). picked_both f si') l.0 ∙ ap (λ (f : Callsite → Interest). picked_both li f) s.0,
+  ap (λ (f : Callsite → Interest). interest_both f si') l.0 ∙ ap (λ (f : Callsite → Interest). interest_both li f) s.0,
   ap (λ (h : Option LevelFilter). hint_both h sh') l.1 ∙ ap (λ (h : Option LevelFilter). hint_both lh h) s.1,
 )
 

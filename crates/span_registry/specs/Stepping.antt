@@ -7,7 +7,7 @@ use Rattle.trace_base.specs.declared.lane.Lane.{Lane}
 use Rattle.trace_base.specs.declared.span.Parent.{Parent}
 use Rattle.trace_base.specs.declared.callsite.Callsite.{Callsite}
 use Rattle.trace_base.specs.declared.field.ValueSet.{ValueSet}
-use Rattle.trace_base.specs.Spans.{Span, Entries, Spans, span_at, entries_on, is_in, times_in, without_last, with_hold, less_hold, without_hold, with_hold_of_child}
+use Rattle.trace_base.specs.Spans.{Span, Entries, Spans, span_at, entries_on, is_in, times_in, without_last, with_hold, span_without_hold, without_hold, with_hold_of_child}
 use Rattle.trace_base.specs.Calls.{with_new_span, with_span_entry, with_span_exit}
 use Rattle.trace_base.specs.Conditions.{IsLive, MayExit, HasOwnHold}
 use Rattle.trace_base.specs.layers.Hooks.{Hook, OnNewSpan, OnRecord, OnFollows, OnEvent, OnEnter, OnExit, OnClose, KnownSpans, Sees, makes, closes, one_if_entered, one_if_exited, one_if}
@@ -213,7 +213,7 @@ closes_without_entries old id lane own one = no_entries old.lanes id lane (omega
 
 pub tracks_close : (old : Spans) (seen : KnownSpans) → InStep old seen → (id at : ℕ) → HasOwnHold old id → (span_at old.made id).holds ≡ 1 → Tracks old (OnClose id at) (record old { made = without_hold old.made id })
 tracks_close old seen step id at own one =
-    let as_many = length-set old.made id (less_hold (span_at old.made id)) in
+    let as_many = length-set old.made id (span_without_hold (span_at old.made id)) in
     record {
       longer = omega (arith, as_many);
       times = λ lane other. refl;

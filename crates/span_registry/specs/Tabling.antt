@@ -14,21 +14,21 @@ abbrev pub slot_value_at : List SlotValue → ℕ → SlotValue
 slot_value_at slots place = slice_index_or slots place no_slot
 
 -- where the slot of an id stands, by what is kept of it: 0 for none, else one more
-abbrev pub kept_place : ℕ → Option ℕ
-kept_place zero = None
-kept_place (suc place) = Some place
+abbrev pub place_of_entry : ℕ → Option ℕ
+place_of_entry zero = None
+place_of_entry (suc place) = Some place
 
 abbrev pub place_in : List ℕ → ℕ → Option ℕ
-place_in places id = kept_place (slice_index_or places id 0)
+place_in places id = place_of_entry (slice_index_or places id 0)
 
 -- the span in a place, if there is one
-abbrev pub span_of : List SlotValue → Option ℕ → Span
-span_of slots None = no_span
-span_of slots (Some place) = (slot_value_at slots place).span
+abbrev pub span_in_slot : List SlotValue → Option ℕ → Span
+span_in_slot slots None = no_span
+span_in_slot slots (Some place) = (slot_value_at slots place).span
 
 -- the span of an id, by the place of its slot
 abbrev pub span_in : (ℕ → Option ℕ) → List SlotValue → ℕ → Span
-span_in places slots id = span_of slots (places id)
+span_in places slots id = span_in_slot slots (places id)
 
 -- the first spans, in order
 abbrev pub spans_to : ℕ → (ℕ → Span) → List Span
@@ -58,7 +58,7 @@ pub record IsPlace (count : ℕ) (slots : List SlotValue) (id place : ℕ) : Typ
   pub held : 0 < (slot_value_at slots place).span.holds
 
 -- Each slot is that of a live span or free, no slot is free twice, and the list of the free ones has room for all.
-pub record IsTabled (count : ℕ) (places : ℕ → Option ℕ) (slots : List SlotValue) (free : List ℕ) (room : ℕ) : Type 0 where
+pub record IsSlotTable (count : ℕ) (places : ℕ → Option ℕ) (slots : List SlotValue) (free : List ℕ) (room : ℕ) : Type 0 where
   pub known : (id place : ℕ) → places id ≡ Some place → IsPlace count slots id place
   pub freed : (k : ℕ) → k < length free → (slice_index_or free k 0 < length slots) × ((slot_value_at slots (slice_index_or free k 0)).span.holds ≡ 0)
   pub apart : (j k : ℕ) → j < k → k < length free → slice_index_or free j 0 ≢ slice_index_or free k 0

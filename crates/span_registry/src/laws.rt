@@ -2,7 +2,7 @@
 ghost use Rattle.std.specs.Prelude.{◌≡◌, List};
 ghost use Rattle.trace_base.specs.Calls.{SubscriberCall};
 ghost use Rattle.span_registry.specs.Registering.{no_spans};
-ghost use Rattle.span_registry.specs.History.{Runs, AreSpansOf};
+ghost use Rattle.span_registry.specs.History.{CallsLead, AreSpansOf};
 
 use trace_base::subscriber::Subscriber;
 
@@ -10,5 +10,5 @@ use trace_base::subscriber::Subscriber;
 /// holds and entries say of the calls.
 pub fn history<S: Subscriber>()
     ensures { (s : _) (calls : List SubscriberCall) (t : _) → S.spans s ≡ no_spans
-        → Runs S.does S.same s calls t → AreSpansOf calls (S.spans t) }
+        → CallsLead S.does S.same_but_room s calls t → AreSpansOf calls (S.spans t) }
 {}

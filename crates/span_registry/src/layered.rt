@@ -1,7 +1,7 @@
 //! A layer over a subscriber.
 ghost use Rattle.std.specs.Prelude.{◌≡◌, ℕ, ◌+◌, ◌||◌, ◌&&◌, true, false, if◌then◌else◌};
 ghost use Rattle.trace_base.specs.Sound.{IsSound};
-ghost use Rattle.span_registry.specs.Both.{DoesBoth, InStep, IsWholeBoth, KnowsNone, joint_interest, picked_both, hint_both, enables_both, activates_both};
+ghost use Rattle.span_registry.specs.Both.{DoesBoth, InStep, IsWholeBoth, KnowsNone, joint_interest, interest_both, hint_both, enables_both, activates_both};
 ghost use Rattle.span_registry.specs.Layering.{kept_same, or_same, whole_both, in_step_same, both_same, both_allowed, both_shows, both_lanes, both_keep, both_in_step, gate_both, enables_same, activates_same, both_passive, both_kept_by_entries};
 ghost use Rattle.trace_base.specs.layers.Hooks.{OnEnter};
 ghost use Rattle.std.specs.Borrow.{sem};
@@ -16,7 +16,7 @@ use trace_base::field::ValueSet;
 use trace_base::lane::Lane;
 use trace_base::layer::Layer;
 use trace_base::level::LevelFilter;
-use trace_base::span::{Closing, Id, Parent};
+use trace_base::span::{CloseReply, Id, Parent};
 use trace_base::subscriber::{Interest, Subscriber};
 
 /// A layer over a subscriber; `tracing_subscriber::layer::Layered`. At a call the layer takes its memory, the subscriber
@@ -109,7 +109,7 @@ impl<L: Layer, S: Subscriber> Subscriber for Layered<L, S> {
 
     ghost activates = { λ s. activates_both (L.attaches s.layer) (L.seen s.layer) (S.activates s.inner) };
 
-    ghost interest = { λ s. picked_both (L.interest s.layer) (S.interest s.inner) };
+    ghost interest = { λ s. interest_both (L.interest s.layer) (S.interest s.inner) };
 
     ghost enables = { λ s. enables_both (L.enables s.layer) (S.enables s.inner) };
 
@@ -117,9 +117,9 @@ impl<L: Layer, S: Subscriber> Subscriber for Layered<L, S> {
 
     ghost is_whole = { λ s. IsWholeBoth (S.is_whole s.inner) (L.is_whole s.layer) (S.spans s.inner) (L.seen s.layer) (S.attaches s.inner) (L.attaches s.layer) };
 
-    ghost same = { λ s t. S.same s.inner t.inner × L.same s.layer t.layer };
+    ghost same_but_room = { λ s t. S.same_but_room s.inner t.inner × L.same_but_room s.layer t.layer };
 
-    ghost does = { λ s call t. DoesBoth S.spans S.does L.does L.same L.attaches s.inner s.layer call t.inner t.layer };
+    ghost does = { λ s call t. DoesBoth S.spans S.does L.does L.same_but_room L.attaches s.inner s.layer call t.inner t.layer };
 
     ghost same_refl = { λ s. (S.same_refl s.inner, L.same_refl s.layer) };
 
@@ -141,16 +141,16 @@ impl<L: Layer, S: Subscriber> Subscriber for Layered<L, S> {
         (S.same_whole s.inner t.inner h.0) (L.same_whole s.layer t.layer h.1) (in_step_same (S.spans s.inner) (S.spans t.inner) (L.seen s.layer) (L.seen t.layer) (S.same_spans s.inner t.inner h.0) (L.same_seen s.layer t.layer h.1))
         (S.same_attaches s.inner t.inner h.0) (L.same_attaches s.layer t.layer h.1) w };
 
-    ghost same_does = { λ s t call u h d. both_same S.spans S.does L.does L.same L.attaches s.inner t.inner s.layer t.layer call u.inner u.layer (S.same_spans s.inner t.inner h.0) (L.same_attaches s.layer t.layer h.1)
+    ghost same_does = { λ s t call u h d. both_same S.spans S.does L.does L.same_but_room L.attaches s.inner t.inner s.layer t.layer call u.inner u.layer (S.same_spans s.inner t.inner h.0) (L.same_attaches s.layer t.layer h.1)
         (λ c. S.same_does s.inner t.inner c u.inner h.0) (λ k. L.same_does s.layer t.layer k u.layer h.1) (L.same_trans s.layer t.layer u.layer h.1) d };
 
-    ghost sound = { λ s call t d. (both_keep S.spans S.does L.does L.same L.attaches s.inner t.inner s.layer t.layer call (IsSound (S.spans s.inner)) (Unit {0}) (λ c. S.sound s.inner c t.inner) (λ k e. tt) (λ e. tt) d).0 };
+    ghost sound = { λ s call t d. (both_keep S.spans S.does L.does L.same_but_room L.attaches s.inner t.inner s.layer t.layer call (IsSound (S.spans s.inner)) (Unit {0}) (λ c. S.sound s.inner c t.inner) (λ k e. tt) (λ e. tt) d).0 };
 
-    ghost allowed = { λ s call t d. both_allowed S.spans S.does L.does L.same L.attaches s.inner t.inner s.layer t.layer call (λ c. S.allowed s.inner c t.inner) d };
+    ghost allowed = { λ s call t d. both_allowed S.spans S.does L.does L.same_but_room L.attaches s.inner t.inner s.layer t.layer call (λ c. S.allowed s.inner c t.inner) d };
 
-    ghost shows = { λ s call t d. both_shows S.spans S.does L.does L.same L.attaches s.inner t.inner s.layer t.layer call (λ c. S.shows s.inner c t.inner) d };
+    ghost shows = { λ s call t d. both_shows S.spans S.does L.does L.same_but_room L.attaches s.inner t.inner s.layer t.layer call (λ c. S.shows s.inner c t.inner) d };
 
-    ghost lanes = { λ s call t d. both_lanes S.spans S.does L.does L.same L.attaches s.inner t.inner s.layer t.layer call (S.attaches s.inner) (S.kept s.inner) (S.kept t.inner) (L.kept s.layer) (L.kept t.layer)
+    ghost lanes = { λ s call t d. both_lanes S.spans S.does L.does L.same_but_room L.attaches s.inner t.inner s.layer t.layer call (S.attaches s.inner) (S.kept s.inner) (S.kept t.inner) (L.kept s.layer) (L.kept t.layer)
         (λ c. S.lanes s.inner c t.inner) (λ k. L.lanes s.layer k t.layer) (L.same_kept s.layer t.layer) d };
 
     ghost kept_by_entries = { λ s lane number w none. both_kept_by_entries (S.is_whole s.inner) (L.is_whole s.layer) (S.spans s.inner) (L.seen s.layer) (S.attaches s.inner) (L.attaches s.layer) (S.kept s.inner) (L.kept s.layer) lane number
@@ -159,26 +159,26 @@ impl<L: Layer, S: Subscriber> Subscriber for Layered<L, S> {
     ghost passive = { λ s id at before later t d neither. both_passive S.does L.does (L.attaches s.layer) s.inner t.inner s.layer t.layer id at before later (L.seen s.layer) (S.activates s.inner)
         (λ b c. S.passive s.inner id at b c t.inner) (λ b c e a. (L.lanes s.layer (OnEnter id at b c) t.layer e).0.as_it_is a) (λ b c. L.passive s.layer id at b c t.layer) d neither };
 
-    ghost keeps_attaches = { λ s call t d. let e = both_keep S.spans S.does L.does L.same L.attaches s.inner t.inner s.layer t.layer call (S.attaches t.inner ≡ S.attaches s.inner) (L.attaches t.layer ≡ L.attaches s.layer)
+    ghost keeps_attaches = { λ s call t d. let e = both_keep S.spans S.does L.does L.same_but_room L.attaches s.inner t.inner s.layer t.layer call (S.attaches t.inner ≡ S.attaches s.inner) (L.attaches t.layer ≡ L.attaches s.layer)
         (λ c. S.keeps_attaches s.inner c t.inner) (λ k. L.keeps_attaches s.layer k t.layer) (L.same_attaches s.layer t.layer) d in or_same (L.attaches s.layer) (L.attaches t.layer) (S.attaches s.inner) (S.attaches t.inner) e.1 e.0 };
 
     ghost keeps_gate = { λ s call t d.
-        let e = both_keep S.spans S.does L.does L.same L.attaches s.inner t.inner s.layer t.layer call ((S.interest t.inner ≡ S.interest s.inner) × (S.hint t.inner ≡ S.hint s.inner)) ((L.interest t.layer ≡ L.interest s.layer) × (L.hint t.layer ≡ L.hint s.layer))
+        let e = both_keep S.spans S.does L.does L.same_but_room L.attaches s.inner t.inner s.layer t.layer call ((S.interest t.inner ≡ S.interest s.inner) × (S.hint t.inner ≡ S.hint s.inner)) ((L.interest t.layer ≡ L.interest s.layer) × (L.hint t.layer ≡ L.hint s.layer))
         (λ c. S.keeps_gate s.inner c t.inner) (λ k. L.keeps_gate s.layer k t.layer) (L.same_gate s.layer t.layer) d in
         gate_both (L.interest s.layer) (L.interest t.layer) (S.interest s.inner) (S.interest t.inner) (L.hint s.layer) (L.hint t.layer) (S.hint s.inner) (S.hint t.inner) e.0 e.1 };
 
     ghost keeps_whole = { λ s call t d w.
-        let a = both_keep S.spans S.does L.does L.same L.attaches s.inner t.inner s.layer t.layer call (S.attaches t.inner ≡ S.attaches s.inner) (L.attaches t.layer ≡ L.attaches s.layer)
+        let a = both_keep S.spans S.does L.does L.same_but_room L.attaches s.inner t.inner s.layer t.layer call (S.attaches t.inner ≡ S.attaches s.inner) (L.attaches t.layer ≡ L.attaches s.layer)
         (λ c. S.keeps_attaches s.inner c t.inner) (λ k. L.keeps_attaches s.layer k t.layer) (L.same_attaches s.layer t.layer) d in
-        let h = both_keep S.spans S.does L.does L.same L.attaches s.inner t.inner s.layer t.layer call (S.is_whole s.inner → S.is_whole t.inner) (L.is_whole s.layer → L.is_whole t.layer)
+        let h = both_keep S.spans S.does L.does L.same_but_room L.attaches s.inner t.inner s.layer t.layer call (S.is_whole s.inner → S.is_whole t.inner) (L.is_whole s.layer → L.is_whole t.layer)
         (λ c. S.keeps_whole s.inner c t.inner) (λ k. L.keeps_whole s.layer k t.layer) (L.same_whole s.layer t.layer) d in
         whole_both (S.is_whole s.inner) (S.is_whole t.inner) (L.is_whole s.layer) (L.is_whole t.layer) (S.spans s.inner) (S.spans t.inner) (L.seen s.layer) (L.seen t.layer) (S.attaches s.inner) (S.attaches t.inner) (L.attaches s.layer) (L.attaches t.layer)
-        h.0 h.1 (both_in_step S.spans S.does L.does L.same L.attaches s.inner t.inner s.layer t.layer call (L.seen s.layer) (L.seen t.layer) (λ c. S.shows s.inner c t.inner) (λ c. S.allowed s.inner c t.inner)
+        h.0 h.1 (both_in_step S.spans S.does L.does L.same_but_room L.attaches s.inner t.inner s.layer t.layer call (L.seen s.layer) (L.seen t.layer) (λ c. S.shows s.inner c t.inner) (λ c. S.allowed s.inner c t.inner)
         (S.attaches s.inner) (S.kept s.inner) (S.kept t.inner) (λ c. S.lanes s.inner c t.inner) (λ k. L.sees s.layer k t.layer) (L.same_seen s.layer t.layer) d) a.0 a.1 w };
 
     fn register_callsite(&mut self, callsite: &Callsite) -> Result<Interest, Memory> {
         let inner = self.inner.register_callsite(callsite)?;
-        Ok(pick(self.layer.register_callsite(callsite), inner))
+        Ok(joint_interest(self.layer.register_callsite(callsite), inner))
     }
 
     fn enabled(&self, lane: u64, callsite: &Callsite) -> bool {
@@ -264,7 +264,7 @@ impl<L: Layer, S: Subscriber> Subscriber for Layered<L, S> {
         self.inner.clone_span(id);
     }
 
-    fn try_close(&mut self, id: Id, at: u64) -> Closing {
+    fn try_close(&mut self, id: Id, at: u64) -> CloseReply {
         let closing = self.inner.try_close(id, at);
         if closing.closed {
             self.layer.on_close(id, at);
@@ -290,7 +290,7 @@ impl<L: Discard, S: Discard> Discard for Layered<L, S> {
 }
 
 // The layer's interest, and the subscriber's where the layer always takes what the callsite makes.
-fn pick(layer: Interest, inner: Interest) -> Interest
+fn joint_interest(layer: Interest, inner: Interest) -> Interest
     ensures { result ≡ joint_interest layer inner }
 {
     match layer {

@@ -3,7 +3,7 @@ ghost use Rattle.std.specs.Prelude.{◌≡◌, ℕ, ◌<◌, ◌==◌, [], true,
 ghost use Rattle.std.proofs.Common.{refl, ◌∙◌, ap};
 ghost use Rattle.trace_base.specs.declared.lane.Lane.{Lane};
 ghost use Rattle.trace_base.specs.declared.subscriber.Interest.TheVariants as interests;
-ghost use Rattle.trace_base.specs.Spans.{Spans, span_at, entries_on, with_hold, without_hold, next_of};
+ghost use Rattle.trace_base.specs.Spans.{Spans, span_at, entries_on, with_hold, without_hold, parent_to_release};
 ghost use Rattle.trace_base.specs.Calls.{TryClose};
 ghost use Rattle.trace_base.specs.Conditions.{HasOwnHold, IsLive, HasFewHolds};
 ghost use Rattle.trace_base.specs.Sound.{IsSound};
@@ -21,7 +21,7 @@ use trace_base::discard::Discard;
 use trace_base::field::ValueSet;
 use trace_base::lane::Lane;
 use trace_base::level::LevelFilter;
-use trace_base::span::{Closing, Id, Parent};
+use trace_base::span::{CloseReply, Id, Parent};
 use trace_base::subscriber::{Interest, Subscriber};
 
 /// The spans that are live, with their holds, and the entries that are open on each lane;
@@ -93,9 +93,9 @@ impl Registry {
     }
 
     /// Releases one hold of a span, and answers the parent that is to be released next: none at the end of the chain.
-    pub fn next_closed(&mut self, id: Id) -> Option<Id>
+    pub fn release_hold(&mut self, id: Id) -> Option<Id>
         requires { HasOwnHold self.old.spans id }
-        ensures value { result ≡ next_of self.old.spans.made id }
+        ensures value { result ≡ parent_to_release self.old.spans.made id }
         ensures spans { self.new.spans ≡ record self.old.spans { made = without_hold self.old.spans.made id } }
         ensures slots { self.new.slots ≡ self.old.slots }
         ensures next_held { IfSome result (λ p. (p < id) × HasOwnHold self.new.spans p) }
@@ -122,7 +122,7 @@ impl Subscriber for Registry {
 
     ghost is_whole = { λ s. Unit {0} };
 
-    ghost same = { λ s t. t ≡ s };
+    ghost same_but_room = { λ s t. t ≡ s };
 
     ghost does = { DoesRegistry };
 
@@ -234,7 +234,7 @@ impl Subscriber for Registry {
         self.table.hold(id);
     }
 
-    fn try_close(&mut self, id: Id, _at: u64) -> Closing {
+    fn try_close(&mut self, id: Id, _at: u64) -> CloseReply {
         self.table.release(id)
     }
 

@@ -1,6 +1,6 @@
 //! The spans that are live, each in a slot that is used again after its span closed.
 ghost use Rattle.std.specs.Prelude.{◌≡◌, ◌==◌, ◌+◌, ◌-◌, ◌<◌, ◌≤◌, ◌^◌, ◌∷◌, [], ◌++◌, ℕ, length, take, max, slice_index_or, slice_set, vec_len, vec_capacity, Some, None, OnOk, OnErr, IfSome, IfOk, if◌then◌else◌};
-ghost use Rattle.trace_base.specs.Spans.{Span, no_span, span_at, with_hold, with_hold_of_child, without_hold, next_of};
+ghost use Rattle.trace_base.specs.Spans.{Span, no_span, span_at, with_hold, with_hold_of_child, without_hold, parent_to_release};
 ghost use Rattle.trace_base.specs.Conditions.{IsLive, HasFewHolds};
 ghost use Rattle.span_registry.specs.Tabling.{SlotValue, IsPlace, place_in, slot_value_at, live_span_count};
 
@@ -8,10 +8,10 @@ use otel_base::memory::Memory;
 use std::alloc::Global;
 use std::marker::Model;
 use trace_base::callsite::SiteId;
-use trace_base::span::{Closing, Id};
+use trace_base::span::{CloseReply, Id};
 
 // So many slots there are at most, since a place is counted in four bytes.
-const MOST_SLOTS: usize = 4_294_967_295;
+const MAX_SLOTS: usize = 4_294_967_295;
 
 // What is kept of a span. A free slot has no holds.
 #[derive(Drop)]
@@ -44,13 +44,13 @@ pub(crate) struct Table {
 
 impl Model for Table {
     ghost use Rattle.std.specs.Prelude.{vec_capacity};
-    ghost use Rattle.span_registry.specs.Tabling.{SlotTableValue, slot_table_value, place_in, IsTabled};
+    ghost use Rattle.span_registry.specs.Tabling.{SlotTableValue, slot_table_value, place_in, IsSlotTable};
 
     ghost Value = { SlotTableValue };
 
     ghost view = { λ t. slot_table_value t.count (place_in t.places.items) t.slots.items };
 
-    ghost invariant = { λ t. IsTabled t.count (place_in t.places.items) t.slots.items t.free.items (vec_capacity t.free) };
+    ghost invariant = { λ t. IsSlotTable t.count (place_in t.places.items) t.slots.items t.free.items (vec_capacity t.free) };
 }
 
 impl Table {
@@ -181,11 +181,11 @@ impl Table {
     }
 
     // One hold less; with the last one the span closes, and its slot is free.
-    pub(crate) fn release(&mut self, id: Id) -> Closing
+    pub(crate) fn release(&mut self, id: Id) -> CloseReply
         requires { IsLive self.old.made id }
         ensures made { self.new ≡ record self.old { made = without_hold self.old.made id } }
         ensures closed { result.closed ≡ ((span_at self.old.made id).holds == 1) }
-        ensures next { result.next ≡ next_of self.old.made id }
+        ensures next { result.next ≡ parent_to_release self.old.made id }
     {
         let Some(place) = find(&self.places, id) else {
             unreachable!()
@@ -193,7 +193,7 @@ impl Table {
         let slot = &mut self.slots[place];
         slot.holds -= 1;
         if slot.holds > 0 {
-            return Closing {
+            return CloseReply {
                 closed: false,
                 next: None,
             };
@@ -203,7 +203,7 @@ impl Table {
         let Ok(()) = self.free.push(place) else {
             unreachable!()
         };
-        Closing { closed: true, next }
+        CloseReply { closed: true, next }
     }
 }
 
@@ -224,7 +224,7 @@ fn put(places: &mut Vec<u32>, id: Id, place: usize) -> Result<(), Memory>
         ((q : ℕ) → place_in places.new.items q ≡ (if id == q then Some place else place_in places.old.items q)) }
     ensures memory_leaves { OnErr result ((q : ℕ) → place_in places.new.items q ≡ place_in places.old.items q) }
 {
-    if place >= MOST_SLOTS {
+    if place >= MAX_SLOTS {
         return Err(Memory);
     }
     reserve_place(places, id)?;

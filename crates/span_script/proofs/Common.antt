@@ -17,9 +17,9 @@ pub use Rattle.trace_base.proofs.EntryLemmas.{any_if_counted, count_cons, count_
 pub use Rattle.trace_base.proofs.HoldLemmas.{children_set, current_in, first_if_in, holds_other, holds_set, keeps_children, less_holds, less_last, less_more, times_without}
 pub use Rattle.trace_base.specs.Calls.{CloneSpan, Enter, Exit, NewSpan, SubscriberCall, with_new_span, with_span_entry, with_span_exit}
 pub use Rattle.trace_base.specs.Conditions.{AreFew, HasFewHolds, HasFewHoldsAbove, HasOwnHold, IsLive, IsLiveParent, MayExit}
-pub use Rattle.trace_base.specs.Gate.{AreSame, IsFresh, Worlds, interests_of_sites}
+pub use Rattle.trace_base.specs.Gate.{AreSame, IsFresh, WorldValue, interests_of_sites}
 pub use Rattle.trace_base.specs.Sound.{OneEach, has_lane}
-pub use Rattle.trace_base.specs.Spans.{Entries, Span, Spans, current_of, entries_on, entered_lane_count, has_entry, with_hold_of_child, is_child_of, is_in, is_open_child, less_hold, next_of, no_span, open_child_count, parent_on, span_at, times_in, with_entries, with_hold, without_hold, without_last}
+pub use Rattle.trace_base.specs.Spans.{Entries, Span, Spans, current_of, entries_on, entered_lane_count, has_entry, with_hold_of_child, is_child_of, is_in, is_open_child, span_without_hold, parent_to_release, no_span, open_child_count, parent_on, span_at, times_in, with_entries, with_hold, without_hold, without_last}
 pub use Rattle.trace_base.specs.declared.callsite.Callsite.{Callsite}
 pub use Rattle.trace_base.specs.declared.callsite.Kind.{Kind}
 pub use Rattle.trace_base.specs.declared.field.ValueSet.{ValueSet}
@@ -27,9 +27,9 @@ pub use Rattle.trace_base.specs.declared.lane.Lane.{Lane}
 pub use Rattle.trace_base.specs.declared.span.Parent.{Parent}
 pub use Rattle.trace_base.specs.declared.subscriber.Interest.{Interest}
 pub use Rattle.trace_base.specs.lanes.Contexts.{AreAttached, KeepsAttached, CallLanes, attached_as}
-pub use Rattle.span_handles.specs.Entries.{IsThere, LeavesLane, MeetsFullLane}
-pub use Rattle.span_handles.specs.Handles.{AreOfOne, Copies, FollowsOn, Handle, HasOn, Held, IsCurrent, IsKnown, IsSite, Makes, MayMake, RecordsAt, RecordsOn, ReplacedOn, callsite_in, field_at, field_in, id_of, no_handle, place_under}
-pub use Rattle.span_handles.specs.Worlds.{Alike, Chain, ChainShown, Has, ReleasesChain, Replaced, Shown, all_released, closed_in, kept_in, member_of, no_spans, releases, spans_in}
+pub use Rattle.span_handles.specs.Entries.{IsThere, KeepsLaneButRoom, MeetsFullLane}
+pub use Rattle.span_handles.specs.Handles.{AreOfOne, Copies, FollowsOn, Handle, HasOn, HeldSpan, IsCurrent, IsKnown, IsSite, Makes, MayMake, RecordsAt, RecordsOn, ReplacedOn, callsite_in, field_at, field_in, id_of, no_handle, as_parent}
+pub use Rattle.span_handles.specs.Worlds.{KeepsPlainData, Chain, ChainChangesPlainData, Has, ReleasesChain, Replaced, ChangesPlainData, all_released, closed_in, kept_in, read_subscriber, no_spans, releases, spans_in}
 pub use Rattle.env_directives.specs.declared.env.directive.Directive.{Directive}
 pub use Rattle.env_filter.specs.Filtering.{FilterState, FilterWithRoom, IsNewFilter, enables_in, interest_in, is_admitted, plain_filter}
 pub use Rattle.env_filter.specs.Reloading.{layer_or, none_kept, sometimes}
@@ -37,12 +37,12 @@ pub use Rattle.otel_state.specs.Stack.{last_passing}
 pub use Rattle.otel_state.specs.States.{SpanData, after_op, data_at_making, is_growing, reply_after}
 pub use Rattle.otel_state.specs.declared.op.Op.{Op}
 pub use Rattle.otel_state.specs.declared.settings.LayerSettings.{LayerSettings}
-pub use Rattle.otel_layer.specs.Asking.{AppliesOn, AsksContext, AsksDone, AsksParent, ShowsOn, context_or_empty, done_answer, event_at, link_of, parent_answer, parent_reply}
-pub use Rattle.otel_layer.specs.Core.{is_number, is_token, keeps_as, kept_by}
-pub use Rattle.otel_layer.specs.Parts.{Applies, AppliesTo, PartCall, Shows, context_at}
-pub use Rattle.otel_layer.specs.Recording.{AttachesOwn, Detaches, Enters, Exits, Recording, RecordsCall, RecordsChain, closed_started, data_after, data_started, no_recording, source_of, started_under, with_applied, with_close, with_start, with_starts, without_closed}
+pub use Rattle.otel_layer.specs.Asking.{AppliesOn, AsksContext, AsksDone, AsksParent, GivesContextOn, context_or_empty, done_answer, event_at, link_of, parent_answer, parent_reply}
+pub use Rattle.otel_layer.specs.Core.{is_attached_as, is_token, keeps_as, kept_by}
+pub use Rattle.otel_layer.specs.Parts.{Applies, AppliesTo, PartCall, GivesContext, context_at}
+pub use Rattle.otel_layer.specs.Recording.{AttachesOwnContext, Detaches, Enters, Exits, Recording, RecordsCall, RecordsChain, closed_started, data_after, data_started, no_recording, source_of, with_start_under, with_applied, with_close, with_start, with_starts, without_closed}
 pub use Rattle.otel_layer.specs.Steps.{lane_context, context_from, new_span_data, parent_source, with_link}
-pub use Rattle.otel_layer.specs.Table.{data_at, ids_at, knows_span, own_or, waiting_context, context_unless_started, with_op, with_span_data}
+pub use Rattle.otel_layer.specs.Table.{data_at, ids_at, knows_span, own_context_or, start_context, context_unless_started, with_op, with_span_data}
 pub use Rattle.otel_layer.specs.declared.layer.tokens.Token.{Token}
 pub use Rattle.otel_metrics.specs.declared.measure.Measure.{Measure}
 pub use Rattle.span_stack.specs.Counting.{RecordsCallBy, with_counted, with_event_by}

@@ -1,7 +1,7 @@
 -- What the texts of filters are read as. That this is what the forms of directives say, piece by piece, says `texts` of span_laws.
 use Rattle.std.specs.Prelude.{◌≡◌, ℕ, ◌+◌, List, [], ◌∷◌, if◌then◌else◌, Bool, true, false, Option, None, Some, Result, Ok, Err, IfSome, option_map}
 use Rattle.std.specs.Str.{trim}
-use Rattle.env_directives.specs.reading.Reading.{DirectiveRead, reading}
+use Rattle.env_directives.specs.reading.Reading.{DirectiveRead, read_directive}
 use Rattle.env_directives.specs.reading.Separators.{comma_pieces}
 use Rattle.env_directives.specs.orders.Table.{empty_table}
 use Rattle.env_directives.specs.declared.env.directive.Directive.{Directive}
@@ -25,7 +25,7 @@ with_piece_read number (Ok d) (Ok ds) = Ok (d ∷ ds)
 -- an empty one is no directive, and no fault; values of texts are taken as they stand
 abbrev pub with_piece : ℕ → List ℕ → TextRead → TextRead
 with_piece number [] behind = behind
-with_piece number (b ∷ bs) behind = with_piece_read number (reading false (trim (b ∷ bs))) behind
+with_piece number (b ∷ bs) behind = with_piece_read number (read_directive false (trim (b ∷ bs))) behind
 
 -- pieces, which are numbered on from a number
 abbrev pub pieces_read : ℕ → List (List ℕ) → TextRead

@@ -4,7 +4,7 @@ use Rattle.otel_base.specs.declared.context.Context.{Context}
 use Rattle.trace_base.specs.declared.lane.Lane.{Lane}
 use Rattle.trace_base.specs.declared.callsite.Callsite.{Callsite}
 use Rattle.trace_base.specs.declared.subscriber.Interest.{Interest}
-use Rattle.trace_base.specs.Gate.{Worlds}
+use Rattle.trace_base.specs.Gate.{WorldValue}
 use Rattle.trace_base.specs.Spans.{Spans, Span, span_at}
 use Rattle.trace_base.specs.Sound.{OneEach}
 use Rattle.otel_base.specs.Stack.{has_number}
@@ -13,14 +13,14 @@ use Rattle.otel_layer.specs.declared.layer.tokens.Token.{Token}
 use Rattle.otel_layer.specs.Core.{is_token}
 use Rattle.otel_layer.specs.Table.{data_at}
 use Rattle.otel_layer.specs.Recording.{Recording, no_recording}
-use Rattle.env_directives.specs.orders.Table.{Table}
+use Rattle.env_directives.specs.orders.Table.{DirectiveTable}
 use Rattle.env_directives.specs.declared.directive.StaticDirective.{StaticDirective}
 use Rattle.env_directives.specs.declared.env.directive.Directive.{Directive}
 use Rattle.env_filter.specs.Filtering.{FilterState, IsNewFilter, interest_in}
 use Rattle.env_filter.specs.spans.Levels.{OpenLevel}
 use Rattle.env_filter.specs.spans.Watching.{MatchState}
-use Rattle.span_handles.specs.Worlds.{Has, member_of, spans_in, kept_in}
-use Rattle.span_handles.specs.Handles.{Handle, Held}
+use Rattle.span_handles.specs.Worlds.{Has, read_subscriber, spans_in, kept_in}
+use Rattle.span_handles.specs.Handles.{Handle, HeldSpan}
 use Rattle.otel_metrics.specs.declared.measure.Measure.{Measure}
 use Rattle.span_stack.specs.Reading.{Stacks, stack_recording, filter_in_place, counting_filter, stack_measures}
 use Rattle.span_script.specs.declared.slots.Guard.{Guard}
@@ -72,8 +72,8 @@ stack_views = record { recorded = stack_recording; filtered = filter_in_place; c
 
 -- What is seen of a filter at the spans of the first ids, from the last one on, and at the lanes of some ids.
 pub record ShownFilter : Type 0 where
-  pub statics : Table StaticDirective
-  pub dynamics : Table Directive
+  pub statics : DirectiveTable StaticDirective
+  pub dynamics : DirectiveTable Directive
   pub spans : List (Option MatchState)
   pub lanes : List (List OpenLevel)
 
@@ -95,14 +95,14 @@ pub record State : Type 0 where
   pub counter : Option ShownFilter
   pub measures : List Measure
   pub dispatch : ℕ
-  pub handles : List (Option Held)
+  pub handles : List (Option HeldSpan)
   pub handle_sites : List (Option (Option ℕ))
   pub guards : List (Option Guard)
   pub contexts : ContextSlots
   pub moment : ℕ
 
 -- what an unspent handle stands for
-abbrev pub held_by : Option Handle → Option Held
+abbrev pub held_by : Option Handle → Option HeldSpan
 held_by slot = option_map (λ h. h.held) slot
 
 -- the place of its callsite, if it has one
@@ -114,7 +114,7 @@ setup_of sites lanes opening layer = record { sites = sites; ids = map (λ l. l.
 
 -- what a pipeline is made of
 pub record Parts (S : Type 0) : Type 0 where
-  pub world : Worlds S
+  pub world : WorldValue S
   pub dispatch : ℕ
   pub opening : Texts
   pub lanes : List Lane
@@ -126,14 +126,14 @@ pub record Parts (S : Type 0) : Type 0 where
 -- what it keeps, read off its parts
 abbrev pub state_of : {S : Type 0} → (S → Spans) → Views S → Parts S → State
 state_of spans views parts = record {
-  setup = setup_of parts.world.sites parts.lanes parts.opening (member_of views.recorded no_recording parts.world parts.dispatch).settings;
+  setup = setup_of parts.world.sites parts.lanes parts.opening (read_subscriber views.recorded no_recording parts.world parts.dispatch).settings;
   spans = spans_in spans parts.world parts.dispatch;
   lanes = map lane_value parts.lanes;
-  recording = member_of views.recorded no_recording parts.world parts.dispatch;
-  filter = option_map (shown_of (length (spans_in spans parts.world parts.dispatch).made) (map (λ l. l.id) parts.lanes)) (member_of views.filtered None parts.world parts.dispatch);
+  recording = read_subscriber views.recorded no_recording parts.world parts.dispatch;
+  filter = option_map (shown_of (length (spans_in spans parts.world parts.dispatch).made) (map (λ l. l.id) parts.lanes)) (read_subscriber views.filtered None parts.world parts.dispatch);
   cached = parts.world.cached;
-  counter = option_map (shown_of 0 (map (λ l. l.id) parts.lanes)) (member_of views.counter None parts.world parts.dispatch);
-  measures = member_of views.measured [] parts.world parts.dispatch;
+  counter = option_map (shown_of 0 (map (λ l. l.id) parts.lanes)) (read_subscriber views.counter None parts.world parts.dispatch);
+  measures = read_subscriber views.measured [] parts.world parts.dispatch;
   dispatch = parts.dispatch;
   handles = map held_by parts.handles;
   handle_sites = map site_by parts.handles;
@@ -143,7 +143,7 @@ state_of spans views parts = record {
 }
 
 -- what a handle of a scope stands for, and what a guard keeps
-abbrev pub held_of : ℕ → Scope → Held
+abbrev pub held_of : ℕ → Scope → HeldSpan
 held_of dispatch [] = None
 held_of dispatch (s ∷ up) = Some (dispatch, s)
 

@@ -7,11 +7,11 @@ use Rattle.trace_base.specs.Calls.{SubscriberCall}
 use Rattle.trace_base.specs.declared.callsite.Callsite.{Callsite}
 use Rattle.env_filter.specs.Filtering.{FilterState, is_admitted}
 use Rattle.span_handles.specs.Events.{TellsEvent}
-use Rattle.trace_base.specs.Gate.{Worlds}
+use Rattle.trace_base.specs.Gate.{WorldValue}
 use Rattle.trace_base.specs.Spans.{Spans}
 use Rattle.trace_base.specs.declared.span.Parent.{Parent}
 use Rattle.trace_base.specs.declared.span.Parent.TheVariants as parent
-use Rattle.span_handles.specs.Handles.{Handle, Held, Makes, no_handle, place_under}
+use Rattle.span_handles.specs.Handles.{Handle, HeldSpan, Makes, no_handle, as_parent}
 use Rattle.span_script.specs.declared.reply.Refusal.{Refusal}
 use Rattle.span_script.specs.declared.reply.What.TheVariants as what
 use Rattle.span_script.specs.declared.request.RequestParent.{RequestParent}
@@ -22,10 +22,10 @@ use Rattle.span_script.specs.Setups.{event_site, span_site}
 use Rattle.span_script.specs.calls.Here.{◌>>=◌, need}
 
 -- under what a new span is put, by a request's place, if the handle is there
-abbrev pub parent_for : List (Option Held) → RequestParent → Option Parent
+abbrev pub parent_for : List (Option HeldSpan) → RequestParent → Option Parent
 parent_for handles request_parent.Root = Some parent.Root
 parent_for handles request_parent.Contextual = Some parent.Current
-parent_for handles (request_parent.Under handle) = option_map place_under (slice_index_or handles handle None)
+parent_for handles (request_parent.Under handle) = option_map as_parent (slice_index_or handles handle None)
 
 abbrev pub names_handle : ℕ → Option Guard → Bool
 names_handle handle None = false
@@ -56,22 +56,22 @@ named_values callsite parent fields = do
   need what.Field (all_values given fields)
 
 -- a span was made by one call and a handle of it, or nothing and a disabled handle
-abbrev pub MakesOnly : {S : Type 0} → (S → Spans) → (S → SubscriberCall → S → Type 0) → Bool → Worlds S → Worlds S → Lane → ℕ → Parent → ℕ → ValueSet → ℕ → Handle → Type 0
+abbrev pub MakesOnly : {S : Type 0} → (S → Spans) → (S → SubscriberCall → S → Type 0) → Bool → WorldValue S → WorldValue S → Lane → ℕ → Parent → ℕ → ValueSet → ℕ → Handle → Type 0
 MakesOnly spans does true old new lane at parent site values dispatch handle = Makes spans does old new lane at parent site values dispatch handle
 MakesOnly spans does false old new lane at parent site values dispatch handle = (handle ≡ no_handle) × (new ≡ old)
 
 -- the same, as a request names it
-pub record MakesNamed {S : Type 0} (spans : S → Spans) (does : S → SubscriberCall → S → Type 0) (old new : Worlds S) (lane : Lane) (at : ℕ) (parent : Option Parent) (site : ℕ) (fields : Fields) (dispatch : ℕ) (made : Handle × Bool) : Type 0 where
+pub record MakesNamed {S : Type 0} (spans : S → Spans) (does : S → SubscriberCall → S → Type 0) (old new : WorldValue S) (lane : Lane) (at : ℕ) (parent : Option Parent) (site : ℕ) (fields : Fields) (dispatch : ℕ) (made : Handle × Bool) : Type 0 where
   pub named : AreNamed (span_site old.sites site) parent fields
   pub did : MakesOnly spans does made.1 old new lane at named.under site named.values dispatch made.0
 
 -- an event was told by one call, or nothing happened
-abbrev pub TellsOnly : {S : Type 0} → (S → SubscriberCall → S → Type 0) → Bool → Worlds S → Worlds S → Lane → ℕ → Parent → ℕ → ValueSet → ℕ → Type 0
+abbrev pub TellsOnly : {S : Type 0} → (S → SubscriberCall → S → Type 0) → Bool → WorldValue S → WorldValue S → Lane → ℕ → Parent → ℕ → ValueSet → ℕ → Type 0
 TellsOnly does true old new lane at parent site values dispatch = TellsEvent does old new lane at parent site values dispatch
 TellsOnly does false old new lane at parent site values dispatch = new ≡ old
 
 -- the same, as a request names it
-pub record TellsNamed {S : Type 0} (does : S → SubscriberCall → S → Type 0) (old new : Worlds S) (lane : Lane) (at : ℕ) (parent : Option Parent) (site : ℕ) (fields : Fields) (dispatch : ℕ) (enabled : Bool) : Type 0 where
+pub record TellsNamed {S : Type 0} (does : S → SubscriberCall → S → Type 0) (old new : WorldValue S) (lane : Lane) (at : ℕ) (parent : Option Parent) (site : ℕ) (fields : Fields) (dispatch : ℕ) (enabled : Bool) : Type 0 where
   pub named : AreNamed (event_site old.sites site) parent fields
   pub did : TellsOnly does enabled old new lane at named.under site named.values dispatch
 

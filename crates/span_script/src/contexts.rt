@@ -1,5 +1,5 @@
 //! The guards of attaches.
-use otel_base::stack::Attached;
+use otel_base::stack::ContextGuard;
 use trace_base::discard::Discard;
 
 /// What the guard of an attach keeps.
@@ -7,7 +7,7 @@ pub struct Attach {
     /// The place of its lane.
     pub place: u64,
     /// What was attached there.
-    pub attached: Attached,
+    pub attached: ContextGuard,
 }
 
 /// Its context stays attached for good.

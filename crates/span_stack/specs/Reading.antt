@@ -4,11 +4,11 @@ use Rattle.std.specs.Option.{option_map}
 use Rattle.trace_base.specs.declared.callsite.Callsite.{Callsite}
 use Rattle.trace_base.specs.declared.subscriber.Interest.{Interest}
 use Rattle.trace_base.specs.declared.subscriber.Interest.TheVariants as interests
-use Rattle.trace_base.specs.Gate.{Worlds, IsFresh}
+use Rattle.trace_base.specs.Gate.{WorldValue, IsFresh}
 use Rattle.span_registry.specs.declared.layered.Layered.{Layered}
 use Rattle.span_registry.specs.Registering.{RegistryValue}
 use Rattle.span_registry.specs.Both.{joint_interest}
-use Rattle.span_handles.specs.Worlds.{member_of}
+use Rattle.span_handles.specs.Worlds.{read_subscriber}
 use Rattle.otel_base.specs.Recorder.{RecorderValue}
 use Rattle.otel_layer.specs.Recording.{Recording, no_recording, recording_of}
 use Rattle.otel_layer.specs.declared.counting.FilteredOpenTelemetryLayer.{FilteredOpenTelemetryLayer}
@@ -29,21 +29,21 @@ abbrev pub Stacks : Type 0
 Stacks = StackOver (Layered (FilteredOpenTelemetryLayer RecorderValue FilterWithRoom) RegistryValue)
 
 abbrev pub StackWorlds : Type 0
-StackWorlds = Worlds Stacks
+StackWorlds = WorldValue Stacks
 
 -- what the OpenTelemetry layer keeps
 abbrev pub stack_recording : Stacks → Recording
 stack_recording s = recording_of s.inner.inner.layer.inner.core
 
 abbrev pub recording_in : StackWorlds → ℕ → Recording
-recording_in world dispatch = member_of stack_recording no_recording world dispatch
+recording_in world dispatch = read_subscriber stack_recording no_recording world dispatch
 
 -- the filter in place over any subscriber, if it wasn't retired
 abbrev pub filter_in_place : {S : Type 0} → Layered (Layer FilterWithRoom) S → Option FilterState
 filter_in_place s = option_map plain_filter s.layer.inner
 
-abbrev pub filter_in : {S : Type 0} → Worlds (Layered (Layer FilterWithRoom) S) → ℕ → Option FilterState
-filter_in world dispatch = member_of filter_in_place None world dispatch
+abbrev pub filter_in : {S : Type 0} → WorldValue (Layered (Layer FilterWithRoom) S) → ℕ → Option FilterState
+filter_in world dispatch = read_subscriber filter_in_place None world dispatch
 
 -- The cached interests are those of the filters that are in place; what lies below a filter is interested in everything.
 abbrev pub interest_over : Layer FilterWithRoom → Callsite → Interest
@@ -60,14 +60,14 @@ abbrev pub counting_filter : Stacks → Option FilterState
 counting_filter s = option_map plain_filter s.inner.inner.layer.filter
 
 abbrev pub counter_in : StackWorlds → ℕ → Option FilterState
-counter_in world dispatch = member_of counting_filter None world dispatch
+counter_in world dispatch = read_subscriber counting_filter None world dispatch
 
 -- the measures that weren't taken
 abbrev pub stack_measures : Stacks → List Measure
 stack_measures s = waiting_measures s.inner
 
 abbrev pub measures_in : StackWorlds → ℕ → List Measure
-measures_in world dispatch = member_of stack_measures [] world dispatch
+measures_in world dispatch = read_subscriber stack_measures [] world dispatch
 
 -- what is recorded by a stack that was just made
 abbrev pub new_recording : LayerSettings → Bool → Recording

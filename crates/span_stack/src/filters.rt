@@ -1,7 +1,7 @@
 //! What a subscriber's calls make of the filter that is in place over it. Each law is a function that does nothing.
 ghost use Rattle.std.specs.Prelude.{◌≡◌, ℕ, Some};
 ghost use Rattle.std.specs.Option.{option_map};
-ghost use Rattle.trace_base.specs.Gate.{Worlds};
+ghost use Rattle.trace_base.specs.Gate.{WorldValue};
 ghost use Rattle.trace_base.specs.Calls.{SubscriberCall};
 ghost use Rattle.span_registry.specs.declared.layered.Layered.{Layered};
 ghost use Rattle.span_handles.specs.Worlds.{Replaced, Chain, spans_in};
@@ -20,14 +20,14 @@ pub type Filtered<S> = Layered<reload::Layer<EnvFilter>, S>;
 
 /// One call is one step of the filter in place.
 pub fn calls<S: Subscriber>()
-    ensures call { (old new : Worlds (Layered (Layer FilterWithRoom) S)) (dispatch : ℕ) (call : SubscriberCall)
+    ensures call { (old new : WorldValue (Layered (Layer FilterWithRoom) S)) (dispatch : ℕ) (call : SubscriberCall)
         → Replaced (λ s t. ⟦<Filtered<S> as Subscriber>⟧.does s call t) old new dispatch
         → filter_in new dispatch ≡ option_map
         (filter_after (spans_in ⟦<Filtered<S> as Subscriber>⟧.spans old dispatch) call) (filter_in old dispatch) }
-    ensures same { (old new : Worlds (Layered (Layer FilterWithRoom) S)) (dispatch : ℕ)
-        → Replaced ⟦<Filtered<S> as Subscriber>⟧.same old new dispatch
+    ensures same { (old new : WorldValue (Layered (Layer FilterWithRoom) S)) (dispatch : ℕ)
+        → Replaced ⟦<Filtered<S> as Subscriber>⟧.same_but_room old new dispatch
         → filter_in new dispatch ≡ filter_in old dispatch }
-    ensures chain { (old new : Worlds (Layered (Layer FilterWithRoom) S)) (dispatch at id : ℕ)
+    ensures chain { (old new : WorldValue (Layered (Layer FilterWithRoom) S)) (dispatch at id : ℕ)
         → Replaced (λ s t. Chain ⟦<Filtered<S> as Subscriber>⟧.spans ⟦<Filtered<S> as Subscriber>⟧.does at
         (Some id) s t) old new dispatch
         → FiltersChain (Some id) (spans_in ⟦<Filtered<S> as Subscriber>⟧.spans old dispatch)

@@ -3,7 +3,7 @@ ghost use Rattle.std.specs.Prelude.{◌≡◌, ◌≢◌, ◌<◌, ℕ, true, fa
 ghost use Rattle.trace_base.specs.declared.callsite.Callsite.{Callsite};
 ghost use Rattle.trace_base.specs.Gate.{AreSame, IsInWorld, dispatch_on};
 ghost use Rattle.span_handles.specs.Handles.{HasIf};
-ghost use Rattle.span_handles.specs.Worlds.{Replaced, Alike};
+ghost use Rattle.span_handles.specs.Worlds.{Replaced, KeepsPlainData};
 ghost use Rattle.otel_layer.specs.Parts.{StaysStack};
 ghost use Rattle.env_filter.specs.Filtering.{FilterState, plain_filter, is_admitted, IsNewFilter};
 ghost use Rattle.env_filter.specs.Reloading.{Swaps};
@@ -36,7 +36,7 @@ pub fn admits(world: &World<Stack>, lane: &Lane, site: SiteId) -> bool
 
 // Room leaves the plain data as they are.
 fn room<S: Subscriber>()
-    ensures { (s t : S) → S.same s t → StaysStack S.spans S.kept S.attaches S.is_whole s t }
+    ensures { (s t : S) → S.same_but_room s t → StaysStack S.spans S.kept S.attaches S.is_whole s t }
 {}
 
 // Exchanges the filter in place, if it wasn't retired.
@@ -64,7 +64,7 @@ pub fn put_in_force(
     ensures measures { measures_in world.new dispatch ≡ measures_in world.old dispatch }
     ensures counter { counter_in world.new dispatch ≡ counter_in world.old dispatch }
 
-    ensures others { Alike ⟦<Stack as Subscriber>⟧.spans ⟦<Stack as Subscriber>⟧.attaches
+    ensures others { KeepsPlainData ⟦<Stack as Subscriber>⟧.spans ⟦<Stack as Subscriber>⟧.attaches
         ⟦<Stack as Subscriber>⟧.kept ⟦<Stack as Subscriber>⟧.is_whole world.old world.new dispatch }
     ensures current { OnOk result (HasCurrentInterests world.new) }
     ensures sites { world.new.sites ≡ world.old.sites }
@@ -73,11 +73,11 @@ pub fn put_in_force(
     // What the other subscribers keep is the same but for room.
     ensures rest { OnOk result ((other : ℕ) (s t : _) → other ≢ dispatch
         → slice_get world.old.subscribers other ≡ Some s → slice_get world.new.subscribers other ≡ Some t
-        → ⟦<Stack as Subscriber>⟧.same s t) }
+        → ⟦<Stack as Subscriber>⟧.same_but_room s t) }
 
     // For want of memory the filter before is in force, and the interests before are kept.
     ensures memory_same { OnErr result
-        (AreSame ⟦<Stack as Subscriber>⟧.same world.old.subscribers world.new.subscribers) }
+        (AreSame ⟦<Stack as Subscriber>⟧.same_but_room world.old.subscribers world.new.subscribers) }
     ensures memory_leaves { OnErr result (filter_in world.new dispatch ≡ filter_in world.old dispatch) }
     ensures memory_cached { OnErr result (world.new.cached ≡ world.old.cached) }
     ensures memory_current { OnErr result (HasCurrentInterests world.old → HasCurrentInterests world.new) }

@@ -1,6 +1,6 @@
 //! The cached interests stay those that the subscribers have. Each law is a function that does nothing.
 ghost use Rattle.std.specs.Prelude.{ℕ, Some};
-ghost use Rattle.trace_base.specs.Gate.{Worlds, IsFresh};
+ghost use Rattle.trace_base.specs.Gate.{WorldValue, IsFresh};
 ghost use Rattle.trace_base.specs.Calls.{SubscriberCall};
 ghost use Rattle.span_handles.specs.Worlds.{Replaced, Chain};
 
@@ -8,12 +8,12 @@ use trace_base::subscriber::Subscriber;
 
 /// No call changes what a subscriber is interested in.
 pub fn stay_fresh<S: Subscriber>()
-    ensures call { (old new : Worlds S) (dispatch : ℕ) (call : SubscriberCall)
+    ensures call { (old new : WorldValue S) (dispatch : ℕ) (call : SubscriberCall)
         → Replaced (λ s t. S.does s call t) old new dispatch
         → IsFresh S.interest old → IsFresh S.interest new }
-    ensures same { (old new : Worlds S) (dispatch : ℕ) → Replaced S.same old new dispatch
+    ensures same { (old new : WorldValue S) (dispatch : ℕ) → Replaced S.same_but_room old new dispatch
         → IsFresh S.interest old → IsFresh S.interest new }
-    ensures chain { (old new : Worlds S) (dispatch at id : ℕ)
+    ensures chain { (old new : WorldValue S) (dispatch at id : ℕ)
         → Replaced (λ s t. Chain S.spans S.does at (Some id) s t) old new dispatch
         → IsFresh S.interest old → IsFresh S.interest new }
 {}

@@ -5,7 +5,7 @@ ghost use Rattle.trace_base.specs.declared.callsite.Callsite.{Callsite};
 ghost use Rattle.trace_base.specs.declared.callsite.Kind.TheVariants as kind;
 ghost use Rattle.trace_base.specs.Calls.{SubscriberCall};
 ghost use Rattle.trace_base.specs.Gate.{Admits};
-ghost use Rattle.span_handles.specs.Worlds.{Has, Replaced, Alike, Chain, spans_in};
+ghost use Rattle.span_handles.specs.Worlds.{Has, Replaced, KeepsPlainData, Chain, spans_in};
 ghost use Rattle.otel_layer.specs.Parts.{PartCall};
 ghost use Rattle.otel_layer.specs.Table.{data_at};
 ghost use Rattle.otel_layer.specs.Recording.{RecordsChain, RecordsPart};
@@ -30,8 +30,8 @@ fn of_stack()
         (λ f g. g ≡ option_map (filter_after (spans_in ⟦<Stack as Subscriber>⟧.spans old dispatch) call) f)
         (λ ms. ms ++ measured_by call) ⟦<Stack as Subscriber>⟧.interest old new dispatch }
     ensures same { (old new : StackWorlds) (dispatch : ℕ)
-        → Replaced ⟦<Stack as Subscriber>⟧.same old new dispatch
-        → StepsWithOuter ⟦<RecordedStack as Subscriber>⟧.same (λ f g. g ≡ f) (λ ms. ms)
+        → Replaced ⟦<Stack as Subscriber>⟧.same_but_room old new dispatch
+        → StepsWithOuter ⟦<RecordedStack as Subscriber>⟧.same_but_room (λ f g. g ≡ f) (λ ms. ms)
         ⟦<Stack as Subscriber>⟧.interest old new dispatch }
     ensures chains { (old new : StackWorlds) (dispatch at id : ℕ)
         → Replaced (λ s t. Chain ⟦<Stack as Subscriber>⟧.spans ⟦<Stack as Subscriber>⟧.does at (Some id) s t)
@@ -75,19 +75,19 @@ pub fn calls()
 /// Spare room is nothing that is kept.
 pub fn same()
     ensures recording { (old new : StackWorlds) (dispatch : ℕ)
-        → Replaced ⟦<Stack as Subscriber>⟧.same old new dispatch
+        → Replaced ⟦<Stack as Subscriber>⟧.same_but_room old new dispatch
         → recording_in new dispatch ≡ recording_in old dispatch }
     ensures filter { (old new : StackWorlds) (dispatch : ℕ)
-        → Replaced ⟦<Stack as Subscriber>⟧.same old new dispatch
+        → Replaced ⟦<Stack as Subscriber>⟧.same_but_room old new dispatch
         → filter_in new dispatch ≡ filter_in old dispatch }
     ensures counter { (old new : StackWorlds) (dispatch : ℕ)
-        → Replaced ⟦<Stack as Subscriber>⟧.same old new dispatch
+        → Replaced ⟦<Stack as Subscriber>⟧.same_but_room old new dispatch
         → counter_in new dispatch ≡ counter_in old dispatch }
     ensures measures { (old new : StackWorlds) (dispatch : ℕ)
-        → Replaced ⟦<Stack as Subscriber>⟧.same old new dispatch
+        → Replaced ⟦<Stack as Subscriber>⟧.same_but_room old new dispatch
         → measures_in new dispatch ≡ measures_in old dispatch }
     ensures current { (old new : StackWorlds) (dispatch : ℕ)
-        → Replaced ⟦<Stack as Subscriber>⟧.same old new dispatch → HasCurrentInterests old → HasCurrentInterests new }
+        → Replaced ⟦<Stack as Subscriber>⟧.same_but_room old new dispatch → HasCurrentInterests old → HasCurrentInterests new }
 {
     of_stack();
 }
@@ -164,7 +164,7 @@ pub fn takes()
     ensures current { (old new : StackWorlds) (dispatch : ℕ) → Replaced (λ s t. t ≡ without_first s) old new dispatch
         → HasCurrentInterests old → HasCurrentInterests new }
     ensures others { (old new : StackWorlds) (dispatch : ℕ) → Replaced (λ s t. t ≡ without_first s) old new dispatch
-        → Alike ⟦<Stack as Subscriber>⟧.spans ⟦<Stack as Subscriber>⟧.attaches ⟦<Stack as Subscriber>⟧.kept
+        → KeepsPlainData ⟦<Stack as Subscriber>⟧.spans ⟦<Stack as Subscriber>⟧.attaches ⟦<Stack as Subscriber>⟧.kept
         ⟦<Stack as Subscriber>⟧.is_whole old new dispatch }
 {}
 
@@ -181,7 +181,7 @@ pub fn takes_measure()
     ensures current { (old new : StackWorlds) (dispatch : ℕ) → Replaced WithoutMeasure old new dispatch
         → HasCurrentInterests old → HasCurrentInterests new }
     ensures others { (old new : StackWorlds) (dispatch : ℕ) → Replaced WithoutMeasure old new dispatch
-        → Alike ⟦<Stack as Subscriber>⟧.spans ⟦<Stack as Subscriber>⟧.attaches ⟦<Stack as Subscriber>⟧.kept
+        → KeepsPlainData ⟦<Stack as Subscriber>⟧.spans ⟦<Stack as Subscriber>⟧.attaches ⟦<Stack as Subscriber>⟧.kept
         ⟦<Stack as Subscriber>⟧.is_whole old new dispatch }
 {}
 

@@ -1,6 +1,6 @@
 //! What a subscriber's calls make of the measures that a layer over it keeps. Each law is a function that does nothing.
 ghost use Rattle.std.specs.Prelude.{◌≡◌, ◌++◌, ℕ, Some};
-ghost use Rattle.trace_base.specs.Gate.{Worlds};
+ghost use Rattle.trace_base.specs.Gate.{WorldValue};
 ghost use Rattle.trace_base.specs.Calls.{SubscriberCall};
 ghost use Rattle.span_registry.specs.declared.layered.Layered.{Layered};
 ghost use Rattle.span_handles.specs.Worlds.{Replaced, Chain};
@@ -13,13 +13,13 @@ use trace_base::subscriber::Subscriber;
 
 /// An event's measures stand behind those that wait, and no other call has any.
 pub fn calls<S: Subscriber>()
-    ensures call { (old new : Worlds (Layered MeasuresWithRoom S)) (dispatch : ℕ) (call : SubscriberCall)
+    ensures call { (old new : WorldValue (Layered MeasuresWithRoom S)) (dispatch : ℕ) (call : SubscriberCall)
         → Replaced (λ s t. ⟦<Layered<MetricsLayer, S> as Subscriber>⟧.does s call t) old new dispatch
         → measures_over new dispatch ≡ measures_over old dispatch ++ measured_by call }
-    ensures same { (old new : Worlds (Layered MeasuresWithRoom S)) (dispatch : ℕ)
-        → Replaced ⟦<Layered<MetricsLayer, S> as Subscriber>⟧.same old new dispatch
+    ensures same { (old new : WorldValue (Layered MeasuresWithRoom S)) (dispatch : ℕ)
+        → Replaced ⟦<Layered<MetricsLayer, S> as Subscriber>⟧.same_but_room old new dispatch
         → measures_over new dispatch ≡ measures_over old dispatch }
-    ensures chain { (old new : Worlds (Layered MeasuresWithRoom S)) (dispatch at id : ℕ)
+    ensures chain { (old new : WorldValue (Layered MeasuresWithRoom S)) (dispatch at id : ℕ)
         → Replaced (λ s t. Chain ⟦<Layered<MetricsLayer, S> as Subscriber>⟧.spans
         ⟦<Layered<MetricsLayer, S> as Subscriber>⟧.does at (Some id) s t) old new dispatch
         → measures_over new dispatch ≡ measures_over old dispatch }

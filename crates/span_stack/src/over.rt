@@ -1,7 +1,7 @@
 //! What each change of a stack comes to, over any subscriber. Each law is a function that does nothing.
 ghost use Rattle.std.specs.Prelude.{◌≡◌, ◌++◌, ℕ, Some};
 ghost use Rattle.std.specs.Option.{option_map};
-ghost use Rattle.trace_base.specs.Gate.{Worlds};
+ghost use Rattle.trace_base.specs.Gate.{WorldValue};
 ghost use Rattle.trace_base.specs.Calls.{SubscriberCall};
 ghost use Rattle.span_handles.specs.Worlds.{Replaced, Chain, spans_in};
 ghost use Rattle.otel_layer.specs.Parts.{PartCall};
@@ -25,22 +25,22 @@ pub type Over<S> = Layered<reload::Layer<EnvFilter>, Layered<MetricsLayer, S>>;
 /// A call is the same call below the outer layers, and so is a chain of closes; spare room and a call from outside leave
 /// the outer layers as they are.
 pub fn steps<S: OtelSubscriber>()
-    ensures calls { (old new : Worlds (StackOver S)) (dispatch : ℕ) (call : SubscriberCall)
+    ensures calls { (old new : WorldValue (StackOver S)) (dispatch : ℕ) (call : SubscriberCall)
         → Replaced (λ s t. ⟦<Over<S> as Subscriber>⟧.does s call t) old new dispatch
         → StepsWithOuter (λ s t. S.does s call t)
         (λ f g. g ≡ option_map (filter_after (spans_in ⟦<Over<S> as Subscriber>⟧.spans old dispatch) call) f)
         (λ ms. ms ++ measured_by call) ⟦<Over<S> as Subscriber>⟧.interest old new dispatch }
-    ensures same { (old new : Worlds (StackOver S)) (dispatch : ℕ)
-        → Replaced ⟦<Over<S> as Subscriber>⟧.same old new dispatch
-        → StepsWithOuter S.same (λ f g. g ≡ f) (λ ms. ms) ⟦<Over<S> as Subscriber>⟧.interest old new dispatch }
-    ensures chains { (old new : Worlds (StackOver S)) (dispatch at id : ℕ)
+    ensures same { (old new : WorldValue (StackOver S)) (dispatch : ℕ)
+        → Replaced ⟦<Over<S> as Subscriber>⟧.same_but_room old new dispatch
+        → StepsWithOuter S.same_but_room (λ f g. g ≡ f) (λ ms. ms) ⟦<Over<S> as Subscriber>⟧.interest old new dispatch }
+    ensures chains { (old new : WorldValue (StackOver S)) (dispatch at id : ℕ)
         → Replaced (λ s t. Chain ⟦<Over<S> as Subscriber>⟧.spans ⟦<Over<S> as Subscriber>⟧.does at (Some id) s t)
         old new dispatch
         → StepsWithOuter (λ s t. Chain S.spans S.does at (Some id) s t)
         (λ f g. FiltersChain (Some id) (spans_in ⟦<Over<S> as Subscriber>⟧.spans old dispatch)
         (spans_in ⟦<Over<S> as Subscriber>⟧.spans new dispatch) f g)
         (λ ms. ms) ⟦<Over<S> as Subscriber>⟧.interest old new dispatch }
-    ensures asks { (old new : Worlds (StackOver S)) (dispatch : ℕ) (call : PartCall)
+    ensures asks { (old new : WorldValue (StackOver S)) (dispatch : ℕ) (call : PartCall)
         → Replaced (λ s t. ⟦<Over<S> as OtelPart>⟧.touches s call t) old new dispatch
         → AsksOuter S.touches call old new dispatch }
 {

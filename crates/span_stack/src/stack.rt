@@ -71,7 +71,7 @@ pub fn new_stack(
     ensures whole { ⟦<Stack as Subscriber>⟧.is_whole result }
 {
     Registry::new(alloc)
-        .with(new_layer(alloc, settings).counting_by(counting))
+        .with(new_layer(alloc, settings).with_counting_if(counting))
         .with(MetricsLayer::new(alloc))
         .with(reload::Layer::new(filter))
 }

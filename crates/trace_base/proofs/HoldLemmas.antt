@@ -5,7 +5,7 @@ use Rattle.std.proofs.lemmas.Bool.{eqb-true, eq-eqb, ne_eqb, cases_eq, cases_Boo
 use Rattle.std.proofs.lemmas.List.{get_or-set_same, get_or-set_other}
 use Rattle.std.proofs.lemmas.List.Folds.{list_any-append}
 use Rattle.std.proofs.lemmas.List.Sums.{sum_by-set}
-use Rattle.trace_base.specs.Spans.{Span, Entries, no_span, span_at, entries_on, with_entries, is_in, times_in, entered_lane_count, has_entry, is_child_of, is_open_child, open_child_count, without_last, less_hold, current_from}
+use Rattle.trace_base.specs.Spans.{Span, Entries, no_span, span_at, entries_on, with_entries, is_in, times_in, entered_lane_count, has_entry, is_child_of, is_open_child, open_child_count, without_last, span_without_hold, current_from}
 use Rattle.trace_base.proofs.EntryLemmas.{count_cons, counted_if_any, any_if_counted, none_counted, count_without_last, sum_with}
 
 -- a span written
@@ -25,19 +25,19 @@ keeps_children made id now within parent live still q =
     omega (arith, write, same)
 
 -- a span with one hold less
-pub less_last : (s : Span) → s.holds ≡ 1 → less_hold s ≡ no_span
+pub less_last : (s : Span) → s.holds ≡ 1 → span_without_hold s ≡ no_span
 less_last s last = cond-true {A = Span} (s.holds == 1) no_span (record s { holds = s.holds - 1 }) (eq-eqb s.holds 1 last)
 
-pub less_more : (s : Span) → (s.holds ≡ 1 → ⊥) → less_hold s ≡ record s { holds = s.holds - 1 }
+pub less_more : (s : Span) → (s.holds ≡ 1 → ⊥) → span_without_hold s ≡ record s { holds = s.holds - 1 }
 less_more s more = cond-false {A = Span} (s.holds == 1) no_span (record s { holds = s.holds - 1 }) (ne_eqb s.holds 1 more)
 
-pub less_holds : (s : Span) → (less_hold s).holds ≡ s.holds - 1
+pub less_holds : (s : Span) → (span_without_hold s).holds ≡ s.holds - 1
 less_holds s = elim (cases_eq s.holds 1) [
   | inl last ↦ (let e = ap (λ (t : Span). t.holds) (less_last s last) in omega (arith, e, last))
   | inr more ↦ ap (λ (t : Span). t.holds) (less_more s more)
 ]
 
-pub less_under : (s : Span) (p : ℕ) → (less_hold s).parent ≡ Some p → s.parent ≡ Some p
+pub less_under : (s : Span) (p : ℕ) → (span_without_hold s).parent ≡ Some p → s.parent ≡ Some p
 less_under s p is = elim (cases_eq s.holds 1) [
   | inl last ↦ (let no : None ≡ Some p = sym (ap (λ (t : Span). t.parent) (less_last s last)) ∙ is in absurd (cc no))
   | inr more ↦ sym (ap (λ (t : Span). t.parent) (less_more s more)) ∙ is

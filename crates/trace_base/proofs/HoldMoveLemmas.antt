@@ -2,7 +2,7 @@
 use Rattle.std.proofs.Common.{◌≡◌, ℕ, ◌+◌, List, [], ◌∷◌, ◌++◌, false, cond, refl, sym, ap, subst, ◌∙◌, arith, inl, inr}
 use Rattle.std.specs.Prelude.{◌==◌}
 use Rattle.std.proofs.lemmas.Bool.{eqb-true, eqb-false, eq-eqb, ne_eqb, cases_eq, cases_Bool, cond-true, cond-false}
-use Rattle.trace_base.specs.Spans.{Span, Spans, span_at, entries_on, is_in, times_in, entered_lane_count, without_last, with_hold, less_hold, without_hold}
+use Rattle.trace_base.specs.Spans.{Span, Spans, span_at, entries_on, is_in, times_in, entered_lane_count, without_last, with_hold, span_without_hold, without_hold}
 use Rattle.trace_base.specs.Calls.{with_span_entry, with_span_exit}
 use Rattle.trace_base.specs.Conditions.{IsLive, MayExit}
 use Rattle.trace_base.proofs.EntryLemmas.{counted_if_any, any_if_counted, made_if_held}
@@ -45,7 +45,7 @@ exit_moves x id lane q live may =
     let first = first_with x.lanes lane q rest in
     let P : List Span → Type 0 = λ made. (span_at made q).holds + entered_lane_count x.lanes q ≡ (span_at x.made q).holds + entered_lane_count (with_span_exit x id lane).lanes q in
     let within = made_if_held x.made id live in
-    let now : Span = less_hold (span_at x.made id) in
+    let now : Span = span_without_hold (span_at x.made id) in
     let fewer = less_holds (span_at x.made id) in
     let itself = times_without ids id id may.0 in
     let counts = cond-true {A = ℕ} (id == id) 1 0 (eq-eqb id id refl) in

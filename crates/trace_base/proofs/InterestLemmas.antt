@@ -9,7 +9,7 @@ use Rattle.trace_base.specs.declared.callsite.Callsite.{Callsite}
 use Rattle.trace_base.specs.declared.level.LevelFilter.{LevelFilter}
 use Rattle.trace_base.specs.declared.subscriber.Interest.{Interest}
 use Rattle.trace_base.specs.declared.subscriber.Interest.TheVariants as interests
-use Rattle.trace_base.specs.Gate.{Worlds, gate, cached_at, Admits, AdmitsFresh, IsFresh, AreSame, HasRows, IsCached, interests_in, interests_of_sites}
+use Rattle.trace_base.specs.Gate.{WorldValue, gate, cached_at, Admits, AdmitsFresh, IsFresh, AreSame, HasRows, IsSoundWorld, interests_in, interests_of_sites}
 
 -- what stands in a list after a write
 get_set_same : {X : Type 0} (xs : List X) (i : ℕ) (y : X) → i < length xs → slice_get (set xs i y) i ≡ Some y
@@ -95,7 +95,7 @@ pub registered_at : {S : Type 0} (interest : S → Callsite → Interest) (subsc
 registered_at interest subscribers sites dispatch site s c hs hc =
     ap (λ (row : List Interest). get_or row dispatch interests.Never) (get_map (interests_in interest subscribers) sites site c [] hc) ∙ get_map (λ z. interest z c) subscribers dispatch s interests.Never hs
 
-pub fresh_admits : {S : Type 0} (interest : S → Callsite → Interest) (hint : S → Option LevelFilter) (enables : S → ℕ → Callsite → Bool) (world : Worlds S) (lane site : ℕ) (own : Option ℕ) (answer : Bool)
+pub fresh_admits : {S : Type 0} (interest : S → Callsite → Interest) (hint : S → Option LevelFilter) (enables : S → ℕ → Callsite → Bool) (world : WorldValue S) (lane site : ℕ) (own : Option ℕ) (answer : Bool)
     → Admits hint enables world lane site own answer → IsFresh interest world → AdmitsFresh interest hint enables world lane site own answer
 fresh_admits interest hint enables world lane site None answer admits fresh = admits
 fresh_admits interest hint enables world lane site (Some d) answer admits fresh =
@@ -127,15 +127,15 @@ module _ {S : Type 0} (same : S → S → Type 0) (interest : S → Callsite →
   registered_same old now sites all = registered_alike interest old now (λ c. interests_same old now c all) sites
 
   -- all have answered for all callsites
-  pub all_asked : (sites : List Callsite) (old now : List S) (rows : List (List Interest)) (global : Option ℕ) → rows ≡ interests_of_sites interest old sites → AreSame same old now → ((d : ℕ) → global ≡ Some d → d < length old) → IsCached (length sites) (length now) rows global
-  all_asked sites old now rows global is all there = subst (λ (l : List (List Interest)). IsCached (length sites) (length now) l global) (registered_same old now sites all ∙ sym is) (record {
+  pub all_asked : (sites : List Callsite) (old now : List S) (rows : List (List Interest)) (global : Option ℕ) → rows ≡ interests_of_sites interest old sites → AreSame same old now → ((d : ℕ) → global ≡ Some d → d < length old) → IsSoundWorld (length sites) (length now) rows global
+  all_asked sites old now rows global is all there = subst (λ (l : List (List Interest)). IsSoundWorld (length sites) (length now) l global) (registered_same old now sites all ∙ sym is) (record {
     has = registered_rows interest now sites;
     there = λ d e. let t = there d e in let n = all.count in omega (arith, t, n);
   })
 
   -- and for one callsite more
-  pub asked_site : (sites : List Callsite) (c : Callsite) (old now : List S) (cached : List (List Interest)) (row : List Interest) (global : Option ℕ) → IsCached (length sites) (length old) cached global → row ≡ interests_in interest old c → AreSame same old now
-      → IsCached (length (sites ++ c ∷ [])) (length now) (cached ++ row ∷ []) global
+  pub asked_site : (sites : List Callsite) (c : Callsite) (old now : List S) (cached : List (List Interest)) (row : List Interest) (global : Option ℕ) → IsSoundWorld (length sites) (length old) cached global → row ≡ interests_in interest old c → AreSame same old now
+      → IsSoundWorld (length (sites ++ c ∷ [])) (length now) (cached ++ row ∷ []) global
   asked_site sites c old now cached row global is so all =
       let n = all.count in
       let long : length row ≡ length now = ap (λ (l : List Interest). length l) so ∙ length-map old (λ s. interest s c) ∙ sym n in

@@ -5,7 +5,7 @@ use Rattle.std.proofs.lemmas.Bool.{eqb-true, eqb-false, eq-eqb, ne_eqb, cases_eq
 use Rattle.std.proofs.lemmas.List.{length-set, length_push, get_or-set_same, get_or-set_other, get_or_past, get_or_push, get_or_append_left}
 use Rattle.trace_base.specs.declared.span.Parent.{Parent}
 use Rattle.trace_base.specs.declared.span.Parent.TheVariants as parent
-use Rattle.trace_base.specs.Spans.{Span, Entries, Spans, no_span, span_at, entries_on, with_entries, is_in, times_in, is_child_of, is_open_child, open_child_count, bound_holds, without_last, with_hold, less_hold, without_hold, current_of, parent_on, next_of}
+use Rattle.trace_base.specs.Spans.{Span, Entries, Spans, no_span, span_at, entries_on, with_entries, is_in, times_in, is_child_of, is_open_child, open_child_count, bound_holds, without_last, with_hold, span_without_hold, without_hold, current_of, parent_on, parent_to_release}
 use Rattle.trace_base.specs.Calls.{SubscriberCall, NewSpan, Records, Follows, Event, Enter, Exit, CloneSpan, TryClose, spans_after_call, with_new_span, with_span_entry, with_span_exit}
 use Rattle.trace_base.specs.Conditions.{Allowed, IsLive, IsLiveParent, HasOwnHold, MayExit}
 use Rattle.trace_base.specs.Sound.{IsSound, OneEach, has_lane}
@@ -67,7 +67,7 @@ pub sound_released : (spans : Spans) (id : ℕ) → IsSound spans → HasOwnHold
 sound_released spans id sound own =
     let within = made_if_held spans.made id (omega (arith, own)) in
     let was = span_at spans.made id in
-    let now : Span = less_hold was in
+    let now : Span = span_without_hold was in
     let fewer_holds = less_holds was in
     record {
       bound = λ q. (
@@ -167,7 +167,7 @@ sound_exited spans id lane sound may =
       | inl last ↦ (
           let only = eqb-true (times_in id ids) 1 last in
           let same : (with_span_exit spans id lane).made ≡ without_hold spans.made id = cond-true {A = List Span} (times_in id ids == 1) (without_hold spans.made id) spans.made last in
-          let now : Span = less_hold (span_at spans.made id) in
+          let now : Span = span_without_hold (span_at spans.made id) in
           let more = may.1 only in
           let fewer = less_holds (span_at spans.made id) in
           let parent = ap (λ (s : Span). s.parent) (less_more (span_at spans.made id) (λ e. omega (arith, e, more))) in
@@ -292,7 +292,7 @@ parent_live spans lane parent.Current sound live = if_some (current_of (entries_
 parent_live spans lane (parent.Of id) sound live = live
 
 -- the next span to be released has a hold of its own
-pub next_own : (spans : Spans) (id : ℕ) → IsSound spans → HasOwnHold spans id → IfSome (next_of spans.made id) (λ p. (p < id) × HasOwnHold (record spans { made = without_hold spans.made id }) p)
+pub next_own : (spans : Spans) (id : ℕ) → IsSound spans → HasOwnHold spans id → IfSome (parent_to_release spans.made id) (λ p. (p < id) × HasOwnHold (record spans { made = without_hold spans.made id }) p)
 next_own spans id sound own =
     let was = span_at spans.made id in
     let P : ℕ → Type 0 = λ p. (p < id) × HasOwnHold (record spans { made = without_hold spans.made id }) p in
@@ -302,7 +302,7 @@ next_own spans id sound own =
           let only = eqb-true was.holds 1 last in
           let below = sound.older id p is in
           let within = made_if_held spans.made id (omega (arith, only)) in
-          let now : Span = less_hold was in
+          let now : Span = span_without_hold was in
           let write = children_set spans.made id now p within in
           let was_child : is_open_child p was ≡ true = cond-false {A = Bool} (0 == was.holds) false (is_child_of p was.parent) (ne_eqb 0 was.holds (λ e. omega (arith, e, only))) ∙ ap (is_child_of p) is ∙ eq-eqb p p refl in
           let isnt : is_open_child p now ≡ false = ap (is_open_child p) (less_last was only) in

@@ -86,25 +86,25 @@ abbrev pub current_of : List ℕ → Option ℕ
 current_of ids = current_from [] None ids
 
 -- the span that a parent names where this one is current
-abbrev pub named_span : Option ℕ → Parent → Option ℕ
-named_span current parent.Root = None
-named_span current parent.Current = current
-named_span current (parent.Of id) = Some id
+abbrev pub span_of_parent : Option ℕ → Parent → Option ℕ
+span_of_parent current parent.Root = None
+span_of_parent current parent.Current = current
+span_of_parent current (parent.Of id) = Some id
 
 -- the same on a lane with these entries
 abbrev pub parent_on : List ℕ → Parent → Option ℕ
-parent_on ids parent = named_span (current_of ids) parent
+parent_on ids parent = span_of_parent (current_of ids) parent
 
 -- a span with one hold less; of one that closes nothing is kept
-abbrev pub less_hold : Span → Span
-less_hold span = if span.holds == 1 then no_span else record span { holds = span.holds - 1 }
+abbrev pub span_without_hold : Span → Span
+span_without_hold span = if span.holds == 1 then no_span else record span { holds = span.holds - 1 }
 
 -- the spans with one hold more, or less, of one of them
 abbrev pub with_hold : List Span → ℕ → List Span
 with_hold made id = slice_set made id (record (span_at made id) { holds = (span_at made id).holds + 1 })
 
 abbrev pub without_hold : List Span → ℕ → List Span
-without_hold made id = slice_set made id (less_hold (span_at made id))
+without_hold made id = slice_set made id (span_without_hold (span_at made id))
 
 -- the same of the parent of a new span, if it has one
 abbrev pub with_hold_of_child : List Span → Option ℕ → List Span
@@ -116,5 +116,5 @@ abbrev pub current_on : ℕ → Spans → Option (ℕ × ℕ)
 current_on lane spans = option_map (λ id. (id, (span_at spans.made id).site)) (current_of (entries_on lane spans.lanes))
 
 -- the parent that is to be released after a close
-abbrev pub next_of : List Span → ℕ → Option ℕ
-next_of made id = if (span_at made id).holds == 1 then (span_at made id).parent else None
+abbrev pub parent_to_release : List Span → ℕ → Option ℕ
+parent_to_release made id = if (span_at made id).holds == 1 then (span_at made id).parent else None

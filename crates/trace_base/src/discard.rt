@@ -1,6 +1,6 @@
 //! Giving up what has to be spent.
 
-use otel_base::stack::Attached;
+use otel_base::stack::ContextGuard;
 
 /// What can be given up, in place of being dropped: it takes no memory, and nobody is told of it.
 pub trait Discard {
@@ -9,9 +9,9 @@ pub trait Discard {
 }
 
 /// Its context stays attached for good.
-impl Discard for Attached {
+impl Discard for ContextGuard {
     fn discard(self) {
-        Attached::discard(self);
+        ContextGuard::discard(self);
     }
 }
 

@@ -2,7 +2,7 @@
 ghost use Rattle.std.specs.Prelude.{◌≡◌, ◌≢◌, ◌↔◌, ◌<◌, Some, None, Err, OnOk, OnErr, length, codes};
 ghost use Rattle.std.specs.Fn.{FnOnceReturnsAtMut};
 ghost use Rattle.trace_base.specs.declared.dispatcher.TryInitError.TheVariants.{AlreadySet};
-ghost use Rattle.trace_base.specs.lanes.Default.{with_own};
+ghost use Rattle.trace_base.specs.lanes.Default.{with_lane_default};
 ghost use Rattle.trace_base.specs.Gate.{IsInWorld, dispatch_on};
 
 use crate::lane::Lane;
@@ -67,7 +67,7 @@ pub fn get_default<S: Subscriber>(world: &World<S>, lane: &Lane) -> Option<Dispa
     ensures value { result ≡ dispatch_on lane.now.default world.now.global }
     ensures there { IsInWorld world.now lane.now.default → IsInWorld world.now result }
 {
-    either(&lane.default, &world.global())
+    default_or_global(&lane.default, &world.global())
 }
 
 /// What puts a lane's default back as it stood before; `tracing_core::dispatcher::DefaultGuard`, which isn't spent by
@@ -87,7 +87,7 @@ impl Model for DefaultGuard {
 impl DefaultGuard {
     /// Puts the default back that stood before `set_default`.
     pub fn end(self, lane: &mut Lane)
-        ensures { lane.new ≡ with_own lane.old self }
+        ensures { lane.new ≡ with_lane_default lane.old self }
     {
         let DefaultGuard { before } = self;
         lane.default = before;
@@ -97,7 +97,7 @@ impl DefaultGuard {
 /// Sets a lane's default until the guard ends; `tracing_core::dispatcher::set_default`.
 pub fn set_default(lane: &mut Lane, dispatch: Dispatch) -> DefaultGuard
     ensures guard { result ≡ lane.old.default }
-    ensures lane { lane.new ≡ with_own lane.old (Some dispatch) }
+    ensures lane { lane.new ≡ with_lane_default lane.old (Some dispatch) }
 {
     let before = lane.default.replace(dispatch);
     DefaultGuard { before }
@@ -106,8 +106,8 @@ pub fn set_default(lane: &mut Lane, dispatch: Dispatch) -> DefaultGuard
 /// Runs a closure while a lane has another default, and then puts back the one that stood before;
 /// `tracing_core::dispatcher::with_default`.
 pub fn with_default<T, F: FnOnce(&mut Lane) -> T>(lane: &mut Lane, dispatch: Dispatch, f: F) -> T
-    requires { (l : _) → l.now ≡ with_own lane.old (Some dispatch) → F.pre f l }
-    ensures { (left : _) × FnOnceReturnsAtMut F.FnOnce f (with_own lane.old (Some dispatch)) result left × (lane.new ≡ with_own left lane.old.default) }
+    requires { (l : _) → l.now ≡ with_lane_default lane.old (Some dispatch) → F.pre f l }
+    ensures { (left : _) × FnOnceReturnsAtMut F.FnOnce f (with_lane_default lane.old (Some dispatch)) result left × (lane.new ≡ with_lane_default left lane.old.default) }
 {
     let guard = set_default(lane, dispatch);
     let answer = f(lane);
@@ -144,7 +144,7 @@ pub fn set_global_default<S: Subscriber>(
 }
 
 // A lane's own subscriber, else the global one.
-pub(crate) fn either(own: &Option<Dispatch>, global: &Option<Dispatch>) -> Option<Dispatch>
+pub(crate) fn default_or_global(own: &Option<Dispatch>, global: &Option<Dispatch>) -> Option<Dispatch>
     ensures { result ≡ dispatch_on own.now global.now }
 {
     match own {

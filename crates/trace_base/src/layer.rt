@@ -47,7 +47,7 @@ pub trait Layer {
     ghost is_whole: { Self → Type 0 };
 
     /// The same but for spare room.
-    ghost same: { Self → Self → Type 0 };
+    ghost same_but_room: { Self → Self → Type 0 };
 
     /// What a hook makes of it, whatever room it took before.
     ghost does: { Self → Hook → Self → Type 0 };
@@ -75,7 +75,7 @@ pub trait Layer {
         values: &ValueSet,
     ) -> Result<Self::Ready, Memory>
         ensures ready { IfOk result (ready self.new (ForNewSpan lane.now callsite.now values.now)) }
-        ensures leaves { same self.old self.new };
+        ensures leaves { same_but_room self.old self.new };
 
     /// A span was made under a parent, while `current` was the lane's current span; `Layer::on_new_span`.
     fn on_new_span(
@@ -102,7 +102,7 @@ pub trait Layer {
         values: &ValueSet,
     ) -> Result<Self::Ready, Memory>
         ensures ready { IfOk result (ready self.new (ForRecord id callsite.now values.now)) }
-        ensures leaves { same self.old self.new };
+        ensures leaves { same_but_room self.old self.new };
 
     /// Values were recorded on a span; `Layer::on_record`.
     fn on_record(
@@ -120,7 +120,7 @@ pub trait Layer {
     /// Takes the memory of `on_follows_from`.
     fn prepare_follows_from(&mut self, id: Id, from: Id) -> Result<Self::Ready, Memory>
         ensures ready { IfOk result (ready self.new (ForFollows id from)) }
-        ensures leaves { same self.old self.new };
+        ensures leaves { same_but_room self.old self.new };
 
     /// A span follows from another; `Layer::on_follows_from`.
     fn on_follows_from(&mut self, prepared: Self::Ready, id: Id, from: Id, at: u64)
@@ -136,7 +136,7 @@ pub trait Layer {
         values: &ValueSet,
     ) -> Result<Self::Ready, Memory>
         ensures ready { IfOk result (ready self.new (ForEvent reached callsite.now values.now)) }
-        ensures leaves { same self.old self.new };
+        ensures leaves { same_but_room self.old self.new };
 
     /// An event was recorded on the span that it reached, if it reached one; `Layer::on_event`.
     fn on_event(
@@ -157,7 +157,7 @@ pub trait Layer {
     fn prepare_enter(&mut self, id: Id, lane: &mut Lane) -> Result<Self::Ready, EnterError>
         ensures ready { IfOk result (ready self.new (ForEnter id lane.old.id)) }
         ensures room { OnOk result (attaches self.old ≡ true → (seen self.old).knows id ≡ true → IsReadyToAttach lane.new.contexts) }
-        ensures leaves { same self.old self.new }
+        ensures leaves { same_but_room self.old self.new }
         ensures lane_leaves { KeepsLive (attaches self.old) lane.old lane.new }
         ensures full { result ≡ Err Full → (attaches self.old ≡ true) × ((seen self.old).knows id ≡ true) × IsFull lane.old };
 
@@ -182,24 +182,24 @@ pub trait Layer {
         ensures { does self.old (OnClose id at) self.new };
 
     /// Spare room is nothing that can be seen.
-    ghost same_refl: { (s : Self) → same s s };
+    ghost same_refl: { (s : Self) → same_but_room s s };
 
-    ghost same_trans: { (s t u : Self) → same s t → same t u → same s u };
+    ghost same_trans: { (s t u : Self) → same_but_room s t → same_but_room t u → same_but_room s u };
 
-    ghost same_seen: { (s t : Self) → same s t → seen t ≡ seen s };
+    ghost same_seen: { (s t : Self) → same_but_room s t → seen t ≡ seen s };
 
-    ghost same_kept: { (s t : Self) → same s t → kept t ≡ kept s };
+    ghost same_kept: { (s t : Self) → same_but_room s t → kept t ≡ kept s };
 
-    ghost same_attaches: { (s t : Self) → same s t → attaches t ≡ attaches s };
+    ghost same_attaches: { (s t : Self) → same_but_room s t → attaches t ≡ attaches s };
 
-    ghost same_gate: { (s t : Self) → same s t → (interest t ≡ interest s) × (hint t ≡ hint s) };
+    ghost same_gate: { (s t : Self) → same_but_room s t → (interest t ≡ interest s) × (hint t ≡ hint s) };
 
-    ghost same_enables: { (s t : Self) → same s t → enables t ≡ enables s };
+    ghost same_enables: { (s t : Self) → same_but_room s t → enables t ≡ enables s };
 
-    ghost same_whole: { (s t : Self) → same s t → is_whole s → is_whole t };
+    ghost same_whole: { (s t : Self) → same_but_room s t → is_whole s → is_whole t };
 
     /// It may have been taken before a hook.
-    ghost same_does: { (s t : Self) (hook : Hook) (u : Self) → same s t → does t hook u → does s hook u };
+    ghost same_does: { (s t : Self) (hook : Hook) (u : Self) → same_but_room s t → does t hook u → does s hook u };
 
     /// It keeps up with the spans that it knows and their entries.
     ghost sees: { (s : Self) (hook : Hook) (t : Self) → does s hook t → Sees (seen s) hook (seen t) };

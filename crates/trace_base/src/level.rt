@@ -8,8 +8,8 @@ ghost use Rattle.std.specs.Cmp.Rules.{comparing};
 ghost use Rattle.std.specs.Option.{option_and_then};
 ghost use Rattle.std.proofs.Common.{rules};
 ghost use Rattle.otel_base.specs.Words.{word_text};
-ghost use Rattle.trace_base.specs.words.Level.{verbosity, greatest_verbosity, is_within, level_text, filter_text, filter_of_level, level_of_filter};
-ghost use Rattle.trace_base.specs.words.LevelWords.{all_filters, filter_of_word, filter_of_number, decimal_value, named_filter, level_filter_of, level_of, IsReadAs};
+ghost use Rattle.trace_base.specs.words.Level.{verbosity, greatest_verbosity, is_within, level_text, level_filter_text, filter_of_level, level_of_filter};
+ghost use Rattle.trace_base.specs.words.LevelWords.{all_level_filters, filter_of_word, filter_of_number, decimal_value, named_level_filter, level_filter_of, level_of, IsReadAs};
 
 use otel_base::word::Word;
 use std::cmp::Ordering;
@@ -106,7 +106,7 @@ impl FromStr for Level {
     ghost from_str_gives = { λ text r. IsReadAs (level_of text) r };
 
     fn from_str(text: &str) -> Result<Level, ParseLevelError> {
-        named_filter(text)
+        named_level_filter(text)
             .and_then(|filter| filter.into_level())
             .ok_or(ParseLevelError(()))
     }
@@ -189,7 +189,7 @@ impl LevelFilter {
 
     /// The filter in lower case, as `tracing_core::LevelFilter` prints.
     pub fn as_str(self) -> &'static str
-        ensures { result.now ≡ filter_text self }
+        ensures { result.now ≡ level_filter_text self }
     {
         match self {
             LevelFilter::OFF => "off",
@@ -203,9 +203,9 @@ impl LevelFilter {
 }
 
 impl fmt::Display for LevelFilter {
-    ghost output = { λ f. Some (filter_text f) };
+    ghost output = { λ f. Some (level_filter_text f) };
 
-    ghost styled_output = { λ f spec. Some (padded spec (filter_text f)) };
+    ghost styled_output = { λ f spec. Some (padded spec (level_filter_text f)) };
 
     fn fmt<W: fmt::Write>(&self, f: &mut fmt::Formatter<W>) -> fmt::Result {
         f.pad(self.as_str())
@@ -222,7 +222,7 @@ impl FromStr for LevelFilter {
         if text.is_empty() {
             return Ok(LevelFilter::ERROR);
         }
-        named_filter(text).ok_or(ParseLevelFilterError(()))
+        named_level_filter(text).ok_or(ParseLevelFilterError(()))
     }
 }
 
@@ -252,9 +252,9 @@ impl PartialOrd for LevelFilter {
     }
 }
 
-#[tactic(auto, unfolding(crate::specs::words::LevelWords::named_filter))]
-fn named_filter(text: &str) -> Option<LevelFilter>
-    ensures { result ≡ named_filter text.now }
+#[tactic(auto, unfolding(crate::specs::words::LevelWords::named_level_filter))]
+fn named_level_filter(text: &str) -> Option<LevelFilter>
+    ensures { result ≡ named_level_filter text.now }
 {
     match filter_of_word(text) {
         Some(filter) => Some(filter),
@@ -265,7 +265,7 @@ fn named_filter(text: &str) -> Option<LevelFilter>
 fn filter_of_word(text: &str) -> Option<LevelFilter>
     ensures { result ≡ filter_of_word text.now }
 {
-    for filter in all_filters() {
+    for filter in all_level_filters() {
         if filter.as_str().eq_ignore_ascii_case(text) {
             return Some(filter);
         }
@@ -273,8 +273,8 @@ fn filter_of_word(text: &str) -> Option<LevelFilter>
     None
 }
 
-fn all_filters() -> array::IntoIter<LevelFilter, 6>
-    ensures { array_into_iter_items result ≡ all_filters }
+fn all_level_filters() -> array::IntoIter<LevelFilter, 6>
+    ensures { array_into_iter_items result ≡ all_level_filters }
 {
     [
         LevelFilter::OFF,

@@ -1,6 +1,6 @@
 //! Ids of spans, the places that new ones are given, and what a close answers.
 ghost use Rattle.std.specs.Prelude.{◌≡◌, ◌+◌, ◌^◌, ◌<◌, ℕ, Option};
-ghost use Rattle.trace_base.specs.Spans.{named_span};
+ghost use Rattle.trace_base.specs.Spans.{span_of_parent};
 
 use std::marker::Model;
 
@@ -83,7 +83,7 @@ pub enum Parent {
 impl Parent {
     /// The span that it names on a lane with this current span.
     pub fn span(self, current: Option<Id>) -> Option<Id>
-        ensures { result ≡ named_span current self }
+        ensures { result ≡ span_of_parent current self }
     {
         match self {
             Parent::Root => None,
@@ -95,7 +95,7 @@ impl Parent {
 
 /// What the release of a hold answers.
 #[derive(Clone, Copy)]
-pub struct Closing {
+pub struct CloseReply {
     /// Whether the span closed, since no hold was left.
     pub closed: bool,
     /// The parent that is to be released next, which there is only where the span closed.

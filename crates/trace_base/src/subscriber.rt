@@ -6,7 +6,7 @@ ghost use Rattle.trace_base.specs.declared.lane.Lane.{Lane};
 ghost use Rattle.trace_base.specs.declared.level.LevelFilter.{LevelFilter};
 ghost use Rattle.trace_base.specs.declared.subscriber.Interest.{Interest};
 ghost use Rattle.trace_base.specs.declared.subscriber.Interest.TheVariants as interest;
-ghost use Rattle.trace_base.specs.Spans.{Spans, span_at, current_on, current_of, entries_on, next_of};
+ghost use Rattle.trace_base.specs.Spans.{Spans, span_at, current_on, current_of, entries_on, parent_to_release};
 ghost use Rattle.trace_base.specs.Calls.{SubscriberCall, NewSpan, Records, Follows, Event, Enter, Exit, CloneSpan, TryClose, spans_after_call};
 ghost use Rattle.trace_base.specs.Conditions.{Allowed, IsLive, IsLiveParent, HasFewHolds, HasFewHoldsAbove, AreFew, MayExit, HasOwnHold};
 ghost use Rattle.trace_base.specs.Sound.{IsSound};
@@ -16,7 +16,7 @@ use crate::callsite::{Callsite, SiteId};
 use crate::field::ValueSet;
 use crate::lane::Lane;
 use crate::level::LevelFilter;
-use crate::span::{Closing, Id, Parent};
+use crate::span::{CloseReply, Id, Parent};
 use otel_base::enter_error::EnterError;
 use otel_base::memory::Memory;
 
@@ -102,7 +102,7 @@ pub trait Subscriber {
     ghost is_whole: { Self → Type 0 };
 
     /// The same but for spare room.
-    ghost same: { Self → Self → Type 0 };
+    ghost same_but_room: { Self → Self → Type 0 };
 
     /// What a call makes of it, whatever room it took before.
     ghost does: { Self → SubscriberCall → Self → Type 0 };
@@ -110,7 +110,7 @@ pub trait Subscriber {
     /// Whether it takes what a callsite makes always, never, or has to be asked; `Subscriber::register_callsite`.
     fn register_callsite(&mut self, callsite: &Callsite) -> Result<Interest, Memory>
         ensures value { IfOk result (λ i. i ≡ interest self.old callsite.now) }
-        ensures leaves { same self.old self.new };
+        ensures leaves { same_but_room self.old self.new };
 
     /// Whether it takes what a callsite makes on a lane now; `Subscriber::enabled`.
     fn enabled(&self, lane: u64, callsite: &Callsite) -> bool
@@ -139,7 +139,7 @@ pub trait Subscriber {
         requires few_holds { HasFewHoldsAbove (spans self.old) lane.now.id parent }
         ensures id { IfOk result (λ id. id ≡ length (spans self.old).made) }
         ensures did { OnOk result (does self.old (NewSpan lane.now at parent site callsite.now values.now) self.new) }
-        ensures memory_leaves { OnErr result (same self.old self.new) };
+        ensures memory_leaves { OnErr result (same_but_room self.old self.new) };
 
     /// Records values on a span; `Subscriber::record`.
     fn record(
@@ -152,7 +152,7 @@ pub trait Subscriber {
         requires whole { is_whole self.old }
         requires live { IsLive (spans self.old).made id }
         ensures did { OnOk result (does self.old (Records id at callsite.now values.now) self.new) }
-        ensures memory_leaves { OnErr result (same self.old self.new) };
+        ensures memory_leaves { OnErr result (same_but_room self.old self.new) };
 
     /// Records that a span follows from another; `Subscriber::record_follows_from`.
     fn record_follows_from(&mut self, id: Id, from: Id, at: u64) -> Result<(), Memory>
@@ -160,7 +160,7 @@ pub trait Subscriber {
         requires live { IsLive (spans self.old).made id }
         requires from_live { IsLive (spans self.old).made from }
         ensures did { OnOk result (does self.old (Follows id from at) self.new) }
-        ensures memory_leaves { OnErr result (same self.old self.new) };
+        ensures memory_leaves { OnErr result (same_but_room self.old self.new) };
 
     /// Records an event, on the span at its place if there is one, while `current` is the lane's current span;
     /// `Subscriber::event`.
@@ -178,7 +178,7 @@ pub trait Subscriber {
         requires live { IsLiveParent (spans self.old).made parent }
         requires current { current ≡ current_of (entries_on lane.now.id (spans self.old).lanes) }
         ensures did { OnOk result (does self.old (Event lane.now at parent site callsite.now values.now) self.new) }
-        ensures memory_leaves { OnErr result (same self.old self.new) };
+        ensures memory_leaves { OnErr result (same_but_room self.old self.new) };
 
     /// Enters a span on a lane; `Subscriber::enter`. `Full` only where the entry attaches a context and the lane has as
     /// many as may be, and never Ok there.
@@ -188,7 +188,7 @@ pub trait Subscriber {
         requires few_holds { HasFewHolds (spans self.old).made id }
 
         ensures did { OnOk result (does self.old (Enter id at lane.old lane.new) self.new) }
-        ensures leaves { OnErr result (same self.old self.new) }
+        ensures leaves { OnErr result (same_but_room self.old self.new) }
         ensures lane_leaves { OnErr result (KeepsLive (attaches self.old) lane.old lane.new) }
 
         ensures full { result ≡ Err Full → (activates self.old id ≡ true) × IsFull lane.old }
@@ -210,11 +210,11 @@ pub trait Subscriber {
 
     /// Releases one hold of a span alone, which closes with its last one; `Subscriber::try_close`. Where a parent is
     /// answered, it has a hold to release next, and is older.
-    fn try_close(&mut self, id: Id, at: u64) -> Closing
+    fn try_close(&mut self, id: Id, at: u64) -> CloseReply
         requires whole { is_whole self.old }
         requires own { HasOwnHold (spans self.old) id }
         ensures closed { result.closed ≡ ((span_at (spans self.old).made id).holds == 1) }
-        ensures next { result.next ≡ next_of (spans self.old).made id }
+        ensures next { result.next ≡ parent_to_release (spans self.old).made id }
         ensures next_held { IfSome result.next (λ p. (p < id) × HasOwnHold (spans self.new) p) }
         ensures did { does self.old (TryClose id at) self.new };
 
@@ -230,26 +230,26 @@ pub trait Subscriber {
         ensures live { IfSome result (λ current. IsLive (spans self.now).made current.0) };
 
     /// Spare room is nothing that can be seen.
-    ghost same_refl: { (s : Self) → same s s };
+    ghost same_refl: { (s : Self) → same_but_room s s };
 
-    ghost same_trans: { (s t u : Self) → same s t → same t u → same s u };
+    ghost same_trans: { (s t u : Self) → same_but_room s t → same_but_room t u → same_but_room s u };
 
-    ghost same_spans: { (s t : Self) → same s t → spans t ≡ spans s };
+    ghost same_spans: { (s t : Self) → same_but_room s t → spans t ≡ spans s };
 
-    ghost same_kept: { (s t : Self) → same s t → kept t ≡ kept s };
+    ghost same_kept: { (s t : Self) → same_but_room s t → kept t ≡ kept s };
 
-    ghost same_attaches: { (s t : Self) → same s t → attaches t ≡ attaches s };
+    ghost same_attaches: { (s t : Self) → same_but_room s t → attaches t ≡ attaches s };
 
-    ghost same_activates: { (s t : Self) → same s t → activates t ≡ activates s };
+    ghost same_activates: { (s t : Self) → same_but_room s t → activates t ≡ activates s };
 
-    ghost same_gate: { (s t : Self) → same s t → (interest t ≡ interest s) × (hint t ≡ hint s) };
+    ghost same_gate: { (s t : Self) → same_but_room s t → (interest t ≡ interest s) × (hint t ≡ hint s) };
 
-    ghost same_enables: { (s t : Self) → same s t → enables t ≡ enables s };
+    ghost same_enables: { (s t : Self) → same_but_room s t → enables t ≡ enables s };
 
-    ghost same_whole: { (s t : Self) → same s t → is_whole s → is_whole t };
+    ghost same_whole: { (s t : Self) → same_but_room s t → is_whole s → is_whole t };
 
     /// It may have been taken before a call.
-    ghost same_does: { (s t : Self) (call : SubscriberCall) (u : Self) → same s t → does t call u → does s call u };
+    ghost same_does: { (s t : Self) (call : SubscriberCall) (u : Self) → same_but_room s t → does t call u → does s call u };
 
     /// A call finds the spans sound and was allowed, and makes of the plain data what it makes of them in every subscriber.
     ghost sound: { (s : Self) (call : SubscriberCall) (t : Self) → does s call t → IsSound (spans s) };

@@ -1,12 +1,12 @@
 //! Worlds: callsites, subscribers, and the gate between them.
 ghost use Rattle.std.specs.Prelude.{◌≡◌, ◌<◌, ◌≤◌, ℕ, Bool, Option, List, [], ◌∷◌, ◌++◌, map, take, length, Some, None, OnOk, OnErr, IfSome, IfOk, IfErr, slice_get};
-ghost use Rattle.trace_base.specs.Gate.{Worlds, gate, is_hinted, dispatch_on, cached_at, Admits, AdmitsFresh, IsFresh, AreSame, HasRows, IsInWorld, interests_in, interests_of_sites};
+ghost use Rattle.trace_base.specs.Gate.{WorldValue, gate, hint_allows, dispatch_on, cached_at, Admits, AdmitsFresh, IsFresh, AreSame, HasRows, IsInWorld, interests_in, interests_of_sites};
 ghost use Rattle.std.specs.Borrow.{sem};
 ghost use Rattle.trace_base.specs.Lending.{LendsSubscriber};
 
 use crate::callsite::{Callsite, SiteId};
 use crate::discard::Discard;
-use crate::dispatcher::{Dispatch, either};
+use crate::dispatcher::{Dispatch, default_or_global};
 use crate::lane::Lane;
 use crate::level::{Level, LevelFilter};
 use crate::subscriber::{Interest, Subscriber};
@@ -41,13 +41,13 @@ pub struct World<S> {
 
 impl<S> Model for World<S> {
     ghost use Rattle.std.specs.Prelude.{length};
-    ghost use Rattle.trace_base.specs.Gate.{Worlds, IsCached};
+    ghost use Rattle.trace_base.specs.Gate.{WorldValue, IsSoundWorld};
 
-    ghost Value = { Worlds S };
+    ghost Value = { WorldValue S };
 
     ghost view = { λ w. record { sites = w.sites.items; subscribers = w.subscribers.items; cached = w.cached.items; global = w.global } };
 
-    ghost invariant = { λ w. IsCached (length w.sites.items) (length w.subscribers.items) w.cached.items w.global };
+    ghost invariant = { λ w. IsSoundWorld (length w.sites.items) (length w.subscribers.items) w.cached.items w.global };
 }
 
 impl<S: Subscriber> World<S> {
@@ -74,7 +74,7 @@ impl<S: Subscriber> World<S> {
         ensures site { IfOk result (λ site. site ≡ length self.old.sites) }
         ensures sites { OnOk result (self.new.sites ≡ self.old.sites ++ callsite ∷ []) }
         ensures cached { OnOk result (self.new.cached ≡ self.old.cached ++ interests_in S.interest self.old.subscribers callsite ∷ []) }
-        ensures same { AreSame S.same self.old.subscribers self.new.subscribers }
+        ensures same { AreSame S.same_but_room self.old.subscribers self.new.subscribers }
         ensures global { self.new.global ≡ self.old.global }
         ensures memory_leaves { OnErr result ((self.new.sites ≡ self.old.sites) × (self.new.cached ≡ self.old.cached)) }
     {
@@ -112,14 +112,14 @@ impl<S: Subscriber> World<S> {
     /// `Memory` it is handed back.
     pub fn add(&mut self, subscriber: S) -> Result<Dispatch, (S, Memory)>
         ensures dispatch { IfOk result (λ dispatch. dispatch ≡ length self.old.subscribers) }
-        ensures ok { OnOk result (AreSame S.same (self.old.subscribers ++ subscriber ∷ []) self.new.subscribers) }
+        ensures ok { OnOk result (AreSame S.same_but_room (self.old.subscribers ++ subscriber ∷ []) self.new.subscribers) }
         ensures fresh { OnOk result (IsFresh S.interest self.new) }
         ensures sites { self.new.sites ≡ self.old.sites }
         ensures global { self.new.global ≡ self.old.global }
 
         // For want of memory the subscriber comes back.
-        ensures back { IfErr result (λ refused. S.same subscriber refused.0) }
-        ensures memory_same { OnErr result (AreSame S.same self.old.subscribers self.new.subscribers) }
+        ensures back { IfErr result (λ refused. S.same_but_room subscriber refused.0) }
+        ensures memory_same { OnErr result (AreSame S.same_but_room self.old.subscribers self.new.subscribers) }
         ensures memory_leaves { OnErr result (self.new.cached ≡ self.old.cached) }
     {
         let dispatch = Dispatch::at(self.subscribers.len() as u64);
@@ -189,7 +189,7 @@ impl<S: Subscriber> World<S> {
     /// `tracing_core::callsite::rebuild_interest_cache`. After `Memory` the interests stand as before.
     pub fn rebuild_interest(&mut self) -> Result<(), Memory>
         ensures fresh { OnOk result (IsFresh S.interest self.new) }
-        ensures same { AreSame S.same self.old.subscribers self.new.subscribers }
+        ensures same { AreSame S.same_but_room self.old.subscribers self.new.subscribers }
         ensures sites { self.new.sites ≡ self.old.sites }
         ensures global { self.new.global ≡ self.old.global }
         ensures memory_leaves { OnErr result (self.new.cached ≡ self.old.cached) }
@@ -206,7 +206,7 @@ impl<S: Subscriber> World<S> {
         requires own { IsInWorld self.now lane.now.default }
         ensures { Admits S.hint S.enables self.now lane.now.id site (dispatch_on lane.now.default self.now.global) result }
     {
-        match either(&lane.default, &self.global) {
+        match default_or_global(&lane.default, &self.global) {
             None => false,
             Some(dispatch) => {
                 let at = dispatch.number() as usize;
@@ -256,8 +256,8 @@ impl<S: Discard> Discard for World<S> {
 }
 
 // Whether the hint lets the level through.
-fn is_hinted(hint: Option<LevelFilter>, level: Level) -> bool
-    ensures { result ≡ is_hinted hint level }
+fn hint_allows(hint: Option<LevelFilter>, level: Level) -> bool
+    ensures { result ≡ hint_allows hint level }
 {
     match hint {
         None => true,
@@ -276,9 +276,9 @@ pub fn passes<S: Subscriber>(
 {
     match interest {
         Interest::Never => false,
-        Interest::Sometimes => is_hinted(subscriber.max_level_hint(), callsite.level)
+        Interest::Sometimes => hint_allows(subscriber.max_level_hint(), callsite.level)
             && subscriber.enabled(lane, callsite),
-        Interest::Always => is_hinted(subscriber.max_level_hint(), callsite.level),
+        Interest::Always => hint_allows(subscriber.max_level_hint(), callsite.level),
     }
 }
 
@@ -289,7 +289,7 @@ fn ask<S: Subscriber>(
     callsite: &Callsite,
 ) -> Result<Row, Memory>
     ensures row { IfOk result (λ row. row ≡ interests_in S.interest subscribers.old.items callsite.now) }
-    ensures same { AreSame S.same subscribers.old.items subscribers.new.items }
+    ensures same { AreSame S.same_but_room subscribers.old.items subscribers.new.items }
 {
     let mut interests = Vec::new(alloc);
     for at in 0..subscribers.len() {
@@ -305,7 +305,7 @@ fn ask_all<S: Subscriber>(
     sites: &[Callsite],
 ) -> Result<Vec<Row>, Memory>
     ensures rows { IfOk result (λ rows. rows.items ≡ interests_of_sites S.interest subscribers.old.items sites.now) }
-    ensures same { AreSame S.same subscribers.old.items subscribers.new.items }
+    ensures same { AreSame S.same_but_room subscribers.old.items subscribers.new.items }
 {
     let mut rows = Vec::new(alloc);
     for site in sites {

@@ -1,5 +1,5 @@
 -- Names of other modules that proofs of the crate import, passed on from one place. Declares nothing.
-pub use Rattle.span_handles.specs.Handles.{HasOn, Held, place_under}
+pub use Rattle.span_handles.specs.Handles.{HasOn, HeldSpan, as_parent}
 pub use Rattle.env_filter.specs.Filtering.{plain_filter}
 pub use Rattle.span_stack.specs.Reading.{StackWorlds, stack_interest}
 pub use Rattle.span_script.proofs.entries.EntriesLemmas.{by_view_opens, by_view_opens_refused, entered_is, entered_ok, entered_refused, keeps_entered, keeps_exited, serves_entered, serves_exited}

@@ -10,7 +10,7 @@ use trace_base::subscriber::Subscriber;
 
 // What is done to any subscriber, in its plain data.
 fn of_any<S: OtelSubscriber>()
-    ensures { PlainLaws S.spans S.attaches S.kept S.is_whole S.does S.same S.touches }
+    ensures { PlainLaws S.spans S.attaches S.kept S.is_whole S.does S.same_but_room S.touches }
 {
     span_handles::laws::calls::<S>();
     span_handles::laws::same::<S>();
@@ -21,7 +21,7 @@ fn of_any<S: OtelSubscriber>()
 // The same of the stack.
 fn of_stack()
     ensures { PlainLaws ⟦<Stack as Subscriber>⟧.spans ⟦<Stack as Subscriber>⟧.attaches ⟦<Stack as Subscriber>⟧.kept
-        ⟦<Stack as Subscriber>⟧.is_whole ⟦<Stack as Subscriber>⟧.does ⟦<Stack as Subscriber>⟧.same
+        ⟦<Stack as Subscriber>⟧.is_whole ⟦<Stack as Subscriber>⟧.does ⟦<Stack as Subscriber>⟧.same_but_room
         ⟦<Stack as OtelPart>⟧.touches }
 {
     of_any::<Stack>();
@@ -39,7 +39,7 @@ pub fn calls()
 /// What is the same but for spare room is kept alike.
 pub fn same()
     ensures { SameLaw ⟦<Stack as Subscriber>⟧.spans stack_views ⟦<Stack as Subscriber>⟧.attaches
-        ⟦<Stack as Subscriber>⟧.kept ⟦<Stack as Subscriber>⟧.is_whole ⟦<Stack as Subscriber>⟧.same }
+        ⟦<Stack as Subscriber>⟧.kept ⟦<Stack as Subscriber>⟧.is_whole ⟦<Stack as Subscriber>⟧.same_but_room }
 {
     of_stack();
     laws::same();

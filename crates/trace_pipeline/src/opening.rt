@@ -44,7 +44,7 @@ pub fn world_of<S: Subscriber + Discard>(
     subscriber: S,
 ) -> Result<(World<S>, Dispatch), Memory>
     ensures dispatch { IfOk result (λ opened. opened.1 ≡ 0) }
-    ensures subscriber { IfOk result (λ opened. AreSame S.same (subscriber ∷ []) opened.0.subscribers) }
+    ensures subscriber { IfOk result (λ opened. AreSame S.same_but_room (subscriber ∷ []) opened.0.subscribers) }
     ensures fresh { IfOk result (λ opened. IsFresh S.interest opened.0) }
     ensures sites { IfOk result (λ opened. opened.0.sites ≡ callsites.items) }
 {

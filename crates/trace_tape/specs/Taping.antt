@@ -6,7 +6,7 @@ use Rattle.trace_base.specs.declared.field.Value.{Value}
 use Rattle.trace_base.specs.declared.field.ValueSet.{ValueSet}
 use Rattle.trace_base.specs.declared.span.Parent.{Parent}
 use Rattle.trace_base.specs.declared.span.Parent.TheVariants as parent
-use Rattle.trace_base.specs.Spans.{without_last, next_of}
+use Rattle.trace_base.specs.Spans.{without_last, parent_to_release}
 use Rattle.trace_base.specs.Calls.{SubscriberCall, NewSpan, Records, Follows, Event, Enter, Exit, CloneSpan, TryClose}
 use Rattle.span_registry.specs.Registering.{RegistryValue, DoesRegistry}
 use Rattle.trace_tape.specs.declared.opened.Opened.{Opened}
@@ -111,7 +111,7 @@ taped_after s (Exit id at before later) = record s {
   requests = s.requests ++ exit_requests at (last_passing (is_opened before.id id) s.entries);
 }
 taped_after s (CloneSpan id) = record s { handles = slice_set s.handles id (held_more (handles_of s.handles id)) }
-taped_after s (TryClose id at) = record (release s id at) { due = next_of s.below.spans.made id }
+taped_after s (TryClose id at) = record (release s id at) { due = parent_to_release s.below.spans.made id }
 
 -- a call is the registry's, and spells its requests
 pub record DoesTape (old : TapeValue) (call : SubscriberCall) (new : TapeValue) : Type 0 where

@@ -9,7 +9,7 @@ use Rattle.otel_state.specs.declared.op.Op.TheVariants as ops
 use Rattle.otel_state.specs.declared.op.OpReply.{OpReply}
 use Rattle.otel_state.specs.declared.op.OpReply.TheVariants as replies
 use Rattle.otel_state.specs.States.{is_growing}
-use Rattle.otel_layer.specs.Parts.{PartCall, Applies, Shows, StaysStack}
+use Rattle.otel_layer.specs.Parts.{PartCall, Applies, GivesContext, StaysStack}
 use Rattle.span_script.specs.declared.request.Call.TheVariants as call
 use Rattle.span_script.specs.declared.request.Request.{Request}
 use Rattle.trace_tape.specs.Taping.{TapeValue, on_first_lane}
@@ -35,7 +35,7 @@ is_live spans id = nat_lt 0 (span_at spans.made id).holds
 
 abbrev pub TouchesTape : TapeValue → PartCall → TapeValue → Type 0
 TouchesTape s (Applies id at op answer) t = AppliesTape (is_live s.below.spans id) s id at op answer t
-TouchesTape s (Shows id at answer) t = (t ≡ s) × (answer ≡ (if is_live s.below.spans id then Some empty_context else None))
+TouchesTape s (GivesContext id at answer) t = (t ≡ s) × (answer ≡ (if is_live s.below.spans id then Some empty_context else None))
 
 applied_below : (live : Bool) (s : TapeValue) (id at : ℕ) (op : Op) (answer : Option (Result OpReply Memory)) (t : TapeValue) → AppliesTape live s id at op answer t → t.below ≡ s.below
 applied_below false s id at op answer t did = ap (λ (x : TapeValue). x.below) did.1
@@ -45,7 +45,7 @@ applied_below true s id at op (Some (Err memory)) t did = ap (λ (x : TapeValue)
 
 pub touched_below : (s : TapeValue) (call : PartCall) (t : TapeValue) → TouchesTape s call t → t.below ≡ s.below
 touched_below s (Applies id at op answer) t did = applied_below (is_live s.below.spans id) s id at op answer t did
-touched_below s (Shows id at answer) t did = ap (λ (x : TapeValue). x.below) did.0
+touched_below s (GivesContext id at answer) t did = ap (λ (x : TapeValue). x.below) did.0
 
 -- its spans and entries stay
 pub tape_stays : (s : TapeValue) (call : PartCall) (t : TapeValue) → TouchesTape s call t → StaysStack (λ (x : TapeValue). x.below.spans) (λ x lane number. 0) (λ x. false) (λ x. Unit {0}) s t

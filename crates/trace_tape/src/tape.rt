@@ -4,11 +4,13 @@ ghost use Rattle.std.proofs.Common.{refl, ◌∙◌, ap};
 ghost use Rattle.trace_base.specs.declared.lane.Lane.{Lane};
 ghost use Rattle.trace_base.specs.declared.subscriber.Interest.TheVariants as interests;
 ghost use Rattle.trace_tape.specs.Taping.{TapeValue, DoesTape, blank_tape, one_more, held_more, handles_of, drop_requests, is_held, spelled_parent};
+ghost use Rattle.trace_tape.specs.Sinks.{TakesAll};
 ghost use Rattle.trace_tape.specs.Taped.{tape_same, tape_lanes};
 ghost use Rattle.span_registry.specs.Registering.{no_spans};
 
 use crate::naming::named_values;
 use crate::opened::{Opened, take_last};
+use crate::request_sink::RequestSink;
 use crate::roll::Roll;
 use otel_base::enter_error::EnterError;
 use otel_base::memory::Memory;
@@ -21,7 +23,7 @@ use trace_base::discard::Discard;
 use trace_base::field::ValueSet;
 use trace_base::lane::Lane;
 use trace_base::level::LevelFilter;
-use trace_base::span::{Closing, Id, Parent};
+use trace_base::span::{CloseReply, Id, Parent};
 use trace_base::subscriber::{Interest, Subscriber};
 
 /// A subscriber that takes everything, and keeps the list of requests that its calls spell, each on lane 0.
@@ -70,13 +72,13 @@ impl Tape {
         self.roll.requests()
     }
 
-    /// Moves the requests that the calls so far spelled behind others, in order. `Memory` leaves the tape as it is.
-    pub fn move_requests(&mut self, others: &mut Vec<Request>) -> Result<(), Memory>
-        ensures moved { OnOk result (others.new.items ≡ others.old.items ++ self.old.requests) }
-        ensures emptied { OnOk result (self.new ≡ record self.old { requests = [] }) }
-        ensures memory_leaves { OnErr result (self.new ≡ self.old) }
+    /// Hands the requests that the calls so far spelled on, the first one first. `Memory` freely, and where the sink wants it.
+    pub fn hand_on<K: RequestSink>(&mut self, sink: &mut K) -> Result<(), Memory>
+        ensures taken { OnOk result (TakesAll K.takes self.old.requests sink.old sink.new) }
+        ensures emptied { OnOk result (self.new.requests ≡ []) }
+        ensures others { self.new ≡ record self.old { requests = self.new.requests } }
     {
-        self.roll.move_to(others)
+        self.roll.hand_on(sink)
     }
 }
 
@@ -97,7 +99,7 @@ impl Subscriber for Tape {
 
     ghost is_whole = { λ s. Unit {0} };
 
-    ghost same = { λ s t. t ≡ s };
+    ghost same_but_room = { λ s t. t ≡ s };
 
     ghost does = { DoesTape };
 
@@ -288,7 +290,7 @@ impl Subscriber for Tape {
         hold(&mut self.handles, id);
     }
 
-    fn try_close(&mut self, id: Id, at: u64) -> Closing {
+    fn try_close(&mut self, id: Id, at: u64) -> CloseReply {
         let closing = self.registry.try_close(id, at);
         let is_due = match self.due {
             Some(due) => due == id,

@@ -11,16 +11,16 @@ pub use Rattle.otel_base.specs.declared.memory.Memory.{Memory}
 pub use Rattle.trace_base.proofs.EntryLemmas.{count_cons, made_if_held, with_same}
 pub use Rattle.trace_base.specs.Calls.{Enter, Event, Exit, NewSpan, Records, SubscriberCall, TryClose, spans_after_call, with_new_span, with_span_entry, with_span_exit}
 pub use Rattle.trace_base.specs.Field.{place_of}
-pub use Rattle.trace_base.specs.Gate.{Admits, Worlds, cached_at, dispatch_on, gate}
-pub use Rattle.trace_base.specs.Spans.{Span, Spans, current_of, current_on, entries_on, is_in, less_hold, next_of, no_span, parent_on, span_at, times_in, with_hold, without_hold, without_last}
+pub use Rattle.trace_base.specs.Gate.{Admits, WorldValue, cached_at, dispatch_on, gate}
+pub use Rattle.trace_base.specs.Spans.{Span, Spans, current_of, current_on, entries_on, is_in, span_without_hold, parent_to_release, no_span, parent_on, span_at, times_in, with_hold, without_hold, without_last}
 pub use Rattle.trace_base.specs.declared.callsite.Callsite.{Callsite}
 pub use Rattle.trace_base.specs.declared.field.ValueSet.{ValueSet}
 pub use Rattle.trace_base.specs.declared.lane.Lane.{Lane}
 pub use Rattle.trace_base.specs.declared.level.LevelFilter.{LevelFilter}
 pub use Rattle.trace_base.specs.lanes.Contexts.{IsFull, CallLanes, attached_as, attached_on}
 pub use Rattle.span_handles.proofs.ChangedSubscriberLemmas.{as_many, chain_shown, now_there, seen_before, seen_later}
-pub use Rattle.span_handles.specs.Entries.{BeginsInside, LeavesLane, MeetsFullLane}
-pub use Rattle.span_handles.specs.Handles.{Handle, HasOn, Held, IsKnown, MakesIf, RecordsAt, RecordsOn, ReplacedIf, ReplacedOn, callsite_in, handle_of, id_of}
+pub use Rattle.span_handles.specs.Entries.{BeginsInside, KeepsLaneButRoom, MeetsFullLane}
+pub use Rattle.span_handles.specs.Handles.{Handle, HasOn, HeldSpan, IsKnown, MakesIf, RecordsAt, RecordsOn, ReplacedIf, ReplacedOn, callsite_in, handle_of, id_of}
 pub use Rattle.span_handles.specs.Worlds.{Chain, ReleasesChain, Replaced, all_released, closes, ended, kept_in, no_spans, releases, spans_in}
 pub use Rattle.span_futures.proofs.CallsLemmas.{called_once, called_same, calls_none, calls_one, calls_then, changed_once}
 pub use Rattle.span_futures.proofs.Inside.{keeps_nothing, refused}
@@ -40,7 +40,7 @@ pub use Rattle.trace_tasks.specs.Begun.{AllSited, AreBegun, Begins, MakesOne, Ra
 pub use Rattle.trace_tasks.specs.Carrying.{Carries, CarriesCall, Entered, EventTold, Exited, Handled, Made, MakesGated, TaskScene}
 pub use Rattle.trace_tasks.specs.Flat.{UnfinishedTask, after_poll, all_polls, declared_ones, drop_at_end, flat_list, makings, moment_of, poll_requests, polls_left, requeue, round_requests, rounds_requests, step_call, tasks_at_first, turns_requests, yield_count}
 pub use Rattle.trace_tasks.specs.Spelled.{AreTested, CarriesTape, IsDeclared, IsNewTape, IsTested, KeepsOnTape, tape_spans}
-pub use Rattle.trace_tasks.specs.Stops.{Drops, DropsAll, GaveUp, IsPartOfPoll, MeetsFull, StopsBeginning, StopsInTurn, StopsPoll, StopsTurns, TurnStops, drops_of_tasks, exit_if, leaving_requests, left_after}
+pub use Rattle.trace_tasks.specs.Stops.{Drops, DropsAll, GaveUp, IsFrontOf, IsPartOfPoll, MeetsFull, StopsBeginning, StopsInTurn, StopsPoll, StopsTurns, TurnStops, drops_of_tasks, exit_if, leaving_requests, left_after}
 pub use Rattle.trace_tasks.specs.Turning.{IsAlone, IsAloneAs, IsLeft, Ready, SameAttached, SpansStay, Turned, dispatch_serving, left_as, root_of_one_handle, served_by}
 pub use Rattle.trace_tasks.specs.Waiting.{AllKnown, AllStand, AllWait, AreApart, IsApart, KeepsBut, TakesTurn, TakesTurnIf, TakesTurns, TaskStands, Waits, polls_in, queue_with}
 pub use Rattle.trace_tasks.specs.declared.running.Running.{Running}

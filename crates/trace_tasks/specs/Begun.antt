@@ -4,10 +4,10 @@ use Rattle.trace_base.specs.declared.callsite.Callsite.{Callsite}
 use Rattle.trace_base.specs.declared.lane.Lane.{Lane}
 use Rattle.trace_base.specs.declared.level.LevelFilter.{LevelFilter}
 use Rattle.trace_base.specs.Calls.{SubscriberCall}
-use Rattle.trace_base.specs.Gate.{Worlds, Admits}
+use Rattle.trace_base.specs.Gate.{WorldValue, Admits}
 use Rattle.trace_base.specs.Spans.{Spans, span_at}
 use Rattle.span_handles.specs.Worlds.{spans_in}
-use Rattle.span_handles.specs.Handles.{Handle, Held, IsKnown, id_of}
+use Rattle.span_handles.specs.Handles.{Handle, HeldSpan, IsKnown, id_of}
 use Rattle.span_futures.specs.declared.instrument.Instrumented.{Instrumented}
 use Rattle.otel_layer.specs.Parts.{PartCall}
 use Rattle.trace_tasks.specs.declared.running.Running.{Running}
@@ -20,7 +20,7 @@ use Rattle.trace_tasks.specs.Waiting.{AllWait, AllStand}
 
 -- a span was made at 0, if it was let through, and nothing else happened
 pub record MakesOne {S : Type 0} (spans : S → Spans) (hint : S → Option LevelFilter) (enables : S → ℕ → Callsite → Bool) (does : S → SubscriberCall → S → Type 0) (touches : S → PartCall → S → Type 0)
-    (site : ℕ) (fields : Fields) (lane : Lane) (old new : Worlds S) (span : Handle) : Type 0 where
+    (site : ℕ) (fields : Fields) (lane : Lane) (old new : WorldValue S) (span : Handle) : Type 0 where
   pub callsite : Callsite
   pub is : slice_get old.sites site ≡ Some callsite
   pub admitted : Bool
@@ -29,10 +29,10 @@ pub record MakesOne {S : Type 0} (spans : S → Spans) (hint : S → Option Leve
 
 -- a task was begun: its span was made, and nothing else happened
 pub record Begins {S : Type 0} (spans : S → Spans) (hint : S → Option LevelFilter) (enables : S → ℕ → Callsite → Bool) (kept : S → ℕ → ℕ → ℕ) (is_whole : S → Type 0) (does : S → SubscriberCall → S → Type 0) (touches : S → PartCall → S → Type 0)
-    (task : Task) (lane : Lane) (old new : Worlds S) (f : Instrumented Running) : Type 0 where
+    (task : Task) (lane : Lane) (old new : WorldValue S) (f : Instrumented Running) : Type 0 where
   pub steps : f.inner.steps.items ≡ task.steps
   pub site : f.span.site ≡ Some task.site
-  pub made : (handles : List Handle) (guards : List Held) → Made spans hint enables does touches (dispatch_serving lane) 0 task.site task.fields
+  pub made : (handles : List Handle) (guards : List HeldSpan) → Made spans hint enables does touches (dispatch_serving lane) 0 task.site task.fields
       (record { world = old; lane = lane; handles = handles; guards = guards }) (record { world = new; lane = lane; handles = handles ++ f.span ∷ []; guards = guards })
   pub known : IsKnown spans new f.span.held
   pub lone : IsAlone (spans_in spans new (dispatch_serving lane)).made (dispatch_serving lane) task.site f.span
@@ -49,7 +49,7 @@ AllSited n (t ∷ ts) = (t.site < n) × AllSited n ts
 
 -- the first tasks were begun
 pub record AreBegun {S : Type 0} (spans : S → Spans) (hint : S → Option LevelFilter) (enables : S → ℕ → Callsite → Bool) (kept : S → ℕ → ℕ → ℕ) (is_whole : S → Type 0) (does : S → SubscriberCall → S → Type 0) (touches : S → PartCall → S → Type 0)
-    (tasks : List Task) (lane : Lane) (old new : Worlds S) (fs : List (Instrumented Running)) : Type 0 where
+    (tasks : List Task) (lane : Lane) (old new : WorldValue S) (fs : List (Instrumented Running)) : Type 0 where
   pub handles : List Handle
   pub count : length handles ≡ length tasks
   pub stand : AllStand handles (tasks_at_first 0 tasks) fs
@@ -61,8 +61,8 @@ pub record AreBegun {S : Type 0} (spans : S → Spans) (hint : S → Option Leve
 
 -- what a run of tasks did: exactly the requests of the flat list, in order
 pub record Ran {S : Type 0} (spans : S → Spans) (hint : S → Option LevelFilter) (enables : S → ℕ → Callsite → Bool) (does : S → SubscriberCall → S → Type 0) (touches : S → PartCall → S → Type 0)
-    (sites : List Callsite) (tasks : List Task) (old new : Worlds S) (before later : Lane) (polls : ℕ) : Type 0 where
+    (sites : List Callsite) (tasks : List Task) (old new : WorldValue S) (before later : Lane) (polls : ℕ) : Type 0 where
   pub answer : polls ≡ all_polls (tasks_at_first 0 tasks)
   pub handles : List Handle
-  pub guards : List Held
+  pub guards : List HeldSpan
   pub carried : Carries spans hint enables does touches (dispatch_serving before) (flat_list sites tasks) (record { world = old; lane = before; handles = []; guards = [] }) (record { world = new; lane = later; handles = handles; guards = guards })

@@ -5,10 +5,10 @@ use Rattle.trace_base.specs.declared.lane.Lane.{Lane}
 use Rattle.trace_base.specs.declared.level.LevelFilter.{LevelFilter}
 use Rattle.trace_base.specs.declared.span.Parent.TheVariants as parent
 use Rattle.trace_base.specs.Calls.{SubscriberCall, Exit}
-use Rattle.trace_base.specs.Gate.{Worlds, Admits}
+use Rattle.trace_base.specs.Gate.{WorldValue, Admits}
 use Rattle.trace_base.specs.Spans.{Spans}
 use Rattle.span_handles.specs.Worlds.{Chain}
-use Rattle.span_handles.specs.Handles.{Handle, Held, ReplacedOn, RecordsOn, Makes, callsite_in}
+use Rattle.span_handles.specs.Handles.{Handle, HeldSpan, ReplacedOn, RecordsOn, Makes, callsite_in}
 use Rattle.span_handles.specs.Entries.{BeginsInside}
 use Rattle.otel_state.specs.declared.op.Op.TheVariants as ops
 use Rattle.otel_layer.specs.Parts.{PartCall}
@@ -22,14 +22,14 @@ use Rattle.span_script.specs.Fields.{Fields, values_of, values_by}
 
 -- a world, the lane, and the handles and guards that were made, by their numbers; a guard is of a handle
 pub record TaskScene (S : Type 0) : Type 0 where
-  pub world : Worlds S
+  pub world : WorldValue S
   pub lane : Lane
   pub handles : List Handle
-  pub guards : List Held
+  pub guards : List HeldSpan
 
 -- a span's handle if its making is let through, else a disabled one
 module _ {S : Type 0} (spans : S → Spans) (hint : S → Option LevelFilter) (enables : S → ℕ → Callsite → Bool) (does : S → SubscriberCall → S → Type 0) (touches : S → PartCall → S → Type 0) (d : ℕ) where
-  abbrev pub MakesGated : Bool → Worlds S → Worlds S → Lane → ℕ → ℕ → Callsite → Fields → Handle → Type 0
+  abbrev pub MakesGated : Bool → WorldValue S → WorldValue S → Lane → ℕ → ℕ → Callsite → Fields → Handle → Type 0
   MakesGated true old new lane at site callsite fields handle = Makes spans does old new lane at parent.Current site (values_of callsite fields) d handle
   MakesGated false old new lane at site callsite fields handle = (handle ≡ record { held = None; site = Some site }) × (new ≡ old)
 
@@ -45,7 +45,7 @@ module _ {S : Type 0} (spans : S → Spans) (hint : S → Option LevelFilter) (e
     pub guards : t.guards ≡ s.guards
 
   -- what a request on a handle does to the world and the lane
-  abbrev pub OnHandle : ℕ → Call → Handle → Worlds S → Lane → Worlds S → Lane → Type 0
+  abbrev pub OnHandle : ℕ → Call → Handle → WorldValue S → Lane → WorldValue S → Lane → Type 0
   OnHandle at (call.Record n fields) handle old before new later = (later ≡ before) × RecordsOn does old new at (values_by (callsite_in old handle.site) fields) handle
   OnHandle at (call.SetAttribute n key value) handle old before new later = (later ≡ before) × ((answer : _) × IsGranted answer
       × AppliesOn touches old new at (ops.SetAttribute (record { key = key; value = value })) handle.held answer)
@@ -68,7 +68,7 @@ module _ {S : Type 0} (spans : S → Spans) (hint : S → Option LevelFilter) (e
     pub guards : t.guards ≡ s.guards ++ handle.held ∷ []
 
   pub record Exited (at number : ℕ) (s t : TaskScene S) : Type 0 where
-    pub held : Held
+    pub held : HeldSpan
     pub is : slice_get s.guards number ≡ Some held
     pub exited : ReplacedOn (λ id a b. does a (Exit id at s.lane t.lane) b) s.world t.world held
     pub none : held ≡ None → t.lane ≡ s.lane

@@ -39,10 +39,12 @@ abbrev pub drop_at_end : ℕ → ℕ → Option (List Step) → List Request
 drop_at_end k number None = on_first_lane (moment_of k) (call.Drop number) ∷ []
 drop_at_end k number (Some steps) = []
 
--- the poll after k polls, of a task
+-- the poll after k polls, of a task: its entry and its steps, which may be refused, and then its exit
+abbrev pub entry_and_steps : List Callsite → ℕ → UnfinishedTask → List Request
+entry_and_steps sites k t = on_first_lane (moment_of k) (call.Enter t.number) ∷ map (λ s. on_first_lane (moment_of k) (step_call sites t s)) (steps_now t.steps)
+
 abbrev pub poll_requests : List Callsite → ℕ → UnfinishedTask → List Request
-poll_requests sites k t = on_first_lane (moment_of k) (call.Enter t.number) ∷ map (λ s. on_first_lane (moment_of k) (step_call sites t s)) (steps_now t.steps)
-    ++ on_first_lane (moment_of k) (call.Exit k) ∷ drop_at_end k t.number (steps_left t.steps)
+poll_requests sites k t = entry_and_steps sites k t ++ on_first_lane (moment_of k) (call.Exit k) ∷ drop_at_end k t.number (steps_left t.steps)
 
 -- a task after a poll, if it isn't finished
 abbrev pub after_poll : UnfinishedTask → Option UnfinishedTask

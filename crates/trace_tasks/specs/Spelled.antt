@@ -3,7 +3,7 @@ use Rattle.std.specs.Prelude.{◌≡◌, ℕ, ◌<◌, true, List, [], ◌∷◌
 use Rattle.std.specs.List.{list_all}
 use Rattle.trace_base.specs.declared.callsite.Callsite.{Callsite}
 use Rattle.trace_base.specs.declared.subscriber.Interest.TheVariants as interests
-use Rattle.trace_base.specs.Gate.{Worlds, cached_at}
+use Rattle.trace_base.specs.Gate.{WorldValue, cached_at}
 use Rattle.trace_base.specs.Spans.{Spans}
 use Rattle.span_script.specs.declared.request.Request.{Request}
 use Rattle.trace_tape.specs.Taping.{TapeValue, DoesTape}
@@ -39,11 +39,11 @@ AreTested sites [] = Unit {0}
 AreTested sites (t ∷ ts) = IsDeclared (slice_get sites t.site) t.fields × IsTested sites t.steps × AreTested sites ts
 
 -- a tape of a world keeps exactly some requests
-abbrev pub KeepsOnTape : ℕ → List Request → Worlds TapeValue → Type 0
+abbrev pub KeepsOnTape : ℕ → List Request → WorldValue TapeValue → Type 0
 KeepsOnTape d requests world = (tape : TapeValue) × (slice_get world.subscribers d ≡ Some tape) × (tape.requests ≡ requests)
 
 -- a tape of a world that is asked for everything, and on which nothing was spelled yet
-pub record IsNewTape (world : Worlds TapeValue) (d : ℕ) (tape : TapeValue) : Type 0 where
+pub record IsNewTape (world : WorldValue TapeValue) (d : ℕ) (tape : TapeValue) : Type 0 where
   pub there : slice_get world.subscribers d ≡ Some tape
   pub cached : (site : ℕ) → site < length world.sites → cached_at world.cached d site ≡ interests.Always
   pub no_spans : tape.below.spans.made ≡ []

@@ -3,12 +3,13 @@ use Rattle.std.specs.Prelude.{◌≡◌, ℕ, ◌<◌, List, [], ◌∷◌, leng
 use Rattle.trace_base.specs.declared.callsite.Callsite.{Callsite}
 use Rattle.trace_base.specs.declared.lane.Lane.{Lane}
 use Rattle.trace_base.specs.declared.subscriber.Interest.TheVariants as interests
-use Rattle.trace_base.specs.Gate.{Worlds, cached_at}
+use Rattle.trace_base.specs.Gate.{WorldValue, cached_at}
 use Rattle.trace_base.specs.Spans.{span_at, entries_on}
 use Rattle.span_handles.specs.Worlds.{Replaced}
-use Rattle.span_handles.specs.Handles.{Handle, Held, handle_of}
+use Rattle.span_handles.specs.Handles.{Handle, HeldSpan, handle_of}
 use Rattle.span_futures.specs.declared.instrument.Instrumented.{Instrumented}
 use Rattle.span_script.specs.declared.request.Request.{Request}
+use Rattle.trace_tape.specs.Sinks.{TakesAll}
 use Rattle.trace_tape.specs.Taping.{TapeValue, handles_of}
 use Rattle.trace_tasks.specs.declared.running.Running.{Running}
 use Rattle.trace_tasks.specs.Carrying.{TaskScene}
@@ -50,9 +51,9 @@ AllCanBePolled d sites s tape [] = Unit {0}
 AllCanBePolled d sites s tape (t ∷ ts) = CanBePolled d sites s tape t × HasOwnNumber t ts × AllCanBePolled d sites s tape ts
 
 -- tasks of a queue that wait on a tape after k polls, all requests having been handed on
-pub record WaitOnTape (d : ℕ) (sites : List Callsite) (k : ℕ) (ts : List UnfinishedTask) (world : Worlds TapeValue) (lane : Lane) (fs : List (Instrumented Running)) : Type 0 where
+pub record WaitOnTape (d : ℕ) (sites : List Callsite) (k : ℕ) (ts : List UnfinishedTask) (world : WorldValue TapeValue) (lane : Lane) (fs : List (Instrumented Running)) : Type 0 where
   pub handles : List Handle
-  pub guards : List Held
+  pub guards : List HeldSpan
   pub stand : AllStand handles ts fs
   pub tape : TapeValue
   pub between : BetweenPolls d sites k (record { world = world; lane = lane; handles = handles; guards = guards }) tape
@@ -61,17 +62,12 @@ pub record WaitOnTape (d : ℕ) (sites : List Callsite) (k : ℕ) (ts : List Unf
 
 -- ---- handing on
 
--- a sink took requests, one after another
-abbrev pub TakesAll : {K : Type 0} → (K → Request → K → Type 0) → List Request → K → K → Type 0
-TakesAll takes [] old new = new ≡ old
-TakesAll {K} takes (r ∷ rs) old new = (m : K) × takes old r m × TakesAll takes rs m new
-
 -- only what was spelled on the tape is another
-abbrev pub OnlyRequestsChange : ℕ → Worlds TapeValue → Worlds TapeValue → Type 0
+abbrev pub OnlyRequestsChange : ℕ → WorldValue TapeValue → WorldValue TapeValue → Type 0
 OnlyRequestsChange d old new = Replaced (λ s t. t ≡ record s { requests = t.requests }) old new d
 
 -- the requests on the tape were handed on, and none is left on it
-pub record HandsOn {K : Type 0} (takes : K → Request → K → Type 0) (d : ℕ) (old new : Worlds TapeValue) (before later : K) : Type 0 where
+pub record HandsOn {K : Type 0} (takes : K → Request → K → Type 0) (d : ℕ) (old new : WorldValue TapeValue) (before later : K) : Type 0 where
   pub tape : TapeValue
   pub there : slice_get old.subscribers d ≡ Some tape
   pub emptied : new ≡ record old { subscribers = slice_set old.subscribers d (record tape { requests = [] }) }

@@ -5,11 +5,11 @@ use Rattle.trace_base.specs.declared.callsite.Callsite.{Callsite}
 use Rattle.trace_base.specs.declared.lane.Lane.{Lane}
 use Rattle.trace_base.specs.declared.level.LevelFilter.{LevelFilter}
 use Rattle.trace_base.specs.Calls.{SubscriberCall}
-use Rattle.trace_base.specs.Gate.{Worlds}
+use Rattle.trace_base.specs.Gate.{WorldValue}
 use Rattle.trace_base.specs.lanes.Contexts.{attached_as}
 use Rattle.trace_base.specs.Spans.{Span, Spans, span_at, entries_on}
 use Rattle.span_handles.specs.Worlds.{spans_in}
-use Rattle.span_handles.specs.Handles.{Handle, Held}
+use Rattle.span_handles.specs.Handles.{Handle, HeldSpan}
 use Rattle.span_futures.specs.declared.instrument.Instrumented.{Instrumented}
 use Rattle.span_futures.specs.Lent.{HasAll, AreAllAttached}
 use Rattle.otel_layer.specs.Parts.{PartCall}
@@ -27,7 +27,7 @@ abbrev pub dispatch_serving : Lane → ℕ
 dispatch_serving lane = served_by lane.default
 
 -- a world and a lane between polls: the lane has a default of the world, and no entry is open on it there
-pub record Ready {S : Type 0} (spans : S → Spans) (kept : S → ℕ → ℕ → ℕ) (is_whole : S → Type 0) (world : Worlds S) (lane : Lane) : Type 0 where
+pub record Ready {S : Type 0} (spans : S → Spans) (kept : S → ℕ → ℕ → ℕ) (is_whole : S → Type 0) (world : WorldValue S) (lane : Lane) : Type 0 where
   pub default : lane.default ≡ Some (dispatch_serving lane)
   pub there : dispatch_serving lane < length world.subscribers
   pub whole : HasAll is_whole world
@@ -39,7 +39,7 @@ abbrev pub root_of_one_handle : ℕ → Span
 root_of_one_handle site = record { holds = 1; parent = None; site = site }
 
 -- a handle with a callsite: it is the only hold of a root, or it is disabled
-abbrev pub IsAloneAs : List Span → ℕ → ℕ → Held → Type 0
+abbrev pub IsAloneAs : List Span → ℕ → ℕ → HeldSpan → Type 0
 IsAloneAs made d site None = Unit {0}
 IsAloneAs made d site (Some held) = (held.0 ≡ d) × (span_at made held.1 ≡ root_of_one_handle site)
 
@@ -57,7 +57,7 @@ IsLeft None f = steps_left f.inner.steps.items ≡ None
 IsLeft (Some g) f = (steps_left f.inner.steps.items ≡ Some g.inner.steps.items) × (g.span ≡ f.span)
 
 -- the spans after a poll: all are the same, but for one that closed
-abbrev pub SpansStay : Option (Instrumented Running) → Held → List Span → List Span → Type 0
+abbrev pub SpansStay : Option (Instrumented Running) → HeldSpan → List Span → List Span → Type 0
 SpansStay None held old new = (q : ℕ) → (option_map (λ h. h.1) held ≡ Some q → ⊥) → span_at new q ≡ span_at old q
 SpansStay (Some g) held old new = new ≡ old
 
@@ -67,7 +67,7 @@ SameAttached before later = (number : ℕ) → attached_as number later ≡ atta
 
 -- a poll of a task, and its end if it is finished, are the requests of its poll
 pub record Turned {S : Type 0} (spans : S → Spans) (hint : S → Option LevelFilter) (enables : S → ℕ → Callsite → Bool) (kept : S → ℕ → ℕ → ℕ) (is_whole : S → Type 0) (does : S → SubscriberCall → S → Type 0) (touches : S → PartCall → S → Type 0)
-    (at : ℕ) (f : Instrumented Running) (old : Worlds S) (before : Lane) (left : Option (Instrumented Running)) (new : Worlds S) (later : Lane) : Type 0 where
+    (at : ℕ) (f : Instrumented Running) (old : WorldValue S) (before : Lane) (left : Option (Instrumented Running)) (new : WorldValue S) (later : Lane) : Type 0 where
   pub left_is : IsLeft left f
   pub ready : Ready spans kept is_whole new later
   pub lane_id : later.id ≡ before.id
@@ -76,6 +76,6 @@ pub record Turned {S : Type 0} (spans : S → Spans) (hint : S → Option LevelF
   pub sites : new.sites ≡ old.sites
   pub count : length new.subscribers ≡ length old.subscribers
   pub stay : SpansStay left f.span.held (spans_in spans old (dispatch_serving before)).made (spans_in spans new (dispatch_serving before)).made
-  pub carried : (number site k : ℕ) (handles : List Handle) (guards : List Held) → at ≡ moment_of k → length guards ≡ k → slice_get handles number ≡ Some f.span → f.span.site ≡ Some site
+  pub carried : (number site k : ℕ) (handles : List Handle) (guards : List HeldSpan) → at ≡ moment_of k → length guards ≡ k → slice_get handles number ≡ Some f.span → f.span.site ≡ Some site
       → Carries spans hint enables does touches (dispatch_serving before) (poll_requests old.sites k (left_as number site f.inner))
       (record { world = old; lane = before; handles = handles; guards = guards }) (record { world = new; lane = later; handles = handles; guards = guards ++ f.span.held ∷ [] })

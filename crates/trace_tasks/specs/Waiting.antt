@@ -4,10 +4,10 @@ use Rattle.trace_base.specs.declared.callsite.Callsite.{Callsite}
 use Rattle.trace_base.specs.declared.lane.Lane.{Lane}
 use Rattle.trace_base.specs.declared.level.LevelFilter.{LevelFilter}
 use Rattle.trace_base.specs.Calls.{SubscriberCall}
-use Rattle.trace_base.specs.Gate.{Worlds}
+use Rattle.trace_base.specs.Gate.{WorldValue}
 use Rattle.trace_base.specs.Spans.{Spans}
 use Rattle.span_handles.specs.Worlds.{spans_in}
-use Rattle.span_handles.specs.Handles.{Handle, Held, IsKnown, id_of}
+use Rattle.span_handles.specs.Handles.{Handle, HeldSpan, IsKnown, id_of}
 use Rattle.span_futures.specs.declared.instrument.Instrumented.{Instrumented}
 use Rattle.otel_layer.specs.Parts.{PartCall}
 use Rattle.trace_tasks.specs.declared.running.Running.{Running}
@@ -16,13 +16,13 @@ use Rattle.trace_tasks.specs.Flat.{UnfinishedTask, yield_count, all_polls, turns
 use Rattle.trace_tasks.specs.Turning.{IsAlone, Turned, dispatch_serving}
 
 -- a task whose handle is known and alone holds its span
-pub record Waits {S : Type 0} (spans : S → Spans) (world : Worlds S) (d : ℕ) (f : Instrumented Running) : Type 0 where
+pub record Waits {S : Type 0} (spans : S → Spans) (world : WorldValue S) (d : ℕ) (f : Instrumented Running) : Type 0 where
   pub known : IsKnown spans world f.span.held
   pub site : ℕ
   pub lone : IsAlone (spans_in spans world d).made d site f.span
 
 -- two tasks of different spans
-abbrev pub IsApart : Held → Held → Type 0
+abbrev pub IsApart : HeldSpan → HeldSpan → Type 0
 IsApart held other = (id : ℕ) → id_of held ≡ Some id → id_of other ≡ Some id → ⊥
 
 abbrev pub AreApart : Instrumented Running → List (Instrumented Running) → Type 0
@@ -30,18 +30,18 @@ AreApart f [] = Unit {0}
 AreApart f (g ∷ gs) = IsApart f.span.held g.span.held × AreApart f gs
 
 -- all tasks of a queue wait, each of a span of its own
-abbrev pub AllWait : {S : Type 0} → (S → Spans) → Worlds S → ℕ → List (Instrumented Running) → Type 0
+abbrev pub AllWait : {S : Type 0} → (S → Spans) → WorldValue S → ℕ → List (Instrumented Running) → Type 0
 AllWait spans world d [] = Unit {0}
 AllWait spans world d (f ∷ fs) = Waits spans world d f × AreApart f fs × AllWait spans world d fs
 
 -- the handles of all tasks of a queue are known
-abbrev pub AllKnown : {S : Type 0} → (S → Spans) → Worlds S → List (Instrumented Running) → Type 0
+abbrev pub AllKnown : {S : Type 0} → (S → Spans) → WorldValue S → List (Instrumented Running) → Type 0
 AllKnown spans world [] = Unit {0}
 AllKnown spans world (f ∷ fs) = IsKnown spans world f.span.held × AreApart f fs × AllKnown spans world fs
 
 -- the handles of all spans but one stay known
-abbrev pub KeepsBut : {S : Type 0} → (S → Spans) → Worlds S → Worlds S → Held → Type 0
-KeepsBut spans old new closed = (held : Held) → (held ≡ closed → ⊥) → IsKnown spans old held → IsKnown spans new held
+abbrev pub KeepsBut : {S : Type 0} → (S → Spans) → WorldValue S → WorldValue S → HeldSpan → Type 0
+KeepsBut spans old new closed = (held : HeldSpan) → (held ≡ closed → ⊥) → IsKnown spans old held → IsKnown spans new held
 
 -- tasks, and where they stand in a script
 pub record TaskStands (handles : List Handle) (t : UnfinishedTask) (f : Instrumented Running) : Type 0 where
@@ -66,7 +66,7 @@ polls_in fs = sum_by (λ f. yield_count f.inner.steps.items + 1) fs
 
 -- the first task of a queue was polled once, and went to the end if it wasn't finished
 pub record TakesTurn {S : Type 0} (spans : S → Spans) (hint : S → Option LevelFilter) (enables : S → ℕ → Callsite → Bool) (kept : S → ℕ → ℕ → ℕ) (is_whole : S → Type 0) (does : S → SubscriberCall → S → Type 0) (touches : S → PartCall → S → Type 0)
-    (at : ℕ) (first : List (Instrumented Running)) (old : Worlds S) (before : Lane) (last : List (Instrumented Running)) (new : Worlds S) (later : Lane) : Type 0 where
+    (at : ℕ) (first : List (Instrumented Running)) (old : WorldValue S) (before : Lane) (last : List (Instrumented Running)) (new : WorldValue S) (later : Lane) : Type 0 where
   pub f : Instrumented Running
   pub others : List (Instrumented Running)
   pub is : first ≡ f ∷ others
@@ -77,14 +77,14 @@ pub record TakesTurn {S : Type 0} (spans : S → Spans) (hint : S → Option Lev
 
 -- the same if there is a task
 abbrev pub TakesTurnIf : {S : Type 0} → (S → Spans) → (S → Option LevelFilter) → (S → ℕ → Callsite → Bool) → (S → ℕ → ℕ → ℕ) → (S → Type 0) → (S → SubscriberCall → S → Type 0) → (S → PartCall → S → Type 0)
-    → ℕ → Bool → List (Instrumented Running) → Worlds S → Lane → List (Instrumented Running) → Worlds S → Lane → Type 0
+    → ℕ → Bool → List (Instrumented Running) → WorldValue S → Lane → List (Instrumented Running) → WorldValue S → Lane → Type 0
 TakesTurnIf spans hint enables kept is_whole does touches at true first old before last new later = TakesTurn spans hint enables kept is_whole does touches at first old before last new later
 TakesTurnIf spans hint enables kept is_whole does touches at false first old before last new later = (first ≡ []) × (last ≡ []) × (new ≡ old) × (later ≡ before)
 
 -- the tasks of a queue were polled in turn until all were finished
 pub record TakesTurns {S : Type 0} (spans : S → Spans) (hint : S → Option LevelFilter) (enables : S → ℕ → Callsite → Bool) (does : S → SubscriberCall → S → Type 0) (touches : S → PartCall → S → Type 0)
-    (handles : List Handle) (ts : List UnfinishedTask) (old new : Worlds S) (before later : Lane) (polls : ℕ) : Type 0 where
-  pub guards : List Held
+    (handles : List Handle) (ts : List UnfinishedTask) (old new : WorldValue S) (before later : Lane) (polls : ℕ) : Type 0 where
+  pub guards : List HeldSpan
   pub polled : polls ≡ all_polls ts
   pub carried : Carries spans hint enables does touches (dispatch_serving before) (turns_requests old.sites (all_polls ts) 0 ts)
       (record { world = old; lane = before; handles = handles; guards = [] }) (record { world = new; lane = later; handles = handles; guards = guards })

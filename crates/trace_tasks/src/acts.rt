@@ -33,9 +33,9 @@ pub(crate) fn act<S: OtelSubscriber>(
     ensures ok { OnOk result (StepOn S.Subscriber.spans S.Subscriber.hint S.Subscriber.enables S.Subscriber.does
         S.OtelPart.touches lane.now at step world.old world.new) }
     ensures changes { Changes S.Subscriber.spans S.Subscriber.hint S.Subscriber.enables S.Subscriber.does
-        S.OtelPart.touches S.Subscriber.same at world.old world.new }
+        S.OtelPart.touches S.Subscriber.same_but_room at world.old world.new }
     ensures wants { OnErr result (Wants S.Subscriber.spans S.Subscriber.hint S.Subscriber.enables S.Subscriber.does
-        S.OtelPart.touches S.Subscriber.same at world.old world.new) }
+        S.OtelPart.touches S.Subscriber.same_but_room at world.old world.new) }
 {
     let Some(dispatch) = get_default(world, lane) else {
         drop(step);
@@ -66,9 +66,9 @@ fn tell<S: OtelSubscriber>(
     ensures ok { OnOk result (StepOn S.Subscriber.spans S.Subscriber.hint S.Subscriber.enables S.Subscriber.does
         S.OtelPart.touches lane.now at (steps.Event site fields) world.old world.new) }
     ensures changes { Changes S.Subscriber.spans S.Subscriber.hint S.Subscriber.enables S.Subscriber.does
-        S.OtelPart.touches S.Subscriber.same at world.old world.new }
+        S.OtelPart.touches S.Subscriber.same_but_room at world.old world.new }
     ensures wants { OnErr result (Wants S.Subscriber.spans S.Subscriber.hint S.Subscriber.enables S.Subscriber.does
-        S.OtelPart.touches S.Subscriber.same at world.old world.new) }
+        S.OtelPart.touches S.Subscriber.same_but_room at world.old world.new) }
 {
     let Some(found) = world.site_at(site) else {
         drop(fields);
@@ -99,9 +99,9 @@ fn record<S: OtelSubscriber>(
     ensures ok { OnOk result (StepOn S.Subscriber.spans S.Subscriber.hint S.Subscriber.enables S.Subscriber.does
         S.OtelPart.touches lane.now at (steps.Record fields) world.old world.new) }
     ensures changes { Changes S.Subscriber.spans S.Subscriber.hint S.Subscriber.enables S.Subscriber.does
-        S.OtelPart.touches S.Subscriber.same at world.old world.new }
+        S.OtelPart.touches S.Subscriber.same_but_room at world.old world.new }
     ensures wants { OnErr result (Wants S.Subscriber.spans S.Subscriber.hint S.Subscriber.enables S.Subscriber.does
-        S.OtelPart.touches S.Subscriber.same at world.old world.new) }
+        S.OtelPart.touches S.Subscriber.same_but_room at world.old world.new) }
 {
     let Some((id, site)) = world.subscriber(dispatch).current_span(lane.id) else {
         drop(fields);
@@ -131,9 +131,9 @@ fn set<S: OtelSubscriber>(
     ensures ok { OnOk result (StepOn S.Subscriber.spans S.Subscriber.hint S.Subscriber.enables S.Subscriber.does
         S.OtelPart.touches lane.now at (steps.SetAttribute key value) world.old world.new) }
     ensures changes { Changes S.Subscriber.spans S.Subscriber.hint S.Subscriber.enables S.Subscriber.does
-        S.OtelPart.touches S.Subscriber.same at world.old world.new }
+        S.OtelPart.touches S.Subscriber.same_but_room at world.old world.new }
     ensures wants { OnErr result (Wants S.Subscriber.spans S.Subscriber.hint S.Subscriber.enables S.Subscriber.does
-        S.OtelPart.touches S.Subscriber.same at world.old world.new) }
+        S.OtelPart.touches S.Subscriber.same_but_room at world.old world.new) }
 {
     let pair = KeyValue { key, value };
     let Some((id, _)) = world.subscriber(dispatch).current_span(lane.id) else {

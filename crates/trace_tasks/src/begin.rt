@@ -41,7 +41,7 @@ fn make<S: OtelSubscriber>(
     ensures ok { IfOk result (MakesOne S.Subscriber.spans S.Subscriber.hint S.Subscriber.enables
         S.Subscriber.does S.OtelPart.touches site fields lane.now world.old world.new) }
     ensures wants { OnErr result (Wants S.Subscriber.spans S.Subscriber.hint S.Subscriber.enables S.Subscriber.does
-        S.OtelPart.touches S.Subscriber.same 0 world.old world.new) }
+        S.OtelPart.touches S.Subscriber.same_but_room 0 world.old world.new) }
     ensures known { IfOk result (λ span. IsKnown S.Subscriber.spans world.new span.held) }
     ensures keeps { KeepsHandles S.Subscriber.spans world.old world.new }
     ensures whole { HasAll S.Subscriber.is_whole world.new }
@@ -67,7 +67,7 @@ fn begin<S: OtelSubscriber>(
     ensures ok { IfOk result (Begins S.Subscriber.spans S.Subscriber.hint S.Subscriber.enables S.Subscriber.kept
         S.Subscriber.is_whole S.Subscriber.does S.OtelPart.touches task lane.now world.old world.new) }
     ensures wants { OnErr result (Wants S.Subscriber.spans S.Subscriber.hint S.Subscriber.enables S.Subscriber.does
-        S.OtelPart.touches S.Subscriber.same 0 world.old world.new) }
+        S.OtelPart.touches S.Subscriber.same_but_room 0 world.old world.new) }
     ensures keeps { KeepsHandles S.Subscriber.spans world.old world.new }
     ensures whole { HasAll S.Subscriber.is_whole world.new }
 {
@@ -107,7 +107,7 @@ pub(crate) fn begin_all<S: OtelSubscriber>(
     ensures ok { OnOk result (AreBegun S.Subscriber.spans S.Subscriber.hint S.Subscriber.enables S.Subscriber.kept
         S.Subscriber.is_whole S.Subscriber.does S.OtelPart.touches tasks lane.now world.old world.new queue.new.items) }
     ensures stops { OnErr result (StopsBeginning S.Subscriber.spans S.Subscriber.hint S.Subscriber.enables
-        S.Subscriber.kept S.Subscriber.is_whole S.Subscriber.does S.OtelPart.touches S.Subscriber.same tasks lane.now
+        S.Subscriber.kept S.Subscriber.is_whole S.Subscriber.does S.OtelPart.touches S.Subscriber.same_but_room tasks lane.now
         world.old world.new queue.new.items) }
     ensures known { AllKnown S.Subscriber.spans world.new queue.new.items }
     ensures whole { HasAll S.Subscriber.is_whole world.new }

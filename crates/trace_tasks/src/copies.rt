@@ -1,5 +1,5 @@
 //! Copies of tasks, since a script that is lent keeps its own.
-ghost use Rattle.std.specs.Prelude.{◌≡◌, IfOk};
+ghost use Rattle.std.specs.Prelude.{◌≡◌, ◌≢◌, [], IfOk, OnErr};
 
 use crate::script::{Step, Task};
 use otel_base::list::Items;
@@ -12,7 +12,8 @@ use trace_tape::copies::{copied_texts, copied_value};
 
 /// The same tasks once more.
 pub(crate) fn copied_tasks(alloc: Global, tasks: &[Task]) -> Result<Items<Task>, Memory>
-    ensures { IfOk result (λ copy. copy ≡ tasks.now) }
+    ensures copy { IfOk result (λ copy. copy ≡ tasks.now) }
+    ensures some { OnErr result (tasks.now ≢ []) }
 {
     let mut copy = Items::new(alloc);
     for task in tasks {

@@ -33,7 +33,7 @@ pub(crate) fn take_turn<S: OtelSubscriber>(
         S.Subscriber.kept S.Subscriber.is_whole S.Subscriber.does S.OtelPart.touches
         at taken queue.old.items world.old lane.old queue.new.items world.new lane.new) }
     ensures stops { IfErr result (λ e. StopsInTurn S.Subscriber.spans S.Subscriber.hint S.Subscriber.enables
-        S.Subscriber.activates S.Subscriber.does S.OtelPart.touches S.Subscriber.same
+        S.Subscriber.activates S.Subscriber.does S.OtelPart.touches S.Subscriber.same_but_room
         at queue.old.items world.old lane.old e world.new lane.new) }
     ensures empty { IfErr result (λ e. queue.new.items ≡ []) }
     ensures whole { HasAll S.Subscriber.is_whole world.new }
@@ -70,7 +70,7 @@ pub(crate) fn poll_all<S: OtelSubscriber>(
         handles ts world.old world.new lane.old lane.new polls) }
     ensures stops { IfErr result (λ e. (handles : _) (ts : _) → AllStand handles ts queue.old.items
         → StopsTurns S.Subscriber.spans S.Subscriber.hint S.Subscriber.enables S.Subscriber.activates S.Subscriber.does
-        S.OtelPart.touches S.Subscriber.same (dispatch_serving lane.old) world.old.sites ts e
+        S.OtelPart.touches S.Subscriber.same_but_room (dispatch_serving lane.old) world.old.sites ts e
         (record { world = world.old; lane = lane.old; handles = handles; guards = [] }) world.new lane.new) }
     ensures empty { queue.new.items ≡ [] }
     ensures context { Keeps cx.old cx.new }

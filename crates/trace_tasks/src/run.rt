@@ -44,12 +44,13 @@ pub fn run_tasks<S: OtelSubscriber>(
     ensures answer { IfOk result (λ polls. polls ≡ sum_by (λ t. yield_count t.steps) script.now.tasks + length script.now.tasks) }
     ensures gives_up { IfErr result (λ e.
         GaveUp S.Subscriber.spans S.Subscriber.hint S.Subscriber.enables S.Subscriber.activates S.Subscriber.does
-        S.OtelPart.touches S.Subscriber.same (dispatch_serving lane.old) script.now.settings.callsites script.now.tasks e
+        S.OtelPart.touches S.Subscriber.same_but_room (dispatch_serving lane.old) script.now.settings.callsites script.now.tasks e
         (record { world = world.old; lane = lane.old; handles = []; guards = [] }) world.new lane.new) }
     ensures context { Keeps cx.old cx.new }
 {
-    let Ok(tasks) = copied_tasks(alloc, script.tasks.as_slice()) else {
-        return Err(EnterError::Memory);
+    let tasks = match copied_tasks(alloc, script.tasks.as_slice()) {
+        Ok(tasks) => tasks,
+        Err(Memory) => return Err(EnterError::Memory),
     };
     let mut queue = VecDeque::new(alloc);
     let answer = begin_and_poll(alloc, tasks, &mut queue, world, lane, cx);
@@ -77,7 +78,7 @@ fn begin_and_poll<S: OtelSubscriber>(
     ensures answer { IfOk result (λ polls. polls ≡ sum_by (λ t. yield_count t.steps) tasks + length tasks) }
     ensures gives_up { IfErr result (λ e.
         GaveUp S.Subscriber.spans S.Subscriber.hint S.Subscriber.enables S.Subscriber.activates S.Subscriber.does
-        S.OtelPart.touches S.Subscriber.same (dispatch_serving lane.old) world.old.sites tasks e
+        S.OtelPart.touches S.Subscriber.same_but_room (dispatch_serving lane.old) world.old.sites tasks e
         (record { world = world.old; lane = lane.old; handles = []; guards = [] }) world.new lane.new) }
     ensures empty { queue.new.items ≡ [] }
     ensures context { Keeps cx.old cx.new }

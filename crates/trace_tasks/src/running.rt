@@ -38,7 +38,7 @@ impl<S: OtelSubscriber> TracedFuture<S> for Running {
 
     ghost polls = { λ f world lane at r g new later.
         PollsSteps S.Subscriber.spans S.Subscriber.hint S.Subscriber.enables S.Subscriber.does S.OtelPart.touches
-        S.Subscriber.same f.steps.items world lane at r g.steps.items new later };
+        S.Subscriber.same_but_room f.steps.items world lane at r g.steps.items new later };
 
     ghost besides = { Asks S.OtelPart.touches };
 

@@ -34,7 +34,7 @@ pub(crate) fn turn<S: OtelSubscriber>(
         S.Subscriber.does S.OtelPart.touches at task world.old lane.old left world.new lane.new) }
     ensures stops { IfErr result (λ e.
         TurnStops S.Subscriber.spans S.Subscriber.hint S.Subscriber.enables S.Subscriber.activates S.Subscriber.does
-        S.OtelPart.touches S.Subscriber.same at task world.old lane.old e world.new lane.new) }
+        S.OtelPart.touches S.Subscriber.same_but_room at task world.old lane.old e world.new lane.new) }
     ensures keeps { KeepsBut S.Subscriber.spans world.old world.new task.span.held }
     ensures known { IfOk result (λ left. IfSome left (λ g. IsKnown S.Subscriber.spans world.new g.span.held)) }
     ensures whole { HasAll S.Subscriber.is_whole world.new }

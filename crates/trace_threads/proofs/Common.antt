@@ -8,7 +8,7 @@ pub use Rattle.atomic_table.proofs.Lists.{at_longer, at_set, set_again, set_else
 pub use Rattle.atomic_table.specs.Table.{Act, Allows, Joins, Splits, Step, Valid, carried_after, gives, keeps, opening, rest, step, stepped, takes}
 pub use Rattle.std.proofs.lemmas.Bool.Decides.{nat_tests}
 pub use Rattle.std.proofs.lemmas.Grind.{common_steps, flat_map-append}
-pub use Rattle.otel_state.specs.States.{SpanData, Stands, after_op, after_stamped, data_at_making, is_growing, reply}
+pub use Rattle.otel_state.specs.States.{SpanData, Represents, after_op, after_stamped, data_at_making, is_growing, reply}
 pub use Rattle.otel_state.specs.declared.op.Op.{Op}
 pub use Rattle.trace_threads.specs.Calls.{Begun, Called, Closes, ClosesWith, FinishesState, IsAtRest, IsBare, IsCloneOf, IsIdle, LeftAsIs, MakesEntry}
 pub use Rattle.trace_threads.specs.Handles.{OneBeginsTheOther, SharedHandle}

@@ -7,8 +7,8 @@ pub use Rattle.trace_base.proofs.EntryLemmas.{any_if_counted, count_push, counte
 pub use Rattle.trace_base.proofs.HoldLemmas.{first_if_in, holds_other, holds_set, less_holds, less_last, less_more}
 pub use Rattle.trace_base.specs.Calls.{Enter, Event, Exit, NewSpan, SubscriberCall, TryClose, spans_after_call, with_new_span, with_span_entry, with_span_exit}
 pub use Rattle.trace_base.specs.Conditions.{AreFew, HasFewHolds, HasFewHoldsAbove, IsLive, IsLiveParent, MayExit}
-pub use Rattle.trace_base.specs.Gate.{Admits, AreSame, IsInWorld, Worlds, dispatch_on}
-pub use Rattle.trace_base.specs.Spans.{Span, Spans, entries_on, with_hold_of_child, is_in, less_hold, next_of, no_span, parent_on, span_at, times_in, with_hold, without_hold, without_last}
+pub use Rattle.trace_base.specs.Gate.{Admits, AreSame, IsInWorld, WorldValue, dispatch_on}
+pub use Rattle.trace_base.specs.Spans.{Span, Spans, entries_on, with_hold_of_child, is_in, span_without_hold, parent_to_release, no_span, parent_on, span_at, times_in, with_hold, without_hold, without_last}
 pub use Rattle.trace_base.specs.declared.callsite.Callsite.{Callsite}
 pub use Rattle.trace_base.specs.declared.field.ValueSet.{ValueSet}
 pub use Rattle.trace_base.specs.declared.lane.Lane.{Lane}
@@ -16,11 +16,11 @@ pub use Rattle.trace_base.specs.declared.span.Parent.{Parent}
 pub use Rattle.trace_base.specs.declared.subscriber.Subscriber.{Ghosts}
 pub use Rattle.trace_base.specs.lanes.Contexts.{AreAttached, KeepsAttached, attached_as}
 pub use Rattle.span_handles.proofs.ChangedSubscriberLemmas.{alike, as_many, chain_shown, shown}
-pub use Rattle.span_handles.specs.Entries.{EntryGuard, IsStillOn, IsThere, LeavesLane}
+pub use Rattle.span_handles.specs.Entries.{EntryGuard, IsAttachedOn, IsThere, KeepsLaneButRoom}
 pub use Rattle.span_handles.specs.Events.{TellsEventIf}
-pub use Rattle.span_handles.specs.Handles.{Handle, HasIf, HasOn, Held, IsKnown, IsOf, Makes, MakesIf, MayMakeIf, ReplacedIf, ReplacedOn, no_handle, place_under}
+pub use Rattle.span_handles.specs.Handles.{Handle, HasIf, HasOn, HeldSpan, IsKnown, IsOf, Makes, MakesIf, MayMakeIf, ReplacedIf, ReplacedOn, no_handle, as_parent}
 pub use Rattle.span_handles.specs.Knowing.{KeepsHandles, KeepsKnown, KeepsOthers}
-pub use Rattle.span_handles.specs.Worlds.{Alike, Chain, ChainShown, Has, ReleasesChain, Replaced, Shown, all_released, kept_in, member_of, no_spans, releases, spans_in}
+pub use Rattle.span_handles.specs.Worlds.{KeepsPlainData, Chain, ChainChangesPlainData, Has, ReleasesChain, Replaced, ChangesPlainData, all_released, kept_in, read_subscriber, no_spans, releases, spans_in}
 pub use Rattle.traced.specs.AsBefore.{AreAsBefore, HadNoHandle, HasEntered, HasMade, IsAsBefore, IsEntered, IsInside, IsLiveOn, IsNewest, IsOfNewest, IsOpen}
 pub use Rattle.traced.specs.Between.{EntersAndExits, MakesAndCloses}
 pub use Rattle.traced.specs.Gating.{AnswersGate, MakesOne, TellsIfAnswered, TellsOne}

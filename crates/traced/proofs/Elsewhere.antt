@@ -1,6 +1,6 @@
 -- What one call on a subscriber makes of what is read of any.
 use Rattle.std.proofs.Common.{◌≡◌, ℕ, zero, suc, List, [], ◌∷◌, length, false, Option, Some, None, refl, sym, ap, ◌∙◌, subst, arith, slice_get, slice_set, ◌==◌}
-use Rattle.traced.proofs.Common.{option_map_or, cond-true, cond-false, Lane, Ghosts, AreAttached, KeepsAttached, attached_as, Worlds, Has, Replaced, Alike, no_spans, spans_in, kept_in, Held, ReplacedOn, as_many, AreAtMost, HasOwnId, AreServed, StandsReady}
+use Rattle.traced.proofs.Common.{option_map_or, cond-true, cond-false, Lane, Ghosts, AreAttached, KeepsAttached, attached_as, WorldValue, Has, Replaced, KeepsPlainData, no_spans, spans_in, kept_in, HeldSpan, ReplacedOn, as_many, AreAtMost, HasOwnId, AreServed, StandsReady}
 use Rattle.std.proofs.lemmas.Bool.{eq-eqb, ne_eqb}
 
 get_other : {X : Type 0} (xs : List X) (n m : ℕ) (y : X) → (m ≡ n → ⊥) → slice_get (slice_set xs n y) m ≡ slice_get xs m
@@ -11,23 +11,23 @@ get_other (x ∷ xs) (suc n) zero y apart = refl
 get_other (x ∷ xs) (suc n) (suc m) y apart = get_other xs n m y (λ e. apart (ap suc e))
 
 -- another subscriber is the same
-module _ {S : Type 0} (R : S → S → Type 0) (old new : Worlds S) (dispatch : ℕ) (r : Replaced R old new dispatch) where
+module _ {S : Type 0} (R : S → S → Type 0) (old new : WorldValue S) (dispatch : ℕ) (r : Replaced R old new dispatch) where
   pub beside : (d : ℕ) → (d ≡ dispatch → ⊥) → slice_get new.subscribers d ≡ slice_get old.subscribers d
-  beside d apart = ap (λ (w : Worlds S). slice_get w.subscribers d) r.others ∙ get_other old.subscribers dispatch d r.later apart
+  beside d apart = ap (λ (w : WorldValue S). slice_get w.subscribers d) r.others ∙ get_other old.subscribers dispatch d r.later apart
 
   pub same_sites : new.sites ≡ old.sites
-  same_sites = ap (λ (w : Worlds S). w.sites) r.others
+  same_sites = ap (λ (w : WorldValue S). w.sites) r.others
 
   pub same_global : new.global ≡ old.global
-  same_global = ap (λ (w : Worlds S). w.global) r.others
+  same_global = ap (λ (w : WorldValue S). w.global) r.others
 
 -- one call leaves as many subscribers
-pub count_on : {S : Type 0} (R : ℕ → S → S → Type 0) (old new : Worlds S) (held : Held) → ReplacedOn R old new held → length new.subscribers ≡ length old.subscribers
-count_on {S} R old new None r = ap (λ (w : Worlds S). length w.subscribers) r
+pub count_on : {S : Type 0} (R : ℕ → S → S → Type 0) (old new : WorldValue S) (held : HeldSpan) → ReplacedOn R old new held → length new.subscribers ≡ length old.subscribers
+count_on {S} R old new None r = ap (λ (w : WorldValue S). length w.subscribers) r
 count_on R old new (Some h) r = as_many (R h.1) old new h.0 r
 
 -- what is read of a subscriber that is the same
-pub alike_there : {S : Type 0} (sub : Ghosts S) (old new : Worlds S) (d : ℕ) → slice_get new.subscribers d ≡ slice_get old.subscribers d → length new.subscribers ≡ length old.subscribers → Alike sub.spans sub.attaches sub.kept sub.is_whole old new d
+pub alike_there : {S : Type 0} (sub : Ghosts S) (old new : WorldValue S) (d : ℕ) → slice_get new.subscribers d ≡ slice_get old.subscribers d → length new.subscribers ≡ length old.subscribers → KeepsPlainData sub.spans sub.attaches sub.kept sub.is_whole old new d
 alike_there {S} sub old new d same count = record {
   spans_same = ap (λ (o : Option S). option_map_or sub.spans o no_spans) same;
   attaches_same = ap (λ (o : Option S). option_map_or sub.attaches o false) same;
@@ -68,7 +68,7 @@ attached_on_lane kept now before left same keeps still number =
     omega (arith, k, s, x, y, z)
 
 -- the world is another one, and the subscriber serves the same lanes
-pub stands_after : {S : Type 0} (sub : Ghosts S) (n m dispatch sites : ℕ) (old new : Worlds S) (lanes : List Lane) → length new.subscribers ≡ length old.subscribers → new.sites ≡ old.sites → new.global ≡ old.global → (Has sub.is_whole old dispatch → Has sub.is_whole new dispatch)
+pub stands_after : {S : Type 0} (sub : Ghosts S) (n m dispatch sites : ℕ) (old new : WorldValue S) (lanes : List Lane) → length new.subscribers ≡ length old.subscribers → new.sites ≡ old.sites → new.global ≡ old.global → (Has sub.is_whole old dispatch → Has sub.is_whole new dispatch)
     → (AreAtMost n (spans_in sub.spans old dispatch) → AreAtMost m (spans_in sub.spans new dispatch)) → kept_in sub.kept new dispatch ≡ kept_in sub.kept old dispatch → StandsReady sub n dispatch sites old lanes → StandsReady sub m dispatch sites new lanes
 stands_after {S} sub n m dispatch sites old new lanes count same global whole few kept stands = record {
   there = omega (arith, count, stands.there);

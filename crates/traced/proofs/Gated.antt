@@ -1,24 +1,24 @@
 -- What the gate's answer makes of a call that stands for a macro.
 use Rattle.std.proofs.Common.{◌≡◌, ℕ, ◌+◌, ◌<◌, length, Bool, true, false, Option, Some, None, Result, Ok, Err, refl, sym, ◌∙◌, arith, OnOk, OnErr, IfOk}
 use Rattle.std.proofs.lemmas.Bool.{true≢false}
-use Rattle.traced.proofs.Common.{Memory, Callsite, ValueSet, Lane, Parent, Ghosts, Worlds, Admits, IsInWorld, dispatch_on, Handle, no_handle, IsKnown, MakesIf, MayMakeIf, ReplacedIf, KeepsHandles, IsLawful, CanMake, CanTell, AnswersGate, MakesOne, TellsEventIf, TellsOne, MakesIfAnswered}
+use Rattle.traced.proofs.Common.{Memory, Callsite, ValueSet, Lane, Parent, Ghosts, WorldValue, Admits, IsInWorld, dispatch_on, Handle, no_handle, IsKnown, MakesIf, MayMakeIf, ReplacedIf, KeepsHandles, IsLawful, CanMake, CanTell, AnswersGate, MakesOne, TellsEventIf, TellsOne, MakesIfAnswered}
 use Rattle.trace_base.specs.declared.level.LevelFilter.{LevelFilter}
 use Rattle.traced.proofs.changes.Restored.{unchanged}
 use Rattle.traced.proofs.Moves.{get_there, later, made, made_one, made_global, made_count, made_can_close, none_made}
 
 -- the gate has one answer
-pub one_answer : {S : Type 0} (hint : S → Option LevelFilter) (enables : S → ℕ → Callsite → Bool) (world : Worlds S) (lane site : ℕ) (o : Option ℕ) (a b : Bool) → IsInWorld world o → site < length world.sites → Admits hint enables world lane site o a → Admits hint enables world lane site o b → a ≡ b
+pub one_answer : {S : Type 0} (hint : S → Option LevelFilter) (enables : S → ℕ → Callsite → Bool) (world : WorldValue S) (lane site : ℕ) (o : Option ℕ) (a b : Bool) → IsInWorld world o → site < length world.sites → Admits hint enables world lane site o a → Admits hint enables world lane site o b → a ≡ b
 one_answer hint enables world lane site None a b own there first second = first ∙ sym second
 one_answer hint enables world lane site (Some d) a b own there first second =
     let s = get_there world.subscribers d own in
     let c = get_there world.sites site there in
     first s.0 c.0 s.1 c.1 ∙ sym (second s.0 c.0 s.1 c.1)
 
-own_if : {S : Type 0} (sub : Ghosts S) (world : Worlds S) (lane : ℕ) (parent : Parent) (o : Option ℕ) → MayMakeIf sub.spans sub.is_whole world lane parent o → IsInWorld world o
+own_if : {S : Type 0} (sub : Ghosts S) (world : WorldValue S) (lane : ℕ) (parent : Parent) (o : Option ℕ) → MayMakeIf sub.spans sub.is_whole world lane parent o → IsInWorld world o
 own_if sub world lane parent None may = tt
 own_if sub world lane parent (Some d) may = may.there
 
-module _ {S : Type 0} (sub : Ghosts S) (old new : Worlds S) (lane : Lane) (at : ℕ) (parent : Parent) (site : ℕ) (values : ValueSet) where
+module _ {S : Type 0} (sub : Ghosts S) (old new : WorldValue S) (lane : Lane) (at : ℕ) (parent : Parent) (site : ℕ) (values : ValueSet) where
   not_both : (answer : Bool) → CanMake sub old lane parent site → AnswersGate sub old lane site answer → (other : Bool) → AnswersGate sub old lane site other → answer ≡ other
   not_both answer can first other second =
       let o = dispatch_on lane.default old.global in
@@ -31,7 +31,7 @@ module _ {S : Type 0} (sub : Ghosts S) (old new : Worlds S) (lane : Lane) (at : 
 
   -- it lets the callsite through, and a span is made
   pub makes : (law : IsLawful sub) (result : Result Handle Memory) → CanMake sub old lane parent site → AnswersGate sub old lane site true → IfOk result (MakesIf sub.spans sub.does old new lane at parent site values (dispatch_on lane.default old.global))
-      → IfOk result (λ handle. IsKnown sub.spans new handle.held) → KeepsHandles sub.spans old new → OnErr result (ReplacedIf sub.same old new (dispatch_on lane.default old.global)) → MakesIfAnswered sub old new lane at parent site values result
+      → IfOk result (λ handle. IsKnown sub.spans new handle.held) → KeepsHandles sub.spans old new → OnErr result (ReplacedIf sub.same_but_room old new (dispatch_on lane.default old.global)) → MakesIfAnswered sub old new lane at parent site values result
   makes law result can answer did known keeps left =
       let o = dispatch_on lane.default old.global in
       record {
@@ -66,7 +66,7 @@ module _ {S : Type 0} (sub : Ghosts S) (old new : Worlds S) (lane : Lane) (at : 
   }
 
 -- an event that the lane's subscriber is told
-module _ {S : Type 0} (sub : Ghosts S) (old new : Worlds S) (lane : Lane) (at : ℕ) (parent : Parent) (site : ℕ) (values : ValueSet) where
+module _ {S : Type 0} (sub : Ghosts S) (old new : WorldValue S) (lane : Lane) (at : ℕ) (parent : Parent) (site : ℕ) (values : ValueSet) where
   told_at : (o : Option ℕ) (result : Result (Unit {0}) Memory) → dispatch_on lane.default old.global ≡ o → Admits sub.hint sub.enables old lane.id site o true → OnOk result (TellsEventIf sub.does old new lane at parent site values o) → OnOk result (TellsOne sub old new lane at parent site values)
   told_at None result serves answer did = absurd (true≢false answer)
   told_at (Some d) (Ok done) serves answer did = record { dispatch = d; serves = serves; told = did }
@@ -76,5 +76,5 @@ module _ {S : Type 0} (sub : Ghosts S) (old new : Worlds S) (lane : Lane) (at : 
   tells_one result answer did = told_at (dispatch_on lane.default old.global) result refl answer did
 
 -- the gate doesn't both let it through and hold it back
-pub apart : {S : Type 0} (sub : Ghosts S) (world : Worlds S) (lane : Lane) (site : ℕ) → CanTell sub world lane site → AnswersGate sub world lane site true → AnswersGate sub world lane site false → ⊥
+pub apart : {S : Type 0} (sub : Ghosts S) (world : WorldValue S) (lane : Lane) (site : ℕ) → CanTell sub world lane site → AnswersGate sub world lane site true → AnswersGate sub world lane site false → ⊥
 apart sub world lane site can through back = true≢false (one_answer sub.hint sub.enables world lane.id site (dispatch_on lane.default world.global) true false can.there can.site_there through back)

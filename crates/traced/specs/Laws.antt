@@ -14,7 +14,7 @@ pub record IsLawful {S : Type 0} (sub : Ghosts S) : Type 0 where
   pub lanes : (s : S) (call : SubscriberCall) (t : S) → sub.does s call t → CallLanes (sub.attaches s) (sub.kept s) call (sub.kept t)
   pub keeps_attaches : (s : S) (call : SubscriberCall) (t : S) → sub.does s call t → sub.attaches t ≡ sub.attaches s
   pub keeps_whole : (s : S) (call : SubscriberCall) (t : S) → sub.does s call t → sub.is_whole s → sub.is_whole t
-  pub same_spans : (s t : S) → sub.same s t → sub.spans t ≡ sub.spans s
-  pub same_attaches : (s t : S) → sub.same s t → sub.attaches t ≡ sub.attaches s
-  pub same_kept : (s t : S) → sub.same s t → sub.kept t ≡ sub.kept s
-  pub same_whole : (s t : S) → sub.same s t → sub.is_whole s → sub.is_whole t
+  pub same_spans : (s t : S) → sub.same_but_room s t → sub.spans t ≡ sub.spans s
+  pub same_attaches : (s t : S) → sub.same_but_room s t → sub.attaches t ≡ sub.attaches s
+  pub same_kept : (s t : S) → sub.same_but_room s t → sub.kept t ≡ sub.kept s
+  pub same_whole : (s t : S) → sub.same_but_room s t → sub.is_whole s → sub.is_whole t

@@ -5,7 +5,7 @@ use Rattle.trace_base.specs.declared.field.ValueSet.{ValueSet}
 use Rattle.trace_base.specs.declared.lane.Lane.{Lane}
 use Rattle.trace_base.specs.declared.span.Parent.{Parent}
 use Rattle.trace_base.specs.declared.subscriber.Subscriber.{Ghosts}
-use Rattle.trace_base.specs.Gate.{Worlds, dispatch_on}
+use Rattle.trace_base.specs.Gate.{WorldValue, dispatch_on}
 use Rattle.span_handles.specs.Handles.{Handle, no_handle, ReplacedIf}
 use Rattle.traced.specs.Standing.{StandsReady, CanClose}
 use Rattle.traced.specs.AsBefore.{IsAsBefore, HasMade}
@@ -13,7 +13,7 @@ use Rattle.traced.specs.Gating.{AnswersGate, MakesOne}
 
 -- A span is made under a parent where the gate lets its callsite through, else nothing happens. The world stands with a span
 -- more, and the handle can be closed. Without memory nothing changes but room.
-pub record MakesIfAnswered {S : Type 0} (sub : Ghosts S) (old new : Worlds S) (lane : Lane) (at : ℕ) (parent : Parent) (site : ℕ) (values : ValueSet) (result : Result Handle Memory) : Type 0 where
+pub record MakesIfAnswered {S : Type 0} (sub : Ghosts S) (old new : WorldValue S) (lane : Lane) (at : ℕ) (parent : Parent) (site : ℕ) (values : ValueSet) (result : Result Handle Memory) : Type 0 where
   pub made : AnswersGate sub old lane site true → IfOk result (MakesOne sub old new lane at parent site values)
   pub refused : AnswersGate sub old lane site false → (result ≡ Ok no_handle) × (new ≡ old)
   pub stands : (most dispatch sites : ℕ) (lanes : List Lane) → StandsReady sub most dispatch sites old lanes → StandsReady sub (most + 1) dispatch sites new lanes
@@ -21,5 +21,5 @@ pub record MakesIfAnswered {S : Type 0} (sub : Ghosts S) (old new : Worlds S) (l
   pub count : length new.subscribers ≡ length old.subscribers
   pub closes : IfOk result (CanClose sub new)
   pub newest : (dispatch : ℕ) → dispatch_on lane.default old.global ≡ Some dispatch → IfOk result (HasMade sub dispatch old new)
-  pub memory_leaves : OnErr result (ReplacedIf sub.same old new (dispatch_on lane.default old.global))
+  pub memory_leaves : OnErr result (ReplacedIf sub.same_but_room old new (dispatch_on lane.default old.global))
   pub memory_restores : OnErr result ((dispatch : ℕ) → IsAsBefore sub dispatch old new)

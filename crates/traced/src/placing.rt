@@ -2,7 +2,7 @@
 ghost use Rattle.std.specs.Prelude.{IfSome};
 ghost use Rattle.trace_base.specs.declared.span.Parent.TheVariants as parent;
 ghost use Rattle.trace_base.specs.Gate.{dispatch_on};
-ghost use Rattle.span_handles.specs.Handles.{place_under, IsOf};
+ghost use Rattle.span_handles.specs.Handles.{as_parent, IsOf};
 ghost use Rattle.traced.specs.Standing.{CanMake};
 ghost use Rattle.traced.specs.Making.{MakesIfAnswered};
 
@@ -43,9 +43,9 @@ pub fn child_of<S: Subscriber>(
     site: SiteId,
     values: &ValueSet,
 ) -> Result<Span, Memory>
-    requires may { CanMake S.Subscriber world.old lane.now (place_under parent.now.held) site }
+    requires may { CanMake S.Subscriber world.old lane.now (as_parent parent.now.held) site }
     requires of_lane { IfSome (dispatch_on lane.now.default world.old.global) (IsOf parent.now.held) }
-    ensures { MakesIfAnswered S.Subscriber world.old world.new lane.now at (place_under parent.now.held) site
+    ensures { MakesIfAnswered S.Subscriber world.old world.new lane.now at (as_parent parent.now.held) site
         values.now result }
 {
     lawful::<S>();

@@ -20,12 +20,12 @@ pub fn start<S: Subscriber>(world: &mut World<S>, stack: S) -> Result<Dispatch, 
     ensures stands { IfOk result (λ dispatch. (sites : ℕ) (lanes : List Lane) → sites ≤ length world.old.sites
         → AreAssigned world.new.global dispatch lanes → StandsReady S.Subscriber 0 dispatch sites world.new lanes) }
     ensures count { OnOk result (length world.new.subscribers ≡ length world.old.subscribers + 1) }
-    ensures ok { OnOk result (AreSame S.same (world.old.subscribers ++ stack ∷ []) world.new.subscribers) }
+    ensures ok { OnOk result (AreSame S.same_but_room (world.old.subscribers ++ stack ∷ []) world.new.subscribers) }
     ensures fresh { OnOk result (IsFresh S.interest world.new) }
     ensures sites { world.new.sites ≡ world.old.sites }
     ensures global { world.new.global ≡ world.old.global }
-    ensures back { IfErr result (λ refused. S.same stack refused.0) }
-    ensures memory_same { OnErr result (AreSame S.same world.old.subscribers world.new.subscribers) }
+    ensures back { IfErr result (λ refused. S.same_but_room stack refused.0) }
+    ensures memory_same { OnErr result (AreSame S.same_but_room world.old.subscribers world.new.subscribers) }
 {
     lawful::<S>();
     world.add(stack)

@@ -4,7 +4,7 @@ use Rattle.std.specs.Prelude.{IsOk}
 use Rattle.otel_base.specs.declared.enter_error.EnterError.TheVariants.{Full}
 use Rattle.trace_base.specs.declared.lane.Lane.{Lane}
 use Rattle.trace_base.specs.declared.subscriber.Subscriber.{Ghosts}
-use Rattle.trace_base.specs.Gate.{Worlds}
+use Rattle.trace_base.specs.Gate.{WorldValue}
 use Rattle.trace_base.specs.Calls.{Exit}
 use Rattle.span_handles.specs.Handles.{IsKnown, ReplacedOn}
 use Rattle.span_handles.specs.Entries.{EntryGuard, MeetsFullLane}
@@ -21,8 +21,8 @@ no_error : {A : Type 0} (result : Polled A) → result ≡ Err Full → IsOk res
 no_error (Ok x) is ok = absurd (cc is)
 no_error (Err e) is ok = absurd (cc ok)
 
-module _ {T S A : Type 0} (sub : Ghosts S) (law : IsLawful sub) (future : Instrumented T) (old : Worlds S) (before : Lane) (at : ℕ) (result : Polled A) (next : Instrumented T) (new : Worlds S) (left : Lane) where
-  of_refused : CannotEnter sub.same sub.activates future old before result next new left → Polls sub old new before left future.span
+module _ {T S A : Type 0} (sub : Ghosts S) (law : IsLawful sub) (future : Instrumented T) (old : WorldValue S) (before : Lane) (at : ℕ) (result : Polled A) (next : Instrumented T) (new : WorldValue S) (left : Lane) where
+  of_refused : CannotEnter sub.same_but_room sub.activates future old before result next new left → Polls sub old new before left future.span
   of_refused r =
       let refused = refuses sub law old new before left future.span (Err r.error) r.nothing r.lane_same in
       record {
@@ -38,7 +38,7 @@ module _ {T S A : Type 0} (sub : Ghosts S) (law : IsLawful sub) (future : Instru
       let guard : EntryGuard = record { span = handle; lane = before.id } in
       let inside = begun sub.spans sub.attaches sub.kept sub.is_whole sub.does law.sound law.allowed law.shows law.lanes law.keeps_whole at handle.held old r.world before r.lane r.entered in
       let did : ReplacedOn (λ id s t. sub.does s (Exit id at r.lane left) t) r.world new handle.held =
-      subst (λ (w : Worlds S). ReplacedOn (λ id s t. sub.does s (Exit id at r.lane left) t) w new handle.held) r.polled.0
+      subst (λ (w : WorldValue S). ReplacedOn (λ id s t. sub.does s (Exit id at r.lane left) t) w new handle.held) r.polled.0
       (subst (λ (l : Lane). ReplacedOn (λ id s t. sub.does s (Exit id at l left) t) r.left_world new handle.held) r.polled.1 r.exited) in
       let none : (handle.held ≡ None → left ≡ r.lane) = λ e. r.none e ∙ r.polled.1 in
       let ends = ended sub.spans sub.attaches sub.kept sub.is_whole sub.does law.sound law.allowed law.shows law.lanes law.keeps_whole at handle.held old r.world r.world new before r.lane r.lane left known r.entered (keeps_nothing sub.spans sub.kept sub.is_whole r.world r.lane) did in

@@ -70,7 +70,7 @@ impl Layer for Asked {
 
     ghost is_whole = { λ s. Unit {0} };
 
-    ghost same = { λ s t. t ≡ s };
+    ghost same_but_room = { λ s t. t ≡ s };
 
     ghost does = { λ s hook t. (t ≡ s) × LeavesLanes hook };
 

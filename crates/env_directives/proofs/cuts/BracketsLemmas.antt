@@ -1,6 +1,6 @@
 -- Heads and brackets that are read one cut after the other.
 use Rattle.std.proofs.Common.{◌≡◌, ℕ, Bool, true, List, [], ◌∷◌, ◌++◌, Some, Option, Result, Ok, Err, refl, sym, ap, ◌∙◌, arith, subst, codes, IfSome}
-use Rattle.env_directives.proofs.Common.{nat_tests, TRACE, pieces_at, is_among, lacks, HasNoPattern, begins, unless_empty, target_at, AnswersRead, read_fields, read_fielded, read_bracket, reading, LeadsToNoPattern, SpanLeadsToNoPattern, ParseError, Shape, Level, Field, Pattern, Equals, Fields, Memory, Directive}
+use Rattle.env_directives.proofs.Common.{nat_tests, TRACE, pieces_at, is_among, lacks, HasNoPattern, begins, unless_empty, target_at, AnswersRead, read_fields, read_fielded, read_bracket, read_directive, LeadsToNoPattern, SpanLeadsToNoPattern, ParseError, Shape, Level, Field, Pattern, Equals, Fields, Memory, Directive}
 use Rattle.env_directives.proofs.cuts.CutsLemmas.{cut_joined, cut_front, cut_stop, cut_off}
 
 -- what a cut gives: the text is joined of its pieces, and these are a front without stops and a stop
@@ -54,8 +54,8 @@ module _ (patterns : Bool) (text front rest : List ℕ) (stop : ℕ) (start : be
   bracket : stop ≡ 91
   bracket = let among : is_among (codes "=[,") stop ≡ true = piece_among (codes "=[,") text front rest stop is_front is_stop is_rest in grind (arith, nat_tests)
 
-  head_cut : reading patterns text ≡ read_bracket patterns (target_at front TRACE) rest
-  unfolding reading
+  head_cut : read_directive patterns text ≡ read_bracket patterns (target_at front TRACE) rest
+  unfolding read_directive
   head_cut = rw (start, ← is_front, ← is_stop, ← is_rest, bracket) refl
 
   head_leads : SpanLeadsToNoPattern rest → HasNoPattern text
@@ -77,7 +77,7 @@ module _ (patterns : Bool) (text front rest : List ℕ) (stop : ℕ) (start : be
   }
 
   pub bracket_answers : (r : Result Directive ParseError) → AnswersRead (λ d. d) patterns (SpanLeadsToNoPattern rest) r (read_bracket patterns (target_at front TRACE) rest) →
-      AnswersRead (λ d. d) patterns (HasNoPattern text) r (reading patterns text)
+      AnswersRead (λ d. d) patterns (HasNoPattern text) r (read_directive patterns text)
   bracket_answers (Ok d) h = head_cut ∙ h
   bracket_answers (Err Memory) h = tt
   bracket_answers (Err Pattern) h = (h.0, head_leads h.1)

@@ -1,6 +1,6 @@
 -- What is read is the grammar: each form is read as what it means, and what is read has a form.
 use Rattle.std.proofs.Common.{◌≡◌, ℕ, Bool, true, List, [], ◌∷◌, ◌++◌, Some, None, Option, Ok, Err, refl, ap, ◌∙◌, subst, append_assoc, append-nil, codes, map}
-use Rattle.env_directives.proofs.Common.{AllByRecursion, LevelFilter, TRACE, is_among, HasNoLevel, HasEmptyField, IsEnd, begins, unless_empty, target_at, text_up_to_fields, Front, bare, spanned, fielded, DirectiveForm, alone, head_comma, leveled, leveled_comma, front_text, form_text, IsHead, IsSpanName, IsFieldText, IsOpened, IsDirectiveFront, IsForm, IsLevelText, each_with_comma, directive_at, directive_alone, head_alone, level_behind, directive_of_form, HasForm, at_level, read_last, read_level, read_end, read_close, more_fields, field_ends, read_fields, read_fielded, read_bracket, reading, field_of, Level, Field, Directive}
+use Rattle.env_directives.proofs.Common.{AllByRecursion, LevelFilter, TRACE, is_among, HasNoLevel, HasEmptyField, IsEnd, begins, unless_empty, target_at, text_up_to_fields, Front, bare, spanned, fielded, DirectiveForm, alone, head_comma, leveled, leveled_comma, front_text, form_text, IsHead, IsSpanName, IsFieldText, IsOpened, IsDirectiveFront, IsForm, IsLevelText, each_with_comma, directive_at, directive_alone, head_alone, level_behind, directive_of_form, HasForm, at_level, read_last, read_level, read_end, read_close, more_fields, field_ends, read_fields, read_fielded, read_bracket, read_directive, field_of, Level, Field, Directive}
 use Rattle.std.specs.Option.{option_map}
 use Rattle.env_directives.proofs.cuts.CutsLemmas.{cut_whole, cut_at}
 use Rattle.env_directives.proofs.cuts.FieldsLemmas.{fields_cut}
@@ -45,8 +45,8 @@ fields_empty patterns (f ∷ fs) stop more parts among =
 
 -- how a head is read that a bracket follows
 head_then : (patterns : Bool) (head rest : List ℕ) → begins (head ++ 91 ∷ rest) ≡ true → IsHead head →
-    reading patterns (head ++ 91 ∷ rest) ≡ read_bracket patterns (target_at head TRACE) rest
-unfolding reading
+    read_directive patterns (head ++ 91 ∷ rest) ≡ read_bracket patterns (target_at head TRACE) rest
+unfolding read_directive
 head_then patterns head rest start part = rw (start, cut_at (codes "=[,") head 91 rest part refl) refl
 
 -- how a span's name is read that a bracket or a brace follows
@@ -62,12 +62,12 @@ brace_then patterns d span rest part = rw (cut_at (codes "]{") span 123 rest par
 
 -- how a bracket is read, with what follows it
 spanned_then : (patterns : Bool) (head span rest : List ℕ) → begins (head ++ 91 ∷ (span ++ 93 ∷ rest)) ≡ true → IsHead head → IsSpanName span →
-    reading patterns (head ++ 91 ∷ (span ++ 93 ∷ rest)) ≡ read_end (directive_at patterns (spanned head span) TRACE) rest
+    read_directive patterns (head ++ 91 ∷ (span ++ 93 ∷ rest)) ≡ read_end (directive_at patterns (spanned head span) TRACE) rest
 spanned_then patterns head span rest start head_part span_part =
     head_then patterns head (span ++ 93 ∷ rest) start head_part ∙ span_then patterns (target_at head TRACE) span rest span_part
 
 opened_then : (patterns : Bool) (head span : List ℕ) (earlier : List (List ℕ)) (rest : List ℕ) → begins (text_up_to_fields head span earlier rest) ≡ true → IsHead head → IsSpanName span →
-    reading patterns (text_up_to_fields head span earlier rest)
+    read_directive patterns (text_up_to_fields head span earlier rest)
     ≡ read_fielded (record (target_at head TRACE) { in_span = unless_empty span }) (read_fields patterns [] (each_with_comma earlier ++ rest))
 opened_then patterns head span earlier rest start head_part span_part =
     head_then patterns head (span ++ 123 ∷ (each_with_comma earlier ++ rest)) start head_part
@@ -75,7 +75,7 @@ opened_then patterns head span earlier rest start head_part span_part =
 
 fielded_then : (patterns : Bool) (head span : List ℕ) (earlier : List (List ℕ)) (last rest : List ℕ) → begins (text_up_to_fields head span earlier (last ++ 125 ∷ 93 ∷ rest)) ≡ true →
     IsOpened head span earlier → IsFieldText last →
-    reading patterns (text_up_to_fields head span earlier (last ++ 125 ∷ 93 ∷ rest)) ≡ read_end (directive_at patterns (fielded head span earlier last) TRACE) rest
+    read_directive patterns (text_up_to_fields head span earlier (last ++ 125 ∷ 93 ∷ rest)) ≡ read_end (directive_at patterns (fielded head span earlier last) TRACE) rest
 unfolding read_close
 fielded_then patterns head span earlier last rest start parts part =
     opened_then patterns head span earlier (last ++ 125 ∷ 93 ∷ rest) start parts.0 parts.1
@@ -83,25 +83,25 @@ fielded_then patterns head span earlier last rest start parts part =
 
 -- how a front is read that `=` follows
 front_then : (patterns : Bool) (front : Front) (rest : List ℕ) → begins (front_text front ++ 61 ∷ rest) ≡ true → IsDirectiveFront front →
-    reading patterns (front_text front ++ 61 ∷ rest) ≡ read_level (directive_at patterns front TRACE) rest
-unfolding reading read_end
+    read_directive patterns (front_text front ++ 61 ∷ rest) ≡ read_level (directive_at patterns front TRACE) rest
+unfolding read_directive read_end
 front_then patterns (bare head) rest start part = rw (start, cut_at (codes "=[,") head 61 rest part refl) refl
 front_then patterns (spanned head span) rest start part =
     let same : front_text (spanned head span) ++ 61 ∷ rest ≡ head ++ 91 ∷ (span ++ 93 ∷ (61 ∷ rest)) = simp append_assoc refl in
-    ap (reading patterns) same ∙ spanned_then patterns head span (61 ∷ rest) (subst (λ (t : List ℕ). begins t ≡ true) same start) part.0 part.1
+    ap (read_directive patterns) same ∙ spanned_then patterns head span (61 ∷ rest) (subst (λ (t : List ℕ). begins t ≡ true) same start) part.0 part.1
 front_then patterns (fielded head span earlier last) rest start part =
     let same : front_text (fielded head span earlier last) ++ 61 ∷ rest ≡ text_up_to_fields head span earlier (last ++ 125 ∷ 93 ∷ (61 ∷ rest)) = simp append_assoc refl in
-    ap (reading patterns) same ∙ fielded_then patterns head span earlier last (61 ∷ rest) (subst (λ (t : List ℕ). begins t ≡ true) same start) part.0 part.1
+    ap (read_directive patterns) same ∙ fielded_then patterns head span earlier last (61 ∷ rest) (subst (λ (t : List ℕ). begins t ≡ true) same start) part.0 part.1
 
 -- how a front alone is read
-front_alone : (patterns : Bool) (front : Front) → begins (front_text front) ≡ true → IsDirectiveFront front → reading patterns (front_text front) ≡ Ok (directive_alone patterns front)
-unfolding reading read_end
+front_alone : (patterns : Bool) (front : Front) → begins (front_text front) ≡ true → IsDirectiveFront front → read_directive patterns (front_text front) ≡ Ok (directive_alone patterns front)
+unfolding read_directive read_end
 front_alone patterns (bare head) start part = rw (start, cut_whole (codes "=[,") head part) refl
 front_alone patterns (spanned head span) start part = spanned_then patterns head span [] start part.0 part.1
 front_alone patterns (fielded head span earlier last) start part = fielded_then patterns head span earlier last [] start part.0 part.1
 
-head_ended : (patterns : Bool) (head : List ℕ) → begins (head ++ codes ",") ≡ true → IsHead head → reading patterns (head ++ codes ",") ≡ Ok (head_alone head)
-unfolding reading read_last
+head_ended : (patterns : Bool) (head : List ℕ) → begins (head ++ codes ",") ≡ true → IsHead head → read_directive patterns (head ++ codes ",") ≡ Ok (head_alone head)
+unfolding read_directive read_last
 head_ended patterns head start part = rw (start, cut_at (codes "=[,") head 44 [] part refl) refl
 
 pub at_front : (patterns : Bool) (front : Front) (level : LevelFilter) → at_level (directive_at patterns front TRACE) level ≡ directive_at patterns front level
@@ -111,13 +111,13 @@ at_front patterns (fielded head span earlier last) level = refl
 
 -- each form is read as what it means
 form_reads : (patterns : Bool) (form : DirectiveForm) (d : Directive) → begins (form_text form) ≡ true → IsForm form → directive_of_form patterns form ≡ Some d →
-    reading patterns (form_text form) ≡ Ok d
+    read_directive patterns (form_text form) ≡ Ok d
 form_reads patterns (alone front) d start parts means = front_alone patterns front start parts ∙ cc
 form_reads patterns (head_comma head) d start parts means = head_ended patterns head start parts ∙ cc
 form_reads patterns (leveled front level) d start parts means = by_level (level_behind level) refl means
   where
     by_level : (found : Option LevelFilter) → level_behind level ≡ found → option_map (directive_at patterns front) found ≡ Some d →
-        reading patterns (form_text (leveled front level)) ≡ Ok d
+        read_directive patterns (form_text (leveled front level)) ≡ Ok d
     by_level None e means = absurd (cc)
     by_level (Some found) e means =
         front_then patterns front level start parts.0 ∙ level_whole (directive_at patterns front TRACE) level found parts.1 e
@@ -125,25 +125,25 @@ form_reads patterns (leveled front level) d start parts means = by_level (level_
 form_reads patterns (leveled_comma front level) d start parts means = by_level (level_behind level) refl means
   where
     by_level : (found : Option LevelFilter) → level_behind level ≡ found → option_map (directive_at patterns front) found ≡ Some d →
-        reading patterns (form_text (leveled_comma front level)) ≡ Ok d
+        read_directive patterns (form_text (leveled_comma front level)) ≡ Ok d
     by_level None e means = absurd (cc)
     by_level (Some found) e means =
         front_then patterns front (level ++ codes ",") start parts.0 ∙ level_ended (directive_at patterns front TRACE) level found parts.1 e
         ∙ ap Ok (at_front patterns front found) ∙ cc
 
-pub directive_reads : (patterns : Bool) (text : List ℕ) (d : Directive) → HasForm patterns text d → reading patterns text ≡ Ok d
+pub directive_reads : (patterns : Bool) (text : List ℕ) (d : Directive) → HasForm patterns text d → read_directive patterns text ≡ Ok d
 directive_reads patterns text d is =
-    ap (reading patterns) is.whole ∙ form_reads patterns is.form d (subst (λ (t : List ℕ). begins t ≡ true) is.whole is.start) is.parts is.means
+    ap (read_directive patterns) is.whole ∙ form_reads patterns is.form d (subst (λ (t : List ℕ). begins t ≡ true) is.whole is.start) is.parts is.means
 
 -- and each fault is told
-pub level_told : (patterns : Bool) (text : List ℕ) → HasNoLevel text → reading patterns text ≡ Err Level
+pub level_told : (patterns : Bool) (text : List ℕ) → HasNoLevel text → read_directive patterns text ≡ Err Level
 level_told patterns text has =
-    ap (reading patterns) has.whole
+    ap (read_directive patterns) has.whole
     ∙ front_then patterns has.front (has.level ++ has.more) (subst (λ (t : List ℕ). begins t ≡ true) has.whole has.start) has.parts
     ∙ level_unread (directive_at patterns has.front TRACE) has.level has.more has.level_text has.ends has.unread
 
-pub field_told : (patterns : Bool) (text : List ℕ) → HasEmptyField text → reading patterns text ≡ Err Field
+pub field_told : (patterns : Bool) (text : List ℕ) → HasEmptyField text → read_directive patterns text ≡ Err Field
 field_told patterns text has =
-    ap (reading patterns) has.whole
+    ap (read_directive patterns) has.whole
     ∙ opened_then patterns has.head has.span has.earlier (has.stop ∷ has.more) (subst (λ (t : List ℕ). begins t ≡ true) has.whole has.start) has.parts.0 has.parts.1
     ∙ ap (read_fielded (record (target_at has.head TRACE) { in_span = unless_empty has.span })) (fields_empty patterns has.earlier has.stop has.more has.parts.2 has.stops)

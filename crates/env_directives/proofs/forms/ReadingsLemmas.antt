@@ -1,7 +1,7 @@
 -- What is read of a whole text has a form, and what is refused has the fault that is told.
 use Rattle.std.proofs.Common.{◌≡◌, ℕ, Bool, true, false, List, [], ◌∷◌, ◌++◌, Some, None, Option, Result, Ok, Err, refl, sym, ap, ◌∙◌, arith, subst, append_assoc, append-nil, codes, ◌⊎◌, inl, inr, if◌then◌else◌, option_map, true≢false, ◌==◌, ◌≢◌, ◌↔◌, IfSome, IfOk, IfErr}
 use Rattle.std.proofs.lemmas.Bool.{eqb-true}
-use Rattle.env_directives.proofs.Common.{nat_tests, TRACE, pieces_at, is_among, HasNoLevel, HasEmptyField, HasNoPattern, HasFault, begins, unless_empty, target_at, Front, bare, spanned, fielded, alone, head_comma, leveled, leveled_comma, front_text, IsHead, IsSpanName, IsDirectiveFront, directive_at, directive_alone, head_alone, each_with_comma, level_behind, HasForm, IsDirective, read_last, read_level, read_end, read_close, read_fields, read_fielded, read_span, read_bracket, read_head, reading, AnswersRead, HavePatterns, ParseError, Shape, Level, Field, Pattern, Equals, Fields, Memory, Directive, Match}
+use Rattle.env_directives.proofs.Common.{nat_tests, TRACE, pieces_at, is_among, HasNoLevel, HasEmptyField, HasNoPattern, HasFault, begins, unless_empty, target_at, Front, bare, spanned, fielded, alone, head_comma, leveled, leveled_comma, front_text, IsHead, IsSpanName, IsDirectiveFront, directive_at, directive_alone, head_alone, each_with_comma, level_behind, HasForm, IsDirective, read_last, read_level, read_end, read_close, read_fields, read_fielded, read_span, read_bracket, read_head, read_directive, AnswersRead, HavePatterns, ParseError, Shape, Level, Field, Pattern, Equals, Fields, Memory, Directive, Match}
 use Rattle.env_directives.proofs.cuts.CutsLemmas.{cut_joined, cut_front, cut_stop, cut_off}
 use Rattle.env_directives.proofs.forms.FaultsLemmas.{Explained, explained_map, LevelRead, LevelUnread, level_explained, EndRead, EndUnread, end_explained, CloseRead, CloseUnread, close_explained, FieldsMade, FieldsEmpty, fields_explained}
 use Rattle.env_directives.proofs.forms.GrammarLemmas.{at_front, directive_reads, level_told, field_told}
@@ -123,8 +123,8 @@ bracket_explained patterns text head behind start head_part joined =
     by_pieces span (Some s) rest part among cut_so = by_stop span s rest part among cut_so (s == 93) refl
 
 -- what a whole text is read as
-pub reading_explained : (patterns : Bool) (text : List ℕ) → Explained (HasForm patterns text) (HasNoLevel text) (HasEmptyField text) (reading patterns text)
-unfolding reading read_last
+pub reading_explained : (patterns : Bool) (text : List ℕ) → Explained (HasForm patterns text) (HasNoLevel text) (HasEmptyField text) (read_directive patterns text)
+unfolding read_directive read_last
 reading_explained patterns text = by_start (begins text) refl
   where
     by_comma : (head rest : List ℕ) → begins text ≡ true → IsHead head → text ≡ head ++ 44 ∷ rest →
@@ -160,14 +160,14 @@ reading_explained patterns text = by_start (begins text) refl
     by_start false start = tt
 
 -- what is answered is a directive of the text
-pub answer_is : (patterns : Bool) (text : List ℕ) (r : Result Directive ParseError) → AnswersRead (λ d. d) patterns (HasNoPattern text) r (reading patterns text) →
+pub answer_is : (patterns : Bool) (text : List ℕ) (r : Result Directive ParseError) → AnswersRead (λ d. d) patterns (HasNoPattern text) r (read_directive patterns text) →
     IfOk r (λ d. HavePatterns d.fields) → IfOk r (IsDirective patterns text)
 answer_is patterns text (Ok d) h have =
     is_directive patterns text d have (subst (Explained (HasForm patterns text) (HasNoLevel text) (HasEmptyField text)) h (reading_explained patterns text))
 answer_is patterns text (Err e) h have = tt
 
 -- or a fault of it
-pub fault_is : (patterns : Bool) (text : List ℕ) (r : Result Directive ParseError) → AnswersRead (λ d. d) patterns (HasNoPattern text) r (reading patterns text) →
+pub fault_is : (patterns : Bool) (text : List ℕ) (r : Result Directive ParseError) → AnswersRead (λ d. d) patterns (HasNoPattern text) r (read_directive patterns text) →
     IfErr r (HasFault patterns text)
 fault_is patterns text (Ok d) h = tt
 fault_is patterns text (Err Memory) h = tt
@@ -183,16 +183,16 @@ fault_is patterns text (Err Equals) h = subst (Explained (HasForm patterns text)
 fault_is patterns text (Err (Fields many)) h = subst (Explained (HasForm patterns text) (HasNoLevel text) (HasEmptyField text)) h (reading_explained patterns text)
 
 -- Without patterns a text is read as a directive exactly where it is one,
-pub read_exactly : (text : List ℕ) (d : Directive) → reading false text ≡ Ok d ↔ IsDirective false text d
+pub read_exactly : (text : List ℕ) (d : Directive) → read_directive false text ≡ Ok d ↔ IsDirective false text d
 read_exactly text d =
     (λ e. subst (Explained (HasForm false text) (HasNoLevel text) (HasEmptyField text)) e (reading_explained false text), directive_reads false text d)
 
 -- and as a fault exactly where it has that one.
-pub refused_exactly : (text : List ℕ) (fault : ParseError) → fault ≢ Memory → reading false text ≡ Err fault ↔ HasFault false text fault
-refused_exactly text Shape no_memory = (fault_is false text (Err Shape), λ none. by_read (reading false text) refl (reading_explained false text) none)
+pub refused_exactly : (text : List ℕ) (fault : ParseError) → fault ≢ Memory → read_directive false text ≡ Err fault ↔ HasFault false text fault
+refused_exactly text Shape no_memory = (fault_is false text (Err Shape), λ none. by_read (read_directive false text) refl (reading_explained false text) none)
   where
-    by_read : (r : Result Directive ParseError) → reading false text ≡ r → Explained (HasForm false text) (HasNoLevel text) (HasEmptyField text) r → HasFault false text Shape
-        → reading false text ≡ Err Shape
+    by_read : (r : Result Directive ParseError) → read_directive false text ≡ r → Explained (HasForm false text) (HasNoLevel text) (HasEmptyField text) r → HasFault false text Shape
+        → read_directive false text ≡ Err Shape
     by_read (Ok d) e h none = absurd (none.0 d h)
     by_read (Err Shape) e h none = e
     by_read (Err Level) e h none = absurd (none.1 h)

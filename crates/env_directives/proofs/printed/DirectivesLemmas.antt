@@ -1,14 +1,14 @@
 -- What a directive prints is a text of that directive.
 use Rattle.std.proofs.Common.{◌≡◌, ℕ, ◌<◌, Bool, true, false, List, [], ◌∷◌, ◌++◌, length, Some, None, Option, option_map, refl, sym, ap, ◌∙◌, arith, subst, append-nil, append_assoc, codes, map, not, lit<, ◌==◌, ◌||◌, is_some}
-use Rattle.env_directives.proofs.Common.{AllByRecursion, nat_tests, LevelFilter, filter_text, level_filter_of, filter_of_word, named_filter, ucd_derived, begins, unless_empty, target_at, Front, bare, spanned, fielded, DirectiveForm, alone, head_comma, leveled, leveled_comma, front_text, form_text, IsHead, IsSpanName, IsFieldText, IsOpened, IsDirectiveFront, IsForm, each_with_comma, directive_at, head_alone, level_or_target, level_behind, IsLevelText, directive_of_form, HasForm, directive_text, text_if_any, fields_text, HasNoMinusZero, field_of, Directive, Match}
+use Rattle.env_directives.proofs.Common.{AllByRecursion, nat_tests, LevelFilter, level_filter_text, level_filter_of, filter_of_word, named_level_filter, ucd_derived, begins, unless_empty, target_at, Front, bare, spanned, fielded, DirectiveForm, alone, head_comma, leveled, leveled_comma, front_text, form_text, IsHead, IsSpanName, IsFieldText, IsOpened, IsDirectiveFront, IsForm, each_with_comma, directive_at, head_alone, level_or_target, level_behind, IsLevelText, directive_of_form, HasForm, directive_text, text_if_any, fields_text, HasNoMinusZero, field_of, Directive, Match}
 use Rattle.std.specs.Str.{IsUtf8, chars}
 use Rattle.trace_base.specs.declared.level.LevelFilter.TheVariants as filter
 use Rattle.env_directives.proofs.printed.BeginningsLemmas.{bracket_begins, IsSeam, first_of, begins_by}
 use Rattle.env_directives.proofs.printed.FieldsLemmas.{again, fields_again, fields_joined}
 
 -- a level's word stands for it, and has no comma
-level_again : (level : LevelFilter) → level_behind (filter_text level) ≡ Some level
-unfolding named_filter filter_of_word
+level_again : (level : LevelFilter) → level_behind (level_filter_text level) ≡ Some level
+unfolding named_level_filter filter_of_word
 level_again filter.OFF = refl
 level_again filter.ERROR = refl
 level_again filter.WARN = refl
@@ -16,7 +16,7 @@ level_again filter.INFO = refl
 level_again filter.DEBUG = refl
 level_again filter.TRACE = refl
 
-level_lacks : (level : LevelFilter) → IsLevelText (filter_text level)
+level_lacks : (level : LevelFilter) → IsLevelText (level_filter_text level)
 level_lacks filter.OFF = refl
 level_lacks filter.ERROR = refl
 level_lacks filter.WARN = refl
@@ -26,7 +26,7 @@ level_lacks filter.TRACE = refl
 
 -- a level alone
 alone_again : (level : LevelFilter) → HasForm false (directive_text (target_at [] level)) (target_at [] level)
-unfolding named_filter filter_of_word chars ucd_derived
+unfolding named_level_filter filter_of_word chars ucd_derived
 alone_again filter.OFF = record { start = refl; form = alone (bare (codes "off")); parts = refl; whole = refl; means = refl }
 alone_again filter.ERROR = record { start = refl; form = alone (bare (codes "error")); parts = refl; whole = refl; means = refl }
 alone_again filter.WARN = record { start = refl; form = alone (bare (codes "warn")); parts = refl; whole = refl; means = refl }
@@ -69,11 +69,11 @@ goes_on_more text head rest on seam = record {
     both (b ∷ bs) s = s
 
 -- the text of a front and a level
-leveled_again : (front : Front) (level : LevelFilter) (printed : List ℕ) → begins printed ≡ true → IsDirectiveFront front → printed ≡ front_text front ++ (codes "=" ++ filter_text level) →
+leveled_again : (front : Front) (level : LevelFilter) (printed : List ℕ) → begins printed ≡ true → IsDirectiveFront front → printed ≡ front_text front ++ (codes "=" ++ level_filter_text level) →
     HasForm false printed (directive_at false front level)
 leveled_again front level printed start part whole = record {
   start = start;
-  form = leveled front (filter_text level);
+  form = leveled front (level_filter_text level);
   parts = (part, level_lacks level);
   whole = whole;
   means = ap (option_map (directive_at false front)) (level_again level);
@@ -90,8 +90,8 @@ module _ (text : List ℕ) (utf8 : IsUtf8 text) (start : begins text ≡ true) w
   bare_again : (head : List ℕ) (level : LevelFilter) → IsHead head → GoesOn text head → HasForm false (directive_text (target_at head level)) (target_at head level)
   bare_again [] level part on = alone_again level
   bare_again (b ∷ bs) level part on =
-      let begun : begins ((b ∷ bs) ++ (codes "=" ++ filter_text level)) ≡ true =
-      start_again text (b ∷ bs) on.more (codes "=" ++ filter_text level) (omega arith) utf8 on.whole on.seam start in
+      let begun : begins ((b ∷ bs) ++ (codes "=" ++ level_filter_text level)) ≡ true =
+      start_again text (b ∷ bs) on.more (codes "=" ++ level_filter_text level) (omega arith) utf8 on.whole on.seam start in
       leveled_again (bare (b ∷ bs)) level (directive_text (target_at (b ∷ bs) level)) begun part refl
 
   bracket_start : (head more : List ℕ) → GoesOn text head → begins (head ++ 91 ∷ more) ≡ true
@@ -99,7 +99,7 @@ module _ (text : List ℕ) (utf8 : IsUtf8 text) (start : begins text ≡ true) w
   bracket_start (b ∷ bs) more on = start_again text (b ∷ bs) on.more (91 ∷ more) (omega arith) utf8 on.whole on.seam start
 
   spanned_text : (head span : List ℕ) (level : LevelFilter) →
-      directive_text (directive_at false (spanned head span) level) ≡ front_text (spanned head span) ++ (codes "=" ++ filter_text level)
+      directive_text (directive_at false (spanned head span) level) ≡ front_text (spanned head span) ++ (codes "=" ++ level_filter_text level)
   spanned_text [] span level = refl
   spanned_text (b ∷ bs) span level = simp append_assoc refl
 
@@ -108,13 +108,13 @@ module _ (text : List ℕ) (utf8 : IsUtf8 text) (start : begins text ≡ true) w
   spanned_again head span level head_part span_part on =
       let so = spanned_text head span level in
       let begun : begins (directive_text (directive_at false (spanned head span) level)) ≡ true =
-      ap begins (so ∙ append_assoc head (codes "[" ++ (span ++ codes "]")) (codes "=" ++ filter_text level)) ∙ bracket_start head ((span ++ codes "]") ++ (codes "=" ++ filter_text level)) on in
+      ap begins (so ∙ append_assoc head (codes "[" ++ (span ++ codes "]")) (codes "=" ++ level_filter_text level)) ∙ bracket_start head ((span ++ codes "]") ++ (codes "=" ++ level_filter_text level)) on in
       leveled_again (spanned head span) level (directive_text (directive_at false (spanned head span) level)) begun (head_part, span_part) so
 
   -- with fields, the fields are printed anew
   fielded_text : (head span : List ℕ) (earlier : List (List ℕ)) (last : List ℕ) (level : LevelFilter) →
       directive_text (directive_at false (fielded head span earlier last) level)
-      ≡ front_text (fielded head span (map again earlier) (again last)) ++ (codes "=" ++ filter_text level)
+      ≡ front_text (fielded head span (map again earlier) (again last)) ++ (codes "=" ++ level_filter_text level)
   fielded_text head span earlier last level = by_fields (map (field_of false) (earlier ++ last ∷ [])) (some earlier) (fields_joined earlier last)
     where
       some : (es : List (List ℕ)) → (length (map (field_of false) (es ++ last ∷ [])) == 0) ≡ false
@@ -135,11 +135,11 @@ module _ (text : List ℕ) (utf8 : IsUtf8 text) (start : begins text ≡ true) w
 
       by_fields : (fields : List Match) → (length fields == 0) ≡ false → fields_text fields ≡ codes "{" ++ (each_with_comma (map again earlier) ++ (again last ++ codes "}")) →
           directive_text (record { in_span = unless_empty span; fields = fields; target = unless_empty head; level = level })
-          ≡ front_text (fielded head span (map again earlier) (again last)) ++ (codes "=" ++ filter_text level)
+          ≡ front_text (fielded head span (map again earlier) (again last)) ++ (codes "=" ++ level_filter_text level)
       by_fields fields none joined =
           let bracket : (is_some (unless_empty span) || not (length fields == 0)) ≡ true = has (unless_empty span) (length fields == 0) none in
           rw (bracket, equals (unless_empty head) true refl, if_any head, if_any span, joined)
-          (assembled head span (each_with_comma (map again earlier)) (again last) (codes "=" ++ filter_text level))
+          (assembled head span (each_with_comma (map again earlier)) (again last) (codes "=" ++ level_filter_text level))
 
   fielded_again : (head span : List ℕ) (earlier : List (List ℕ)) (last : List ℕ) (level : LevelFilter) → IsOpened head span earlier → IsFieldText last →
       HasNoMinusZero (map (field_of false) (earlier ++ last ∷ [])) → GoesOn text head →
@@ -151,8 +151,8 @@ module _ (text : List ℕ) (utf8 : IsUtf8 text) (start : begins text ≡ true) w
       let front = fielded head span (map again earlier) (again last) in
       let printed = directive_text (directive_at false (fielded head span earlier last) level) in
       let begun : begins printed ≡ true =
-      ap begins (so ∙ append_assoc head (codes "[" ++ (span ++ (codes "{" ++ (each_with_comma (map again earlier) ++ (again last ++ codes "}]"))))) (codes "=" ++ filter_text level))
-      ∙ bracket_start head ((span ++ (codes "{" ++ (each_with_comma (map again earlier) ++ (again last ++ codes "}]")))) ++ (codes "=" ++ filter_text level)) on in
+      ap begins (so ∙ append_assoc head (codes "[" ++ (span ++ (codes "{" ++ (each_with_comma (map again earlier) ++ (again last ++ codes "}]"))))) (codes "=" ++ level_filter_text level))
+      ∙ bracket_start head ((span ++ (codes "{" ++ (each_with_comma (map again earlier) ++ (again last ++ codes "}]")))) ++ (codes "=" ++ level_filter_text level)) on in
       let same : directive_at false front level ≡ directive_at false (fielded head span earlier last) level =
       ap (λ (fs : List Match). record { in_span = unless_empty span; fields = fs; target = unless_empty head; level = level }) (ap (map (field_of false)) (sym (map_both earlier)) ∙ all.1) in
       subst (HasForm false printed) same (leveled_again front level printed begun ((parts.0, parts.1, anew.0), anew.1) so)

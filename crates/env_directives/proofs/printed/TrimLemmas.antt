@@ -1,6 +1,6 @@
 -- What a directive prints has no white space at its ends.
 use Rattle.std.proofs.Common.{◌≡◌, ℕ, zero, suc, ◌+◌, ◌<◌, ◌≤◌, Bool, true, false, true≢false, List, [], ◌∷◌, ◌++◌, length, get_or, take, refl, sym, ap, ◌∙◌, arith, subst, append_assoc, inl, inr, ◌⊎◌, not, cond, lit<, codes, ◌==◌, ◌&&◌, ◌||◌, nat_lt}
-use Rattle.env_directives.proofs.Common.{is_whitespace, trim, trim_start, trim_end, skip_leading_whitespace, drop_trailing_whitespace, take-append_seam, get_or-append_seam, cases_lt, nat_tests, chars-append, encodes-chars, scalars-chars, IsUtf8-take, IsCharBoundary-before_ascii, scalars, scalar, LevelFilter, filter_text, ucd_derived, begins, may_begin, directive_text, text_if_any, bracket_text, equals_text, Directive}
+use Rattle.env_directives.proofs.Common.{is_whitespace, trim, trim_start, trim_end, skip_leading_whitespace, drop_trailing_whitespace, take-append_seam, get_or-append_seam, cases_lt, nat_tests, chars-append, encodes-chars, scalars-chars, IsUtf8-take, IsCharBoundary-before_ascii, scalars, scalar, LevelFilter, level_filter_text, ucd_derived, begins, may_begin, directive_text, text_if_any, bracket_text, equals_text, Directive}
 use Rattle.std.specs.Str.{IsUtf8, chars, encode_utf8_all}
 use Rattle.std.proofs.lemmas.Bool.{eqb-true, ltb-true}
 use Rattle.std.proofs.lemmas.List.{length-append}
@@ -139,7 +139,7 @@ end_kept text front last utf8 whole ascii alone ink =
     ap encode_utf8_all kept ∙ encodes-chars text utf8
 
 -- the text of a directive ends with its level's word
-word_kept : (front : List ℕ) (level : LevelFilter) → IsUtf8 (front ++ filter_text level) → trim_end (front ++ filter_text level) ≡ front ++ filter_text level
+word_kept : (front : List ℕ) (level : LevelFilter) → IsUtf8 (front ++ level_filter_text level) → trim_end (front ++ level_filter_text level) ≡ front ++ level_filter_text level
 unfolding chars
 word_kept front filter.OFF utf8 = end_kept (front ++ codes "off") (front ++ codes "of") 102 utf8 (sym (append_assoc front (codes "of") (102 ∷ []))) (lit< tt) refl refl
 word_kept front filter.ERROR utf8 = end_kept (front ++ codes "error") (front ++ codes "erro") 114 utf8 (sym (append_assoc front (codes "erro") (114 ∷ []))) (lit< tt) refl refl
@@ -151,7 +151,7 @@ word_kept front filter.TRACE utf8 = end_kept (front ++ codes "trace") (front ++ 
 pub printed_trimmed : (d : Directive) → IsUtf8 (directive_text d) → begins (directive_text d) ≡ true → trim (directive_text d) ≡ directive_text d
 printed_trimmed d utf8 start =
     let front = text_if_any d.target ++ (bracket_text d ++ equals_text d) in
-    let whole : directive_text d ≡ front ++ filter_text d.level = joined (text_if_any d.target) (bracket_text d) (equals_text d) (filter_text d.level) in
+    let whole : directive_text d ≡ front ++ level_filter_text d.level = joined (text_if_any d.target) (bracket_text d) (equals_text d) (level_filter_text d.level) in
     ap trim_end (start_kept (directive_text d) utf8 start)
     ∙ subst (λ (t : List ℕ). trim_end t ≡ t) (sym whole) (word_kept front d.level (subst IsUtf8 whole utf8))
   where

@@ -1,7 +1,7 @@
 -- In a table the first directive without field names that covers a target is the one with the longest target.
 use Rattle.std.specs.declared.cmp.Ordering.{Ordering}
 use Rattle.std.specs.declared.cmp.Ordering.TheVariants.{Less, Equal, Greater}
-use Rattle.env_directives.proofs.Common.{ordering_then, AllByRecursion, starts_with, IsStrictlySortedBy, option_cmp, option_map_or, tied_itself, first_so, second_so, bytes_decides, nil_from_length, sorted_head, sorted_tail, StaticDirective, covers, cares_about_target, is_longer, with_longer_target, longest_from, longest_prefix, lets_through, admits_target, target_length, most_specific_first, text_cmp, Table, with_item_in_order, empty_table, with_static, all_added}
+use Rattle.env_directives.proofs.Common.{ordering_then, AllByRecursion, starts_with, IsStrictlySortedBy, option_cmp, option_map_or, tied_itself, first_so, second_so, bytes_decides, nil_from_length, sorted_head, sorted_tail, StaticDirective, covers, cares_about_target, is_longer, with_longer_target, longest_from, longest_prefix, lets_through, admits_target, target_length, most_specific_first, text_cmp, DirectiveTable, with_item_in_order, empty_table, with_static, with_statics}
 use Rattle.std.specs.Ordering.{is_eq, is_gt, nat_cmp}
 use Rattle.std.specs.List.{find, filter}
 use Rattle.std.specs.Option.{option_map}
@@ -148,14 +148,14 @@ module _ (target : List ℕ) where
       by Equal is rest = ap (find speaks) (at_equal total-law d e es is) ∙ equal (speaks d) is refl
       by Greater is rest = ap (find speaks) (at_greater total-law d e es is) ∙ ap (cond (speaks e) (Some e)) rest ∙ later (speaks e) (speaks d) is refl refl
 
-  found_in_all : (ds : List StaticDirective) (t : Table StaticDirective) → IsStrictlySortedBy most_specific_first t.directives
-      → find speaks (all_added ds t).directives ≡ longest_from (find speaks t.directives) (filter speaks ds)
+  found_in_all : (ds : List StaticDirective) (t : DirectiveTable StaticDirective) → IsStrictlySortedBy most_specific_first t.directives
+      → find speaks (with_statics ds t).directives ≡ longest_from (find speaks t.directives) (filter speaks ds)
   found_in_all [] t s = refl
   found_in_all (d ∷ ds) t s = by (speaks d) refl (found_in_all ds (with_static d t) (sorted_placed total-law d t.directives s))
     where
       by : (b : Bool) → speaks d ≡ b
-          → find speaks (all_added ds (with_static d t)).directives ≡ longest_from (find speaks (with_static d t).directives) (filter speaks ds)
-          → find speaks (all_added ds (with_static d t)).directives ≡ longest_from (find speaks t.directives) (filter speaks (d ∷ ds))
+          → find speaks (with_statics ds (with_static d t)).directives ≡ longest_from (find speaks (with_static d t).directives) (filter speaks ds)
+          → find speaks (with_statics ds (with_static d t)).directives ≡ longest_from (find speaks t.directives) (filter speaks (d ∷ ds))
       by true is rest =
           rest ∙ ap (λ o. longest_from o (filter speaks ds)) (found_placed d t.directives s ∙ ap (λ b. cond b (with_longer_target (find speaks t.directives) d) (find speaks t.directives)) is)
           ∙ sym (ap (λ b. longest_from (find speaks t.directives) (cond b (d ∷ filter speaks ds) (filter speaks ds))) is)
@@ -165,6 +165,6 @@ module _ (target : List ℕ) where
 
 -- the longest prefix that was added decides
 pub decides : (ds : List StaticDirective) (target : List ℕ) (level : Level)
-    → admits_target (all_added ds empty_table).directives target level ≡ lets_through level (longest_prefix ds target)
+    → admits_target (with_statics ds empty_table).directives target level ≡ lets_through level (longest_prefix ds target)
 unfolding IsStrictlySortedBy
 decides ds target level = ap (lets_through level) (found_in_all target ds empty_table tt)

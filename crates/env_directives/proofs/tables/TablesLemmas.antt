@@ -1,7 +1,7 @@
 -- Directives that are added in turn make the one table that keeps the last of each class.
 use Rattle.std.specs.declared.cmp.Ordering.{Ordering}
 use Rattle.std.specs.declared.cmp.Ordering.TheVariants.{Less, Equal, Greater}
-use Rattle.env_directives.proofs.Common.{ordering_reverse, AllByRecursion, IsStrictlySortedBy, IsTotalOrder, Equal-is, tied_back, tied_itself, alike_right, reverse-append, map-append, sorted_head, sorted_tail, LevelFilter, greatest_verbosity, Table, with_item_in_order, with_added, with_all_added, empty_table, more_verbose, greatest_of, IsTableOf}
+use Rattle.env_directives.proofs.Common.{ordering_reverse, AllByRecursion, IsStrictlySortedBy, IsTotalOrder, Equal-is, tied_back, tied_itself, alike_right, reverse-append, map-append, sorted_head, sorted_tail, LevelFilter, greatest_verbosity, DirectiveTable, with_item_in_order, with_added, with_all_added, empty_table, more_verbose, greatest_of, IsTableOf}
 use Rattle.std.specs.Ordering.{is_eq}
 use Rattle.std.specs.List.{find}
 use borrow.Author.Tests.{leb-true, leb-false}
@@ -59,7 +59,7 @@ module _ {T : Type 0} {cmp : T → T → Ordering} (order : IsTotalOrder cmp) wh
   unfolding IsStrictlySortedBy
   no_directives level = record { in_order = tt; lasts = λ x. refl; greatest = refl }
 
-  one_more : (level : T → LevelFilter) (ds : List T) (d : T) (t : Table T) → IsTableOf cmp level ds t → IsTableOf cmp level (ds ++ d ∷ []) (with_added cmp level d t)
+  one_more : (level : T → LevelFilter) (ds : List T) (d : T) (t : DirectiveTable T) → IsTableOf cmp level ds t → IsTableOf cmp level (ds ++ d ∷ []) (with_added cmp level d t)
   one_more level ds d t h = record {
     in_order = sorted_placed order d t.directives h.in_order;
     lasts = λ x. find_placed x d t.directives ∙ ap (cond (like x d) (Some d)) (h.lasts x) ∙ sym (ap (find (like x)) (reverse-append ds (d ∷ [])));
@@ -68,7 +68,7 @@ module _ {T : Type 0} {cmp : T → T → Ordering} (order : IsTotalOrder cmp) wh
         ∙ sym (ap greatest_of (map-append (λ e. greatest_verbosity (level e)) ds (d ∷ [])));
   }
 
-  more_of_them : (level : T → LevelFilter) (ds done : List T) (t : Table T) → IsTableOf cmp level done t
+  more_of_them : (level : T → LevelFilter) (ds done : List T) (t : DirectiveTable T) → IsTableOf cmp level done t
       → IsTableOf cmp level (done ++ ds) (with_all_added cmp level ds t)
   more_of_them level [] done t h = subst (λ all. IsTableOf cmp level all t) (sym (append-nil done)) h
   more_of_them level (d ∷ ds) done t h =
@@ -123,5 +123,5 @@ module _ {T : Type 0} {cmp : T → T → Ordering} (order : IsTotalOrder cmp) wh
           ap (λ y. y ∷ xs) head ∙ ap (λ ys. b ∷ ys) others
       by Greater is rest = absurd (some_none b (sym (found_itself b bs) ∙ sym (f b) ∙ none_like b a xs (order.antisymm b a ∙ ap ordering_reverse is) s))
 
-  pub one_table : (level : T → LevelFilter) (ds : List T) (s t : Table T) → IsTableOf cmp level ds s → IsTableOf cmp level ds t → s.directives ≡ t.directives
+  pub one_table : (level : T → LevelFilter) (ds : List T) (s t : DirectiveTable T) → IsTableOf cmp level ds s → IsTableOf cmp level ds t → s.directives ≡ t.directives
   one_table level ds s t h k = same_found s.directives t.directives h.in_order k.in_order (λ x. h.lasts x ∙ sym (k.lasts x))

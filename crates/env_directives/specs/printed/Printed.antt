@@ -2,7 +2,7 @@
 use Rattle.std.specs.Prelude.{◌≢◌, ℕ, pos, List, [], ◌∷◌, ◌++◌, Bool, true, false, Option, None, Some, codes, is_some, length, not, ◌||◌, ◌==◌, if◌then◌else◌}
 use Rattle.std.specs.Fmt.{decimal, signed_decimal}
 use Rattle.std.specs.List.{join_by}
-use Rattle.trace_base.specs.words.Level.{filter_text}
+use Rattle.trace_base.specs.words.Level.{level_filter_text}
 use Rattle.env_directives.specs.declared.env.directive.Directive.{Directive}
 use Rattle.env_directives.specs.declared.env.field.Match.{Match}
 use Rattle.env_directives.specs.declared.env.field.ValueMatch.{ValueMatch}
@@ -52,7 +52,7 @@ equals_text d = if is_some d.target || has_bracket d then codes "=" else []
 
 -- the target, the bracket, `=`, and the level in lower case
 abbrev pub directive_text : Directive → List ℕ
-directive_text d = text_if_any d.target ++ (bracket_text d ++ (equals_text d ++ filter_text d.level))
+directive_text d = text_if_any d.target ++ (bracket_text d ++ (equals_text d ++ level_filter_text d.level))
 
 -- no field asks for the number 0 as one that was read behind a minus; such a number prints without it
 abbrev pub HasNoMinusZero : List Match → Type 0

@@ -1,7 +1,7 @@
 -- How directives print.
 use Rattle.std.specs.Prelude.{ℕ, List, [], ◌∷◌, ◌++◌, ◌==◌, ◌||◌, not, if◌then◌else◌, Option, is_some, length, codes, flat_map}
 use Rattle.std.specs.Option.{unwrap_or}
-use Rattle.trace_base.specs.words.Level.{filter_text}
+use Rattle.trace_base.specs.words.Level.{level_filter_text}
 use Rattle.env_directives.specs.declared.directive.StaticDirective.{StaticDirective}
 
 -- texts with commas between them
@@ -18,4 +18,4 @@ abbrev pub equals_sign : Option (List ℕ) → List (List ℕ) → List ℕ
 equals_sign target names = if is_some target || not (length names == 0) then codes "=" else []
 
 abbrev pub static_text : StaticDirective → List ℕ
-static_text d = unwrap_or d.target [] ++ field_brackets d.field_names ++ equals_sign d.target d.field_names ++ filter_text d.level
+static_text d = unwrap_or d.target [] ++ field_brackets d.field_names ++ equals_sign d.target d.field_names ++ level_filter_text d.level

@@ -93,8 +93,8 @@ read_head patterns head (Some stop) rest =
     read_bracket patterns (target_at head TRACE) rest
 
 -- a text without white space at its ends
-unfoldable pub reading : Bool → List ℕ → DirectiveRead
-reading patterns text =
+unfoldable pub read_directive : Bool → List ℕ → DirectiveRead
+read_directive patterns text =
     let pieces = pieces_at (codes "=[,") text in
     if begins text then read_head patterns pieces.front pieces.stop pieces.rest else Err Shape
 

@@ -28,9 +28,9 @@ pub struct DirectiveSet<T: Ord> {
 
 impl<T: Ord> Model for DirectiveSet<T> {
     ghost use Rattle.std.specs.List.Sorted.{IsStrictlySortedBy};
-    ghost use Rattle.env_directives.specs.orders.Table.{Table};
+    ghost use Rattle.env_directives.specs.orders.Table.{DirectiveTable};
 
-    ghost Value = { Table T };
+    ghost Value = { DirectiveTable T };
 
     ghost view = { λ s. record { directives = s.directives.items; greatest = s.max_level } };
 
@@ -54,7 +54,7 @@ impl<T: Match + Ord + MadeWith<Global> + Drop> DirectiveSet<T> {
         ensures memory_leaves { OnErr result (self.new ≡ self.old) }
     {
         let level = directive.level();
-        place(&mut self.directives, directive)?;
+        put_in_order(&mut self.directives, directive)?;
         self.max_level = more_verbose(self.max_level, level);
         Ok(())
     }
@@ -206,7 +206,7 @@ impl<'a, T: Match> Iterator for DirectivesFor<'a, T> {
 }
 
 // Puts a directive where its equal stands, or else at its place in the order.
-fn place<T: Ord + MadeWith<Global> + Drop>(
+fn put_in_order<T: Ord + MadeWith<Global> + Drop>(
     directives: &mut SmallVec<T, 8>,
     directive: T,
 ) -> Result<(), Memory>

@@ -5,7 +5,7 @@ ghost use Rattle.std.specs.Cmp.Rules.{comparing};
 ghost use Rattle.std.specs.Ordering.{nat_cmp, as_partial_cmp};
 ghost use Rattle.std.specs.Cmp.{partial_order_from_own_ties};
 ghost use Rattle.std.specs.Cmp.Lexicographic.{slice_cmp};
-ghost use Rattle.env_directives.specs.Meeting.{meets, meets_truth, meets_u64, meets_i64, is_text, matched_debug_text};
+ghost use Rattle.env_directives.specs.Meeting.{meets, meets_truth, meets_u64, meets_i64, is_equal_if_any, matched_debug_text};
 ghost use Rattle.env_directives.specs.printed.Printed.{match_text, value_text};
 ghost use Rattle.env_directives.specs.reading.Values.{IsNoPatternField, IsNoPatternValue, field_of, value_of, plain_value, truth_of, u64_of, i64_of, IsPatternIfAny, MayFail};
 
@@ -264,7 +264,7 @@ impl MatchDebug {
 
     // Whether the debug text of a value is this one.
     fn is_met_by(&self, alloc: Global, value: &Value) -> Result<bool, Memory>
-        ensures { IfOk result (λ found. found ≡ is_text self.now (matched_debug_text value.now)) }
+        ensures { IfOk result (λ found. found ≡ is_equal_if_any self.now (matched_debug_text value.now)) }
     {
         match value {
             Value::Str(text) => Ok(self.matches(quote(alloc, text.as_str())?.as_str())),

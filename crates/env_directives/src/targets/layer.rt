@@ -80,7 +80,7 @@ impl Layer for Targets {
 
     ghost is_whole = { λ t. Unit {0} };
 
-    ghost same = { λ s t. t ≡ s };
+    ghost same_but_room = { λ s t. t ≡ s };
 
     ghost does = { λ s hook t. (t ≡ s) × LeavesLanes hook };
 

@@ -1,6 +1,6 @@
 -- A span's level never falls, and stays until the span closes.
 use Rattle.std.proofs.Common.{◌≡◌, ℕ, List, [], ◌∷◌, ◌++◌, Bool, true, false, Option, Some, None, refl, sym, ap, subst, ◌∙◌, arith, inl, inr, ◌||◌, if◌then◌else◌, is_some}
-use Rattle.env_filter.proofs.Common.{list_all, cases_Bool, and_parts, and_from, list_any-append, Callsite, Value, LevelFilter, OFF, Hook, Directive, more_verbose, Ask, Care, is_given, cares_of, IsAtMostLevel, first_below, second_below, values_given_by, callsite_if_made, callsite_by_calls, all_values_given, is_ended, is_close_of, most_from, is_met, level_by, level_if, level_by_calls, NeverFalls}
+use Rattle.env_filter.proofs.Common.{list_all, cases_Bool, and_parts, and_from, list_any-append, Callsite, Value, LevelFilter, OFF, Hook, Directive, more_verbose, Ask, Care, is_given, cares_of, IsAtMostLevel, first_below, second_below, values_given_by, callsite_if_made, callsite_by_calls, all_values_given, is_ended, is_close_of, greatest_from, is_met, level_by, level_if, level_by_calls, NeverFalls}
 use Rattle.std.specs.List.{filter}
 use Rattle.std.proofs.lemmas.Grind.{flat_map-append}
 use Rattle.env_filter.specs.laws.HookLemmas.{more_below}
@@ -13,7 +13,7 @@ all_stay : (xs ys : List (ℕ × Value)) (asks : List Ask) → list_all (is_give
 all_stay xs ys [] is = refl
 all_stay xs ys (ask ∷ asks) is = let parts = and_parts (is_given xs ask) (list_all (is_given xs) asks) is in and_from (is_given (xs ++ ys) ask) (list_all (is_given (xs ++ ys)) asks) (stays_given xs ys ask parts.0) (all_stay xs ys asks parts.1)
 
-most_rises : (p q : Care → Bool) → ((care : Care) → p care ≡ true → q care ≡ true) → (cares : List Care) (one other : LevelFilter) → IsAtMostLevel other one → IsAtMostLevel (most_from other (filter q cares)) (most_from one (filter p cares))
+most_rises : (p q : Care → Bool) → ((care : Care) → p care ≡ true → q care ≡ true) → (cares : List Care) (one other : LevelFilter) → IsAtMostLevel other one → IsAtMostLevel (greatest_from other (filter q cares)) (greatest_from one (filter p cares))
 most_rises p q more [] one other is = is
 most_rises p q more (care ∷ cares) one other is =
     let next : (b : Bool) (l : LevelFilter) → LevelFilter = λ b l. if b then more_verbose l care.level else l in
@@ -25,16 +25,16 @@ most_rises p q more (care ∷ cares) one other is =
         | inr never ↦ subst (λ (b : Bool). IsAtMostLevel (next b other) one) (sym never) is
       ])
     ] in
-    subst (λ (l : LevelFilter). IsAtMostLevel (most_from other (filter q (care ∷ cares))) l) (sym (filter_step p one care cares))
-    (subst (λ (l : LevelFilter). IsAtMostLevel l (most_from (next (p care) one) (filter p cares))) (sym (filter_step q other care cares)) (most_rises p q more cares (next (p care) one) (next (q care) other) step))
+    subst (λ (l : LevelFilter). IsAtMostLevel (greatest_from other (filter q (care ∷ cares))) l) (sym (filter_step p one care cares))
+    (subst (λ (l : LevelFilter). IsAtMostLevel l (greatest_from (next (p care) one) (filter p cares))) (sym (filter_step q other care cares)) (most_rises p q more cares (next (p care) one) (next (q care) other) step))
 
 by_rises : (xs ys : List (ℕ × Value)) (cares : List Care) (l m : LevelFilter) → level_by xs cares ≡ Some l → level_by (xs ++ ys) cares ≡ Some m → IsAtMostLevel m l
 by_rises xs ys [] l m is later = absurd (cc is)
 by_rises xs ys (care ∷ cares) l m is later =
     let rises = most_rises (is_met xs) (is_met (xs ++ ys)) (λ c met. all_stay xs ys c.asks met) (care ∷ cares) OFF OFF (omega arith) in
-    let a : most_from OFF (filter (is_met xs) (care ∷ cares)) ≡ l = cc is in
-    let b : most_from OFF (filter (is_met (xs ++ ys)) (care ∷ cares)) ≡ m = cc later in
-    subst (λ (k : LevelFilter). IsAtMostLevel k l) b (subst (λ (k : LevelFilter). IsAtMostLevel (most_from OFF (filter (is_met (xs ++ ys)) (care ∷ cares))) k) a rises)
+    let a : greatest_from OFF (filter (is_met xs) (care ∷ cares)) ≡ l = cc is in
+    let b : greatest_from OFF (filter (is_met (xs ++ ys)) (care ∷ cares)) ≡ m = cc later in
+    subst (λ (k : LevelFilter). IsAtMostLevel k l) b (subst (λ (k : LevelFilter). IsAtMostLevel (greatest_from OFF (filter (is_met (xs ++ ys)) (care ∷ cares))) k) a rises)
 
 -- the making stays
 made_stays : (q : ℕ) (past calls : List Hook) (c : Callsite) → callsite_by_calls q past ≡ Some c → callsite_by_calls q (past ++ calls) ≡ Some c

@@ -1,7 +1,7 @@
 -- A layer over a subscriber is told hooks in which each span is made once and first.
 use Rattle.std.proofs.Common.{◌≡◌, ℕ, ◌+◌, ◌<◌, ◌≤◌, List, [], ◌∷◌, ◌++◌, length, append_assoc, Bool, true, false, Option, Some, None, refl, sym, ap, subst, ◌∙◌, arith, inl, inr, ◌==◌, ◌||◌, if◌then◌else◌, is_some, fold}
 use Rattle.std.specs.Option.{unwrap_or, option_map}
-use Rattle.env_filter.proofs.Common.{cases_eq, cond-false, length_push, Callsite, Value, Spans, Span, span_at, entries_on, is_in, times_in, current_of, parent_on, with_hold, without_hold, less_hold, with_hold_of_child, CallLanes, Hook, OnNewSpan, OnRecord, OnFollows, OnEvent, OnEnter, OnExit, OnClose, DoesBoth, Directive, FilterState, FilterWithRoom, plain_filter, Each, fresh_filter, after_hook, DoesFilter, Both, callsite_if_made, values_given_by, is_close_of, callsite_by_calls, all_values_given, is_ended, HasNoCalls, IsNext, AreInOrder, level_by_calls, levels_by_calls}
+use Rattle.env_filter.proofs.Common.{cases_eq, cond-false, length_push, Callsite, Value, Spans, Span, span_at, entries_on, is_in, times_in, current_of, parent_on, with_hold, without_hold, span_without_hold, with_hold_of_child, CallLanes, Hook, OnNewSpan, OnRecord, OnFollows, OnEvent, OnEnter, OnExit, OnClose, DoesBoth, Directive, FilterState, FilterWithRoom, plain_filter, Each, fresh_filter, after_hook, DoesFilter, Both, callsite_if_made, values_given_by, is_close_of, callsite_by_calls, all_values_given, is_ended, HasNoCalls, IsNext, AreInOrder, level_by_calls, levels_by_calls}
 use Rattle.std.proofs.lemmas.Bool.{ne_eqb}
 use Rattle.std.proofs.lemmas.List.{length-set, append-nil}
 use Rattle.std.proofs.lemmas.List.Sums.{fold-append}
@@ -9,9 +9,9 @@ use Rattle.trace_base.specs.Calls.{SubscriberCall, NewSpan, Records, Follows, Ev
 use Rattle.trace_base.specs.Conditions.{Allowed}
 use Rattle.trace_base.proofs.EntryLemmas.{made_if_held, length_held}
 use Rattle.span_registry.specs.Layering.{both_allowed, both_shows}
-use Rattle.span_registry.specs.Hearing.{HearsCall, both_told}
-use Rattle.span_registry.specs.History.{Runs}
-use Rattle.env_filter.specs.Stacked.{Appends, AreHooksOf, HearsCalls}
+use Rattle.span_registry.specs.Hearing.{ObservesCall, both_told}
+use Rattle.span_registry.specs.History.{CallsLead}
+use Rattle.env_filter.specs.Stacked.{Appends, AreHooksOf, ObservesCalls}
 use Rattle.env_filter.proofs.kept.ToldLevelsLemmas.{level_is_by_calls, levels_are_told}
 
 -- the span that a hook makes, records on or closes was made before
@@ -71,7 +71,7 @@ Steps step a hook b = b ≡ step a hook
 
 record ToldOne {A : Type 0} (step : A → Hook → A) (spans : Spans) (call : SubscriberCall) (a b : A) (past : List Hook) : Type 0 where
   pub first : List Hook
-  pub told : HearsCall Appends spans [] call first
+  pub told : ObservesCall Appends spans [] call first
   pub order : AreInOrder past first
   pub below : Each (IsBefore (length (spans_after_call spans call).made)) (past ++ first)
   pub value : b ≡ fold step a first
@@ -93,10 +93,10 @@ grows spans (Enter id at before later) =
 grows spans (Exit id at before later) =
     let e = if_length (times_in id (entries_on before.id spans.lanes) == 1) (without_hold spans.made id) spans.made (length spans.made) (length-set spans.made id _) refl in omega (arith, e)
 grows spans (CloneSpan id) = let e = length-set spans.made id (record (span_at spans.made id) { holds = (span_at spans.made id).holds + 1 }) in omega (arith, e)
-grows spans (TryClose id at) = let e = length-set spans.made id (less_hold (span_at spans.made id)) in omega (arith, e)
+grows spans (TryClose id at) = let e = length-set spans.made id (span_without_hold (span_at spans.made id)) in omega (arith, e)
 
 module _ {A : Type 0} (step : A → Hook → A) where
-  with_hook : (spans : Spans) (call : SubscriberCall) (h : Hook) (a b : A) (past : List Hook) → HearsCall Appends spans [] call (h ∷ []) → IsNext past h → IsBefore (length (spans_after_call spans call).made) h
+  with_hook : (spans : Spans) (call : SubscriberCall) (h : Hook) (a b : A) (past : List Hook) → ObservesCall Appends spans [] call (h ∷ []) → IsNext past h → IsBefore (length (spans_after_call spans call).made) h
       → b ≡ step a h → Each (IsBefore (length spans.made)) past → ToldOne step spans call a b past
   with_hook spans call h a b past told next before value below = record {
     first = h ∷ [];
@@ -106,7 +106,7 @@ module _ {A : Type 0} (step : A → Hook → A) where
     value = value;
   }
 
-  without_hook : (spans : Spans) (call : SubscriberCall) (a b : A) (past : List Hook) → HearsCall Appends spans [] call [] → b ≡ a → Each (IsBefore (length spans.made)) past → ToldOne step spans call a b past
+  without_hook : (spans : Spans) (call : SubscriberCall) (a b : A) (past : List Hook) → ObservesCall Appends spans [] call [] → b ≡ a → Each (IsBefore (length spans.made)) past → ToldOne step spans call a b past
   without_hook spans call a b past told value below = record {
     first = [];
     told = told;
@@ -115,7 +115,7 @@ module _ {A : Type 0} (step : A → Hook → A) where
     value = value;
   }
 
-  told_one : (spans : Spans) (call : SubscriberCall) (a b : A) (past : List Hook) → HearsCall (Steps step) spans a call b → Allowed spans call → Each (IsBefore (length spans.made)) past → ToldOne step spans call a b past
+  told_one : (spans : Spans) (call : SubscriberCall) (a b : A) (past : List Hook) → ObservesCall (Steps step) spans a call b → Allowed spans call → Each (IsBefore (length spans.made)) past → ToldOne step spans call a b past
   told_one spans (NewSpan lane at parent site callsite values) a b past hears allowed below =
       let above = parent_on (entries_on lane.id spans.lanes) parent in
       let new : Span = record { holds = 1; parent = above; site = site } in
@@ -153,8 +153,8 @@ pub record ToldAll {A : Type 0} (step : A → Hook → A) (spans : Spans) (calls
 
 module _ {S A : Type 0} (spans : S → Spans) (does : S → SubscriberCall → S → Type 0) (same : S → S → Type 0) (step : A → Hook → A) (value : S → A) (alike : (s t : S) → same s t → value t ≡ value s)
     (allowed : (s : S) (call : SubscriberCall) (t : S) → does s call t → Allowed (spans s) call) (shows : (s : S) (call : SubscriberCall) (t : S) → does s call t → spans t ≡ spans_after_call (spans s) call)
-    (hears : (s : S) (call : SubscriberCall) (t : S) → does s call t → HearsCall (Steps step) (spans s) (value s) call (value t)) where
-  told_from : (calls : List SubscriberCall) (s t : S) (past : List Hook) → Each (IsBefore (length (spans s).made)) past → Runs does same s calls t → ToldAll step (spans s) calls (value s) (value t) past
+    (hears : (s : S) (call : SubscriberCall) (t : S) → does s call t → ObservesCall (Steps step) (spans s) (value s) call (value t)) where
+  told_from : (calls : List SubscriberCall) (s t : S) (past : List Hook) → Each (IsBefore (length (spans s).made)) past → CallsLead does same s calls t → ToldAll step (spans s) calls (value s) (value t) past
   told_from [] s t past below runs = record { hooks = []; of_calls = refl; order = tt; value = alike s t runs }
   told_from (call ∷ calls) s t past below runs =
       let m = runs.0 in
@@ -169,17 +169,17 @@ module _ {S A : Type 0} (spans : S → Spans) (does : S → SubscriberCall → S
         value = rest.value ∙ ap (λ (x : A). fold step x rest.hooks) one.value ∙ sym (fold-append step (value s) one.first rest.hooks);
       }
 
-  pub told_all : (s : S) (calls : List SubscriberCall) (t : S) → Runs does same s calls t → ToldAll step (spans s) calls (value s) (value t) []
+  pub told_all : (s : S) (calls : List SubscriberCall) (t : S) → CallsLead does same s calls t → ToldAll step (spans s) calls (value s) (value t) []
   told_all s calls t runs = told_from calls s t [] tt runs
 
 -- a layer hears at each call the hook of that call
 pub over_hears : {S L A : Type 0} (spans : S → Spans) (inner : S → SubscriberCall → S → Type 0) (outer : L → Hook → L → Type 0) (same : L → L → Type 0) (attaches : L → Bool) (step : A → Hook → A) (value : L → A)
     → ((l : L) (h : Hook) (m : L) → outer l h m → value m ≡ step (value l) h) → ((l m : L) → same l m → value m ≡ value l)
     → (s t : S) (l m : L) (call : SubscriberCall) (sa : Bool) (sk tk : ℕ → ℕ → ℕ) → ((c : SubscriberCall) → inner s c t → CallLanes sa sk c tk)
-    → DoesBoth spans inner outer same attaches s l call t m → HearsCall (Steps step) (spans s) (value l) call (value m)
+    → DoesBoth spans inner outer same attaches s l call t m → ObservesCall (Steps step) (spans s) (value l) call (value m)
 over_hears {S} {L} {A} spans inner outer same attaches step value heard alike s t l m call sa sk tk lanes d =
     let told = both_told (Steps step) spans inner outer same attaches s t l m call sa sk tk (Some (value l)) (Some (value m)) None None lanes (λ h o. (value m, refl, heard l h m o)) (λ e. ap (λ (a : A). Some a) (alike l m e)) (λ c o. refl) d in
-    subst (λ (b : A). HearsCall (Steps step) (spans s) (value l) call b) (sym (ap (λ (o : Option A). unwrap_or o (value m)) told.1)) told.2
+    subst (λ (b : A). ObservesCall (Steps step) (spans s) (value l) call b) (sym (ap (λ (o : Option A). unwrap_or o (value m)) told.1)) told.2
 
 -- the tables stay, so what is told of a filter that had no span is told of what it began with
 fresh_after : (f : FilterState) (h : Hook) → fresh_filter (after_hook f h) ≡ fresh_filter f
@@ -195,7 +195,7 @@ fresh_fold : (hooks : List Hook) (f : FilterState) → fresh_filter (fold after_
 fresh_fold [] f = refl
 fresh_fold (h ∷ hooks) f = fresh_fold hooks (after_hook f h) ∙ fresh_after f h
 
-pub heard : (spans : Spans) (calls : List SubscriberCall) (f g : FilterState) (hooks : List Hook) → f ≡ fresh_filter f → AreHooksOf spans calls hooks → AreInOrder [] hooks → g ≡ fold after_hook f hooks → HearsCalls spans calls f g
+pub heard : (spans : Spans) (calls : List SubscriberCall) (f g : FilterState) (hooks : List Hook) → f ≡ fresh_filter f → AreHooksOf spans calls hooks → AreInOrder [] hooks → g ≡ fold after_hook f hooks → ObservesCalls spans calls f g
 heard spans calls f g hooks alone of_calls order now =
     let began : fresh_filter g ≡ f = ap fresh_filter now ∙ fresh_fold hooks f ∙ sym alone in
     let again : g ≡ fold after_hook (fresh_filter g) hooks = now ∙ ap (λ (x : FilterState). fold after_hook x hooks) (sym began) in
@@ -215,7 +215,7 @@ pub over_all_calls : {P S L A : Type 0} (top : P → L) (below : P → S) (spans
     → ((s : S) (c : SubscriberCall) (t : S) → inner s c t → Allowed (spans s) c) → ((s : S) (c : SubscriberCall) (t : S) → inner s c t → spans t ≡ spans_after_call (spans s) c)
     → ((s : S) (c : SubscriberCall) (t : S) → inner s c t → CallLanes (inner_attaches s) (inner_kept s) c (inner_kept t))
     → (p : P) (calls : List SubscriberCall) (q : P)
-    → Runs (λ (p : P) (c : SubscriberCall) (q : P). DoesBoth spans inner outer same attaches (below p) (top p) c (below q) (top q)) (λ (p q : P). inner_same (below p) (below q) × same (top p) (top q)) p calls q
+    → CallsLead (λ (p : P) (c : SubscriberCall) (q : P). DoesBoth spans inner outer same attaches (below p) (top p) c (below q) (top q)) (λ (p q : P). inner_same (below p) (below q) × same (top p) (top q)) p calls q
     → ToldAll step (spans (below p)) calls (value (top p)) (value (top q)) []
 over_all_calls {P} {S} {L} {A} top below spans inner inner_same outer same attaches inner_attaches inner_kept step value hears alike allowed shows lanes p calls q runs =
     told_all (λ (p : P). spans (below p)) (λ (p : P) (c : SubscriberCall) (q : P). DoesBoth spans inner outer same attaches (below p) (top p) c (below q) (top q)) (λ (p q : P). inner_same (below p) (below q) × same (top p) (top q))

@@ -1,6 +1,6 @@
 -- The levels kept are those that the calls tell.
 use Rattle.std.proofs.Common.{◌≡◌, ℕ, List, [], ◌∷◌, ◌++◌, length, take, drop, map, append_assoc, Bool, true, false, Option, Some, None, refl, sym, ap, subst, ◌∙◌, arith, inl, inr, ◌==◌, ◌||◌, ◌&&◌, if◌then◌else◌, is_some, fold}
-use Rattle.env_filter.proofs.Common.{list_all, cases_Bool, cases_eq, cond-true, cond-false, list_any-append, Callsite, Value, LevelFilter, OFF, Hook, OnNewSpan, OnRecord, OnFollows, OnEvent, OnEnter, OnExit, OnClose, Directive, more_verbose, Ask, Care, OpenLevel, MatchState, is_given, all_asks, found_in, match_state_by, new_match_state, cares_of, more_met, with_values, level_from, level_of_match, FilterState, fresh_filter, after_hook, span_level, callsite_if_made, values_given_by, is_close_of, callsite_by_calls, all_values_given, is_ended, most_from, is_met, level_by, level_if, level_by_calls, levels_after_call, levels_from, levels_by_calls, HasNoCalls, IsNext, AreInOrder}
+use Rattle.env_filter.proofs.Common.{list_all, cases_Bool, cases_eq, cond-true, cond-false, list_any-append, Callsite, Value, LevelFilter, OFF, Hook, OnNewSpan, OnRecord, OnFollows, OnEvent, OnEnter, OnExit, OnClose, Directive, more_verbose, Ask, Care, OpenLevel, MatchState, is_given, all_asks, found_in, match_state_by, new_match_state, cares_of, more_met, with_values, level_from, level_of_match, FilterState, fresh_filter, after_hook, span_level, callsite_if_made, values_given_by, is_close_of, callsite_by_calls, all_values_given, is_ended, greatest_from, is_met, level_by, level_if, level_by_calls, levels_after_call, levels_from, levels_by_calls, HasNoCalls, IsNext, AreInOrder}
 use Rattle.std.specs.List.{filter}
 use Rattle.std.specs.Option.{option_map}
 use Rattle.std.proofs.lemmas.Bool.{true≢false, eq-eqb, ne_eqb}
@@ -43,13 +43,13 @@ all_mapped : (p : Ask → Bool) (xs : List Ask) → list_all (λ (m : Bool). m) 
 all_mapped p [] = refl
 all_mapped p (x ∷ xs) = ap (λ (b : Bool). p x && b) (all_mapped p xs)
 
-pub filter_step : (p : Care → Bool) (now : LevelFilter) (care : Care) (cares : List Care) → most_from now (filter p (care ∷ cares)) ≡ most_from (if p care then more_verbose now care.level else now) (filter p cares)
+pub filter_step : (p : Care → Bool) (now : LevelFilter) (care : Care) (cares : List Care) → greatest_from now (filter p (care ∷ cares)) ≡ greatest_from (if p care then more_verbose now care.level else now) (filter p cares)
 filter_step p now care cares = elim (cases_Bool (p care)) [
-  | inl met ↦ ap (λ (cs : List Care). most_from now cs) (cond-true {A = List Care} (p care) _ _ met) ∙ ap (λ (l : LevelFilter). most_from l (filter p cares)) (sym (cond-true {A = LevelFilter} (p care) _ _ met))
-  | inr unmet ↦ ap (λ (cs : List Care). most_from now cs) (cond-false {A = List Care} (p care) _ _ unmet) ∙ ap (λ (l : LevelFilter). most_from l (filter p cares)) (sym (cond-false {A = LevelFilter} (p care) _ _ unmet))
+  | inl met ↦ ap (λ (cs : List Care). greatest_from now cs) (cond-true {A = List Care} (p care) _ _ met) ∙ ap (λ (l : LevelFilter). greatest_from l (filter p cares)) (sym (cond-true {A = LevelFilter} (p care) _ _ met))
+  | inr unmet ↦ ap (λ (cs : List Care). greatest_from now cs) (cond-false {A = List Care} (p care) _ _ unmet) ∙ ap (λ (l : LevelFilter). greatest_from l (filter p cares)) (sym (cond-false {A = LevelFilter} (p care) _ _ unmet))
 ]
 
-level_most : (values : List (ℕ × Value)) (cares : List Care) (now : LevelFilter) → level_from now cares (found_in values cares) ≡ most_from now (filter (is_met values) cares)
+level_most : (values : List (ℕ × Value)) (cares : List Care) (now : LevelFilter) → level_from now cares (found_in values cares) ≡ greatest_from now (filter (is_met values) cares)
 level_most values [] now = refl
 level_most values (care ∷ cares) now =
     let p : Ask → Bool = is_given values in

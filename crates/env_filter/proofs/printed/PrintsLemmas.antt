@@ -3,7 +3,7 @@ use Rattle.std.proofs.Common.{◌≡◌, ℕ, ◌+◌, List, [], ◌∷◌, ◌+
 use Rattle.env_filter.proofs.Common.{join_by, onto_first, trim, trim_start, trim_end, and_parts, nat_tests, LevelFilter, is_among, lacks, begins, IsDirective, directive_text, match_text, text_if_any, comma_pieces, comma_joined, static_text, StaticDirective, Directive, Each, ReadsPiece, ReadsAll, ReadsText, behind_commas, dynamics_text, bare_field, as_directive, printed_directives, IsReadBack}
 use Rattle.std.specs.Str.{chars}
 use Rattle.std.proofs.lemmas.List.Splits.{slice_split-cons_no}
-use Rattle.trace_base.specs.words.Level.{filter_text as level_text}
+use Rattle.trace_base.specs.words.Level.{level_filter_text as level_text}
 use Rattle.env_filter.specs.texts.Printing.{filter_text}
 
 -- ---- texts that commas are between

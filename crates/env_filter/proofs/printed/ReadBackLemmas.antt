@@ -1,7 +1,7 @@
 -- Each directive that was read from a piece of a text is read back from what it prints.
 use Rattle.std.proofs.Common.{◌≡◌, ℕ, ◌+◌, ◌<◌, ◌^◌, List, [], ◌∷◌, ◌++◌, Bool, true, false, true≢false, not, codes, Option, Some, None, option_map, ℤ, pos, negsuc, suc, refl, sym, subst, ◌∙◌, arith, append-nil, append_assoc, map, lit<, ◌==◌, ◌||◌, if◌then◌else◌, nat_lt, is_some, IfSome}
 use Rattle.std.specs.Fmt.{decimal}
-use Rattle.env_filter.proofs.Common.{list_all, trim, encode, and_parts, IsUtf8-append, IsUtf8-from_ascii, LevelFilter, filter_text, pieces_at, is_among, lacks, unless_empty, target_at, Front, bare, spanned, fielded, DirectiveForm, alone, head_comma, leveled, leveled_comma, front_text, form_text, IsFieldText, IsDirectiveFront, IsForm, each_with_comma, directive_at, head_alone, level_or_target, level_behind, directive_of_form, IsDirective, comma_pieces, value_text, match_text, text_if_any, fields_text, has_bracket, bracket_text, equals_text, directive_text, HasNoMinusZero, Directive, Match, printed_trimmed, Each, ReadsPiece, ReadsAll, ReadsText, IsReadBack, HaveNoMinusZero, Ignored}
+use Rattle.env_filter.proofs.Common.{list_all, trim, encode, and_parts, IsUtf8-append, IsUtf8-from_ascii, LevelFilter, level_filter_text, pieces_at, is_among, lacks, unless_empty, target_at, Front, bare, spanned, fielded, DirectiveForm, alone, head_comma, leveled, leveled_comma, front_text, form_text, IsFieldText, IsDirectiveFront, IsForm, each_with_comma, directive_at, head_alone, level_or_target, level_behind, directive_of_form, IsDirective, comma_pieces, value_text, match_text, text_if_any, fields_text, has_bracket, bracket_text, equals_text, directive_text, HasNoMinusZero, Directive, Match, printed_trimmed, Each, ReadsPiece, ReadsAll, ReadsText, IsReadBack, HaveNoMinusZero, Ignored}
 use Rattle.std.specs.Str.{IsUtf8}
 use Rattle.std.specs.Str.Parse.{signed_digits_value, without_leading_sign}
 use Rattle.std.proofs.lemmas.Bool.{ltb-true}
@@ -148,7 +148,7 @@ fields_piece (field ∷ []) piece =
     join_pieces (codes "{") ((match_text field ++ []) ++ codes "}") (record { utf8 = (codes "{", (refl, refl)); no_comma = refl }) (join_pieces (match_text field ++ []) (codes "}") one closing)
 fields_piece (field ∷ other ∷ fields) piece = absurd piece
 
-level_piece : (level : LevelFilter) → IsPiece (filter_text level)
+level_piece : (level : LevelFilter) → IsPiece (level_filter_text level)
 unfolding encode
 level_piece filter.OFF = record { utf8 = (codes "off", (refl, refl)); no_comma = refl }
 level_piece filter.ERROR = record { utf8 = (codes "error", (refl, refl)); no_comma = refl }
@@ -169,9 +169,9 @@ directive_piece : (d : Directive) → ArePieces d → IsPiece (directive_text d)
 unfolding encode
 directive_piece d are =
     let sign : IsPiece (codes "=") = record { utf8 = (codes "=", (refl, refl)); no_comma = refl } in
-    let behind = join_pieces (equals_text d) (filter_text d.level) (if_so (is_some d.target || has_bracket d) (codes "=") sign) (level_piece d.level) in
-    join_pieces (text_if_any d.target) (bracket_text d ++ (equals_text d ++ filter_text d.level)) (if_any d.target are.target)
-    (join_pieces (bracket_text d) (equals_text d ++ filter_text d.level) (bracket_piece d are) behind)
+    let behind = join_pieces (equals_text d) (level_filter_text d.level) (if_so (is_some d.target || has_bracket d) (codes "=") sign) (level_piece d.level) in
+    join_pieces (text_if_any d.target) (bracket_text d ++ (equals_text d ++ level_filter_text d.level)) (if_any d.target are.target)
+    (join_pieces (bracket_text d) (equals_text d ++ level_filter_text d.level) (bracket_piece d are) behind)
 
 -- ---- what a text without commas means has such parts
 

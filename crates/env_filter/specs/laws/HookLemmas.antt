@@ -22,7 +22,7 @@ use Rattle.env_filter.specs.spans.Puts.{put_at, put_off}
 use Rattle.env_filter.specs.spans.Levels.{OpenLevel, is_of_span}
 use Rattle.env_filter.specs.spans.Kept.{with_open_level, without_open_level}
 use Rattle.env_filter.specs.spans.Watching.{MatchState, new_match_state, match_state_by, cares_of, care_of, with_values, level_from, level_of_match}
-use Rattle.env_filter.specs.Filtering.{FilterState, FilterWithRoom, plain_filter, after_hook, seen_in, knows_in, entries_in, span_level, interest_in, hint_in, enables_in, Given, DoesFilter, AreWhole, Each, IsAtMostLevel}
+use Rattle.env_filter.specs.Filtering.{FilterState, FilterWithRoom, plain_filter, after_hook, seen_in, knows_in, entries_in, span_level, interest_in, hint_in, enables_in, AllowsHook, DoesFilter, IsWholeFilter, Each, IsAtMostLevel}
 
 pub same_seen : (s t : FilterWithRoom) → (plain_filter t) ≡ (plain_filter s) → seen_in (plain_filter t) ≡ seen_in (plain_filter s)
 same_seen s t h = ap seen_in h
@@ -33,11 +33,11 @@ same_gate s t h = (ap interest_in h, ap (λ (f : FilterState). Some (hint_in f))
 pub same_enables : (s t : FilterWithRoom) → (plain_filter t) ≡ (plain_filter s) → enables_in (plain_filter t) ≡ enables_in (plain_filter s)
 same_enables s t h = ap enables_in h
 
-pub same_whole : (s t : FilterWithRoom) → (plain_filter t) ≡ (plain_filter s) → AreWhole (plain_filter s) → AreWhole (plain_filter t)
-same_whole s t h w = subst AreWhole (sym h) w
+pub same_whole : (s t : FilterWithRoom) → (plain_filter t) ≡ (plain_filter s) → IsWholeFilter (plain_filter s) → IsWholeFilter (plain_filter t)
+same_whole s t h w = subst IsWholeFilter (sym h) w
 
 pub same_does : (s t : FilterWithRoom) (hook : Hook) (u : FilterWithRoom) → (plain_filter t) ≡ (plain_filter s) → DoesFilter t hook u → DoesFilter s hook u
-same_does s t hook u h d = record { given = subst (λ (f : FilterState). Given f hook) h d.given; now = d.now ∙ ap (λ (f : FilterState). after_hook f hook) h }
+same_does s t hook u h d = record { given = subst (λ (f : FilterState). AllowsHook f hook) h d.given; now = d.now ∙ ap (λ (f : FilterState). after_hook f hook) h }
 
 -- the tables stay
 keeps_statics : (f : FilterState) (hook : Hook) → (interest_in (after_hook f hook) ≡ interest_in f) × (◌≡◌ {A = Option LevelFilter} (Some (hint_in (after_hook f hook))) (Some (hint_in f)))
@@ -191,7 +191,7 @@ quiet f hook none = record {
   unknown = λ lane id knew. refl;
 }
 
-sees_after : (f : FilterState) (hook : Hook) → Given f hook → Sees (seen_in f) hook (seen_in (after_hook f hook))
+sees_after : (f : FilterState) (hook : Hook) → AllowsHook f hook → Sees (seen_in f) hook (seen_in (after_hook f hook))
 sees_after f (OnNewSpan id lane at parent current callsite values) g = record {
   gains = λ other knows unknown. elim (cases_eq other id) [ inl here ↦ eq-eqb id other (sym here) | inr off ↦ absurd (true≢false (sym knows ∙ knows_put_off f id other _ off ∙ unknown)) ];
   loses = λ other knew forgot. elim (cases_eq other id) [ inl here ↦ absurd (true≢false (sym knew ∙ ap (knows_in f) here ∙ g)) | inr off ↦ absurd (true≢false (sym knew ∙ sym (knows_put_off f id other _ off) ∙ forgot)) ];
@@ -287,7 +287,7 @@ recorded_below : (most : LevelFilter) (o : Option MatchState) (given : _) → If
 recorded_below most None given all = all
 recorded_below most (Some w) given all = all
 
-whole_after : (f : FilterState) (hook : Hook) → AreWhole f → AreWhole (after_hook f hook)
+whole_after : (f : FilterState) (hook : Hook) → IsWholeFilter f → IsWholeFilter (after_hook f hook)
 whole_after f (OnNewSpan id lane at parent current callsite values) w = record {
   statics = w.statics;
   dynamics = w.dynamics;
@@ -330,5 +330,5 @@ whole_after f (OnClose id at) w = record {
   spans = put_each (λ (o : Option MatchState). IfSome o (λ w. Each (λ (care : Care). IsAtMostLevel f.dynamics.greatest care.level) w.cares)) f.spans id None tt w.spans;
 }
 
-pub keeps_whole : (s : FilterWithRoom) (hook : Hook) (t : FilterWithRoom) → DoesFilter s hook t → AreWhole (plain_filter s) → AreWhole (plain_filter t)
-keeps_whole s hook t d w = subst AreWhole (sym d.now) (whole_after (plain_filter s) hook w)
+pub keeps_whole : (s : FilterWithRoom) (hook : Hook) (t : FilterWithRoom) → DoesFilter s hook t → IsWholeFilter (plain_filter s) → IsWholeFilter (plain_filter t)
+keeps_whole s hook t d w = subst IsWholeFilter (sym d.now) (whole_after (plain_filter s) hook w)

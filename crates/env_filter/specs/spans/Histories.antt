@@ -58,9 +58,9 @@ abbrev pub is_ended : ℕ → List Hook → Bool
 is_ended q calls = list_any (is_close_of q) calls
 
 -- the greatest level of some directives, no less than one
-abbrev pub most_from : LevelFilter → List Care → LevelFilter
-most_from now [] = now
-most_from now (care ∷ cares) = most_from (more_verbose now care.level) cares
+abbrev pub greatest_from : LevelFilter → List Care → LevelFilter
+greatest_from now [] = now
+greatest_from now (care ∷ cares) = greatest_from (more_verbose now care.level) cares
 
 -- a directive is met once each value that it asks for was given
 abbrev pub is_met : List (ℕ × Value) → Care → Bool
@@ -69,7 +69,7 @@ is_met values care = list_all (is_given values) care.asks
 -- the greatest level of those met, else OFF; no level where no directive cares
 abbrev pub level_by : List (ℕ × Value) → List Care → Option LevelFilter
 level_by values [] = None
-level_by values (care ∷ cares) = Some (most_from OFF (filter (is_met values) (care ∷ cares)))
+level_by values (care ∷ cares) = Some (greatest_from OFF (filter (is_met values) (care ∷ cares)))
 
 -- the level by the callsite of a making, and none where there was none
 abbrev pub level_if : List Directive → Option Callsite → List (ℕ × Value) → Option LevelFilter
@@ -120,17 +120,17 @@ AreInOrder past [] = Unit {0}
 AreInOrder past (call ∷ calls) = IsNext past call × AreInOrder (past ++ call ∷ []) calls
 
 -- the calls since a filter had no span
-pub record HasHeard (f : FilterState) (calls : List Hook) : Type 0 where
+pub record AreHooksSince (f : FilterState) (calls : List Hook) : Type 0 where
   pub order : AreInOrder [] calls
   pub now : f ≡ fold after_hook (fresh_filter f) calls
 
 -- a span's level, and a lane's levels, are what those calls tell
 abbrev pub IsLevelByCalls : FilterState → ℕ → Option LevelFilter → Type 0
-IsLevelByCalls f id level = (calls : List Hook) → HasHeard f calls → level ≡ level_by_calls f.dynamics.directives id calls
+IsLevelByCalls f id level = (calls : List Hook) → AreHooksSince f calls → level ≡ level_by_calls f.dynamics.directives id calls
 
 abbrev pub AreLevelsByCalls : FilterState → ℕ → List LevelFilter → Type 0
 AreLevelsByCalls f lane levels =
-    (calls : List Hook) → HasHeard f calls → levels ≡ levels_of (levels_by_calls f.dynamics.directives lane calls)
+    (calls : List Hook) → AreHooksSince f calls → levels ≡ levels_of (levels_by_calls f.dynamics.directives lane calls)
 
 -- where a level is there before and later, it isn't lower later
 abbrev pub NeverFalls : Option LevelFilter → Option LevelFilter → Type 0

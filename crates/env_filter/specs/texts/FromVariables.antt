@@ -8,27 +8,27 @@ use Rattle.env_filter.specs.declared.builder.env.FromEnvError.TheVariants.{Parse
 use Rattle.env_filter.specs.declared.pieces.Ignored.{Ignored}
 use Rattle.env_filter.specs.texts.Building.{BuilderValue, IsFilterOf, HasFilterFault}
 use Rattle.env_filter.specs.Filtering.{FilterState}
-use Rattle.env_filter.specs.texts.Reading.{KnownVariables, IsToldAt}
+use Rattle.env_filter.specs.texts.Reading.{KnownVariables, IsReadUnder}
 
 -- a filter is that of what the builder's variable gave, the empty text where that was nothing
-pub record IsReadAs (told : KnownVariables) (b : BuilderValue) (ignored : List Ignored) (f : FilterState) : Type 0 where
+pub record IsFilterOfVariable (told : KnownVariables) (b : BuilderValue) (ignored : List Ignored) (f : FilterState) : Type 0 where
   pub read : Option (List ℕ)
-  pub there : IsToldAt told b.variable read
+  pub there : IsReadUnder told b.variable read
   pub is : IsFilterOf b (unwrap_or read []) ignored f
 
 -- whichever pieces are left out
-pub record IsSomeReadAs (told : KnownVariables) (b : BuilderValue) (f : FilterState) : Type 0 where
+pub record IsSomeFilterOfVariable (told : KnownVariables) (b : BuilderValue) (f : FilterState) : Type 0 where
   pub ignored : List Ignored
-  pub is : IsReadAs told b ignored f
+  pub is : IsFilterOfVariable told b ignored f
 
 -- a filter is that of what a variable gave, which was something
 abbrev pub IsOfVariable : BuilderValue → Option (List ℕ) → FilterState → Type 0
 IsOfVariable b None f = ⊥
 IsOfVariable b (Some text) f = IsFilterOf b text [] f
 
-pub record IsRequiredAs (told : KnownVariables) (b : BuilderValue) (f : FilterState) : Type 0 where
+pub record IsFilterOfSetVariable (told : KnownVariables) (b : BuilderValue) (f : FilterState) : Type 0 where
   pub read : Option (List ℕ)
-  pub there : IsToldAt told b.variable read
+  pub there : IsReadUnder told b.variable read
   pub is : IsOfVariable b read f
 
 -- what was read gives no filter
@@ -42,14 +42,14 @@ IsRefusedIn patterns (Some text) Memory = Unit {0}
 
 -- what the builder's variable gave is refused; an absent one counts as empty
 abbrev pub IsRefusedFrom : KnownVariables → BuilderValue → FromEnvError → Type 0
-IsRefusedFrom told b (Parse fault) = (read : Option (List ℕ)) × IsToldAt told b.variable read × (fault ≢ cause.Memory) × HasFilterFault b.patterns (unwrap_or read []) fault
+IsRefusedFrom told b (Parse fault) = (read : Option (List ℕ)) × IsReadUnder told b.variable read × (fault ≢ cause.Memory) × HasFilterFault b.patterns (unwrap_or read []) fault
 IsRefusedFrom told b Env = ⊥
 IsRefusedFrom told b Memory = Unit {0}
 
 -- the same where it has to be there
 abbrev pub IsRequiredFault : KnownVariables → BuilderValue → FromEnvError → Type 0
-IsRequiredFault told b (Parse fault) = (text : List ℕ) × IsToldAt told b.variable (Some text) × (fault ≢ cause.Memory) × HasFilterFault b.patterns text fault
-IsRequiredFault told b Env = IsToldAt told b.variable None
+IsRequiredFault told b (Parse fault) = (text : List ℕ) × IsReadUnder told b.variable (Some text) × (fault ≢ cause.Memory) × HasFilterFault b.patterns text fault
+IsRequiredFault told b Env = IsReadUnder told b.variable None
 IsRequiredFault told b Memory = Unit {0}
 
 -- a text's fault as one of its variable

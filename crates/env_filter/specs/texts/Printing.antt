@@ -8,7 +8,7 @@ use Rattle.env_directives.specs.declared.env.directive.Directive.{Directive}
 use Rattle.env_directives.specs.declared.env.field.Match.{Match}
 use Rattle.env_directives.specs.printed.Printed.{directive_text, HasNoMinusZero}
 use Rattle.env_directives.specs.printed.StaticPrinted.{static_text}
-use Rattle.env_directives.specs.orders.Table.{Table, greatest_of}
+use Rattle.env_directives.specs.orders.Table.{DirectiveTable, greatest_of}
 use Rattle.trace_base.specs.declared.level.LevelFilter.{LevelFilter}
 use Rattle.trace_base.specs.words.Level.{greatest_verbosity}
 use Rattle.env_filter.specs.texts.Building.{BuilderValue, default_builder}
@@ -49,7 +49,7 @@ abbrev pub printed_of : List Directive → List Directive
 printed_of ds = printed_directives (statics_of ds).directives (dynamics_of ds).directives
 
 -- the greatest level of a table is that of one of its directives, and not of one that gave way to an equal one
-abbrev pub HasOwnGreatest : {T : Type 0} → (T → LevelFilter) → Table T → Type 0
+abbrev pub HasOwnGreatest : {T : Type 0} → (T → LevelFilter) → DirectiveTable T → Type 0
 HasOwnGreatest level t = greatest_verbosity t.greatest ≡ greatest_of (map (λ d. greatest_verbosity (level d)) t.directives)
 
 abbrev pub HaveOwnGreatest : List Directive → Type 0

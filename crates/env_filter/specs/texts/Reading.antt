@@ -8,9 +8,9 @@ abbrev pub KnownVariables : Type 0
 KnownVariables = Option (List ℕ → Option (List ℕ))
 
 -- what was read under a name is what stands there, where that is told
-abbrev pub IsToldAt : KnownVariables → List ℕ → Option (List ℕ) → Type 0
-IsToldAt None name read = Unit {0}
-IsToldAt (Some variables) name read = read ≡ variables name
+abbrev pub IsReadUnder : KnownVariables → List ℕ → Option (List ℕ) → Type 0
+IsReadUnder None name read = Unit {0}
+IsReadUnder (Some variables) name read = read ≡ variables name
 
 -- of pairs of names and texts the first of a name counts
 abbrev pub first_named : List (List ℕ × List ℕ) → List ℕ → Option (List ℕ)

@@ -1,8 +1,8 @@
 //! Filters that are made of tables, and filters with a directive more.
 ghost use Rattle.std.specs.Prelude.{◌≡◌, true, IfOk, IfErr, OnOk, OnErr};
 ghost use Rattle.env_directives.specs.orders.Table.{empty_table};
-ghost use Rattle.env_filter.specs.Filtering.{plain_filter, fresh_filter, AreWhole, IsNewFilter};
-ghost use Rattle.env_filter.specs.Tables.{with_directive, placed_in, with_tables, has_none};
+ghost use Rattle.env_filter.specs.Filtering.{plain_filter, fresh_filter, IsWholeFilter, IsNewFilter};
+ghost use Rattle.env_filter.specs.Tables.{with_directive, with_in_table, with_tables, has_no_directives};
 
 use crate::filter::EnvFilter;
 use crate::tables;
@@ -32,7 +32,7 @@ impl EnvFilter {
     /// none. `Memory` hands the filter back as it was.
     pub fn add_directive(self, directive: Directive) -> Result<EnvFilter, (EnvFilter, Memory)>
         ensures ok { IfOk result (λ f. plain_filter f ≡ with_directive (plain_filter self) directive) }
-        ensures whole { AreWhole (plain_filter self) → IfOk result (λ f. AreWhole (plain_filter f)) }
+        ensures whole { IsWholeFilter (plain_filter self) → IfOk result (λ f. IsWholeFilter (plain_filter f)) }
         ensures new { IsNewFilter (plain_filter self) → IfOk result (λ f. IsNewFilter (plain_filter f)) }
         ensures memory_leaves { IfErr result (λ e. plain_filter e.0 ≡ plain_filter self) }
     {
@@ -53,14 +53,14 @@ impl EnvFilter {
         } else {
             tables::fixed_directive(directive)
         };
-        self.place(directive)
+        self.add_to_table(directive)
     }
 
     /// A filter with the same tables, whose patterns share what they were compiled to, and with no span and no level;
     /// it stands for the `Clone` of tracing-subscriber's type.
     pub fn clone_filter(&self) -> Result<EnvFilter, Memory>
         ensures is { IfOk result (λ f. plain_filter f ≡ fresh_filter (plain_filter self.now)) }
-        ensures new { AreWhole (plain_filter self.now) → IfOk result (λ f. IsNewFilter (plain_filter f)) }
+        ensures new { IsWholeFilter (plain_filter self.now) → IfOk result (λ f. IsNewFilter (plain_filter f)) }
     {
         let copy = self.copy()?;
         Ok(copy)
@@ -97,15 +97,15 @@ impl EnvFilter {
     }
 
     // Whether it has no directive.
-    pub(crate) fn has_none(&self) -> bool
-        ensures { result ≡ has_none (plain_filter self.now) }
+    pub(crate) fn has_no_directives(&self) -> bool
+        ensures { result ≡ has_no_directives (plain_filter self.now) }
     {
         self.statics.is_empty() && self.dynamics.is_empty()
     }
 
     // Adds a directive to its table.
     fn place(&mut self, directive: Directive) -> Result<(), Memory>
-        ensures ok { OnOk result (plain_filter self.new ≡ placed_in (plain_filter self.old) directive) }
+        ensures ok { OnOk result (plain_filter self.new ≡ with_in_table (plain_filter self.old) directive) }
         ensures memory_leaves { OnErr result (plain_filter self.new ≡ plain_filter self.old) }
     {
         if tables::is_static(&directive) {

@@ -70,7 +70,7 @@ impl EnvFilter {
         ensures lane { lane.new ≡ lane.old }
         ensures now { plain_filter self.new ≡ after_hook (plain_filter self.old) (OnEnter id _at lane.old lane.new) }
     {
-        open_entry(&self.spans, &mut self.lanes, lane.id, id);
+        append_level(&self.spans, &mut self.lanes, lane.id, id);
     }
 
     /// A span was exited on a lane: the newest level that an entry of it appended there is taken off, if it has a level;
@@ -79,7 +79,7 @@ impl EnvFilter {
         ensures lane { lane.new ≡ lane.old }
         ensures now { plain_filter self.new ≡ after_hook (plain_filter self.old) (OnExit id _at lane.old lane.new) }
     {
-        close_entry(&self.spans, &mut self.lanes, lane.id, id);
+        take_level_off(&self.spans, &mut self.lanes, lane.id, id);
     }
 
     /// A span closed: nothing is kept of it; `EnvFilter::on_close`.
@@ -91,7 +91,7 @@ impl EnvFilter {
 }
 
 // Appends the level of a span, if it has one.
-fn open_entry(spans: &HashMap<u64, Matches>, lanes: &mut HashMap<u64, Levels>, lane: u64, id: Id)
+fn append_level(spans: &HashMap<u64, Matches>, lanes: &mut HashMap<u64, Levels>, lane: u64, id: Id)
     requires { has_match_state spans.now.entries id ≡ true → 0 < room_in lanes.old.entries lane }
     ensures { levels_in lanes.new.entries
         ≡ map_at (levels_in lanes.old.entries) lane (with_open_level (level_in spans.now.entries id) id) }
@@ -102,7 +102,7 @@ fn open_entry(spans: &HashMap<u64, Matches>, lanes: &mut HashMap<u64, Levels>, l
 }
 
 // Takes the newest level of the span off, if it has one.
-fn close_entry(spans: &HashMap<u64, Matches>, lanes: &mut HashMap<u64, Levels>, lane: u64, id: Id)
+fn take_level_off(spans: &HashMap<u64, Matches>, lanes: &mut HashMap<u64, Levels>, lane: u64, id: Id)
     ensures { levels_in lanes.new.entries
         ≡ map_at (levels_in lanes.old.entries) lane (without_open_level (has_match_state spans.now.entries id) id) }
 {

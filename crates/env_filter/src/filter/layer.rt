@@ -4,7 +4,7 @@ ghost use Rattle.std.proofs.Common.{refl, ap, ◌∙◌};
 ghost use Rattle.otel_base.specs.declared.enter_error.EnterError.TheVariants.{Full};
 ghost use Rattle.trace_base.specs.declared.lane.Lane.{Lane};
 ghost use Rattle.env_filter.specs.spans.Kept.{has_match_state, levels_in, room_in};
-ghost use Rattle.env_filter.specs.Filtering.{plain_filter, AreWhole, seen_in, interest_in, hint_in, enables_in, DoesFilter, IsReadyFilter};
+ghost use Rattle.env_filter.specs.Filtering.{plain_filter, IsWholeFilter, seen_in, interest_in, hint_in, enables_in, DoesFilter, IsReadyFilter};
 ghost use Rattle.env_filter.specs.laws.HookLemmas.{same_seen, same_does, filter_sees, filter_lanes, keeps_gate, keeps_whole, same_gate, same_enables, same_whole};
 
 use crate::filter::EnvFilter;
@@ -41,9 +41,9 @@ impl Layer for EnvFilter {
 
     ghost hint = { λ s. Some (hint_in (plain_filter s)) };
 
-    ghost is_whole = { λ s. AreWhole (plain_filter s) };
+    ghost is_whole = { λ s. IsWholeFilter (plain_filter s) };
 
-    ghost same = { λ s t. (plain_filter t) ≡ (plain_filter s) };
+    ghost same_but_room = { λ s t. (plain_filter t) ≡ (plain_filter s) };
 
     ghost does = { DoesFilter };
 

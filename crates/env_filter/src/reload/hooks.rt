@@ -33,29 +33,29 @@ impl<L: layer::Layer> layer::Layer for Layer<L> {
 
     ghost is_whole = { λ s. HoldsIfThere L.is_whole s.inner };
 
-    ghost same = { λ s t. Both L.same (Unit {0}) s.inner t.inner };
+    ghost same_but_room = { λ s t. Both L.same_but_room (Unit {0}) s.inner t.inner };
 
     ghost does = { λ s hook t. Both (λ l m. L.does l hook m) (LeavesLanes hook) s.inner t.inner };
 
     ghost ready = { λ s preparation r. Both (λ l q. L.ready l preparation q) (Unit {0}) s.inner r };
 
-    ghost same_refl = { λ s. both_refl L.same L.same_refl s.inner };
+    ghost same_refl = { λ s. both_refl L.same_but_room L.same_refl s.inner };
 
-    ghost same_trans = { λ s t u h k. both_trans L.same L.same_trans s.inner t.inner u.inner h k };
+    ghost same_trans = { λ s t u h k. both_trans L.same_but_room L.same_trans s.inner t.inner u.inner h k };
 
-    ghost same_seen = { λ s t h. both_alike L.same (Unit {0}) no_known_spans L.seen L.same_seen s.inner t.inner h };
+    ghost same_seen = { λ s t h. both_alike L.same_but_room (Unit {0}) no_known_spans L.seen L.same_seen s.inner t.inner h };
 
-    ghost same_kept = { λ s t h. both_alike L.same (Unit {0}) none_kept L.kept L.same_kept s.inner t.inner h };
+    ghost same_kept = { λ s t h. both_alike L.same_but_room (Unit {0}) none_kept L.kept L.same_kept s.inner t.inner h };
 
-    ghost same_attaches = { λ s t h. both_alike L.same (Unit {0}) false L.attaches L.same_attaches s.inner t.inner h };
+    ghost same_attaches = { λ s t h. both_alike L.same_but_room (Unit {0}) false L.attaches L.same_attaches s.inner t.inner h };
 
-    ghost same_gate = { λ s t h. (both_alike L.same (Unit {0}) sometimes L.interest (λ l m k. (L.same_gate l m k).0) s.inner t.inner h, both_alike L.same (Unit {0}) None L.hint (λ l m k. (L.same_gate l m k).1) s.inner t.inner h) };
+    ghost same_gate = { λ s t h. (both_alike L.same_but_room (Unit {0}) sometimes L.interest (λ l m k. (L.same_gate l m k).0) s.inner t.inner h, both_alike L.same_but_room (Unit {0}) None L.hint (λ l m k. (L.same_gate l m k).1) s.inner t.inner h) };
 
-    ghost same_enables = { λ s t h. both_alike L.same (Unit {0}) never_enabled L.enables L.same_enables s.inner t.inner h };
+    ghost same_enables = { λ s t h. both_alike L.same_but_room (Unit {0}) never_enabled L.enables L.same_enables s.inner t.inner h };
 
-    ghost same_whole = { λ s t h w. both_keep L.same (Unit {0}) L.is_whole L.same_whole s.inner t.inner h w };
+    ghost same_whole = { λ s t h w. both_keep L.same_but_room (Unit {0}) L.is_whole L.same_whole s.inner t.inner h w };
 
-    ghost same_does = { λ s t hook u h d. both_compose L.same (λ l m. L.does l hook m) (LeavesLanes hook) (λ l m n. L.same_does l m hook n) s.inner t.inner u.inner h d };
+    ghost same_does = { λ s t hook u h d. both_compose L.same_but_room (λ l m. L.does l hook m) (LeavesLanes hook) (λ l m n. L.same_does l m hook n) s.inner t.inner u.inner h d };
 
     ghost sees = { λ s hook t d. both_see L.seen L.does (LeavesLanes hook) hook (λ l m. L.sees l hook m) s.inner t.inner d };
 

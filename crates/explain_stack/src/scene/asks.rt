@@ -113,7 +113,7 @@ fn tell<S: Subscriber>(
     ensures did { OnOk result ((callsite : _)
         × Replaced (λ s t. S.does s (Event lane.now at parent site callsite values.now) t) world.old world.new
         dispatch) }
-    ensures memory_leaves { OnErr result (Replaced S.same world.old world.new dispatch) }
+    ensures memory_leaves { OnErr result (Replaced S.same_but_room world.old world.new dispatch) }
 {
     let (subscriber, callsite) = world.subscriber_and_site(dispatch, site);
     let current = subscriber.current_id(lane.id);

@@ -2,9 +2,9 @@
 ghost use Rattle.std.specs.Prelude.{◌≡◌, ◌<◌, None, IfOk, IfSome, OnOk, OnErr};
 ghost use Rattle.trace_base.specs.declared.span.Parent.TheVariants as parent;
 ghost use Rattle.trace_base.specs.Calls.{Exit};
-ghost use Rattle.span_handles.specs.Handles.{IsKnown, Makes, ReplacedOn, ClosesOn, place_under};
+ghost use Rattle.span_handles.specs.Handles.{IsKnown, Makes, ReplacedOn, ClosesOn, as_parent};
 ghost use Rattle.span_handles.specs.Knowing.{KeepsOthers};
-ghost use Rattle.span_handles.specs.Entries.{BeginsInside, LeavesLane};
+ghost use Rattle.span_handles.specs.Entries.{BeginsInside, KeepsLaneButRoom};
 ghost use Rattle.explain_stack.specs.Order.{SceneInOrder, IsHeld, KeepsScene};
 ghost use Rattle.explain_stack.specs.Puts.{ClosesHeld};
 
@@ -32,7 +32,7 @@ impl<S: Stack> Scene<S> {
         ensures keeps { KeepsScene S.spans S.kept S.is_whole self.old self.new }
         ensures made { IfOk result (λ made. IfSome made (IsHeld S.spans self.new.site_count self.new.world)) }
         ensures makes { IfOk result (λ made. IfSome made
-            (Makes S.spans S.does self.old.world self.new.world self.old.lane at (place_under parent.now.held) site
+            (Makes S.spans S.does self.old.world self.new.world self.old.lane at (as_parent parent.now.held) site
             values.now self.old.dispatch)) }
     {
         if self.span_count >= 1000 || !self.has_room(parent) {
@@ -82,7 +82,7 @@ impl<S: Stack> Scene<S> {
         ensures entry { IfOk result (λ entry. IfSome entry (λ e. e ≡ span.now.held)) }
         ensures enters { IfOk result (λ entry. IfSome entry
             (λ e. BeginsInside S.does at span.now.held self.old.world self.old.lane self.new.world self.new.lane)) }
-        ensures refused { IfOk result (λ entry. entry ≡ None → LeavesLane self.old.lane self.new.lane) }
+        ensures refused { IfOk result (λ entry. entry ≡ None → KeepsLaneButRoom self.old.lane self.new.lane) }
     {
         if !self.has_room(span) {
             return Ok(None);

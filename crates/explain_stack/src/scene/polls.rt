@@ -85,11 +85,11 @@ impl<S: Stack> Scene<S> {
         ensures keeps { KeepsScene S.spans S.kept S.is_whole self.old self.new }
         ensures back { result.0 ≡ span }
         ensures polls { is_served ≡ false → IfSome result.1
-            (λ polled. PollsUnder S.same S.does S.activates ⟦<Looks as TracedFuture<S>>⟧.polls
+            (λ polled. PollsUnder S.same_but_room S.does S.activates ⟦<Looks as TracedFuture<S>>⟧.polls
             (record { inner = future; span = span }) self.old.world self.old.lane at polled self.new.world
             self.new.lane) }
         ensures polls_served { is_served ≡ true → IfSome result.1
-            (λ polled. PollsUnder S.same S.does S.activates ⟦<WithDispatch<Looks> as TracedFuture<S>>⟧.polls
+            (λ polled. PollsUnder S.same_but_room S.does S.activates ⟦<WithDispatch<Looks> as TracedFuture<S>>⟧.polls
             (record { inner = record { inner = future; dispatch = Some self.old.dispatch }; span = span })
             self.old.world self.old.lane at polled self.new.world self.new.lane) }
     {
@@ -123,7 +123,7 @@ impl<S: Stack> Scene<S> {
 
         ensures keeps { KeepsScene S.spans S.kept S.is_whole self.old self.new }
         ensures back { result.0 ≡ span }
-        ensures polls { PollsUnder S.same S.does S.activates T.polls (record { inner = future; span = span })
+        ensures polls { PollsUnder S.same_but_room S.does S.activates T.polls (record { inner = future; span = span })
             self.old.world self.old.lane at result.1 self.new.world self.new.lane }
     {
         let mut future = future.instrument(span);

@@ -14,23 +14,23 @@ use Rattle.otel_state.specs.declared.op.Op.{Op}
 use Rattle.otel_state.specs.declared.op.Op.TheVariants as ops
 use Rattle.otel_state.specs.declared.op.OpReply.{OpReply}
 use Rattle.otel_state.specs.States.{SpanData, after_op}
-use Rattle.otel_layer.specs.Table.{data_at, with_op, waiting_context, waiting_in}
+use Rattle.otel_layer.specs.Table.{data_at, with_op, start_context, unstarted_count}
 use Rattle.otel_layer.specs.Core.{Core, seen_in, kept_in, seen_by, IsWholeCore}
 use Rattle.otel_layer.specs.Steps.{StartsIf, StartsSpan}
-use Rattle.otel_layer.specs.Parts.{PartCall, Applies, Shows, IsOutside, AppliesTo, context_at, Touches, ShowsIn, AnswersCallIf, IsUnanswered, TouchesFirst, StaysLayer, StaysStack}
+use Rattle.otel_layer.specs.Parts.{PartCall, Applies, GivesContext, IsOutside, AppliesTo, context_at, Touches, GivesContextIn, AnswersCallIf, IsUnanswered, TouchesFirst, StaysLayer, StaysStack}
 use Rattle.otel_layer.specs.laws.HookLemmas.{KeepsBudget, update_keys, update_waiting_same, whole_kin, starts_kin}
 use Rattle.otel_layer.specs.laws.KnownSpansLemmas.{Quiet, starts_quiet}
 
 -- ---- what is told
 
 shows_tell : {T : Type 0} (does : T → TracerCall → T → Type 0) (under : Option Context) (c d : Core T) (id at : ℕ) (answer : Option Context) → StartsIf does under id at c d → answer ≡ context_at (data_at id d.spans)
-    → ShowsIn under c.spans id at answer d.spans
+    → GivesContextIn under c.spans id at answer d.spans
 shows_tell does None c d id at answer starts is = (ap (λ x. x.spans) starts, is)
 shows_tell does (Some under) c d id at answer starts is = (starts.0, ap (λ x. x.spans) starts.2, is)
 
 pub touches_tell : {T : Type 0} (does : T → TracerCall → T → Type 0) (c : Core T) (call : PartCall) (d : Core T) → Touches does c call d → AnswersCallIf (Some c.spans) call (Some d.spans)
 touches_tell does c (Applies id at op answer) d h = (d.spans, refl, h.1)
-touches_tell does c (Shows id at answer) d h = (d.spans, refl, shows_tell does (waiting_context (data_at id c.spans)) c d id at answer h.0 h.1)
+touches_tell does c (GivesContext id at answer) d h = (d.spans, refl, shows_tell does (start_context (data_at id c.spans)) c d id at answer h.0 h.1)
 
 -- ---- what stays of a layer
 
@@ -47,12 +47,12 @@ outside_own (ops.Start own) h span_data at = absurd h
 outside_own ops.Enter h span_data at = absurd h
 outside_own ops.Exit h span_data at = absurd h
 
-applied_keeps : (o : Option SpanData) (spans now : List (ℕ × SpanData)) (id at : ℕ) (op : Op) (answer : Option (Result OpReply Memory)) → AppliesTo o spans id at op answer now → IsOutside op → (keys_of now ≡ keys_of spans) × (waiting_in now ≡ waiting_in spans)
-applied_keeps None spans now id at op answer h out = (ap (λ (xs : List (ℕ × SpanData)). keys_of xs) h.1, ap waiting_in h.1)
+applied_keeps : (o : Option SpanData) (spans now : List (ℕ × SpanData)) (id at : ℕ) (op : Op) (answer : Option (Result OpReply Memory)) → AppliesTo o spans id at op answer now → IsOutside op → (keys_of now ≡ keys_of spans) × (unstarted_count now ≡ unstarted_count spans)
+applied_keeps None spans now id at op answer h out = (ap (λ (xs : List (ℕ × SpanData)). keys_of xs) h.1, ap unstarted_count h.1)
 applied_keeps (Some span_data) spans now id at op None h out = absurd h
 applied_keeps (Some span_data) spans now id at op (Some (Ok r)) h out =
-    (ap (λ (xs : List (ℕ × SpanData)). keys_of xs) h.1 ∙ update_keys id (λ t. after_op t at op) spans, ap waiting_in h.1 ∙ update_waiting_same id (λ t. after_op t at op) spans (λ t. outside_own op out t at))
-applied_keeps (Some span_data) spans now id at op (Some (Err memory)) h out = (ap (λ (xs : List (ℕ × SpanData)). keys_of xs) h.1, ap waiting_in h.1)
+    (ap (λ (xs : List (ℕ × SpanData)). keys_of xs) h.1 ∙ update_keys id (λ t. after_op t at op) spans, ap unstarted_count h.1 ∙ update_waiting_same id (λ t. after_op t at op) spans (λ t. outside_own op out t at))
+applied_keeps (Some span_data) spans now id at op (Some (Err memory)) h out = (ap (λ (xs : List (ℕ × SpanData)). keys_of xs) h.1, ap unstarted_count h.1)
 
 quiet_seen : {T : Type 0} (c d : Core T) → Quiet c d → seen_in d ≡ seen_in c
 quiet_seen c d q = ap (λ ks. seen_by ks d.tokens) q.keys ∙ ap (λ ts. seen_by (keys_of c.spans) ts) q.tokens
@@ -75,7 +75,7 @@ module _ {T : Type 0} (does : T → TracerCall → T → Type 0) (spare started 
         },
         record { keys = same.0; tokens = ap (λ x. x.tokens) h.2; settings = ap (λ x. x.settings) h.2 },
       )
-  touched c (Shows id at answer) d h = (starts_kin does spare started counts id at c d h.0, starts_quiet does id at c d h.0)
+  touched c (GivesContext id at answer) d h = (starts_kin does spare started counts id at c d h.0, starts_quiet does id at c d h.0)
 
   -- the clause of a law of the layer's trait, over the layer's value
   pub core_stays : (c : Core T) (call : PartCall) (d : Core T) → Touches does c call d

@@ -18,9 +18,9 @@ use Rattle.otel_state.specs.States.{SpanData, after_op, first_start, record_of}
 use Rattle.otel_state.specs.declared.settings.LayerSettings.{LayerSettings}
 use Rattle.otel_state.specs.fields.SpanFields.{span_update}
 use Rattle.trace_base.specs.declared.field.ValueSet.{ValueSet}
-use Rattle.otel_layer.specs.Table.{is_id, data_at, knows_span, update, with_op, one_waiting, waiting_in, context_unless_started, waiting_context, ids_at}
+use Rattle.otel_layer.specs.Table.{is_id, data_at, knows_span, update, with_op, one_if_unstarted, unstarted_count, context_unless_started, start_context, ids_at}
 use Rattle.otel_layer.specs.Core.{Core, IsWholeCore}
-use Rattle.otel_layer.specs.Steps.{Reserves, SameCore, StartsIf, StartsSpan, StartsAny, parent_source, lane_context, context_from, MakesSpan, new_span_data, with_link, Events, all_events, EntersSpan, ExitsSpan, ClosesSpan, Step, DoesHook}
+use Rattle.otel_layer.specs.Steps.{Reserves, SameCore, StartsIf, StartsSpan, StartsIfSome, parent_source, lane_context, context_from, MakesSpan, new_span_data, with_link, EventEffect, all_events, EntersSpan, ExitsSpan, ClosesSpan, Step, DoesHook}
 
 -- one span changed
 pub update_keys : (id : ℕ) (f : SpanData → SpanData) (spans : List (ℕ × SpanData)) → keys_of (update id f spans) ≡ keys_of spans
@@ -31,38 +31,38 @@ update_keys id f (e ∷ es) =
       | inr apart ↦ ap (λ (xs : List (ℕ × SpanData)). keys_of xs) (cond-false {A = List (ℕ × SpanData)} (e.0 == id) ((e.0, f e.1) ∷ es) (e ∷ update id f es) apart) ∙ ap (λ ks. e.0 ∷ ks) (update_keys id f es)
     ]
 
-pub update_waiting_same : (id : ℕ) (f : SpanData → SpanData) (spans : List (ℕ × SpanData)) → ((span_data : SpanData) → (f span_data).own ≡ span_data.own) → waiting_in (update id f spans) ≡ waiting_in spans
+pub update_waiting_same : (id : ℕ) (f : SpanData → SpanData) (spans : List (ℕ × SpanData)) → ((span_data : SpanData) → (f span_data).own ≡ span_data.own) → unstarted_count (update id f spans) ≡ unstarted_count spans
 update_waiting_same id f [] keeps = refl
 update_waiting_same id f (e ∷ es) keeps =
     elim (cases_Bool (e.0 == id)) [
-      | inl here ↦ ap waiting_in (cond-true {A = List (ℕ × SpanData)} (e.0 == id) ((e.0, f e.1) ∷ es) (e ∷ update id f es) here) ∙ ap (λ o. one_waiting o + waiting_in es) (keeps e.1)
-      | inr apart ↦ ap waiting_in (cond-false {A = List (ℕ × SpanData)} (e.0 == id) ((e.0, f e.1) ∷ es) (e ∷ update id f es) apart) ∙ ap (λ n. one_waiting e.1.own + n) (update_waiting_same id f es keeps)
+      | inl here ↦ ap unstarted_count (cond-true {A = List (ℕ × SpanData)} (e.0 == id) ((e.0, f e.1) ∷ es) (e ∷ update id f es) here) ∙ ap (λ o. one_if_unstarted o + unstarted_count es) (keeps e.1)
+      | inr apart ↦ ap unstarted_count (cond-false {A = List (ℕ × SpanData)} (e.0 == id) ((e.0, f e.1) ∷ es) (e ∷ update id f es) apart) ∙ ap (λ n. one_if_unstarted e.1.own + n) (update_waiting_same id f es keeps)
     ]
 
-pub update_waiting : (id : ℕ) (f : SpanData → SpanData) (spans : List (ℕ × SpanData)) (span_data : SpanData) → data_at id spans ≡ Some span_data → waiting_in (update id f spans) + one_waiting span_data.own ≡ waiting_in spans + one_waiting (f span_data).own
+pub update_waiting : (id : ℕ) (f : SpanData → SpanData) (spans : List (ℕ × SpanData)) (span_data : SpanData) → data_at id spans ≡ Some span_data → unstarted_count (update id f spans) + one_if_unstarted span_data.own ≡ unstarted_count spans + one_if_unstarted (f span_data).own
 update_waiting id f [] span_data is = absurd (cc)
 update_waiting id f (e ∷ es) span_data is =
     elim (cases_Bool (e.0 == id)) [
       | inl here ↦ (
           let found = ap (λ o. unwrap_or o span_data) (sym (cond-true {A = Option SpanData} (e.0 == id) (Some e.1) (data_at id es) here) ∙ is) in
-          let now = ap waiting_in (cond-true {A = List (ℕ × SpanData)} (e.0 == id) ((e.0, f e.1) ∷ es) (e ∷ update id f es) here) in
-          let x = ap (λ (t : SpanData). one_waiting t.own) found in
-          let y = ap (λ (t : SpanData). one_waiting (f t).own) found in
+          let now = ap unstarted_count (cond-true {A = List (ℕ × SpanData)} (e.0 == id) ((e.0, f e.1) ∷ es) (e ∷ update id f es) here) in
+          let x = ap (λ (t : SpanData). one_if_unstarted t.own) found in
+          let y = ap (λ (t : SpanData). one_if_unstarted (f t).own) found in
           omega (arith, now, x, y))
       | inr apart ↦ (
           let rest = update_waiting id f es span_data (sym (cond-false {A = Option SpanData} (e.0 == id) (Some e.1) (data_at id es) apart) ∙ is) in
-          let now = ap waiting_in (cond-false {A = List (ℕ × SpanData)} (e.0 == id) ((e.0, f e.1) ∷ es) (e ∷ update id f es) apart) in
+          let now = ap unstarted_count (cond-false {A = List (ℕ × SpanData)} (e.0 == id) ((e.0, f e.1) ∷ es) (e ∷ update id f es) apart) in
           omega (arith, now, rest))
     ]
 
-pub removed_waiting : (id : ℕ) (spans : List (ℕ × SpanData)) → waiting_in (remove_entry (is_id id) spans) ≤ waiting_in spans
+pub removed_waiting : (id : ℕ) (spans : List (ℕ × SpanData)) → unstarted_count (remove_entry (is_id id) spans) ≤ unstarted_count spans
 removed_waiting id [] = omega arith
 removed_waiting id (e ∷ es) =
     elim (cases_Bool (e.0 == id)) [
-      | inl here ↦ (let now = ap waiting_in (cond-true {A = List (ℕ × SpanData)} (e.0 == id) es (e ∷ remove_entry (is_id id) es) here) in omega (arith, now))
+      | inl here ↦ (let now = ap unstarted_count (cond-true {A = List (ℕ × SpanData)} (e.0 == id) es (e ∷ remove_entry (is_id id) es) here) in omega (arith, now))
       | inr apart ↦ (
           let rest = removed_waiting id es in
-          let now = ap waiting_in (cond-false {A = List (ℕ × SpanData)} (e.0 == id) es (e ∷ remove_entry (is_id id) es) apart) in
+          let now = ap unstarted_count (cond-false {A = List (ℕ × SpanData)} (e.0 == id) es (e ∷ remove_entry (is_id id) es) apart) in
           omega (arith, now, rest))
     ]
 
@@ -78,10 +78,10 @@ removed_length id (e ∷ es) span_data is =
     ]
 
 -- events that start no span
-abbrev pub KeepsOwn : Events → Type 0
-KeepsOwn events = (settings : LayerSettings) (lane at : ℕ) (callsite : Callsite) (values : ValueSet) (span_data : SpanData) → (events settings lane at callsite values span_data).own ≡ span_data.own
+abbrev pub StartsNoSpan : EventEffect → Type 0
+StartsNoSpan events = (settings : LayerSettings) (lane at : ℕ) (callsite : Callsite) (values : ValueSet) (span_data : SpanData) → (events settings lane at callsite values span_data).own ≡ span_data.own
 
-pub all_keep_own : KeepsOwn all_events
+pub all_keep_own : StartsNoSpan all_events
 all_keep_own settings lane at callsite values span_data = refl
 
 pub or_right_true : (a b : Bool) → b ≡ true → (a || b) ≡ true
@@ -131,7 +131,7 @@ pub record KeepsBudget {T : Type 0} (spare started : T → ℕ) (c d : Core T) :
   pub reserved : d.reserved ≡ c.reserved
   pub span_count : d.span_count ≡ c.span_count
   pub spares : spare c.tracer ≤ spare d.tracer
-  pub budget : started d.tracer + waiting_in d.spans ≤ started c.tracer + waiting_in c.spans
+  pub budget : started d.tracer + unstarted_count d.spans ≤ started c.tracer + unstarted_count c.spans
 
 kin_same : {T : Type 0} (spare started : T → ℕ) (c d : Core T) → d ≡ c → KeepsBudget spare started c d
 kin_same spare started c d e = record {
@@ -140,7 +140,7 @@ kin_same spare started c d e = record {
   reserved = ap (λ x. x.reserved) e;
   span_count = ap (λ x. x.span_count) e;
   spares = (let h = ap (λ x. spare x.tracer) e in omega (arith, h));
-  budget = (let h = ap (λ x. started x.tracer + waiting_in x.spans) e in omega (arith, h));
+  budget = (let h = ap (λ x. started x.tracer + unstarted_count x.spans) e in omega (arith, h));
 }
 
 kin_trans : {T : Type 0} (spare started : T → ℕ) (c d e : Core T) → KeepsBudget spare started c d → KeepsBudget spare started d e → KeepsBudget spare started c e
@@ -161,39 +161,39 @@ op_kin spare started c d id at op keeps spans tracer settings reserved span_coun
   reserved = reserved;
   span_count = span_count;
   spares = (let h = ap spare tracer in omega (arith, h));
-  budget = (let h = ap started tracer in let w = ap waiting_in spans ∙ update_waiting_same id (λ t. after_op t at op) c.spans keeps in omega (arith, h, w));
+  budget = (let h = ap started tracer in let w = ap unstarted_count spans ∙ update_waiting_same id (λ t. after_op t at op) c.spans keeps in omega (arith, h, w));
 }
 
 waits_none : (own : Option SpanContext) (context under : Context) → context_unless_started own context ≡ Some under → own ≡ None
 waits_none None context under h = refl
 waits_none (Some own) context under h = absurd (cc)
 
-waits_some : (o : Option SpanData) (under : Context) → waiting_context o ≡ Some under → (span_data : SpanData) × (o ≡ Some span_data) × (span_data.own ≡ None)
+waits_some : (o : Option SpanData) (under : Context) → start_context o ≡ Some under → (span_data : SpanData) × (o ≡ Some span_data) × (span_data.own ≡ None)
 waits_some None under h = absurd (cc)
 waits_some (Some span_data) under h = (span_data, refl, waits_none span_data.own span_data.parent under h)
 
 module _ {T : Type 0} (does : T → TracerCall → T → Type 0) (spare started : T → ℕ) (counts : (s : T) (call : TracerCall) (t : T) → does s call t → CountsSpares (spare s) call (spare t) × CountsStarts (started s) call (started t)) where
-  starts_if_kin : (under : Option Context) (id at : ℕ) (c d : Core T) → waiting_context (data_at id c.spans) ≡ under → StartsIf does under id at c d → KeepsBudget spare started c d
+  starts_if_kin : (under : Option Context) (id at : ℕ) (c d : Core T) → start_context (data_at id c.spans) ≡ under → StartsIf does under id at c d → KeepsBudget spare started c d
   starts_if_kin None id at c d is h = kin_same spare started c d h
   starts_if_kin (Some under) id at c d is h =
       let w = waits_some (data_at id c.spans) under is in
       let n = counts c.tracer (Start (ids_of under) h.0) d.tracer h.1 in
       let less = update_waiting id (λ t. after_op t at (ops.Start h.0)) c.spans w.0 w.1 in
-      let none = ap one_waiting w.2 in
-      let some = ap (λ (o : Option SpanContext). one_waiting (first_start o (Some h.0))) w.2 in
+      let none = ap one_if_unstarted w.2 in
+      let some = ap (λ (o : Option SpanContext). one_if_unstarted (first_start o (Some h.0))) w.2 in
       record {
         keys = ap (λ x. keys_of x.spans) h.2 ∙ update_keys id (λ t. after_op t at (ops.Start h.0)) c.spans;
         settings = ap (λ x. x.settings) h.2;
         reserved = ap (λ x. x.reserved) h.2;
         span_count = ap (λ x. x.span_count) h.2;
         spares = n.0;
-        budget = (let now = ap (λ x. waiting_in x.spans) h.2 in let m = n.1 in omega (arith, less, none, some, now, m));
+        budget = (let now = ap (λ x. unstarted_count x.spans) h.2 in let m = n.1 in omega (arith, less, none, some, now, m));
       }
 
   pub starts_kin : (id at : ℕ) (c d : Core T) → StartsSpan does id at c d → KeepsBudget spare started c d
-  starts_kin id at c d h = starts_if_kin (waiting_context (data_at id c.spans)) id at c d refl h
+  starts_kin id at c d h = starts_if_kin (start_context (data_at id c.spans)) id at c d refl h
 
-  pub any_kin : (o : Option ℕ) (at : ℕ) (c d : Core T) → StartsAny does o at c d → KeepsBudget spare started c d
+  pub any_kin : (o : Option ℕ) (at : ℕ) (c d : Core T) → StartsIfSome does o at c d → KeepsBudget spare started c d
   any_kin None at c d h = kin_same spare started c d h
   any_kin (Some id) at c d h = starts_kin id at c d h
 
@@ -226,7 +226,7 @@ module _ {T : Type 0} (does : T → TracerCall → T → Type 0) (spare started 
     reserved = ap (λ x. x.reserved) e;
     span_count = ap (λ x. x.span_count) e;
     spares = (let h = ap (λ x. spare x.tracer) e in omega (arith, h));
-    budget = (let h = ap (λ x. started x.tracer) e in let w = ap (λ x. waiting_in x.spans) e ∙ update_waiting_same id f c.spans keeps in omega (arith, h, w));
+    budget = (let h = ap (λ x. started x.tracer) e in let w = ap (λ x. unstarted_count x.spans) e ∙ update_waiting_same id f c.spans keeps in omega (arith, h, w));
   }
 
   pub enters_kin : (c d : Core T) (id at : ℕ) (before later : Lane) → EntersSpan does c id at before later d → KeepsBudget spare started c d
@@ -239,7 +239,7 @@ module _ {T : Type 0} (does : T → TracerCall → T → Type 0) (spare started 
       op_kin spare started c d id at ops.Exit (λ t. refl) (ap (λ x. x.spans) h.rest) (ap (λ x. x.tracer) h.rest) (ap (λ x. x.settings) h.rest) (ap (λ x. x.reserved) h.rest) (ap (λ x. x.span_count) h.rest)
 
   -- what is whole stays whole
-  waiting_push : (spans : List (ℕ × SpanData)) (e : ℕ × SpanData) → waiting_in (spans ++ e ∷ []) ≡ waiting_in spans + one_waiting e.1.own
+  waiting_push : (spans : List (ℕ × SpanData)) (e : ℕ × SpanData) → unstarted_count (spans ++ e ∷ []) ≡ unstarted_count spans + one_if_unstarted e.1.own
   waiting_push [] e = omega arith
   waiting_push (x ∷ spans) e = (let rest = waiting_push spans e in omega (arith, rest))
 
@@ -256,7 +256,7 @@ module _ {T : Type 0} (does : T → TracerCall → T → Type 0) (spare started 
       let m = ap (λ x. x.span_count) h.rest in
       let len = ap (λ (xs : List (ℕ × SpanData)). length xs) spans ∙ length-append b.spans (new ∷ []) in
       let lenb = sym (length-keys_of b.spans) ∙ ap (λ (xs : List ℕ). length xs) k.keys ∙ length-keys_of c.spans in
-      let one = ap waiting_in spans ∙ waiting_push b.spans new in
+      let one = ap unstarted_count spans ∙ waiting_push b.spans new in
       let spares = v.spares in
       let budget = v.budget in
       let room = h.spare in
@@ -276,7 +276,7 @@ module _ {T : Type 0} (does : T → TracerCall → T → Type 0) (spare started 
       let m = ap (λ x. x.span_count) h.rest in
       let len = ap (λ (xs : List (ℕ × SpanData)). length xs) spans in
       let less = removed_length id b.spans h.span_data h.is in
-      let wait = ap waiting_in spans in
+      let wait = ap unstarted_count spans in
       let fewer = removed_waiting id b.spans in
       let spares = v.spares in
       let rooms = v.rooms in
@@ -306,7 +306,7 @@ module _ {T : Type 0} (does : T → TracerCall → T → Type 0) (spare started 
       let r = ap (λ e. e.reserved) h.rest in
       let m = ap (λ e. e.span_count) h.rest in
       let l = ap (λ e. length e.spans) h.rest in
-      let u = ap (λ e. waiting_in e.spans) h.rest in
+      let u = ap (λ e. unstarted_count e.spans) h.rest in
       let spares = w.spares in
       let rooms = w.rooms in
       let budget = w.budget in
@@ -314,7 +314,7 @@ module _ {T : Type 0} (does : T → TracerCall → T → Type 0) (spare started 
       record { spares = omega (arith, spares, x, r); rooms = omega (arith, rooms, l, r); budget = omega (arith, budget, u, y, m); few = omega (arith, few, m) }
 
   -- all hooks, where events start nothing
-  module _ (events : Events) (keeps : KeepsOwn events) where
+  module _ (events : EventEffect) (keeps : StartsNoSpan events) where
     pub step_whole : (c : Core T) (hook : Hook) (d : Core T) → Step does events c hook d → IsWholeCore spare started c → IsWholeCore spare started d
     step_whole c (OnNewSpan id lane at parent current callsite values) d h w = makes_whole c d id lane at parent current callsite values h w
     step_whole c (OnRecord id at callsite values) d h w = whole_kin c d (one_op_kin c d id at (ops.Update (span_update callsite values c.settings)) (λ t. refl) h) w

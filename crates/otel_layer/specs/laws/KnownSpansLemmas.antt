@@ -21,9 +21,9 @@ use Rattle.otel_state.specs.declared.op.Op.TheVariants as ops
 use Rattle.otel_layer.specs.declared.layer.tokens.Token.{Token}
 use Rattle.otel_state.specs.States.{SpanData, after_op}
 use Rattle.otel_state.specs.fields.SpanFields.{span_update}
-use Rattle.otel_layer.specs.Table.{is_id, data_at, knows_span, update, with_op, waiting_context, ids_at}
+use Rattle.otel_layer.specs.Table.{is_id, data_at, knows_span, update, with_op, start_context, ids_at}
 use Rattle.otel_layer.specs.Core.{Core, is_token, entries_by, seen_by, seen_in}
-use Rattle.otel_layer.specs.Steps.{StartsIf, StartsSpan, StartsAny, parent_source, lane_context, context_from, new_span_data, with_link, FollowsSpan, Events, EntersSpan, ExitsSpan, Step, DoesHook}
+use Rattle.otel_layer.specs.Steps.{StartsIf, StartsSpan, StartsIfSome, parent_source, lane_context, context_from, new_span_data, with_link, FollowsSpan, EventEffect, EntersSpan, ExitsSpan, Step, DoesHook}
 use Rattle.otel_layer.specs.laws.CountsLemmas.{last_passes, last_counted}
 use Rattle.otel_layer.specs.laws.HookLemmas.{update_keys, removed_knows, removed_other}
 
@@ -48,10 +48,10 @@ pub record Quiet {T : Type 0} (c d : Core T) : Type 0 where
 
 pub starts_quiet : {T : Type 0} (does : T → TracerCall → T → Type 0) (id at : ℕ) (c d : Core T) → StartsSpan does id at c d → Quiet c d
 starts_quiet does id at c d h =
-    let under = waiting_context (data_at id c.spans) in
+    let under = start_context (data_at id c.spans) in
     record { keys = starts_if_keys does under id at c d h; tokens = starts_if_tokens does under id at c d h; settings = starts_if_settings does under id at c d h }
 
-pub any_quiet : {T : Type 0} (does : T → TracerCall → T → Type 0) (o : Option ℕ) (at : ℕ) (c d : Core T) → StartsAny does o at c d → Quiet c d
+pub any_quiet : {T : Type 0} (does : T → TracerCall → T → Type 0) (o : Option ℕ) (at : ℕ) (c d : Core T) → StartsIfSome does o at c d → Quiet c d
 any_quiet does None at c d h = record { keys = ap (λ x. keys_of x.spans) h; tokens = ap (λ x. x.tokens) h; settings = ap (λ x. x.settings) h }
 any_quiet does (Some id) at c d h = starts_quiet does id at c d h
 
@@ -189,7 +189,7 @@ nothing_sees_exit c d id at before later not h =
     omega (arith, e, none)))
     (λ lane other n. ap (λ x. entries_by x.tokens lane other) h)
 
-step_sees : {T : Type 0} (does : T → TracerCall → T → Type 0) (events : Events) (c : Core T) (hook : Hook) (d : Core T) → Step does events c hook d → Sees (seen_in c) hook (seen_in d)
+step_sees : {T : Type 0} (does : T → TracerCall → T → Type 0) (events : EventEffect) (c : Core T) (hook : Hook) (d : Core T) → Step does events c hook d → Sees (seen_in c) hook (seen_in d)
 step_sees does events c (OnNewSpan id lane at parent current callsite values) d h =
     let b = h.between in
     let q = any_quiet does (parent_source c.settings.activation parent current) at c b h.starts in
@@ -223,6 +223,6 @@ step_sees does events c (OnClose id at) d h =
       | inr unknown ↦ quiet_sees c d (OnClose id at) (same_quiet c d (h.isnt unknown)) (λ lane other. (refl, refl))
     ]
 
-pub does_sees : {T : Type 0} (does : T → TracerCall → T → Type 0) (events : Events) (c : Core T) (hook : Hook) (d : Core T) → DoesHook does events c hook d → Sees (seen_in c) hook (seen_in d)
+pub does_sees : {T : Type 0} (does : T → TracerCall → T → Type 0) (events : EventEffect) (c : Core T) (hook : Hook) (d : Core T) → DoesHook does events c hook d → Sees (seen_in c) hook (seen_in d)
 does_sees {T} does events c hook d h =
     subst (λ (x : Core T). Sees (seen_in x) hook (seen_in d)) h.room.rest (step_sees does events h.prepared hook d h.step)

@@ -14,9 +14,9 @@ use Rattle.otel_state.specs.declared.op.Op.TheVariants as ops
 use Rattle.otel_layer.specs.declared.layer.tokens.Token.{Token}
 use Rattle.otel_state.specs.declared.settings.LayerSettings.{LayerSettings}
 use Rattle.otel_state.specs.fields.SpanFields.{span_update}
-use Rattle.otel_layer.specs.Table.{data_at, knows_span, own_or}
-use Rattle.otel_layer.specs.Core.{Core, is_token, entries_by, is_number, keeps_as, kept_by, kept_in}
-use Rattle.otel_layer.specs.Steps.{parent_source, Events, DetachesOwn, EntersLane, Step, DoesHook}
+use Rattle.otel_layer.specs.Table.{data_at, knows_span, own_context_or}
+use Rattle.otel_layer.specs.Core.{Core, is_token, entries_by, is_attached_as, keeps_as, kept_by, kept_in}
+use Rattle.otel_layer.specs.Steps.{parent_source, EventEffect, DetachesOwnContext, EntersLane, Step, DoesHook}
 use Rattle.otel_base.specs.Stack.{empty_context}
 use Rattle.otel_layer.specs.laws.CountsLemmas.{last_passes, last_counted, count_without}
 use Rattle.otel_layer.specs.laws.KnownSpansLemmas.{Quiet, starts_quiet, any_quiet, op_quiet, update_quiet, follows_quiet, same_quiet}
@@ -44,7 +44,7 @@ enter_lanes true own tokens left id before later attached a more = (
       let token : Token = record { lane = before.id; id = id; attached = attached } in
       let item : ℕ × Context = (a.number, own) in
       let kept = ap (λ (ts : List Token). kept_by true ts lane number) more ∙ count_push (keeps_as lane number) tokens token in
-      let with = ap (λ (o : Option ℕ). cond {A = ℕ} (before.id == lane && is_number number o) 1 0) a.is in
+      let with = ap (λ (o : Option ℕ). cond {A = ℕ} (before.id == lane && is_attached_as number o) 1 0) a.is in
       let live = ap (λ (xs : List (ℕ × Context)). count_by (λ i. i.0 == number) xs) a.live ∙ count_push (λ (i : ℕ × Context). i.0 == number) before.contexts.live item in
       let was = attached_as number before in
       let is = attached_as number later in
@@ -62,13 +62,13 @@ enter_lanes true own tokens left id before later attached a more = (
       ]),
 )
 
-exit_lane : (o : Option ℕ) (tokens : List Token) (token : Token) (id : ℕ) (before later : Lane) → token.attached ≡ o → last_passing (is_token before.id id) tokens ≡ Some token → DetachesOwn o before later
+exit_lane : (o : Option ℕ) (tokens : List Token) (token : Token) (id : ℕ) (before later : Lane) → token.attached ≡ o → last_passing (is_token before.id id) tokens ≡ Some token → DetachesOwnContext o before later
     → KeepsLane true before later × KeepsAttached (kept_by true tokens) before later (kept_by true (without_last (is_token before.id id) tokens))
 exit_lane None tokens token id before later is last e =
     kept_quiet true tokens (without_last (is_token before.id id) tokens) before later
     (λ lane number. (
     let count = last_counted (is_token before.id id) (keeps_as lane number) tokens token last in
-    let none = ap (λ (o : Option ℕ). cond {A = ℕ} (token.lane == lane && is_number number o) 1 0) is ∙ cond-false {A = ℕ} (token.lane == lane && false) 1 0 (and_right (token.lane == lane) false refl) in
+    let none = ap (λ (o : Option ℕ). cond {A = ℕ} (token.lane == lane && is_attached_as number o) 1 0) is ∙ cond-false {A = ℕ} (token.lane == lane && false) 1 0 (and_right (token.lane == lane) false refl) in
     omega (arith, count, none)))
     e
 exit_lane (Some n) tokens token id before later is last d = (
@@ -76,7 +76,7 @@ exit_lane (Some n) tokens token id before later is last d = (
   λ lane number. (
       let parts = and_parts (token.lane == before.id) (token.id == id) (last_passes (is_token before.id id) tokens token last) in
       let count = last_counted (is_token before.id id) (keeps_as lane number) tokens token last in
-      let at = ap (λ (l : ℕ). cond {A = ℕ} (l == lane && is_number number token.attached) 1 0) (eqb-true token.lane before.id parts.0) ∙ ap (λ (o : Option ℕ). cond {A = ℕ} (before.id == lane && is_number number o) 1 0) is in
+      let at = ap (λ (l : ℕ). cond {A = ℕ} (l == lane && is_attached_as number token.attached) 1 0) (eqb-true token.lane before.id parts.0) ∙ ap (λ (o : Option ℕ). cond {A = ℕ} (before.id == lane && is_attached_as number o) 1 0) is in
       let live = ap (λ (xs : List (ℕ × Context)). count_by (λ i. i.0 == number) xs) d.live in
       let less = count_without number n before.contexts.live d.attached in
       let was = attached_as number before in
@@ -95,7 +95,7 @@ exit_lane (Some n) tokens token id before later is last d = (
       ]),
 )
 
-exit_lanes : (attaches : Bool) (tokens : List Token) (token : Token) (id : ℕ) (before later : Lane) → last_passing (is_token before.id id) tokens ≡ Some token → DetachesOwn (if attaches then token.attached else None) before later
+exit_lanes : (attaches : Bool) (tokens : List Token) (token : Token) (id : ℕ) (before later : Lane) → last_passing (is_token before.id id) tokens ≡ Some token → DetachesOwnContext (if attaches then token.attached else None) before later
     → KeepsLane attaches before later × KeepsAttached (kept_by attaches tokens) before later (kept_by attaches (without_last (is_token before.id id) tokens))
 exit_lanes true tokens token id before later last leaves = exit_lane token.attached tokens token id before later refl last leaves
 exit_lanes false tokens token id before later last leaves = kept_quiet false tokens (without_last (is_token before.id id) tokens) before later (λ lane number. refl) leaves
@@ -112,7 +112,7 @@ nothing_lanes c d before later e f = (
       omega (arith, x, y)),
 )
 
-step_lanes : {T : Type 0} (does : T → TracerCall → T → Type 0) (events : Events) (c : Core T) (hook : Hook) (d : Core T) → Step does events c hook d → HookLanes c.settings.activation (kept_in c) hook (kept_in d)
+step_lanes : {T : Type 0} (does : T → TracerCall → T → Type 0) (events : EventEffect) (c : Core T) (hook : Hook) (d : Core T) → Step does events c hook d → HookLanes c.settings.activation (kept_in c) hook (kept_in d)
 step_lanes does events c (OnNewSpan id lane at parent current callsite values) d h =
     let q = any_quiet does (parent_source c.settings.activation parent current) at c h.between h.starts in
     kept_is h.added d (any_quiet does (if c.settings.eager then Some id else None) at h.added d h.begins) ∙ ap (λ x. kept_in x) h.rest ∙ kept_is c h.between q
@@ -126,7 +126,7 @@ step_lanes does events c (OnEnter id at before later) d h =
           let x = h.is_known known in
           let q = any_quiet does (if c.settings.activation then Some id else None) at c x.between x.starts in
           let tokens = ap (λ y. y.tokens) x.rest ∙ ap (λ (ts : List Token). ts ++ record { lane = before.id; id = id; attached = x.attached } ∷ []) q.tokens in
-          let r = enter_lanes c.settings.activation (own_or empty_context (data_at id x.between.spans)) c.tokens d.tokens id before later x.attached x.lane tokens in
+          let r = enter_lanes c.settings.activation (own_context_or empty_context (data_at id x.between.spans)) c.tokens d.tokens id before later x.attached x.lane tokens in
           let a : d.settings ≡ c.settings = ap (λ y. y.settings) x.rest ∙ q.settings in
           subst (λ (s : LayerSettings). KeepsLane c.settings.activation before later × KeepsAttached (kept_in c) before later (kept_by s.activation d.tokens)) (sym a) r)
       | inr unknown ↦ nothing_lanes c d before later (h.isnt unknown).0 (h.isnt unknown).1
@@ -147,7 +147,7 @@ step_lanes does events c (OnClose id at) d h =
       | inr unknown ↦ kept_is c d (same_quiet c d (h.isnt unknown))
     ]
 
-pub does_lanes : {T : Type 0} (does : T → TracerCall → T → Type 0) (events : Events) (c : Core T) (hook : Hook) (d : Core T) → DoesHook does events c hook d → HookLanes c.settings.activation (kept_in c) hook (kept_in d)
+pub does_lanes : {T : Type 0} (does : T → TracerCall → T → Type 0) (events : EventEffect) (c : Core T) (hook : Hook) (d : Core T) → DoesHook does events c hook d → HookLanes c.settings.activation (kept_in c) hook (kept_in d)
 does_lanes {T} does events c hook d h = subst (λ (x : Core T). HookLanes x.settings.activation (kept_in x) hook (kept_in d)) h.room.rest (step_lanes does events h.prepared hook d h.step)
 
 -- without entries on a lane nothing is kept attached to it
@@ -163,7 +163,7 @@ none_counted lane number (token ∷ tokens) none =
       | inr off ↦ (
           let all = count_cons (keeps_as lane number) token tokens in
           let rest = none_counted lane number tokens (λ id. let more = count_cons (is_token lane id) token tokens in let no = none id in omega (arith, more, no)) in
-          let isnt = cond-false {A = ℕ} (token.lane == lane && is_number number token.attached) 1 0 (ap (λ b. b && is_number number token.attached) off) in
+          let isnt = cond-false {A = ℕ} (token.lane == lane && is_attached_as number token.attached) 1 0 (ap (λ b. b && is_attached_as number token.attached) off) in
           omega (arith, all, rest, isnt))
     ]
 
@@ -172,12 +172,12 @@ kept_by_tokens true tokens lane number none = none_counted lane number tokens no
 kept_by_tokens false tokens lane number none = refl
 
 -- an entry of a span that isn't known leaves the lane as it is
-pub does_passive : {T : Type 0} (does : T → TracerCall → T → Type 0) (events : Events) (c : Core T) (id at : ℕ) (before later : Lane) (d : Core T) → DoesHook does events c (OnEnter id at before later) d → knows_span id c.spans ≡ false
+pub does_passive : {T : Type 0} (does : T → TracerCall → T → Type 0) (events : EventEffect) (c : Core T) (id at : ℕ) (before later : Lane) (d : Core T) → DoesHook does events c (OnEnter id at before later) d → knows_span id c.spans ≡ false
     → later.contexts.live ≡ before.contexts.live
 does_passive does events c id at before later d h unknown = ap (λ (l : Lane). l.contexts.live) (h.step.isnt (ap (λ x. knows_span id x.spans) h.room.rest ∙ unknown)).1
 
 -- settings stay
-step_settings : {T : Type 0} (does : T → TracerCall → T → Type 0) (events : Events) (c : Core T) (hook : Hook) (d : Core T) → Step does events c hook d → d.settings ≡ c.settings
+step_settings : {T : Type 0} (does : T → TracerCall → T → Type 0) (events : EventEffect) (c : Core T) (hook : Hook) (d : Core T) → Step does events c hook d → d.settings ≡ c.settings
 step_settings does events c (OnNewSpan id lane at parent current callsite values) d h =
     (any_quiet does (if c.settings.eager then Some id else None) at h.added d h.begins).settings ∙ ap (λ x. x.settings) h.rest ∙ (any_quiet does (parent_source c.settings.activation parent current) at c h.between h.starts).settings
 step_settings does events c (OnRecord id at callsite values) d h = ap (λ x. x.settings) h
@@ -200,5 +200,5 @@ step_settings does events c (OnClose id at) d h =
       | inr unknown ↦ ap (λ y. y.settings) (h.isnt unknown)
     ]
 
-pub does_settings : {T : Type 0} (does : T → TracerCall → T → Type 0) (events : Events) (c : Core T) (hook : Hook) (d : Core T) → DoesHook does events c hook d → d.settings ≡ c.settings
+pub does_settings : {T : Type 0} (does : T → TracerCall → T → Type 0) (events : EventEffect) (c : Core T) (hook : Hook) (d : Core T) → DoesHook does events c hook d → d.settings ≡ c.settings
 does_settings does events c hook d h = step_settings does events h.prepared hook d h.step ∙ ap (λ x. x.settings) h.room.rest

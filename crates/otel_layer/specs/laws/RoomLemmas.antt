@@ -3,7 +3,7 @@ use Rattle.std.proofs.Common.{◌≡◌, ℕ, suc, zero, ◌+◌, refl, sym, ap,
 use Rattle.otel_base.specs.Tracer.{TracerCall}
 use Rattle.trace_base.specs.layers.Hooks.{Hook}
 use Rattle.otel_layer.specs.Core.{Core}
-use Rattle.otel_layer.specs.Steps.{Reserves, SameCore, Events, Step, DoesHook}
+use Rattle.otel_layer.specs.Steps.{Reserves, SameCore, EventEffect, Step, DoesHook}
 
 pub same_core_refl : {T : Type 0} (does : T → TracerCall → T → Type 0) (c : Core T) → SameCore does c c
 same_core_refl {T} does c = record { count = 0; reserves = refl; rest = ap (λ (n : ℕ). let x : Core T = record c { reserved = n } in x) (sym (add-zero c.reserved)) }
@@ -21,9 +21,9 @@ same_core_trans {T} does c d e a b = record {
   rest = b.rest ∙ ap (λ (x : Core T). let y : Core T = record x { tracer = e.tracer; reserved = x.reserved + b.count } in y) a.rest ∙ ap (λ (n : ℕ). let y : Core T = record c { tracer = e.tracer; reserved = n } in y) (add_assoc c.reserved a.count b.count);
 }
 
-pub same_core_does : {T : Type 0} (does : T → TracerCall → T → Type 0) (events : Events) (c d : Core T) (hook : Hook) (e : Core T) → SameCore does c d → DoesHook does events d hook e → DoesHook does events c hook e
+pub same_core_does : {T : Type 0} (does : T → TracerCall → T → Type 0) (events : EventEffect) (c d : Core T) (hook : Hook) (e : Core T) → SameCore does c d → DoesHook does events d hook e → DoesHook does events c hook e
 same_core_does does events c d hook e a h = record { prepared = h.prepared; room = same_core_trans does c d h.prepared a h.room; step = h.step }
 
 -- a hook that was prepared before
-pub step_from_prepared : {T : Type 0} (does : T → TracerCall → T → Type 0) (events : Events) (c : Core T) (hook : Hook) (d : Core T) → Step does events c hook d → DoesHook does events c hook d
+pub step_from_prepared : {T : Type 0} (does : T → TracerCall → T → Type 0) (events : EventEffect) (c : Core T) (hook : Hook) (d : Core T) → Step does events c hook d → DoesHook does events c hook d
 step_from_prepared does events c hook d step = record { prepared = c; room = same_core_refl does c; step = step }

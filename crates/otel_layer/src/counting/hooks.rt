@@ -43,7 +43,7 @@ impl<T: Tracer, F: Filter> Layer for FilteredOpenTelemetryLayer<T, F> {
 
     ghost is_whole = { λ s. IsWholeCore T.spare T.started s.inner.core };
 
-    ghost same = { λ s t. SameCore T.does s.inner.core t.inner.core × (t.filter ≡ s.filter) };
+    ghost same_but_room = { λ s t. SameCore T.does s.inner.core t.inner.core × (t.filter ≡ s.filter) };
 
     ghost does = { λ s hook t. DoesHook T.does (events_by F.enables s.filter) s.inner.core hook t.inner.core × (t.filter ≡ s.filter) };
 
@@ -170,7 +170,7 @@ impl<T: Tracer, F: Filter> Layer for FilteredOpenTelemetryLayer<T, F> {
         };
         match reached {
             Some(id) => match prepared {
-                Ready::Happened { op } => {
+                Ready::PreparedOp { op } => {
                     let is_taken = filter.enabled(lane.id, callsite);
                     let mut op = Box::into_inner(op);
                     set_moment(&mut op, at);

@@ -9,18 +9,18 @@ ghost use Rattle.otel_layer.specs.Counting.{after_counted};
 ghost use Rattle.otel_layer.specs.Core.{on_spans, with_tracer, entries_by, kept_in, is_token, IsWholeCore};
 ghost use Rattle.otel_layer.specs.Parts.{context_at};
 ghost use Rattle.otel_layer.specs.Starts.{StartsEarly, FinishesState};
-ghost use Rattle.otel_layer.specs.Steps.{StartsSpan, StartsAny, parent_source, lane_context, context_from, with_added_span, MakesSpan};
-ghost use Rattle.otel_layer.specs.Steps.{with_link, FollowsSpan, with_token, without_token, DetachesOwn, with_finish};
+ghost use Rattle.otel_layer.specs.Steps.{StartsSpan, StartsIfSome, parent_source, lane_context, context_from, with_added_span, MakesSpan};
+ghost use Rattle.otel_layer.specs.Steps.{with_link, FollowsSpan, with_token, without_token, DetachesOwnContext, with_finish};
 ghost use Rattle.otel_layer.specs.Steps.{EntersIfKnown, ExitsIfKnown, ClosesIfKnown};
 ghost use Rattle.otel_layer.specs.Ready.{IsReadyState, IsReadyLane, HasOpenEntry, IsAttachedIfKnown};
 
 use crate::layer::OpenTelemetryLayer;
-use crate::layer::tokens::{Token, attach, leave, take_last};
+use crate::layer::tokens::{Token, attach, detach_if_active, take_last};
 use crate::starts::start_state;
 use otel_base::context::{Context, SpanContext};
 use otel_base::list::Items;
 use otel_base::record::Link;
-use otel_base::stack::Attached;
+use otel_base::stack::ContextGuard;
 use otel_base::tracer::Tracer;
 use otel_state::op::Op;
 use otel_state::state::SpanState;
@@ -60,7 +60,7 @@ impl<T: Tracer> OpenTelemetryLayer<T> {
         requires { RoomFor id op self.old.rooms }
         ensures { self.new.core ≡ on_spans (update id (after_counted is_taken at op)) self.old.core }
     {
-        self.table.count(id, at, op, is_taken);
+        self.table.count_event(id, at, op, is_taken);
     }
 
     // Makes a span that isn't known yet.
@@ -93,7 +93,7 @@ impl<T: Tracer> OpenTelemetryLayer<T> {
     fn context_from(&mut self, source: Option<Id>, other: Context, at: u64) -> Context
         requires { T.started self.old.core.tracer < 2 ^ 63 }
 
-        ensures starts { StartsAny T.does source at self.old.core self.new.core }
+        ensures starts { StartsIfSome T.does source at self.old.core self.new.core }
         ensures context { result ≡ context_from self.new.core.spans other source }
         ensures room { self.new.room ≡ self.old.room }
         ensures span_count { self.new.core.span_count ≡ self.old.core.span_count }
@@ -181,7 +181,7 @@ impl<T: Tracer> OpenTelemetryLayer<T> {
     }
 
     // Adds an open entry.
-    fn add_token(&mut self, lane: u64, id: Id, attached: Option<Attached>)
+    fn add_token(&mut self, lane: u64, id: Id, attached: Option<ContextGuard>)
         requires { 0 < self.old.token_room }
         ensures { self.new.core ≡ with_token (record { lane = lane; id = id; attached = attached }) self.old.core }
     {
@@ -198,16 +198,16 @@ impl<T: Tracer> OpenTelemetryLayer<T> {
         ensures { ExitsIfKnown self.old.core id at lane.old lane.new self.new.core }
     {
         if self.put_op(id, at, Op::Exit) {
-            self.leave(id, lane);
+            self.take_entry_off(id, lane);
         }
     }
 
     // Takes off the last entry of a span on a lane, and detaches what it attached.
-    fn leave(&mut self, id: Id, lane: &mut Lane)
+    fn take_entry_off(&mut self, id: Id, lane: &mut Lane)
         requires open { 0 < entries_by self.old.core.tokens lane.old.id id }
         requires still { AreAttached (kept_in self.old.core) lane.old }
         ensures { (token : Token) × (last_passing (is_token lane.old.id id) self.old.core.tokens ≡ Some token)
-            × DetachesOwn (if self.old.core.settings.activation then token.attached else None) lane.old lane.new
+            × DetachesOwnContext (if self.old.core.settings.activation then token.attached else None) lane.old lane.new
             × (self.new.core ≡ without_token lane.old.id id self.old.core) }
     {
         let Token {
@@ -215,7 +215,7 @@ impl<T: Tracer> OpenTelemetryLayer<T> {
             id: _,
             attached,
         } = take_last(&mut self.tokens, lane.id, id);
-        leave(self.settings.activation, attached, lane);
+        detach_if_active(self.settings.activation, attached, lane);
     }
 
     // Closes a span, if it is known.

@@ -41,7 +41,7 @@ impl<T: Tracer> Layer for OpenTelemetryLayer<T> {
 
     ghost is_whole = { λ s. IsWholeCore T.spare T.started s.core };
 
-    ghost same = { λ s t. SameCore T.does s.core t.core };
+    ghost same_but_room = { λ s t. SameCore T.does s.core t.core };
 
     ghost does = { λ s hook t. DoesHook T.does all_events s.core hook t.core };
 
@@ -112,7 +112,7 @@ impl<T: Tracer> Layer for OpenTelemetryLayer<T> {
         values: &ValueSet,
     ) {
         match prepared {
-            Ready::Made { state } => {
+            Ready::NewState { state } => {
                 self.make(state, id, lane, at, parent, current, callsite, values)
             }
             _ => unreachable!(),
@@ -137,7 +137,7 @@ impl<T: Tracer> Layer for OpenTelemetryLayer<T> {
         _values: &ValueSet,
     ) {
         match prepared {
-            Ready::Happened { op } => {
+            Ready::PreparedOp { op } => {
                 self.put_op(id, at, Box::into_inner(op));
             }
             _ => unreachable!(),
@@ -173,7 +173,7 @@ impl<T: Tracer> Layer for OpenTelemetryLayer<T> {
     ) {
         match reached {
             Some(id) => match prepared {
-                Ready::Happened { op } => {
+                Ready::PreparedOp { op } => {
                     let mut op = Box::into_inner(op);
                     set_moment(&mut op, at);
                     self.put_op(id, at, op);

@@ -39,7 +39,7 @@ impl<T: Tracer> OpenTelemetryLayer<T> {
     {
         self.reserve_span()?;
         let state = self.new_state(lane, callsite, values)?;
-        Ok(Ready::Made { state })
+        Ok(Ready::NewState { state })
     }
 
     // The state of a new span with what its fields write, which doesn't know its parent and its moment yet.
@@ -89,7 +89,7 @@ impl<T: Tracer> OpenTelemetryLayer<T> {
         ensures ready { IfOk result (IsReadyOtel self.new (ForFollows id _from)) }
     {
         self.table.reserve_link(id)?;
-        Ok(Ready::Light)
+        Ok(Ready::Nothing)
     }
 
     // What an event needs.
@@ -107,7 +107,7 @@ impl<T: Tracer> OpenTelemetryLayer<T> {
                 let op = event_op(self.alloc, callsite, values, &self.settings, 0)?;
                 self.reserve_op(id, op)
             }
-            None => Ok(Ready::Light),
+            None => Ok(Ready::Nothing),
         }
     }
 
@@ -119,7 +119,7 @@ impl<T: Tracer> OpenTelemetryLayer<T> {
         match self.table.reserve_op(id, &op) {
             Ok(()) => {
                 let op = Box::new(self.alloc, op)?;
-                Ok(Ready::Happened { op })
+                Ok(Ready::PreparedOp { op })
             }
             Err(memory) => {
                 drop(op);
@@ -134,7 +134,7 @@ impl<T: Tracer> OpenTelemetryLayer<T> {
         ensures ready { IfOk result (IsReadyOtel self.new (ForEnter id _lane)) }
     {
         self.tokens.reserve(1)?;
-        Ok(Ready::Light)
+        Ok(Ready::Nothing)
     }
 
     // Room on the lane for the span's own context, with activation. Only where there is none it is asked whether the span is

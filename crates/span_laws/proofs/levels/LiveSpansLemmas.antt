@@ -1,6 +1,6 @@
 -- The layer of a stack keeps one state of each span that is live.
 use Rattle.std.proofs.Common.{◌≡◌, ◌≢◌, ℕ, ◌+◌, ◌<◌, List, [], ◌∷◌, ◌++◌, length, Bool, true, false, count_by, set, Option, Some, None, refl, sym, ap, subst, ◌∙◌, arith, inl, inr, ◌==◌, nat_lt, is_some, fold, IfSome, Result, Ok, Err}
-use Rattle.span_laws.proofs.Common.{list_any, cases_eq, cases_lt, cases_Bool, cond-true, cond-false, get_or_past, get_or_push, get_or_append_left, length_push, map-append, Context, SpanContext, Callsite, ValueSet, Lane, one_if, Span, Spans, no_span, span_at, entries_on, is_in, times_in, current_of, parent_on, with_hold, less_hold, without_hold, with_hold_of_child, next_of, count_cons, count_push, counted_if_any, any_if_counted, made_if_held, length_held, less_holds, holds_set, holds_other, LayerSettings, Op, event_of, span_update, SpanData, after_op, Recording, with_applied, started_under, with_start, with_starts, made_under, with_new_recorded, with_follow, with_event, source_of, with_entry, with_exit, without_closed, with_close, Enters, Exits, Stays, RecordsCall, RecordsChain, RecordsPart, IfKnown, parent_source, with_link, data_at, knows_span, waiting_context, ids_at, is_id, FilterState, enables_in}
+use Rattle.span_laws.proofs.Common.{list_any, cases_eq, cases_lt, cases_Bool, cond-true, cond-false, get_or_past, get_or_push, get_or_append_left, length_push, map-append, Context, SpanContext, Callsite, ValueSet, Lane, one_if, Span, Spans, no_span, span_at, entries_on, is_in, times_in, current_of, parent_on, with_hold, span_without_hold, without_hold, with_hold_of_child, parent_to_release, count_cons, count_push, counted_if_any, any_if_counted, made_if_held, length_held, less_holds, holds_set, holds_other, LayerSettings, Op, event_of, span_update, SpanData, after_op, Recording, with_applied, with_start_under, with_start, with_starts, with_span_under, with_new_recorded, with_follow, with_event, source_of, with_entry, with_exit, without_closed, with_close, Enters, Exits, ChangesNothing, RecordsCall, RecordsChain, RecordsPart, IfKnown, parent_source, with_link, data_at, knows_span, start_context, ids_at, is_id, FilterState, enables_in}
 use Rattle.std.specs.Map.{keys_of, remove_entry}
 use Rattle.std.proofs.lemmas.Bool.{eqb-true, eq-eqb, ne_eqb, lt-ltb, le-ltb, true≢false}
 use Rattle.std.proofs.lemmas.Map.Made.{is_some-lookup}
@@ -9,14 +9,14 @@ use Rattle.trace_base.specs.Calls.{SubscriberCall, NewSpan, Records, Follows, Ev
 use Rattle.trace_base.specs.Conditions.{IsLive, MayExit, HasOwnHold, Allowed}
 use Rattle.trace_base.specs.Sound.{IsSound}
 use Rattle.trace_base.proofs.Sound.{parent_live}
-use Rattle.trace_base.specs.Gate.{Worlds}
-use Rattle.span_handles.specs.Worlds.{Replaced, member_of, ReleasesChain, all_released, releases, closed_in, no_spans}
+use Rattle.trace_base.specs.Gate.{WorldValue}
+use Rattle.span_handles.specs.Worlds.{Replaced, read_subscriber, ReleasesChain, all_released, releases, closed_in, no_spans}
 use Rattle.span_handles.proofs.ChangedSubscriberLemmas.{seen_before, seen_later}
 use Rattle.otel_base.specs.declared.memory.Memory.{Memory}
 use Rattle.otel_state.specs.declared.op.OpReply.{OpReply}
 use Rattle.otel_state.specs.declared.op.Op.TheVariants as ops
 use Rattle.otel_layer.specs.laws.HookLemmas.{update_keys}
-use Rattle.otel_layer.specs.Parts.{PartCall, Applies, Shows, AppliesTo, context_at}
+use Rattle.otel_layer.specs.Parts.{PartCall, Applies, GivesContext, AppliesTo, context_at}
 use Rattle.span_stack.specs.Counting.{with_counted, with_event_by, RecordsCallBy}
 use Rattle.span_stack.specs.Reading.{new_recording}
 use Rattle.span_laws.specs.Live.{is_live, state_count, KeepsLive, IsAnsweredLive}
@@ -46,7 +46,7 @@ alive_held : (made : List Span) (id : ℕ) → 0 < (span_at made id).holds → (
 alive_held made id live q = alive_set made id (record (span_at made id) { holds = (span_at made id).holds + 1 }) live (omega arith) q
 
 alive_released : (made : List Span) (id : ℕ) → 1 < (span_at made id).holds → (q : ℕ) → alive (without_hold made id) q ≡ alive made q
-alive_released made id more q = (let l = less_holds (span_at made id) in alive_set made id (less_hold (span_at made id)) (omega (arith, more)) (omega (arith, l, more)) q)
+alive_released made id more q = (let l = less_holds (span_at made id) in alive_set made id (span_without_hold (span_at made id)) (omega (arith, more)) (omega (arith, l, more)) q)
 
 alive_child : (made : List Span) (o : Option ℕ) → IfSome o (λ p. IsLive made p) → (q : ℕ) → alive (with_hold_of_child made o) q ≡ alive made q
 alive_child made None live q = refl
@@ -101,12 +101,12 @@ keys r = keys_of r.spans
 op_keys : (id at : ℕ) (op : Op) (r : Recording) → keys (with_applied id at op r) ≡ keys r
 op_keys id at op r = update_keys id (λ told. after_op told at op) r.spans
 
-under_keys : (o : Option Context) (id at : ℕ) (r : Recording) → keys (started_under o id at r) ≡ keys r
+under_keys : (o : Option Context) (id at : ℕ) (r : Recording) → keys (with_start_under o id at r) ≡ keys r
 under_keys None id at r = refl
 under_keys (Some under) id at r = update_keys id _ r.spans
 
 start_keys : (id at : ℕ) (r : Recording) → keys (with_start id at r) ≡ keys r
-start_keys id at r = under_keys (waiting_context (data_at id r.spans)) id at r
+start_keys id at r = under_keys (start_context (data_at id r.spans)) id at r
 
 starts_keys : (o : Option ℕ) (at : ℕ) (r : Recording) → keys (with_starts o at r) ≡ keys r
 starts_keys None at r = refl
@@ -115,7 +115,7 @@ starts_keys (Some id) at r = start_keys id at r
 made_keys : (id : ℕ) (lane : Lane) (at : ℕ) (parent : Parent) (current : Option ℕ) (callsite : Callsite) (values : ValueSet) (r : Recording) → keys (with_new_recorded id lane at parent current callsite values r) ≡ keys r ++ id ∷ []
 made_keys id lane at parent current callsite values r =
     let source = parent_source r.settings.activation parent current in
-    starts_keys (source_of r.settings.eager id) at (made_under source id lane at parent callsite values r.settings r.counting (with_starts source at r))
+    starts_keys (source_of r.settings.eager id) at (with_span_under source id lane at parent callsite values r.settings r.counting (with_starts source at r))
     ∙ map-append (λ (e : ℕ × SpanData). e.0) (with_starts source at r).spans _ ∙ ap (λ (ks : List ℕ). ks ++ id ∷ []) (starts_keys source at r)
 
 link_keys : (id at : ℕ) (o : Option SpanContext) (spans : List (ℕ × SpanData)) → keys_of (with_link id at o spans) ≡ keys_of spans
@@ -216,7 +216,7 @@ close_kept x r id at last keeps q =
     let one = once_some (span_at x.made id).holds (omega (arith, last)) in
     let less = close_count id at q r (omega (arith, own, one)) in
     let was = keeps q in
-    let now = less_hold (span_at x.made id) in
+    let now = span_without_hold (span_at x.made id) in
     elim (cases_eq q id) [
       | inl here ↦ (
           let h = holds_set x.made id now (made_if_held x.made id (omega (arith, last))) q here in
@@ -242,10 +242,10 @@ call_kept x r (Follows id from at) t sound allowed h keeps = kept x x r t (λ q.
 call_kept x r (Event lane at parent site callsite values) t sound allowed h keeps = kept x x r t (λ q. refl) (ap keys h ∙ event_keys (parent_on (entries_on lane.id x.lanes) parent) at callsite values r) keeps
 call_kept x r (Enter id at before later) t sound allowed h keeps =
     kept x (with_span_entry x id before.id) r t (alive_entered x id before.id allowed)
-    (if_known (knows_span id r.spans) (Enters r id at before later t) (Stays r before later t) r t h (λ e. ap keys e.is ∙ entry_keys id before.id at e.attached r) (λ e. ap keys e.0)) keeps
+    (if_known (knows_span id r.spans) (Enters r id at before later t) (ChangesNothing r before later t) r t h (λ e. ap keys e.is ∙ entry_keys id before.id at e.attached r) (λ e. ap keys e.0)) keeps
 call_kept x r (Exit id at before later) t sound allowed h keeps =
     kept x (with_span_exit x id before.id) r t (alive_exited x id before.id allowed)
-    (if_known (knows_span id r.spans) (Exits r id at before later t) (Stays r before later t) r t h (λ e. ap keys e.is ∙ exit_keys id before.id at r) (λ e. ap keys e.0)) keeps
+    (if_known (knows_span id r.spans) (Exits r id at before later t) (ChangesNothing r before later t) r t h (λ e. ap keys e.is ∙ exit_keys id before.id at r) (λ e. ap keys e.0)) keeps
 call_kept x r (CloneSpan id) t sound allowed h keeps = kept x (spans_after_call x (CloneSpan id)) r t (alive_held x.made id allowed) (ap keys h) keeps
 call_kept x r (TryClose id at) t sound allowed h keeps =
     let holds = (span_at x.made id).holds in
@@ -263,12 +263,12 @@ fold_kept at _ _ _ (releases id moment x y own rest) r keeps =
     let close : Recording → ℕ → Recording = λ s n. with_close n at s in
     let holds = (span_at x.made id).holds in
     let z : Spans = record x { made = without_hold x.made id } in
-    let those = closed_in (next_of x.made id) z y rest in
+    let those = closed_in (parent_to_release x.made id) z y rest in
     elim (cases_eq holds 1) [
       | inl last ↦ subst (λ (ids : List ℕ). KeepsLive y (fold close r ids)) (sym (cond-true {A = List ℕ} (holds == 1) (id ∷ those) those (eq-eqb holds 1 last)))
-          (fold_kept at (next_of x.made id) z y rest (with_close id at r) (close_kept x r id at last keeps))
+          (fold_kept at (parent_to_release x.made id) z y rest (with_close id at r) (close_kept x r id at last keeps))
       | inr several ↦ subst (λ (ids : List ℕ). KeepsLive y (fold close r ids)) (sym (cond-false {A = List ℕ} (holds == 1) (id ∷ those) those (ne_eqb holds 1 several)))
-          (fold_kept at (next_of x.made id) z y rest r (release_kept x r id own several keeps))
+          (fold_kept at (parent_to_release x.made id) z y rest r (release_kept x r id own several keeps))
     ]
 
 pub chain_kept : (at : ℕ) (next : Option ℕ) (x y : Spans) (r t : Recording) → RecordsChain at next x y r t → KeepsLive x r → KeepsLive y t
@@ -284,7 +284,7 @@ applied_keys (Some told) spans now id at op (Some (Err memory)) h = ap (λ (xs :
 
 pub part_keys : (r : Recording) (call : PartCall) (t : Recording) → RecordsPart r call t → keys t ≡ keys r
 part_keys r (Applies id at op answer) t h = applied_keys (data_at id r.spans) r.spans t.spans id at op answer h.0
-part_keys r (Shows id at answer) t h = ap keys h.0 ∙ start_keys id at r
+part_keys r (GivesContext id at answer) t h = ap keys h.0 ∙ start_keys id at r
 
 applied_answer : (o : Option SpanData) (spans now : List (ℕ × SpanData)) (id at : ℕ) (op : Op) (answer : Option (Result OpReply Memory)) → AppliesTo o spans id at op answer now → is_some answer ≡ is_some o
 applied_answer None spans now id at op answer h = ap is_some h.0
@@ -298,8 +298,8 @@ context_some (Some told) = refl
 
 pub part_answer : (x : Spans) (r : Recording) (call : PartCall) (t : Recording) → RecordsPart r call t → KeepsLive x r → IsAnsweredLive x call
 part_answer x r (Applies id at op answer) t h keeps = applied_answer (data_at id r.spans) r.spans t.spans id at op answer h.0 ∙ told_live x r keeps id
-part_answer x r (Shows id at answer) t h keeps =
-    ap is_some h.1 ∙ context_some (data_at id t.spans) ∙ told_live x t (kept x x r t (λ q. refl) (part_keys r (Shows id at answer) t h) keeps) id
+part_answer x r (GivesContext id at answer) t h keeps =
+    ap is_some h.1 ∙ context_some (data_at id t.spans) ∙ told_live x t (kept x x r t (λ q. refl) (part_keys r (GivesContext id at answer) t h) keeps) id
 
 -- ---- where events may be counted
 
@@ -331,9 +331,9 @@ begins_kept settings counting id = sym (once_none (span_at [] id).holds (ap (λ 
 
 module _ {S : Type 0} (spans : S → Spans) (does : S → SubscriberCall → S → Type 0) (sound : (s : S) (call : SubscriberCall) (t : S) → does s call t → IsSound (spans s))
     (allowed : (s : S) (call : SubscriberCall) (t : S) → does s call t → Allowed (spans s) call) (shows : (s : S) (call : SubscriberCall) (t : S) → does s call t → spans t ≡ spans_after_call (spans s) call) where
-  pub world_kept : (old new : Worlds S) (dispatch : ℕ) (call : SubscriberCall) (t : Recording) → Replaced (λ s u. does s call u) old new dispatch
-      → (IsSound (member_of spans no_spans old dispatch) → Allowed (member_of spans no_spans old dispatch) call → KeepsLive (spans_after_call (member_of spans no_spans old dispatch) call) t)
-      → KeepsLive (member_of spans no_spans new dispatch) t
+  pub world_kept : (old new : WorldValue S) (dispatch : ℕ) (call : SubscriberCall) (t : Recording) → Replaced (λ s u. does s call u) old new dispatch
+      → (IsSound (read_subscriber spans no_spans old dispatch) → Allowed (read_subscriber spans no_spans old dispatch) call → KeepsLive (spans_after_call (read_subscriber spans no_spans old dispatch) call) t)
+      → KeepsLive (read_subscriber spans no_spans new dispatch) t
   world_kept old new dispatch call t r step =
       let R : S → S → Type 0 = λ s u. does s call u in
       let was = seen_before R old new dispatch r spans no_spans in

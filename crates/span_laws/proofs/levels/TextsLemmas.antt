@@ -3,7 +3,7 @@ use Rattle.std.proofs.Common.{◌≡◌, ℕ, ◌+◌, List, [], ◌∷◌, ◌+
 use Rattle.std.specs.Str.{trim}
 use Rattle.env_directives.specs.reading.Faults.{HasEmptyField, HasFault, HasNoLevel}
 use Rattle.env_directives.specs.reading.Forms.{IsDirective}
-use Rattle.env_directives.specs.reading.Reading.{DirectiveRead, reading}
+use Rattle.env_directives.specs.reading.Reading.{DirectiveRead, read_directive}
 use Rattle.env_directives.specs.reading.Separators.{comma_pieces}
 use Rattle.env_directives.specs.declared.directive.ParseError.{ParseError}
 use Rattle.env_directives.specs.declared.directive.ParseError.TheVariants as fault
@@ -15,7 +15,7 @@ use Rattle.env_filter.specs.texts.Pieces.{IsFirstFault, ReadsPiece, ReadsAll, Re
 use Rattle.span_script.proofs.filter.TextsLemmas.{all_read, all_refused}
 
 -- a text has the fault that it is read with
-faulty : (text : List ℕ) (cause : ParseError) → ◌≡◌ {A = DirectiveRead} (reading false text) (Err cause) → HasFault false text cause × (is_memory cause ≡ false)
+faulty : (text : List ℕ) (cause : ParseError) → ◌≡◌ {A = DirectiveRead} (read_directive false text) (Err cause) → HasFault false text cause × (is_memory cause ≡ false)
 faulty text fault.Shape is = (fault_is false text (Err fault.Shape) is, refl)
 faulty text fault.Level is = (fault_is false text (Err fault.Level) is, refl)
 faulty text fault.Field is = (fault_is false text (Err fault.Field) is, refl)
@@ -27,9 +27,9 @@ faulty text fault.Memory is = absurd (subst (Explained (IsDirective false text) 
 -- each piece is read as something
 piece_read : (n : ℕ) (piece : List ℕ) → (ds : List Directive) × (is : List Ignored) × ReadsPiece false n piece ds is
 piece_read n [] = ([], [], tt)
-piece_read n (b ∷ bs) = by_read (reading false (trim (b ∷ bs))) refl
+piece_read n (b ∷ bs) = by_read (read_directive false (trim (b ∷ bs))) refl
   where
-    by_read : (r : DirectiveRead) → reading false (trim (b ∷ bs)) ≡ r → (ds : List Directive) × (is : List Ignored) × ReadsPiece false n (b ∷ bs) ds is
+    by_read : (r : DirectiveRead) → read_directive false (trim (b ∷ bs)) ≡ r → (ds : List Directive) × (is : List Ignored) × ReadsPiece false n (b ∷ bs) ds is
     by_read (Ok d) is = (d ∷ [], [], subst (Explained (IsDirective false (trim (b ∷ bs))) (HasNoLevel (trim (b ∷ bs))) (HasEmptyField (trim (b ∷ bs)))) is (reading_explained false (trim (b ∷ bs))))
     by_read (Err cause) is =
         let has = faulty (trim (b ∷ bs)) cause is in

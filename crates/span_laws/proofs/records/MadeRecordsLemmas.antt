@@ -1,6 +1,6 @@
 -- Each record is that of a span which a request of the history made, by what that says.
 use Rattle.std.proofs.Common.{◌≡◌, ℕ, ◌+◌, ◌<◌, ◌≤◌, List, [], ◌∷◌, ◌++◌, length, fold, Option, Some, None, Ok, refl, sym, ap, subst, ◌∙◌, arith, inl, inr}
-use Rattle.span_laws.proofs.Common.{get_or_push, length_push, cases_eq, nat_tests, Context, SpanContext, Record, ids_of, recorder_ids, Making, TimedOp, SpanData, data_at_making, after_op, after_stamped, Stands, MomentsRise, content_is, parent_is, Request, effect_of, Setup, Effect, History, MadeSpan, Tables, after_effect, made_of, no_made_span, no_tables, tables, with_item, IsHistory, none, more, occurrences, IsRecordOf, IsMadeWith, EachRecord, IsRecord, all_ops, closed_at, records_of_history, place_in, starting_order}
+use Rattle.span_laws.proofs.Common.{get_or_push, length_push, cases_eq, nat_tests, Context, SpanContext, Record, ids_of, recorder_ids, Making, TimedOp, SpanData, data_at_making, after_op, after_stamped, Represents, MomentsRise, content_is, parent_is, Request, effect_of, Setup, Effect, History, MadeSpan, Tables, after_effect, made_of, no_made_span, no_tables, tables, with_item, IsHistory, none, more, occurrences, IsRecordOf, IsMadeWith, EachRecord, IsRecord, all_ops, closed_at, records_of_history, place_in, starting_order}
 use Rattle.std.proofs.lemmas.List.{append-nil}
 use Rattle.otel_state.specs.declared.op.Op.TheVariants as ops
 use Rattle.span_laws.proofs.records.HistoriesLemmas.{IsClosed, done_in, whole}
@@ -20,10 +20,10 @@ module _ (setup : Setup) (first : SpanData) (began_at : ℕ) (one other : Making
   abbrev last : SpanData
   last = fold after_stamped first own_ops
 
-  one_stands : Stands one (all_ops one a.update own_ops) last
+  one_stands : Represents one (all_ops one a.update own_ops) last
   one_stands = ap (λ (t : SpanData). fold after_stamped t own_ops) (a.is ∙ ap (λ n. after_op (data_at_making one) n (ops.Update a.update)) (sym a.made_at))
 
-  other_stands : Stands other (all_ops other b.update own_ops) last
+  other_stands : Represents other (all_ops other b.update own_ops) last
   other_stands = ap (λ (t : SpanData). fold after_stamped t own_ops) (b.is ∙ ap (λ n. after_op (data_at_making other) n (ops.Update b.update)) (sym b.made_at))
 
   same_moment : one.made_at ≡ other.made_at

@@ -1,6 +1,6 @@
 -- What a request sees of a span's own context is that of the span's record.
 use Rattle.std.proofs.Common.{◌≡◌, ℕ, ◌<◌, ◌&&◌, List, [], ◌∷◌, ◌++◌, Bool, true, false, fold, flat_map, filter, map, not, ◌==◌, Option, Some, None, Ok, refl, sym, ap, ap₂, subst, ◌∙◌, arith, append_assoc, if◌then◌else◌, is_some, filter_map, slice_get}
-use Rattle.span_laws.proofs.Common.{AllByRecursion, cons_option, fold-append, flat_map-append, Context, SpanContext, Record, ids_of, recorder_ids, TimedOp, deed, before_start, is_start, last_or, own_of, SpanData, own_is, parent_is, with_start, parent_source, own_or, data_at, current_of, is_in, RequestParent, Request, here_at, effect_of, is_open, parent_at, Setup, Effect, History, MadeSpan, Scope, Tables, after_effect, made_of, no_tables, tables, is_drop, IsHistory, occurrences, HasContextOf, SeesOwn, context_of_lane, context_span, parent_context, EachRecord, all_ops, ops_from, ops_in, ops_of, records_of_history, start_in, place_in, starting_order, starts_of, with_started}
+use Rattle.span_laws.proofs.Common.{AllByRecursion, cons_option, fold-append, flat_map-append, Context, SpanContext, Record, ids_of, recorder_ids, TimedOp, deed, before_start, is_start, last_or, own_of, SpanData, own_is, parent_is, with_start, parent_source, own_context_or, data_at, current_of, is_in, RequestParent, Request, here_at, effect_of, is_open, parent_at, Setup, Effect, History, MadeSpan, Scope, Tables, after_effect, made_of, no_tables, tables, is_drop, IsHistory, occurrences, HasContextOf, SeesOwn, context_of_lane, context_span, parent_context, EachRecord, all_ops, ops_from, ops_in, ops_of, records_of_history, start_in, place_in, starting_order, starts_of, with_started}
 use Rattle.std.specs.Option.{option_to_list}
 use Rattle.otel_base.specs.Stack.{empty_context}
 use Rattle.otel_state.specs.declared.op.Op.TheVariants as ops
@@ -200,7 +200,7 @@ sees_own setup h legal = each_map (IsClosed setup (tables setup h).spans h) (See
     seen p r some c fore rest e up is starts =
         let step = legal_step setup h legal fore rest e is in
         let own = own_seen setup fore rest e step.2 step.0 step.3 p starts r (subst (λ (x : History). IsClosed setup (tables setup x).spans x p r) is c) in
-        ap (own_or empty_context) own.1 ∙ ap with_ids own.2
+        ap (own_context_or empty_context) own.1 ∙ ap with_ids own.2
 
 above_is : (activation : Bool) (under : RequestParent) (up : Scope) (current : Option ℕ) → parent_source activation (parent_at under up) current ≡ context_span activation under up current
 above_is activation request_parent.Root up current = refl
@@ -216,10 +216,10 @@ context_is_own activation current setup t at id request_parent.Root up p told ac
 context_is_own activation current setup t at id (request_parent.Under handle) [] p told active now is seen = absurd (cc is)
 context_is_own activation current setup t at id (request_parent.Under handle) (s ∷ up) p told active now is seen =
     let same : s ≡ p = cc is in
-    ap (λ (q : ℕ). own_or empty_context (data_at q (with_start q at t.recording).spans)) same ∙ ap (own_or empty_context) seen
+    ap (λ (q : ℕ). own_context_or empty_context (data_at q (with_start q at t.recording).spans)) same ∙ ap (own_context_or empty_context) seen
 context_is_own true current setup t at id request_parent.Contextual up p told active now is seen = absurd (cc is)
 context_is_own false current setup t at id request_parent.Contextual up p told active now is seen =
-    ap (λ (b : Bool). context_of_lane t at id (if b then None else current_of (t.entries id))) active ∙ ap (context_of_lane t at id) (now ∙ is) ∙ ap (own_or _) seen
+    ap (λ (b : Bool). context_of_lane t at id (if b then None else current_of (t.entries id))) active ∙ ap (context_of_lane t at id) (now ∙ is) ∙ ap (own_context_or _) seen
 
 pub is_under : (setup : Setup) (h : History) → IsHistory setup h → EachRecord (HasContextOf setup h) (tables setup h).closed (records_of_history setup h)
 is_under setup h legal = each_map (IsClosed setup (tables setup h).spans h) (HasContextOf setup h) (tables setup h).closed (records_of_history setup h) put (whole setup h legal).each

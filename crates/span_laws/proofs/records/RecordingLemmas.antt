@@ -1,6 +1,6 @@
 -- What is recorded of the open spans, as an effect starts spans, makes one, does ops and closes spans.
 use Rattle.std.proofs.Common.{◌≡◌, ℕ, ◌+◌, ◌<◌, ◌≤◌, ◌==◌, ◌&&◌, ◌||◌, List, [], ◌∷◌, ◌++◌, length, Bool, true, false, cond, not, fold, Option, Some, None, refl, sym, ap, subst, ◌∙◌, arith, inl, inr, append_assoc, if◌then◌else◌, is_some}
-use Rattle.span_laws.proofs.Common.{AllByRecursion, length_push, cases_Bool, cases_eq, cond-true, cond-false, nat_tests, Context, SpanContext, Record, ids_of, recorder_ids, Op, GREATEST, content, TimedOp, deed, parent_context_of, SpanData, record_of, MomentsRise, open_by, data_at, waiting_context, context_unless_started, Recording, started_under, with_start, with_starts, with_applied, without_closed, with_close, data_after, told_at_op, told_at_removed, is_in, Setup, MadeSpan, SpanOp, Effect, with_span_made, occurrences, EachRecord, all_ops, start_in, with_started, place_in}
+use Rattle.span_laws.proofs.Common.{AllByRecursion, length_push, cases_Bool, cases_eq, cond-true, cond-false, nat_tests, Context, SpanContext, Record, ids_of, recorder_ids, Op, GREATEST, content, TimedOp, deed, parent_context_of, SpanData, record_of, MomentsRise, open_by, data_at, start_context, context_unless_started, Recording, with_start_under, with_start, with_starts, with_applied, without_closed, with_close, data_after, told_at_op, told_at_removed, is_in, Setup, MadeSpan, SpanOp, Effect, with_span_made, occurrences, EachRecord, all_ops, start_in, with_started, place_in}
 use Rattle.std.proofs.lemmas.List.{append-nil}
 use Rattle.std.proofs.lemmas.Bool.{eq-eqb, ne_eqb, true≢false}
 use Rattle.otel_state.specs.declared.op.Op.TheVariants as ops
@@ -57,7 +57,7 @@ same_record setup first done same place there at r alike is c =
       };
     }
 
-start_finished : (under : Option Context) (id at : ℕ) (r : Recording) → (started_under under id at r).finished ≡ r.finished
+start_finished : (under : Option Context) (id at : ℕ) (r : Recording) → (with_start_under under id at r).finished ≡ r.finished
 start_finished None id at r = refl
 start_finished (Some context) id at r = refl
 
@@ -81,7 +81,7 @@ module _ (setup : Setup) (first : ℕ → SpanData) (now : ℕ) (most : now ≤ 
     Now order done r = AreStories setup first order done opened now is_known n r
 
     start_first : (order : List ℕ) (done : ℕ → SpanContext → List TimedOp) (r : Recording) (id : ℕ) → Now order done r → (f : IsStory setup (data_at id r.spans) (first id) (place_in order id) (done id) (opened id) now) → f.told.own ≡ None → is_in id order ≡ false
-        → Now (order ++ id ∷ []) (begun_by now order (id ∷ []) done) (started_under (Some f.told.parent) id now r)
+        → Now (order ++ id ∷ []) (begun_by now order (id ∷ []) done) (with_start_under (Some f.told.parent) id now r)
     start_first order done r id stories f unstarted out =
         let own : SpanContext = recorder_ids (r.started + 1) (ids_of f.told.parent) in
         let op : Op = ops.Start own in
@@ -123,14 +123,14 @@ module _ (setup : Setup) (first : ℕ → SpanData) (now : ℕ) (most : now ≤ 
           | inl there ↦ absurd (let some = present 1 order id there in omega (arith, some, none))
           | inr out ↦ out
         ] in
-        let under = ap waiting_context f.is ∙ ap (λ (o : Option SpanContext). context_unless_started o f.told.parent) unstarted in
-        subst (λ (u : Option Context). Now (with_started order id) (begun_by now order (id ∷ []) done) (started_under u id now r)) (sym under)
-        (subst (λ (o : List ℕ). Now o (begun_by now order (id ∷ []) done) (started_under (Some f.told.parent) id now r)) (sym (cond-false {A = List ℕ} (is_in id order) order (order ++ id ∷ []) out))
+        let under = ap start_context f.is ∙ ap (λ (o : Option SpanContext). context_unless_started o f.told.parent) unstarted in
+        subst (λ (u : Option Context). Now (with_started order id) (begun_by now order (id ∷ []) done) (with_start_under u id now r)) (sym under)
+        (subst (λ (o : List ℕ). Now o (begun_by now order (id ∷ []) done) (with_start_under (Some f.told.parent) id now r)) (sym (cond-false {A = List ℕ} (is_in id order) order (order ++ id ∷ []) out))
         (start_first order done r id stories f unstarted out))
     start_by order done r id stories f (Some own) started is =
         let there = placed order id is.1 in
-        let under = ap waiting_context f.is ∙ ap (λ (o : Option SpanContext). context_unless_started o f.told.parent) started in
-        subst (λ (u : Option Context). Now (with_started order id) (begun_by now order (id ∷ []) done) (started_under u id now r)) (sym under)
+        let under = ap start_context f.is ∙ ap (λ (o : Option SpanContext). context_unless_started o f.told.parent) started in
+        subst (λ (u : Option Context). Now (with_started order id) (begun_by now order (id ∷ []) done) (with_start_under u id now r)) (sym under)
         (subst (λ (o : List ℕ). Now o (begun_by now order (id ∷ []) done) r) (sym (cond-true {A = List ℕ} (is_in id order) order (order ++ id ∷ []) there))
         (same_stories order done (begun_by now order (id ∷ []) done) opened is_known is_known n r (not_twice order id done there) (λ s is. is) stories))
 
@@ -227,7 +227,7 @@ module _ (setup : Setup) (first : ℕ → SpanData) (now : ℕ) (most : now ≤ 
             settings_are = j.settings_are;
             counting_is = j.counting_is;
           }),
-          ap (λ (t : Recording). t.finished) is ∙ ap (λ (rs : List Record). rs ++ record_of f.told now ∷ []) (start_finished (waiting_context (data_at id r.spans)) id now r),
+          ap (λ (t : Recording). t.finished) is ∙ ap (λ (rs : List Record). rs ++ record_of f.told now ∷ []) (start_finished (start_context (data_at id r.spans)) id now r),
           record_is setup (first id) (data_at id s.spans) (place_in (with_started order id) id) (begun_by now order (id ∷ []) done id) (opened id) now f none some,
         )
 
@@ -285,11 +285,11 @@ module _ (setup : Setup) (first : ℕ → SpanData) (now : ℕ) (most : now ≤ 
 
 starts_finished : (at : ℕ) (r : Recording) (ids : List ℕ) → (fold (λ r s. with_start s at r) r ids).finished ≡ r.finished
 starts_finished at r [] = refl
-starts_finished at r (id ∷ ids) = starts_finished at (with_start id at r) ids ∙ start_finished (waiting_context (data_at id r.spans)) id at r
+starts_finished at r (id ∷ ids) = starts_finished at (with_start id at r) ids ∙ start_finished (start_context (data_at id r.spans)) id at r
 
 begins_finished : (o : Option ℕ) (at : ℕ) (r : Recording) → (with_starts o at r).finished ≡ r.finished
 begins_finished None at r = refl
-begins_finished (Some id) at r = start_finished (waiting_context (data_at id r.spans)) id at r
+begins_finished (Some id) at r = start_finished (start_context (data_at id r.spans)) id at r
 
 ops_finished : (at : ℕ) (r : Recording) (ds : List SpanOp) → (fold (λ r d. with_applied d.span at d.op r) r ds).finished ≡ r.finished
 ops_finished at r [] = refl

@@ -1,6 +1,6 @@
 -- What an open span has come to: its making and its ops so far.
 use Rattle.std.proofs.Common.{◌≡◌, ℕ, ◌+◌, ◌-◌, ◌<◌, ◌≤◌, List, [], ◌∷◌, ◌++◌, Bool, true, false, fold, Option, Some, None, refl, sym, ap, subst, ◌∙◌, arith, if◌then◌else◌, min}
-use Rattle.span_laws.proofs.Common.{fold_push, Context, SpanContext, Record, ids_of, ids_or_zeros, recorder_ids, Op, GREATEST, Making, content, Deed, TimedOp, deed, parent_context_of, SpanData, after_op, first_start, unless_started, Stands, record_of, MomentsRise, open_by, appended, entries_is, parent_is, content_is, data_after, Setup, IsMadeWith, IsRecord, all_ops}
+use Rattle.span_laws.proofs.Common.{fold_push, Context, SpanContext, Record, ids_of, ids_or_zeros, recorder_ids, Op, GREATEST, Making, content, Deed, TimedOp, deed, parent_context_of, SpanData, after_op, first_start, unless_started, Represents, record_of, MomentsRise, open_by, appended, entries_is, parent_is, content_is, data_after, Setup, IsMadeWith, IsRecord, all_ops}
 use Rattle.otel_state.specs.declared.op.Op.TheVariants as ops
 
 -- the moment of the last op, else of the making
@@ -30,7 +30,7 @@ pub record IsStory (setup : Setup) (o : Option SpanData) (first : SpanData) (pla
   pub making : Making
   pub began : IsMadeWith setup first.made_at first making
   pub later : List TimedOp
-  pub stands : Stands making (all_ops making began.update later) told
+  pub stands : Represents making (all_ops making began.update later) told
   pub in_order : MomentsRise making.made_at (all_ops making began.update later)
   pub last : last_at making.made_at (all_ops making began.update later) ≤ now
   pub rest : (own : SpanContext) → IsOwn told.own own → later ≡ done own

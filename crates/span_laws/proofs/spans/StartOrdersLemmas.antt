@@ -1,6 +1,6 @@
 -- Which spans start, in which order, read off what is recorded.
 use Rattle.std.proofs.Common.{◌≡◌, ℕ, ◌<◌, ◌≤◌, ◌==◌, ◌&&◌, List, [], ◌∷◌, ◌++◌, length, Bool, true, false, cond, not, fold, Option, Some, None, Ok, refl, sym, ap, ◌∙◌, arith, inl, inr, append_assoc}
-use Rattle.span_laws.proofs.Common.{AllByRecursion, cases_Bool, cond-true, cond-false, nat_tests, Context, SpanContext, GREATEST, TimedOp, SpanData, Recording, with_start, with_close, data_at, waiting_context, context_unless_started, is_in, Setup, Request, Effect, History, Tables, done_by, tables, effect_of, is_drop, IsHistory, occurrences, with_started, starting_order, place_in}
+use Rattle.span_laws.proofs.Common.{AllByRecursion, cases_Bool, cond-true, cond-false, nat_tests, Context, SpanContext, GREATEST, TimedOp, SpanData, Recording, with_start, with_close, data_at, start_context, context_unless_started, is_in, Setup, Request, Effect, History, Tables, done_by, tables, effect_of, is_drop, IsHistory, occurrences, with_started, starting_order, place_in}
 use Rattle.std.specs.Option.{option_to_list}
 use Rattle.std.proofs.lemmas.List.{append-nil}
 use Rattle.span_laws.proofs.records.HistoriesLemmas.{closing_once, did, done_in, fits, moved, shut, started_push, whole}
@@ -18,7 +18,7 @@ if_waiting None s = []
 if_waiting (Some under) s = s ∷ []
 
 abbrev pub starting : ℕ → Recording → List ℕ
-starting s r = if_waiting (waiting_context (data_at s r.spans)) s
+starting s r = if_waiting (start_context (data_at s r.spans)) s
 
 -- those of some spans that start, one after the other, and those that start as they close
 abbrev pub starts_from : ℕ → Recording → List ℕ → List ℕ
@@ -40,11 +40,11 @@ module _ (setup : Setup) (first : ℕ → SpanData) (now : ℕ) (most : now ≤ 
         | inl there ↦ absurd (let some = present 1 order id there in omega (arith, some, none))
         | inr out ↦ out
       ] in
-      let under = ap waiting_context f.is ∙ ap (λ (o : Option SpanContext). context_unless_started o f.told.parent) unstarted in
+      let under = ap start_context f.is ∙ ap (λ (o : Option SpanContext). context_unless_started o f.told.parent) unstarted in
       cond-false {A = List ℕ} (is_in id order) order (order ++ id ∷ []) out ∙ ap (λ (u : Option Context). order ++ if_waiting u id) (sym under)
   start_by order done r id f (Some own) started is =
       let there = placed order id is.1 in
-      let under = ap waiting_context f.is ∙ ap (λ (o : Option SpanContext). context_unless_started o f.told.parent) started in
+      let under = ap start_context f.is ∙ ap (λ (o : Option SpanContext). context_unless_started o f.told.parent) started in
       cond-true {A = List ℕ} (is_in id order) order (order ++ id ∷ []) there ∙ sym (append-nil order) ∙ ap (λ (u : Option Context). order ++ if_waiting u id) (sym under)
 
   start_order : (order : List ℕ) (done : ℕ → SpanContext → List TimedOp) (is_known : ℕ → Bool) (r : Recording) (id : ℕ) → Now order done is_known r → is_known id ≡ true → with_started order id ≡ order ++ starting id r

@@ -1,6 +1,6 @@
 -- What the effect of each request does to handles, guards, spans and entries, whatever its kind.
 use Rattle.std.proofs.Common.{◌≡◌, ℕ, ◌≤◌, ◌==◌, ◌||◌, List, [], ◌∷◌, ◌++◌, length, not, Bool, true, false, cond, Option, Some, None, option_map, slice_set, slice_get, Ok, Err, refl, sym, ap, subst, ◌∙◌, arith, is_some}
-use Rattle.span_laws.proofs.Common.{AllByRecursion, nat_tests, Context, ids_of, is_valid, Op, LayerSettings, GREATEST, Making, deed, event_of, first_attributes, span_update, Recording, started_under, with_starts, parent_source, new_span_data, data_at, waiting_context, Callsite, ValueSet, Lane, is_in, current_of, Request, RequestParent, Call, Setup, span_site, event_site, Here, here_at, Resolved, refuse_if, ◌>>=◌, need, op_on, ops_effect, is_bad_moment, effect_of, effect_of_call, context_effect, own_context, attach_effect, detach_effect, activated_span, enter_effect, meets_full, entry_call, exit_effect, is_shared, is_full, callsite_of, update_ops, hooks_of_values, admits_at, reload_by, follow_effect, happens_at, is_open, holds, closed_of, is_borrowed, scope_at, parent_at, lane_in, new_span_data_at, span_effect, disabled_effect, clone_effect, drop_effect, current_scope, scope_or_current, exchange_effect, Scope, MadeSpan, SpanOp, ScopeGuard, FilterHook, Effect, Tables, with_item, either_after, slot_at, own_span, Fields, all_values, values_of, TextRead, text_read, is_drop, occurrences, IsMadeWith, at_making, any_counted, slot_open}
+use Rattle.span_laws.proofs.Common.{AllByRecursion, nat_tests, Context, ids_of, is_valid, Op, LayerSettings, GREATEST, Making, deed, event_of, first_attributes, span_update, Recording, with_start_under, with_starts, parent_source, new_span_data, data_at, start_context, Callsite, ValueSet, Lane, is_in, current_of, Request, RequestParent, Call, Setup, span_site, event_site, Here, here_at, Resolved, refuse_if, ◌>>=◌, need, op_on, ops_effect, is_bad_moment, effect_of, effect_of_call, context_effect, own_context, attach_effect, detach_effect, activated_span, enter_effect, meets_full, entry_call, exit_effect, is_shared, is_full, callsite_of, update_ops, hooks_of_values, admits_at, reload_by, follow_effect, happens_at, is_open, holds, closed_of, is_borrowed, scope_at, parent_at, lane_in, new_span_data_at, span_effect, disabled_effect, clone_effect, drop_effect, current_scope, scope_or_current, exchange_effect, Scope, MadeSpan, SpanOp, ScopeGuard, FilterHook, Effect, Tables, with_item, either_after, slot_at, own_span, Fields, all_values, values_of, TextRead, text_read, is_drop, occurrences, IsMadeWith, at_making, any_counted, slot_open}
 use Rattle.std.specs.Option.{option_to_list}
 use Rattle.std.proofs.lemmas.Bool.{eq-eqb, eqb-true}
 use Rattle.otel_metrics.specs.declared.measure.Measure.{Measure}
@@ -106,9 +106,9 @@ pub record IsFit (setup : Setup) (t : Tables) : Type 0 where
 -- settings stay with starts
 pub starts_keep : (o : Option ℕ) (at : ℕ) (r : Recording) → ((with_starts o at r).settings ≡ r.settings) × ((with_starts o at r).counting ≡ r.counting)
 starts_keep None at r = (refl, refl)
-starts_keep (Some id) at r = by_context (waiting_context (data_at id r.spans))
+starts_keep (Some id) at r = by_context (start_context (data_at id r.spans))
   where
-    by_context : (under : Option Context) → ((started_under under id at r).settings ≡ r.settings) × ((started_under under id at r).counting ≡ r.counting)
+    by_context : (under : Option Context) → ((with_start_under under id at r).settings ≡ r.settings) × ((with_start_under under id at r).counting ≡ r.counting)
     by_context None = (refl, refl)
     by_context (Some context) = (refl, refl)
 

@@ -1,6 +1,6 @@
 -- What is kept fits after an entry and after an exit.
 use Rattle.std.proofs.Common.{◌≡◌, ℕ, ◌+◌, ◌<◌, List, [], ◌∷◌, ◌++◌, length, cond, count_by, set, Option, Some, None, refl, sym, ap, subst, ◌∙◌, arith, inl, inr, ◌==◌, ◌&&◌}
-use Rattle.span_script.proofs.Common.{cases_eq, cases_Bool, cases_lt, cond-true, cond-false, and_from, length_push, get_or_past, get_or_push, get_or_append_left, sum_by-set, get_or-le-sum_by, Span, Entries, Spans, span_at, entries_on, with_entries, is_in, times_in, open_child_count, without_last, with_hold, less_hold, without_hold, with_span_entry, with_span_exit, HasOwnHold, IsLive, MayExit, count_push, any_if_counted, made_if_held, with_same, with_other, keeps_children, less_more, less_holds, times_without, first_if_in, slot_at, lanes_with, OpenGuard, names_span, guards_span, Balanced}
+use Rattle.span_script.proofs.Common.{cases_eq, cases_Bool, cases_lt, cond-true, cond-false, and_from, length_push, get_or_past, get_or_push, get_or_append_left, sum_by-set, get_or-le-sum_by, Span, Entries, Spans, span_at, entries_on, with_entries, is_in, times_in, open_child_count, without_last, with_hold, span_without_hold, without_hold, with_span_entry, with_span_exit, HasOwnHold, IsLive, MayExit, count_push, any_if_counted, made_if_held, with_same, with_other, keeps_children, less_more, less_holds, times_without, first_if_in, slot_at, lanes_with, OpenGuard, names_span, guards_span, Balanced}
 use Rattle.std.proofs.lemmas.Bool.{eq-eqb, eqb-true, ne_eqb}
 use Rattle.std.proofs.lemmas.List.{get_or-set_same, get_or-set_other}
 use Rattle.trace_base.proofs.HoldMoveLemmas.{entry_moves, exit_moves}
@@ -24,7 +24,7 @@ exit_children x id lane q live may =
           let more = may.1 (eqb-true (times_in id ids) 1 last) in
           let fewer = less_holds was in
           ap (λ (xs : List Span). open_child_count xs q) (cond-true {A = List Span} (times_in id ids == 1) (without_hold x.made id) x.made last)
-          ∙ keeps_children x.made id (less_hold was) (made_if_held x.made id live) (ap (λ (s : Span). s.parent) (less_more was (λ e. omega (arith, e, more)))) live (omega (arith, fewer, more)) q)
+          ∙ keeps_children x.made id (span_without_hold was) (made_if_held x.made id live) (ap (λ (s : Span). s.parent) (less_more was (λ e. omega (arith, e, more)))) live (omega (arith, fewer, more)) q)
       | inr several ↦ ap (λ (xs : List Span). open_child_count xs q) (cond-false {A = List Span} (times_in id ids == 1) (without_hold x.made id) x.made several)
     ]
 

@@ -1,6 +1,6 @@
 -- An entry on a lane with as many contexts as may be.
 use Rattle.std.proofs.Common.{◌≡◌, ℕ, ◌<◌, List, [], ◌∷◌, length, get_or, Bool, true, false, Option, Some, None, Err, map, refl, sym, ap, subst, ◌∙◌, arith, inl, inr, slice_get, Ok, ◌&&◌, ◌||◌, ◌≢◌}
-use Rattle.span_script.proofs.Common.{cases_Bool, cond-true, length-map, MAX_CONTEXTS, Context, EnterError, SpanData, data_at, knows_span, Recording, no_recording, Lane, Spans, Handle, Held, MeetsFullLane, Refusal, id_at, named_by, opened_by, Scope, Attached, Tables, slot_at, here_at, Resolved, refuse_if, ◌>>=◌, need, meets_full, enter_effect, entry_call, refused_entry, Views, State, state_of, LaneValue, lane_value, lane_at, StandsFor, IsKept, is_for_memory, held_by, held_of, Parts, FilterWithRoom, layer_or}
+use Rattle.span_script.proofs.Common.{cases_Bool, cond-true, length-map, MAX_CONTEXTS, Context, EnterError, SpanData, data_at, knows_span, Recording, no_recording, Lane, Spans, Handle, HeldSpan, MeetsFullLane, Refusal, id_at, named_by, opened_by, Scope, Attached, Tables, slot_at, here_at, Resolved, refuse_if, ◌>>=◌, need, meets_full, enter_effect, entry_call, refused_entry, Views, State, state_of, LaneValue, lane_value, lane_at, StandsFor, IsKept, is_for_memory, held_by, held_of, Parts, FilterWithRoom, layer_or}
 use Rattle.std.proofs.lemmas.Bool.{eq-eqb, eqb-true, true≢false}
 use Rattle.otel_base.specs.declared.enter_error.EnterError.TheVariants as errors
 use Rattle.span_script.specs.declared.reply.Refusal.TheVariants as refusal
@@ -73,13 +73,13 @@ module _ {S : Type 0} (spans : S → Spans) (views : Views S) (activates : S →
   -- so an entry that isn't refused doesn't meet a full lane
   pub meets_not : (t : Tables) → StandsFor now t → (line : Scope) → slot_at t.handles handle ≡ Some line → h.held ≡ held_of parts.dispatch line → (MeetsFullLane activates parts.world before h.held → ⊥) → meets_full now.setup.layer.activation line (t.contexts place_id) ≡ false
   meets_not t stands line there is not = elim (cases_Bool (meets_full now.setup.layer.activation line (t.contexts place_id))) [
-    | inl full ↦ absurd (not (subst (λ (x : Held). MeetsFullLane activates parts.world before x) (sym is) (meets_by t stands line there full)))
+    | inl full ↦ absurd (not (subst (λ (x : HeldSpan). MeetsFullLane activates parts.world before x) (sym is) (meets_by t stands line there full)))
     | inr free ↦ free
   ]
 
   -- and one that is refused so does
   pub meets_full_of : (t : Tables) → StandsFor now t → (line : Scope) → slot_at t.handles handle ≡ Some line → h.held ≡ held_of parts.dispatch line → MeetsFullLane activates parts.world before h.held → meets_full now.setup.layer.activation line (t.contexts place_id) ≡ true
-  meets_full_of t stands line there is meets = meets_of t stands line there (subst (λ (x : Held). MeetsFullLane activates parts.world before x) is meets)
+  meets_full_of t stands line there is meets = meets_of t stands line there (subst (λ (x : HeldSpan). MeetsFullLane activates parts.world before x) is meets)
 
   pub refuses_entry : (owns : Bool) (error : EnterError) (given : Refusal) → given ≡ refused_entry place error → (error ≡ errors.Full → MeetsFullLane activates parts.world before h.held) → is_for_memory given ≡ false → (t : Tables) → StandsFor now t → entry_call (here_at now.setup t at place) handle owns ≡ Err given
   refuses_entry owns errors.Memory given is full other t stands = absurd (true≢false (sym (ap is_for_memory is) ∙ other))

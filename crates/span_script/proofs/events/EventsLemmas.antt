@@ -1,5 +1,5 @@
 -- Ops on spans that leave all else as it is, served; and events.
-use Rattle.span_script.proofs.Common.{length-map, Measure, Token, Recording, no_recording, with_start, with_applied, Lane, Callsite, Kind, ValueSet, Parent, Worlds, FilterState, IsNewFilter, enables_in, Spans, span_at, entries_on, parent_on, SubscriberCall, member_of, spans_in, kept_in, Has, Reply, RequestParent, id_at, if_event, event_site, Scope, SpanOp, FilterHook, Effect, Tables, own_span, recorded_by, quiet_effect, Fields, all_values, text_filter, here_at, Resolved, ◌>>=◌, need, ops_on, effect_of_call, if_enabled, event_ops, event_effect, after_filter_hook, scope_at, parent_for, AreNamed, TellsNamed, TellsOnly, LetsThrough, Views, shown_of, State, state_of, lane_value, held_by, StandsFor, LanesFit, IsKept, Served, Parts, with_counted, with_event_by, AddsMeasures, CallsLaw, aside_in}
+use Rattle.span_script.proofs.Common.{length-map, Measure, Token, Recording, no_recording, with_start, with_applied, Lane, Callsite, Kind, ValueSet, Parent, WorldValue, FilterState, IsNewFilter, enables_in, Spans, span_at, entries_on, parent_on, SubscriberCall, read_subscriber, spans_in, kept_in, Has, Reply, RequestParent, id_at, if_event, event_site, Scope, SpanOp, FilterHook, Effect, Tables, own_span, recorded_by, quiet_effect, Fields, all_values, text_filter, here_at, Resolved, ◌>>=◌, need, ops_on, effect_of_call, if_enabled, event_ops, event_effect, after_filter_hook, scope_at, parent_for, AreNamed, TellsNamed, TellsOnly, LetsThrough, Views, shown_of, State, state_of, lane_value, held_by, StandsFor, LanesFit, IsKept, Served, Parts, with_counted, with_event_by, AddsMeasures, CallsLaw, aside_in}
 use Rattle.std.proofs.Common.{◌≡◌, ℕ, ◌<◌, List, [], ◌∷◌, length, Bool, true, false, fold, get_or, Option, Some, None, Ok, option_map, map, refl, sym, ap, subst, ◌∙◌, arith, slice_get, option_and_then, IfSome}
 use Rattle.otel_state.specs.fields.EventFields.{event_of}
 use Rattle.otel_state.specs.declared.op.Op.TheVariants as ops
@@ -81,14 +81,14 @@ told_is decides ids counting counter shown new scope id place mine within at cal
     by_counting (Some text) (Some f) same fresh [] = refl
     by_counting (Some text) (Some f) same fresh (s ∷ up) = ap (λ (b : Bool). with_counted b s at callsite values r) (takes f (text_filter text) same fresh) ∙ by_flag (admits (text_filter text).statics.directives callsite) s
 
-module _ {S : Type 0} (spans : S → Spans) (views : Views S) (attaches : S → Bool) (kept : S → ℕ → ℕ → ℕ) (is_whole : S → Type 0) (parts : Parts S) (new : Worlds S) where
+module _ {S : Type 0} (spans : S → Spans) (views : Views S) (attaches : S → Bool) (kept : S → ℕ → ℕ → ℕ) (is_whole : S → Type 0) (parts : Parts S) (new : WorldValue S) where
   -- spans were started, then ops were done on spans, of which the filter heard, some measures were added, and nothing else
   pub record Starts (at : ℕ) (ss : List ℕ) (o : List SpanOp) (heard : List FilterHook) (added : List Measure) : Type 0 where
     pub spans_same : spans_in spans new parts.dispatch ≡ spans_in spans parts.world parts.dispatch
     pub kept_same : kept_in kept new parts.dispatch ≡ kept_in kept parts.world parts.dispatch
     pub sites_same : new.sites ≡ parts.world.sites
-    pub recorded_is : member_of views.recorded no_recording new parts.dispatch ≡ done_by at o (started_by at ss (member_of views.recorded no_recording parts.world parts.dispatch))
-    pub filter_is : member_of views.filtered None new parts.dispatch ≡ option_map (λ f. fold after_filter_hook f heard) (member_of views.filtered None parts.world parts.dispatch)
+    pub recorded_is : read_subscriber views.recorded no_recording new parts.dispatch ≡ done_by at o (started_by at ss (read_subscriber views.recorded no_recording parts.world parts.dispatch))
+    pub filter_is : read_subscriber views.filtered None new parts.dispatch ≡ option_map (λ f. fold after_filter_hook f heard) (read_subscriber views.filtered None parts.world parts.dispatch)
     pub cached_same : new.cached ≡ parts.world.cached
     pub aside_is : AddsMeasures (aside_in views parts.world parts.dispatch) (aside_in views new parts.dispatch) added
     pub count : length new.subscribers ≡ length parts.world.subscribers
@@ -101,22 +101,22 @@ module _ {S : Type 0} (spans : S → Spans) (views : Views S) (attaches : S → 
   -- none, where nothing changed
   pub does_none : (at : ℕ) → new ≡ parts.world → Does at [] []
   does_none at same = record {
-    spans_same = ap (λ (w : Worlds S). spans_in spans w parts.dispatch) same;
-    kept_same = ap (λ (w : Worlds S). kept_in kept w parts.dispatch) same;
-    sites_same = ap (λ (w : Worlds S). w.sites) same;
-    recorded_is = ap (λ (w : Worlds S). member_of views.recorded no_recording w parts.dispatch) same;
-    filter_is = ap (λ (w : Worlds S). member_of views.filtered None w parts.dispatch) same ∙ heard_none (member_of views.filtered None parts.world parts.dispatch);
-    cached_same = ap (λ (w : Worlds S). w.cached) same;
+    spans_same = ap (λ (w : WorldValue S). spans_in spans w parts.dispatch) same;
+    kept_same = ap (λ (w : WorldValue S). kept_in kept w parts.dispatch) same;
+    sites_same = ap (λ (w : WorldValue S). w.sites) same;
+    recorded_is = ap (λ (w : WorldValue S). read_subscriber views.recorded no_recording w parts.dispatch) same;
+    filter_is = ap (λ (w : WorldValue S). read_subscriber views.filtered None w parts.dispatch) same ∙ heard_none (read_subscriber views.filtered None parts.world parts.dispatch);
+    cached_same = ap (λ (w : WorldValue S). w.cached) same;
     aside_is = adds_same views parts.world new parts.dispatch same;
-    count = ap (λ (w : Worlds S). length w.subscribers) same;
-    whole = λ has. subst (λ (w : Worlds S). Has is_whole w parts.dispatch) (sym same) has;
+    count = ap (λ (w : WorldValue S). length w.subscribers) same;
+    whole = λ has. subst (λ (w : WorldValue S). Has is_whole w parts.dispatch) (sym same) has;
   }
 
   abbrev now : State
   now = state_of spans views parts
 
   abbrev r : Recording
-  r = member_of views.recorded no_recording parts.world parts.dispatch
+  r = read_subscriber views.recorded no_recording parts.world parts.dispatch
 
   module _ (at place : ℕ) where
     abbrev then_parts : Parts S
@@ -139,14 +139,14 @@ module _ {S : Type 0} (spans : S → Spans) (views : Views S) (attaches : S → 
         let step = did.spans_same in
         let e : Effect = measures_then ss o heard added answer in
         let tokens = recorded_tokens (length t.spans) e r in
-        let rec_is : member_of views.recorded no_recording new parts.dispatch ≡ record (recorded_by (length t.spans) e r) { tokens = r.tokens } = did.recorded_is ∙ ap (λ (ts : List Token). record (recorded_by (length t.spans) e r) { tokens = ts }) tokens in
+        let rec_is : read_subscriber views.recorded no_recording new parts.dispatch ≡ record (recorded_by (length t.spans) e r) { tokens = r.tokens } = did.recorded_is ∙ ap (λ (ts : List Token). record (recorded_by (length t.spans) e r) { tokens = ts }) tokens in
         let settings = ap (λ (x : Recording). x.settings) rec_is ∙ recorded_settings (length t.spans) e r in
-        let setup : then.setup ≡ now.setup = ap (λ x. record now.setup { sites = x; layer = (member_of views.recorded no_recording new parts.dispatch).settings }) did.sites_same ∙ ap (λ x. record now.setup { layer = x }) settings in
+        let setup : then.setup ≡ now.setup = ap (λ x. record now.setup { sites = x; layer = (read_subscriber views.recorded no_recording new parts.dispatch).settings }) did.sites_same ∙ ap (λ x. record now.setup { layer = x }) settings in
         serve now then t e resolved answer stands is refl setup r.tokens rec_is
         (fits_step now t fits then e (quiet_step now then t e fits setup refl refl refl refl refl refl refl step))
         (λ s some. known_still now then t e r.tokens rec_is stands.recording s refl (subst (λ (x : Spans). 0 < (span_at x.made s).holds) step some))
         (all_same now then t.contexts setup refl refl (ap (λ (x : Recording). x.tokens) rec_is) stands.recording.attached)
-        (record { quiet = refl; before = member_of views.filtered None parts.world parts.dispatch; later = member_of views.filtered None new parts.dispatch; shown_before = refl; shown_later = refl; told = did.filter_is; known = known; cached = did.cached_same; aside = record { before = aside_in views parts.world parts.dispatch; later = aside_in views new parts.dispatch; shown_before = refl; shown_later = refl; waits_before = refl; waits_later = refl; adds = did.aside_is } })
+        (record { quiet = refl; before = read_subscriber views.filtered None parts.world parts.dispatch; later = read_subscriber views.filtered None new parts.dispatch; shown_before = refl; shown_later = refl; told = did.filter_is; known = known; cached = did.cached_same; aside = record { before = aside_in views parts.world parts.dispatch; later = aside_in views new parts.dispatch; shown_before = refl; shown_later = refl; waits_before = refl; waits_later = refl; adds = did.aside_is } })
 
     pub keeps_measures : (inv : IsKept spans views kept is_whole parts) (ss : List ℕ) (o : List SpanOp) (heard : List FilterHook) (added : List Measure) (known : AreKnown (length inv.tables.spans) heard (length inv.tables.spans)) (answer : Reply) (resolved : Resolved) → Starts at ss o heard added → resolved ≡ Ok (measures_then ss o heard added answer) → IsKept spans views kept is_whole then_parts
     keeps_measures inv ss o heard added known answer resolved did is =
@@ -170,7 +170,7 @@ module _ {S : Type 0} (spans : S → Spans) (views : Views S) (attaches : S → 
   module _ (does : S → SubscriberCall → S → Type 0) (law : CallsLaw spans views attaches kept is_whole does)
       (at place : ℕ) where
     module _ (under : RequestParent) (parent : Option Parent) (found : parent ≡ parent_for (map held_by parts.handles) under) (site : ℕ) (fields : Fields)
-        (before : Lane) (within : place < length parts.lanes) (here : before ≡ get_or parts.lanes place before) (enabled : Bool) (gate : LetsThrough (member_of views.filtered None parts.world parts.dispatch) parts.world.sites before.id site enabled)
+        (before : Lane) (within : place < length parts.lanes) (here : before ≡ get_or parts.lanes place before) (enabled : Bool) (gate : LetsThrough (read_subscriber views.filtered None parts.world parts.dispatch) parts.world.sites before.id site enabled)
         (did : TellsNamed does parts.world new before at parent site fields parts.dispatch enabled) (decides : Decides) where
       abbrev named : AreNamed (event_site parts.world.sites site) parent fields
       named = did.named
@@ -199,18 +199,18 @@ module _ {S : Type 0} (spans : S → Spans) (views : Views S) (attaches : S → 
       does_told t stands true told reached reaches =
           let rec = r in
           let shown = law.shown parts.world new parts.dispatch _ told.told in
-          let counter = member_of views.counter None parts.world parts.dispatch in
+          let counter = read_subscriber views.counter None parts.world parts.dispatch in
           let viewed = law.viewed parts.world new parts.dispatch _ told.told in
           record {
             spans_same = shown.spans_after;
             kept_same = shown.lanes;
-            sites_same = ap (λ (w : Worlds S). w.sites) told.told.others;
+            sites_same = ap (λ (w : WorldValue S). w.sites) told.told.others;
             recorded_is = viewed.0 ∙ ap (λ (o : Option ℕ). with_event_by counter o before.id at told.callsite values rec) reaches
                 ∙ ap (λ (c : Callsite). with_event_by counter (own_span reached) before.id at c values rec) (same_site told.callsite told.is)
                 ∙ told_is decides (map (λ (l : Lane). l.id) parts.lanes) parts.opening.counting counter stands.filtering.counter stands.filtering.new reached before.id place (id_seen parts.lanes place before within here) (let l = length-map parts.lanes (λ (x : Lane). x.id) in omega (arith, within, l)) at given (event_kind parts.world.sites site given named.given_is) values rec;
             filter_is = viewed.1;
             aside_is = subst (λ (c : Callsite). AddsMeasures (aside_in views parts.world parts.dispatch) (aside_in views new parts.dispatch) (measures c values)) (same_site told.callsite told.is) viewed.2;
-            cached_same = ap (λ (w : Worlds S). w.cached) told.told.others;
+            cached_same = ap (λ (w : WorldValue S). w.cached) told.told.others;
             count = shown.count;
             whole = shown.whole;
           }

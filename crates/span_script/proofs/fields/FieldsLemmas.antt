@@ -1,5 +1,5 @@
 -- Fields that are declared or not, recorded on spans, and asked for.
-use Rattle.span_script.proofs.Common.{list_all, cons_option, cond-true, cond-false, Recording, no_recording, Callsite, ValueSet, Parent, Worlds, Spans, SubscriberCall, member_of, Handle, Held, IsSite, RecordsAt, RecordsOn, callsite_in, field_at, field_in, place_under, RequestParent, id_at, span_site, event_site, Scope, Tables, slot_at, site_of, Effect, Fields, declared_value, declares, declared_by, all_values, values_of, values_by, Resolved, Refusal, here_at, ◌>>=◌, need, ops_effect, effect_of_call, event_effect, scope_at, new_effect, parent_for, named_values, Views, State, state_of, StandsFor, IsScope, IsKept, Served, held_by, held_of, Parts, get_or-map, CallsLaw}
+use Rattle.span_script.proofs.Common.{list_all, cons_option, cond-true, cond-false, Recording, no_recording, Callsite, ValueSet, Parent, WorldValue, Spans, SubscriberCall, read_subscriber, Handle, HeldSpan, IsSite, RecordsAt, RecordsOn, callsite_in, field_at, field_in, as_parent, RequestParent, id_at, span_site, event_site, Scope, Tables, slot_at, site_of, Effect, Fields, declared_value, declares, declared_by, all_values, values_of, values_by, Resolved, Refusal, here_at, ◌>>=◌, need, ops_effect, effect_of_call, event_effect, scope_at, new_effect, parent_for, named_values, Views, State, state_of, StandsFor, IsScope, IsKept, Served, held_by, held_of, Parts, get_or-map, CallsLaw}
 use Rattle.std.proofs.Common.{◌≡◌, ℕ, suc, ◌<◌, ◌≤◌, List, [], ◌∷◌, length, Bool, true, false, Option, Some, None, Result, Ok, Err, option_map, map, refl, sym, ap, subst, ◌∙◌, arith, ◌&&◌, is_some, slice_get, filter_map, option_and_then}
 use Rattle.trace_base.specs.declared.field.Field.{Field}
 use Rattle.trace_base.specs.Field.{place_of, named_field}
@@ -21,9 +21,9 @@ use Rattle.span_script.specs.declared.request.RequestParent.TheVariants as reque
 no_scope : (k : State) (t : Tables) → Fits k t → (lane : ℕ) (under : RequestParent) → parent_for k.handles under ≡ None → scope_at t lane under ≡ None
 no_scope k t fits lane request_parent.Root is = absurd (cc is)
 no_scope k t fits lane request_parent.Contextual is = absurd (cc is)
-no_scope k t fits lane (request_parent.Under handle) is = by_slot (slot_at t.handles handle) (sym (ap (λ xs. option_map place_under (slot_at xs handle)) fits.handle_slots ∙ ap (option_map place_under) (get_or-map (option_map (held_of k.dispatch)) t.handles handle None)) ∙ is)
+no_scope k t fits lane (request_parent.Under handle) is = by_slot (slot_at t.handles handle) (sym (ap (λ xs. option_map as_parent (slot_at xs handle)) fits.handle_slots ∙ ap (option_map as_parent) (get_or-map (option_map (held_of k.dispatch)) t.handles handle None)) ∙ is)
   where
-    by_slot : (o : Option Scope) → option_map place_under (option_map (held_of k.dispatch) o) ≡ None → o ≡ None
+    by_slot : (o : Option Scope) → option_map as_parent (option_map (held_of k.dispatch) o) ≡ None → o ≡ None
     by_slot None e = refl
     by_slot (Some scope) e = absurd (cc e)
 
@@ -94,7 +94,7 @@ module _ (c : Callsite) where
 
 -- ---- the callsites of handles
 
-callsite_same : {S : Type 0} (world : Worlds S) (site : Option ℕ) → callsite_in world site ≡ option_and_then (λ k. slice_get world.sites k) site
+callsite_same : {S : Type 0} (world : WorldValue S) (site : Option ℕ) → callsite_in world site ≡ option_and_then (λ k. slice_get world.sites k) site
 callsite_same world None = refl
 callsite_same world (Some site) = refl
 
@@ -107,7 +107,7 @@ has_at name site (Some c) = by_place (place_of name c)
     by_place None = refl
     by_place (Some place) = refl
 
-has_in : {S : Type 0} (world : Worlds S) (name : List ℕ) (site : Option ℕ) → is_some (field_in (named_field name) world site) ≡ declared_by (option_and_then (λ k. slice_get world.sites k) site) name
+has_in : {S : Type 0} (world : WorldValue S) (name : List ℕ) (site : Option ℕ) → is_some (field_in (named_field name) world site) ≡ declared_by (option_and_then (λ k. slice_get world.sites k) site) name
 has_in world name None = refl
 has_in world name (Some site) = has_at name site (slice_get world.sites site)
 
@@ -130,7 +130,7 @@ module _ {S : Type 0} (spans : S → Spans) (views : Views S) (attaches : S → 
         by_scope [] is site e = subst (IsSite parts.world) (sym e) tt
         by_scope (s ∷ up) is site e = subst (IsSite parts.world) (sym e) (inv.stands.fits.sited s is.0)
 
-    module _ (new : Worlds S) (at place : ℕ) where
+    module _ (new : WorldValue S) (at place : ℕ) where
       abbrev then_parts : Parts S
       then_parts = record parts { world = new; moment = at }
 
@@ -155,7 +155,7 @@ module _ {S : Type 0} (spans : S → Spans) (views : Views S) (attaches : S → 
       module _ (does : S → SubscriberCall → S → Type 0) (law : CallsLaw spans views attaches kept is_whole does)
           (fields : Fields) (values : ValueSet) (is : values ≡ values_by (callsite_in parts.world h.site) fields) (did : RecordsOn does parts.world new at values h) where
         abbrev r : Recording
-        r = member_of views.recorded no_recording parts.world parts.dispatch
+        r = read_subscriber views.recorded no_recording parts.world parts.dispatch
 
         does_update : (line : Scope) (o : Option Callsite) → RecordsAt does parts.world new at (values_by o fields) (held_of parts.dispatch line) o → Does spans views attaches kept is_whole parts new at (update_ops r.settings line fields o) (hooks_of_values line fields o)
         does_update [] None step = does_none spans views attaches kept is_whole parts new at step
@@ -166,11 +166,11 @@ module _ {S : Type 0} (spans : S → Spans) (views : Views S) (attaches : S → 
             record {
               spans_same = shown.spans_after;
               kept_same = shown.lanes;
-              sites_same = ap (λ (w : Worlds S). w.sites) step.others;
+              sites_same = ap (λ (w : WorldValue S). w.sites) step.others;
               recorded_is = (law.viewed parts.world new parts.dispatch _ step).0;
               filter_is = (law.viewed parts.world new parts.dispatch _ step).1;
               aside_is = (law.viewed parts.world new parts.dispatch _ step).2;
-              cached_same = ap (λ (w : Worlds S). w.cached) step.others;
+              cached_same = ap (λ (w : WorldValue S). w.cached) step.others;
               count = shown.count;
               whole = shown.whole;
             }
@@ -181,7 +181,7 @@ module _ {S : Type 0} (spans : S → Spans) (views : Views S) (attaches : S → 
             let mine = callsite_same parts.world h.site ∙ its_callsite t fits in
             does_update line.at (callsite_of now.setup t line.at)
             (subst (λ (o : Option Callsite). RecordsAt does parts.world new at (values_by o fields) (held_of parts.dispatch line.at) o) mine
-            (subst (λ (held : Held). RecordsAt does parts.world new at (values_by (callsite_in parts.world h.site) fields) held (callsite_in parts.world h.site)) line.is
+            (subst (λ (held : HeldSpan). RecordsAt does parts.world new at (values_by (callsite_in parts.world h.site) fields) held (callsite_in parts.world h.site)) line.is
             (subst (λ (v : ValueSet). RecordsAt does parts.world new at v h.held (callsite_in parts.world h.site)) is did)))
 
         values_known : (line : Scope) (o : Option Callsite) (n : ℕ) → AreKnown n (hooks_of_values line fields o) n

@@ -1,7 +1,7 @@
 -- What stands beside the filter in place: the filter that counts, and the measures that wait.
 use Rattle.std.proofs.Common.{◌≡◌, ℕ, List, [], ◌++◌, None, option_map, sym, ap, ◌∙◌}
 use Rattle.std.proofs.lemmas.List.{append-nil}
-use Rattle.span_script.proofs.Common.{Worlds, member_of, Measure, StackWorlds, counter_in, measures_in, Views, shown_of, stack_views, State, AddsMeasures, Aside, aside_in}
+use Rattle.span_script.proofs.Common.{WorldValue, read_subscriber, Measure, StackWorlds, counter_in, measures_in, Views, shown_of, stack_views, State, AddsMeasures, Aside, aside_in}
 
 pub adds_none : (before later : Aside) → later.0 ≡ before.0 → later.1 ≡ before.1 → AddsMeasures before later []
 adds_none before later counter measures = record { counter = counter; measures = measures ∙ sym (append-nil before.1) }
@@ -10,8 +10,8 @@ pub adds_nothing : (before later : Aside) → AddsMeasures before later [] → (
 adds_nothing before later adds = (adds.counter, adds.measures ∙ append-nil before.1)
 
 -- where a world didn't change
-pub adds_same : {S : Type 0} (views : Views S) (old new : Worlds S) (dispatch : ℕ) → new ≡ old → AddsMeasures (aside_in views old dispatch) (aside_in views new dispatch) []
-adds_same views old new dispatch same = adds_none (aside_in views old dispatch) (aside_in views new dispatch) (ap (λ (w : Worlds _). member_of views.counter None w dispatch) same) (ap (λ (w : Worlds _). member_of views.measured [] w dispatch) same)
+pub adds_same : {S : Type 0} (views : Views S) (old new : WorldValue S) (dispatch : ℕ) → new ≡ old → AddsMeasures (aside_in views old dispatch) (aside_in views new dispatch) []
+adds_same views old new dispatch same = adds_none (aside_in views old dispatch) (aside_in views new dispatch) (ap (λ (w : WorldValue _). read_subscriber views.counter None w dispatch) same) (ap (λ (w : WorldValue _). read_subscriber views.measured [] w dispatch) same)
 
 -- the same of stacks
 pub stack_same : (old new : StackWorlds) (dispatch : ℕ) → counter_in new dispatch ≡ counter_in old dispatch → measures_in new dispatch ≡ measures_in old dispatch → AddsMeasures (aside_in stack_views old dispatch) (aside_in stack_views new dispatch) []

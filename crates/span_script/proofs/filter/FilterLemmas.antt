@@ -1,10 +1,10 @@
 -- The filter in force, and the cache, after one effect more.
 use Rattle.std.proofs.Common.{◌≡◌, ℕ, zero, suc, ◌+◌, ◌<◌, List, [], ◌∷◌, ◌++◌, length, fold, Option, Some, None, option_map, map, slice_get, refl, sym, ap, subst, ◌∙◌, arith, inl, inr, is_some, nat_eq, IfSome}
-use Rattle.span_script.proofs.Common.{cases_eq, cond-true, cond-false, option_map_or, Callsite, Interest, Worlds, IsFresh, interests_of_sites, member_of, Stacks, filter_in_place, stack_interest, layer_or, sometimes, Directive, FilterState, FilterWithRoom, IsNewFilter, plain_filter, interest_in, is_admitted, enables_in, Setup, id_at, FilterHook, HookNew, HookRecord, HookEnter, HookExit, HookClose, Effect, Tables, after_effect, with_item, newer_text, hooks_since, after_filter_hook, in_force, filter_at, text_filter, Views, ShownFilter, first_of, shown_of, counter_by, State, FilteringFits}
+use Rattle.span_script.proofs.Common.{cases_eq, cond-true, cond-false, option_map_or, Callsite, Interest, WorldValue, IsFresh, interests_of_sites, read_subscriber, Stacks, filter_in_place, stack_interest, layer_or, sometimes, Directive, FilterState, FilterWithRoom, IsNewFilter, plain_filter, interest_in, is_admitted, enables_in, Setup, id_at, FilterHook, HookNew, HookRecord, HookEnter, HookExit, HookClose, Effect, Tables, after_effect, with_item, newer_text, hooks_since, after_filter_hook, in_force, filter_at, text_filter, Views, ShownFilter, first_of, shown_of, counter_by, State, FilteringFits}
 use Rattle.std.proofs.lemmas.Bool.{eq-eqb, ne_eqb}
 use Rattle.trace_base.specs.declared.subscriber.Interest.TheVariants as interests
 use Rattle.span_registry.specs.Both.{joint_interest}
-use Rattle.env_directives.specs.orders.Table.{Table}
+use Rattle.env_directives.specs.orders.Table.{DirectiveTable}
 use Rattle.env_filter.specs.spans.Keyed.{put}
 use Rattle.env_filter.specs.spans.Kept.{with_open_level, without_open_level}
 use Rattle.env_filter.specs.spans.Levels.{OpenLevel}
@@ -109,7 +109,7 @@ agree_heard n ids f g (HookNew id callsite values) known a = record {
   statics = a.statics;
   dynamics = a.dynamics;
   spans = λ s below. put_same f.spans g.spans id (new_match_state f.dynamics.directives callsite values.pairs) (new_match_state g.dynamics.directives callsite values.pairs) s
-      (λ e. ap (λ (t : Table Directive). new_match_state t.directives callsite values.pairs) a.dynamics) (λ other. a.spans s (omega (arith, below, known, other)));
+      (λ e. ap (λ (t : DirectiveTable Directive). new_match_state t.directives callsite values.pairs) a.dynamics) (λ other. a.spans s (omega (arith, below, known, other)));
   lanes = a.lanes;
 }
 agree_heard n ids f g (HookRecord id callsite values) known a = record {
@@ -227,10 +227,10 @@ module _ {S : Type 0} (views : Views S) (interest : S → Callsite → Interest)
   registered_rows (s ∷ []) (suc dispatch) f one there is sites = absurd (omega (arith, there))
   registered_rows (s ∷ r ∷ ss) dispatch f one there is sites = absurd (omega (arith, one))
 
-  pub cached_rows : (world : Worlds S) (dispatch : ℕ) (f : FilterState) → length world.subscribers ≡ 1 → dispatch < length world.subscribers → member_of views.filtered None world dispatch ≡ Some f → IsFresh interest world → world.cached ≡ rows_of f world.sites
+  pub cached_rows : (world : WorldValue S) (dispatch : ℕ) (f : FilterState) → length world.subscribers ≡ 1 → dispatch < length world.subscribers → read_subscriber views.filtered None world dispatch ≡ Some f → IsFresh interest world → world.cached ≡ rows_of f world.sites
   cached_rows world dispatch f one there is fresh = fresh ∙ registered_rows world.subscribers dispatch f one there is world.sites
 
-  pub rows_fresh : (world : Worlds S) (dispatch : ℕ) (f : FilterState) → length world.subscribers ≡ 1 → dispatch < length world.subscribers → member_of views.filtered None world dispatch ≡ Some f → world.cached ≡ rows_of f world.sites → IsFresh interest world
+  pub rows_fresh : (world : WorldValue S) (dispatch : ℕ) (f : FilterState) → length world.subscribers ≡ 1 → dispatch < length world.subscribers → read_subscriber views.filtered None world dispatch ≡ Some f → world.cached ≡ rows_of f world.sites → IsFresh interest world
   rows_fresh world dispatch f one there is rows = rows ∙ sym (registered_rows world.subscribers dispatch f one there is world.sites)
 
 -- a stack is interested in what its filter is

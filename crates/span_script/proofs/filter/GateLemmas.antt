@@ -1,6 +1,6 @@
 -- The gate's answer is that of the filter in force.
 use Rattle.std.proofs.Common.{◌≡◌, ℕ, ◌<◌, List, [], ◌∷◌, length, get_or, Bool, refl, Some, None, option_map, slice_get, sym, ap, ◌∙◌, arith}
-use Rattle.span_script.proofs.Common.{length-map, Callsite, Lane, IsFresh, Spans, FilterState, is_admitted, interest_in, Interest, member_of, id_at, Tables, filter_at, admits_at, LetsThrough, Views, shown_of, State, state_of, StandsFor, FilteringFits, IsKept, Parts}
+use Rattle.span_script.proofs.Common.{length-map, Callsite, Lane, IsFresh, Spans, FilterState, is_admitted, interest_in, Interest, read_subscriber, id_at, Tables, filter_at, admits_at, LetsThrough, Views, shown_of, State, state_of, StandsFor, FilteringFits, IsKept, Parts}
 use Rattle.span_script.proofs.filter.FilterLemmas.{InPlace, Agree, in_place_by, admits_alike, rows_of, rows_fresh}
 use Rattle.span_script.proofs.steps.LanesLemmas.{id_seen}
 
@@ -9,9 +9,9 @@ module _ {S : Type 0} (spans : S → Spans) (views : Views S) (parts : Parts S) 
   now = state_of spans views parts
 
   -- the filter that is in place
-  pub placed : (t : Tables) → length now.spans.made ≡ length t.spans → FilteringFits now t → InPlace (length t.spans) now.setup.ids (member_of views.filtered None parts.world parts.dispatch) (filter_at now.setup t)
-  placed t count fits = in_place_by (length t.spans) now.setup.ids (member_of views.filtered None parts.world parts.dispatch) (filter_at now.setup t)
-      (ap (λ (n : ℕ). option_map (shown_of n now.setup.ids) (member_of views.filtered None parts.world parts.dispatch)) (sym count) ∙ fits.in_place)
+  pub placed : (t : Tables) → length now.spans.made ≡ length t.spans → FilteringFits now t → InPlace (length t.spans) now.setup.ids (read_subscriber views.filtered None parts.world parts.dispatch) (filter_at now.setup t)
+  placed t count fits = in_place_by (length t.spans) now.setup.ids (read_subscriber views.filtered None parts.world parts.dispatch) (filter_at now.setup t)
+      (ap (λ (n : ℕ). option_map (shown_of n now.setup.ids) (read_subscriber views.filtered None parts.world parts.dispatch)) (sym count) ∙ fits.in_place)
 
   rows_alike : (n : ℕ) (ids : List ℕ) (f g : FilterState) → Agree n ids f g → (sites : List Callsite) → rows_of g sites ≡ rows_of f sites
   rows_alike n ids f g a [] = refl
@@ -27,7 +27,7 @@ module _ {S : Type 0} (spans : S → Spans) (views : Views S) (parts : Parts S) 
       (inv.stands.filtering.fresh ∙ rows_alike (length inv.tables.spans) now.setup.ids current.filter (filter_at now.setup inv.tables) current.agree parts.world.sites)
 
   pub answered : (place : ℕ) (before : Lane) → place < length parts.lanes → before ≡ get_or parts.lanes place before → (site : ℕ) (callsite : Callsite) → slice_get parts.world.sites site ≡ Some callsite
-      → (enabled : Bool) → LetsThrough (member_of views.filtered None parts.world parts.dispatch) parts.world.sites before.id site enabled → (t : Tables) → StandsFor now t → admits_at now.setup t (id_at now.setup.ids place) callsite ≡ enabled
+      → (enabled : Bool) → LetsThrough (read_subscriber views.filtered None parts.world parts.dispatch) parts.world.sites before.id site enabled → (t : Tables) → StandsFor now t → admits_at now.setup t (id_at now.setup.ids place) callsite ≡ enabled
   answered place before within here site callsite is enabled gate t stands =
       let ids = now.setup.ids in
       let force = filter_at now.setup t in

@@ -4,7 +4,7 @@ use Rattle.std.specs.Str.{trim}
 use Rattle.std.proofs.lemmas.Bool.{true≢false}
 use Rattle.env_directives.specs.reading.Faults.{HasFault, HasNoLevel, HasEmptyField}
 use Rattle.env_directives.specs.reading.Forms.{IsDirective}
-use Rattle.env_directives.specs.reading.Reading.{DirectiveRead, reading}
+use Rattle.env_directives.specs.reading.Reading.{DirectiveRead, read_directive}
 use Rattle.env_directives.specs.reading.Separators.{comma_pieces}
 use Rattle.env_directives.specs.declared.directive.ParseError.{ParseError}
 use Rattle.env_directives.specs.declared.directive.ParseError.TheVariants as fault
@@ -33,7 +33,7 @@ one_passed n (b ∷ bs) (d ∷ []) r k rest e = ap (λ (x : DirectiveRead). with
 one_passed n (b ∷ bs) (d ∷ c ∷ ds) r k rest e = absurd r
 
 -- a text with a fault isn't read
-unread : (text : List ℕ) (cause : ParseError) → HasFault false text cause → is_memory cause ≡ false → (d : Directive) → reading false text ≡ Ok d → IsDirective false text d → ⊥
+unread : (text : List ℕ) (cause : ParseError) → HasFault false text cause → is_memory cause ≡ false → (d : Directive) → read_directive false text ≡ Ok d → IsDirective false text d → ⊥
 unread text fault.Shape h other d e is = h.0 d is
 unread text fault.Level h other d e is = (let no : ◌≡◌ {A = DirectiveRead} (Ok d) (Err fault.Level) = sym e ∙ level_told false text h in cc no)
 unread text fault.Field h other d e is = (let no : ◌≡◌ {A = DirectiveRead} (Ok d) (Err fault.Field) = sym e ∙ field_told false text h in cc no)
@@ -42,13 +42,13 @@ unread text fault.Equals h other d e is = h
 unread text (fault.Fields many) h other d e is = h
 unread text fault.Memory h other d e is = true≢false other
 
-is_read : (text : List ℕ) (d : Directive) → reading false text ≡ Ok d → IsDirective false text d
+is_read : (text : List ℕ) (d : Directive) → read_directive false text ≡ Ok d → IsDirective false text d
 is_read text d e = subst (λ (r : DirectiveRead). Explained (IsDirective false text) (HasNoLevel text) (HasEmptyField text) r) e (reading_explained false text)
 
-one_faulty : (n : ℕ) (text : List ℕ) (cause : ParseError) → HasFault false text cause → is_memory cause ≡ false → (rest : TextRead) → with_piece_read n (reading false text) rest ≡ Err n
-one_faulty n text cause h other rest = by_read (reading false text) refl
+one_faulty : (n : ℕ) (text : List ℕ) (cause : ParseError) → HasFault false text cause → is_memory cause ≡ false → (rest : TextRead) → with_piece_read n (read_directive false text) rest ≡ Err n
+one_faulty n text cause h other rest = by_read (read_directive false text) refl
   where
-    by_read : (r : DirectiveRead) → reading false text ≡ r → with_piece_read n r rest ≡ Err n
+    by_read : (r : DirectiveRead) → read_directive false text ≡ r → with_piece_read n r rest ≡ Err n
     by_read (Err e) is = refl
     by_read (Ok d) is = absurd (unread text cause h other d is (is_read text d is))
 

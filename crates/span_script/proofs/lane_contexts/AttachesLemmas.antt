@@ -1,6 +1,6 @@
 -- Attaches to a lane, served.
 use Rattle.std.proofs.Common.{◌≡◌, ℕ, ◌<◌, List, [], ◌∷◌, ◌++◌, length, get_or, set, false, count_by, Option, Some, None, Ok, Err, option_map, map, refl, sym, ap, subst, ◌∙◌, arith, slice_get, ◌==◌, Result}
-use Rattle.span_script.proofs.Common.{cond-true, cond-false, length-map, length_push, map_push, MAX_CONTEXTS, Context, EnterError, has_number, Lane, Spans, count_push, Recording, no_recording, member_of, kept_in, Attach, Guard, Refusal, refused_entry, id_at, GuardOf, Attached, ScopeGuard, Effect, Tables, slot_at, with_attached, here_at, Resolved, refuse_if, ◌>>=◌, need, effect_of_call, attach_effect, is_full, Balanced, OpenGuard, named_by, opened_by, Views, ContextSlots, State, state_of, LaneValue, lane_value, lane_at, lane_of, StandsFor, AllContextsFit, IsKept, Served, is_for_memory, LanesFit, Parts, aside_in}
+use Rattle.span_script.proofs.Common.{cond-true, cond-false, length-map, length_push, map_push, MAX_CONTEXTS, Context, EnterError, has_number, Lane, Spans, count_push, Recording, no_recording, read_subscriber, kept_in, Attach, Guard, Refusal, refused_entry, id_at, GuardOf, Attached, ScopeGuard, Effect, Tables, slot_at, with_attached, here_at, Resolved, refuse_if, ◌>>=◌, need, effect_of_call, attach_effect, is_full, Balanced, OpenGuard, named_by, opened_by, Views, ContextSlots, State, state_of, LaneValue, lane_value, lane_at, lane_of, StandsFor, AllContextsFit, IsKept, Served, is_for_memory, LanesFit, Parts, aside_in}
 use Rattle.std.proofs.lemmas.Bool.{ne_eqb, eq-eqb, true≢false}
 use Rattle.otel_base.specs.declared.enter_error.EnterError.TheVariants as errors
 use Rattle.span_script.specs.declared.reply.Refusal.TheVariants as refusal
@@ -38,7 +38,7 @@ module _ {S : Type 0} (spans : S → Spans) (views : Views S) (kept : S → ℕ 
   place_id = id_at now.setup.ids place
 
   abbrev r : Recording
-  r = member_of views.recorded no_recording parts.world parts.dispatch
+  r = read_subscriber views.recorded no_recording parts.world parts.dispatch
 
   id_is : before.id ≡ place_id
   id_is = id_seen parts.lanes place before within here
@@ -124,7 +124,7 @@ module _ {S : Type 0} (spans : S → Spans) (views : Views S) (kept : S → ℕ 
         }))
         (λ s some. known_still now then t e r.tokens refl stands.recording s refl some)
         (all_fit t stands)
-        (record { quiet = refl; before = member_of views.filtered None parts.world parts.dispatch; later = member_of views.filtered None parts.world parts.dispatch; shown_before = refl; shown_later = refl; told = heard_none (member_of views.filtered None parts.world parts.dispatch); known = refl; cached = refl; aside = record { before = aside_in views parts.world parts.dispatch; later = aside_in views parts.world parts.dispatch; shown_before = refl; shown_later = refl; waits_before = refl; waits_later = refl; adds = adds_same views parts.world parts.world parts.dispatch refl } })
+        (record { quiet = refl; before = read_subscriber views.filtered None parts.world parts.dispatch; later = read_subscriber views.filtered None parts.world parts.dispatch; shown_before = refl; shown_later = refl; told = heard_none (read_subscriber views.filtered None parts.world parts.dispatch); known = refl; cached = refl; aside = record { before = aside_in views parts.world parts.dispatch; later = aside_in views parts.world parts.dispatch; shown_before = refl; shown_later = refl; waits_before = refl; waits_later = refl; adds = adds_same views parts.world parts.world parts.dispatch refl } })
 
     pub keeps_attached : IsKept spans views kept is_whole then_parts
     keeps_attached =

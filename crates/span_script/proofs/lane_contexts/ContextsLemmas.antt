@@ -1,6 +1,6 @@
 -- Contexts that are made, served.
 use Rattle.std.proofs.Common.{◌≡◌, ℕ, ◌<◌, List, [], ◌∷◌, ◌++◌, length, Bool, Option, Some, None, Ok, option_map, map, refl, sym, ap, subst, ◌∙◌}
-use Rattle.span_script.proofs.Common.{Context, SpanContext, ids_of, empty_context, SpanData, Worlds, Spans, span_at, Token, data_at, own_or, PartCall, Shows, context_at, AsksContext, ShowsOn, context_or_empty, Recording, no_recording, with_starts, Has, member_of, spans_in, kept_in, Handle, Held, Scope, Effect, Tables, recorded_by, slot_at, own_span, open_part, here_at, Resolved, ◌>>=◌, need, effect_of_call, context_effect, own_context, Views, ContextSlots, State, state_of, lane_value, lane_of, held_by, held_of, StandsFor, LanesFit, IsKept, Served, Parts, AddsMeasures, AsksLaw, aside_in}
+use Rattle.span_script.proofs.Common.{Context, SpanContext, ids_of, empty_context, SpanData, WorldValue, Spans, span_at, Token, data_at, own_context_or, PartCall, GivesContext, context_at, AsksContext, GivesContextOn, context_or_empty, Recording, no_recording, with_starts, Has, read_subscriber, spans_in, kept_in, Handle, HeldSpan, Scope, Effect, Tables, recorded_by, slot_at, own_span, open_part, here_at, Resolved, ◌>>=◌, need, effect_of_call, context_effect, own_context, Views, ContextSlots, State, state_of, lane_value, lane_of, held_by, held_of, StandsFor, LanesFit, IsKept, Served, Parts, AddsMeasures, AsksLaw, aside_in}
 use Rattle.span_script.specs.declared.reply.Reply.TheVariants as reply
 use Rattle.span_script.specs.declared.reply.What.TheVariants as what
 use Rattle.span_script.specs.declared.request.Call.TheVariants as call
@@ -14,13 +14,13 @@ use Rattle.span_script.proofs.steps.ServesLemmas.{serve, known_still, all_same, 
 -- the own context of a scope's span, by the open part of what was recorded
 pub own_open : (line : Scope) (at : ℕ) (r x : Recording) → open_part r ≡ x → own_context r at line ≡ own_context x at line
 own_open [] at r x is = refl
-own_open (s ∷ up) at r x is = ap (λ (spans : List (ℕ × SpanData)). own_or empty_context (data_at s spans)) (start_open s at r x is)
+own_open (s ∷ up) at r x is = ap (λ (spans : List (ℕ × SpanData)). own_context_or empty_context (data_at s spans)) (start_open s at r x is)
 
-shown_is : (o : Option SpanData) → context_or_empty (context_at o) ≡ own_or empty_context o
+shown_is : (o : Option SpanData) → context_or_empty (context_at o) ≡ own_context_or empty_context o
 shown_is None = refl
 shown_is (Some told) = refl
 
-module _ {S : Type 0} (spans : S → Spans) (views : Views S) (attaches : S → Bool) (kept : S → ℕ → ℕ → ℕ) (is_whole : S → Type 0) (parts : Parts S) (new : Worlds S)
+module _ {S : Type 0} (spans : S → Spans) (views : Views S) (attaches : S → Bool) (kept : S → ℕ → ℕ → ℕ) (is_whole : S → Type 0) (parts : Parts S) (new : WorldValue S)
     (at place number : ℕ) (many : number ≡ length parts.contexts.contexts)
     (inv : IsKept spans views kept is_whole parts) where
   abbrev now : State
@@ -33,10 +33,10 @@ module _ {S : Type 0} (spans : S → Spans) (views : Views S) (attaches : S → 
   then_with cs' = state_of spans views (parts_with cs')
 
   abbrev r : Recording
-  r = member_of views.recorded no_recording parts.world parts.dispatch
+  r = read_subscriber views.recorded no_recording parts.world parts.dispatch
 
   abbrev r' : Recording
-  r' = member_of views.recorded no_recording new parts.dispatch
+  r' = read_subscriber views.recorded no_recording new parts.dispatch
 
   -- what a start leaves
   record Starts (o : Option ℕ) : Type 0 where
@@ -46,20 +46,20 @@ module _ {S : Type 0} (spans : S → Spans) (views : Views S) (attaches : S → 
     kept_same : kept_in kept new parts.dispatch ≡ kept_in kept parts.world parts.dispatch
     count : length new.subscribers ≡ length parts.world.subscribers
     whole : Has is_whole parts.world parts.dispatch → Has is_whole new parts.dispatch
-    filter_same : member_of views.filtered None new parts.dispatch ≡ member_of views.filtered None parts.world parts.dispatch
+    filter_same : read_subscriber views.filtered None new parts.dispatch ≡ read_subscriber views.filtered None parts.world parts.dispatch
     cached_same : new.cached ≡ parts.world.cached
     aside : AddsMeasures (aside_in views parts.world parts.dispatch) (aside_in views new parts.dispatch) []
 
   unchanged : new ≡ parts.world → Starts None
   unchanged same = record {
-    spans_same = ap (λ (w : Worlds S). spans_in spans w parts.dispatch) same;
-    sites = ap (λ (w : Worlds S). w.sites) same;
-    records = ap (λ (w : Worlds S). member_of views.recorded no_recording w parts.dispatch) same;
-    kept_same = ap (λ (w : Worlds S). kept_in kept w parts.dispatch) same;
-    count = ap (λ (w : Worlds S). length w.subscribers) same;
-    whole = λ has. subst (λ (w : Worlds S). Has is_whole w parts.dispatch) (sym same) has;
-    filter_same = ap (λ (w : Worlds S). member_of views.filtered None w parts.dispatch) same;
-    cached_same = ap (λ (w : Worlds S). w.cached) same;
+    spans_same = ap (λ (w : WorldValue S). spans_in spans w parts.dispatch) same;
+    sites = ap (λ (w : WorldValue S). w.sites) same;
+    records = ap (λ (w : WorldValue S). read_subscriber views.recorded no_recording w parts.dispatch) same;
+    kept_same = ap (λ (w : WorldValue S). kept_in kept w parts.dispatch) same;
+    count = ap (λ (w : WorldValue S). length w.subscribers) same;
+    whole = λ has. subst (λ (w : WorldValue S). Has is_whole w parts.dispatch) (sym same) has;
+    filter_same = ap (λ (w : WorldValue S). read_subscriber views.filtered None w parts.dispatch) same;
+    cached_same = ap (λ (w : WorldValue S). w.cached) same;
     aside = adds_same views parts.world new parts.dispatch same;
   }
 
@@ -78,7 +78,7 @@ module _ {S : Type 0} (spans : S → Spans) (views : Views S) (attaches : S → 
       (fits_step now t fits then e (quiet_step now then t e fits setup refl refl refl refl (ap (map (option_map lane_of)) attaches_are) made_is refl did.spans_same))
       (λ s some. known_still now then t e r.tokens rec_is stands.recording s refl (subst (λ (x : Spans). 0 < (span_at x.made s).holds) did.spans_same some))
       (all_same now then t.contexts setup attaches_are refl (ap (λ (x : Recording). x.tokens) rec_is) stands.recording.attached)
-      (record { quiet = refl; before = member_of views.filtered None parts.world parts.dispatch; later = member_of views.filtered None new parts.dispatch; shown_before = refl; shown_later = refl; told = did.filter_same ∙ heard_none (member_of views.filtered None parts.world parts.dispatch); known = refl; cached = did.cached_same; aside = record { before = aside_in views parts.world parts.dispatch; later = aside_in views new parts.dispatch; shown_before = refl; shown_later = refl; waits_before = refl; waits_later = refl; adds = did.aside } })
+      (record { quiet = refl; before = read_subscriber views.filtered None parts.world parts.dispatch; later = read_subscriber views.filtered None new parts.dispatch; shown_before = refl; shown_later = refl; told = did.filter_same ∙ heard_none (read_subscriber views.filtered None parts.world parts.dispatch); known = refl; cached = did.cached_same; aside = record { before = aside_in views parts.world parts.dispatch; later = aside_in views new parts.dispatch; shown_before = refl; shown_later = refl; waits_before = refl; waits_later = refl; adds = did.aside } })
 
   given_kept : (cs' : ContextSlots) (o : Option ℕ) → Starts o → (resolved : Resolved) (answer : _) → Served resolved inv.tables now (then_with cs') answer → IsKept spans views kept is_whole (parts_with cs')
   given_kept cs' o did resolved answer served =
@@ -95,17 +95,17 @@ module _ {S : Type 0} (spans : S → Spans) (views : Views S) (attaches : S → 
   -- the context of a handle's span
   module _ (touches : S → PartCall → S → Type 0) (law : AsksLaw spans views attaches kept is_whole touches)
       (handle : ℕ) (h : Handle) (found : slot_at parts.handles handle ≡ Some h) (given : Context) (did : AsksContext touches parts.world new at h.held given) (cs' : ContextSlots) (made_is : cs'.contexts ≡ parts.contexts.contexts ++ given ∷ []) (attaches_are : cs'.attaches ≡ parts.contexts.attaches) where
-    asked : (line : Scope) (held : Held) → held ≡ held_of parts.dispatch line → AsksContext touches parts.world new at held given → Starts (own_span line) × (given ≡ own_context r at line)
+    asked : (line : Scope) (held : HeldSpan) → held ≡ held_of parts.dispatch line → AsksContext touches parts.world new at held given → Starts (own_span line) × (given ≡ own_context r at line)
     asked [] held is asks_it =
-        let nothing = subst (λ (x : Held). ShowsOn touches parts.world new at x asks_it.answer) is asks_it.did in
+        let nothing = subst (λ (x : HeldSpan). GivesContextOn touches parts.world new at x asks_it.answer) is asks_it.did in
         (unchanged nothing.1, asks_it.is ∙ ap context_or_empty nothing.0)
     asked (s ∷ up) held is asks_it =
-        let replaced = subst (λ (x : Held). ShowsOn touches parts.world new at x asks_it.answer) is asks_it.did in
-        let alike = law.shown parts.world new parts.dispatch (Shows s at asks_it.answer) replaced in
-        let told = law.viewed parts.world new parts.dispatch (Shows s at asks_it.answer) replaced in
+        let replaced = subst (λ (x : HeldSpan). GivesContextOn touches parts.world new at x asks_it.answer) is asks_it.did in
+        let alike = law.shown parts.world new parts.dispatch (GivesContext s at asks_it.answer) replaced in
+        let told = law.viewed parts.world new parts.dispatch (GivesContext s at asks_it.answer) replaced in
         let records = told.0 in (
-          record { spans_same = alike.spans_same; sites = ap (λ (w : Worlds S). w.sites) replaced.others; records = records.0; kept_same = alike.kept_same; count = alike.count; whole = alike.whole; filter_same = told.1; cached_same = ap (λ (w : Worlds S). w.cached) replaced.others; aside = told.2 },
-          asks_it.is ∙ ap context_or_empty records.1 ∙ shown_is (data_at s r'.spans) ∙ ap (λ (x : Recording). own_or empty_context (data_at s x.spans)) records.0,
+          record { spans_same = alike.spans_same; sites = ap (λ (w : WorldValue S). w.sites) replaced.others; records = records.0; kept_same = alike.kept_same; count = alike.count; whole = alike.whole; filter_same = told.1; cached_same = ap (λ (w : WorldValue S). w.cached) replaced.others; aside = told.2 },
+          asks_it.is ∙ ap context_or_empty records.1 ∙ shown_is (data_at s r'.spans) ∙ ap (λ (x : Recording). own_context_or empty_context (data_at s x.spans)) records.0,
         )
 
     pub serves_context : (ids : SpanContext) → ids ≡ ids_of given → (t : Tables) → StandsFor now t → Served (effect_of_call now.setup t at place (call.Context handle)) t now (then_with cs') (reply.Context number ids)

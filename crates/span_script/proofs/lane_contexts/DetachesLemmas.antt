@@ -1,6 +1,6 @@
 -- Detaches from a lane, served.
 use Rattle.std.proofs.Common.{◌≡◌, ℕ, ◌+◌, ◌<◌, List, [], ◌∷◌, length, get_or, set, true, count_by, Option, Some, None, option_map, map, refl, sym, ap, subst, ◌∙◌, arith, inl, inr, Ok, ◌==◌, slice_set, not}
-use Rattle.span_script.proofs.Common.{cases_Bool, cases_eq, cond-true, cond-false, map-set, get_or-map, Context, has_number, without_number, Lane, Worlds, Spans, count_cons, kept_by, Recording, no_recording, member_of, kept_in, Attach, id_at, GuardOf, Effect, Tables, slot_at, with_detached, here_at, Resolved, refuse_if, ◌>>=◌, need, effect_of_call, detach_effect, Views, ContextSlots, State, state_of, lane_of, numbers_by, StandsFor, ContextsFit, AllContextsFit, IsKept, Served, Parts, FilterWithRoom, layer_or, none_kept, aside_in}
+use Rattle.span_script.proofs.Common.{cases_Bool, cases_eq, cond-true, cond-false, map-set, get_or-map, Context, has_number, without_number, Lane, WorldValue, Spans, count_cons, kept_by, Recording, no_recording, read_subscriber, kept_in, Attach, id_at, GuardOf, Effect, Tables, slot_at, with_detached, here_at, Resolved, refuse_if, ◌>>=◌, need, effect_of_call, detach_effect, Views, ContextSlots, State, state_of, lane_of, numbers_by, StandsFor, ContextsFit, AllContextsFit, IsKept, Served, Parts, FilterWithRoom, layer_or, none_kept, aside_in}
 use Rattle.std.proofs.lemmas.Bool.{ne_eqb, eq-eqb, eqb-true}
 use Rattle.span_script.specs.declared.reply.Refusal.TheVariants as refusal
 use Rattle.span_script.specs.declared.reply.Reply.TheVariants as reply
@@ -56,7 +56,7 @@ module _ {S : Type 0} (spans : S → Spans) (views : Views S) (kept : S → ℕ 
   place_id = id_at now.setup.ids place
 
   abbrev r : Recording
-  r = member_of views.recorded no_recording parts.world parts.dispatch
+  r = read_subscriber views.recorded no_recording parts.world parts.dispatch
 
   id_is : before.id ≡ place_id
   id_is = id_seen parts.lanes place before within here
@@ -95,7 +95,7 @@ module _ {S : Type 0} (spans : S → Spans) (views : Views S) (kept : S → ℕ 
         (fits_step now t fits then e (quiet_step now then t e fits setup_same refl refl refl refl (ap (map (option_map lane_of)) one ∙ map-set (option_map lane_of) parts.contexts.attaches guard None) made_same refl refl))
         (λ s some. known_still now then t e r.tokens refl stands.recording s refl some)
         (all_fit t stands)
-        (record { quiet = refl; before = member_of views.filtered None parts.world parts.dispatch; later = member_of views.filtered None parts.world parts.dispatch; shown_before = refl; shown_later = refl; told = heard_none (member_of views.filtered None parts.world parts.dispatch); known = refl; cached = refl; aside = record { before = aside_in views parts.world parts.dispatch; later = aside_in views parts.world parts.dispatch; shown_before = refl; shown_later = refl; waits_before = refl; waits_later = refl; adds = adds_same views parts.world parts.world parts.dispatch refl } })
+        (record { quiet = refl; before = read_subscriber views.filtered None parts.world parts.dispatch; later = read_subscriber views.filtered None parts.world parts.dispatch; shown_before = refl; shown_later = refl; told = heard_none (read_subscriber views.filtered None parts.world parts.dispatch); known = refl; cached = refl; aside = record { before = aside_in views parts.world parts.dispatch; later = aside_in views parts.world parts.dispatch; shown_before = refl; shown_later = refl; waits_before = refl; waits_later = refl; adds = adds_same views parts.world parts.world parts.dispatch refl } })
 
     pub keeps_detached : ((place number : ℕ) → kept_in kept parts.world parts.dispatch place number ≡ kept_by r.settings.activation r.tokens place number) → IsKept spans views kept is_whole then_parts
     keeps_detached keeps =
@@ -116,8 +116,8 @@ module _ {S : Type 0} (spans : S → Spans) (views : Views S) (kept : S → ℕ 
         (λ other n apart. refl))
 
 -- the same, of a world's subscriber
-pub keeps_tokens : {S : Type 0} (views : Views S) (kept : S → ℕ → ℕ → ℕ) (world : Worlds S) (dispatch : ℕ) → dispatch < length world.subscribers → KeepsTokens views kept
-    → (lane number : ℕ) → kept_in kept world dispatch lane number ≡ kept_by (member_of views.recorded no_recording world dispatch).settings.activation (member_of views.recorded no_recording world dispatch).tokens lane number
+pub keeps_tokens : {S : Type 0} (views : Views S) (kept : S → ℕ → ℕ → ℕ) (world : WorldValue S) (dispatch : ℕ) → dispatch < length world.subscribers → KeepsTokens views kept
+    → (lane number : ℕ) → kept_in kept world dispatch lane number ≡ kept_by (read_subscriber views.recorded no_recording world dispatch).settings.activation (read_subscriber views.recorded no_recording world dispatch).tokens lane number
 keeps_tokens {S} views kept world dispatch there law lane number =
     let x = within_get world.subscribers dispatch there in
     let one = seen_there kept (λ lane number. 0) world dispatch x.0 x.1 in

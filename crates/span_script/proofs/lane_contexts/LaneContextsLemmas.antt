@@ -1,6 +1,6 @@
 -- The contexts of all lanes after an entry, an exit, an attach or a detach on one.
 use Rattle.std.proofs.Common.{◌≡◌, ℕ, ◌<◌, List, [], ◌∷◌, ◌++◌, length, Bool, true, false, get_or, set, Option, Some, None, option_map, map, refl, sym, ap, subst, ◌∙◌, arith, inl, inr, ◌==◌, if◌then◌else◌, slice_set}
-use Rattle.span_script.proofs.Common.{cases_eq, cond-true, cond-false, length-map, map-set, Context, has_number, without_number, last_passing, Lane, without_last, Token, is_token, AttachesOwn, Detaches, Attach, Owner, EntryOf, GuardOf, Attached, is_owner, is_attached_by, slot_at, with_attached, with_detached, LaneValue, lane_value, no_lane_value, lane_at, numbers_by, ContextsFit, AllContextsFit}
+use Rattle.span_script.proofs.Common.{cases_eq, cond-true, cond-false, length-map, map-set, Context, has_number, without_number, last_passing, Lane, without_last, Token, is_token, AttachesOwnContext, Detaches, Attach, Owner, EntryOf, GuardOf, Attached, is_owner, is_attached_by, slot_at, with_attached, with_detached, LaneValue, lane_value, no_lane_value, lane_at, numbers_by, ContextsFit, AllContextsFit}
 use Rattle.std.proofs.lemmas.Bool.{eq-eqb, ne_eqb}
 use Rattle.std.proofs.lemmas.List.{length-set, get_or-set_same, get_or-set_other}
 use Rattle.span_script.proofs.steps.LanesLemmas.{lane_seen}
@@ -85,7 +85,7 @@ module _ (activation : Bool) (lanes : List Lane) (place : ℕ) (before later : L
 pub all_entered : (activation : Bool) (lanes : List Lane) (place : ℕ) (before later : Lane) → place < length lanes → before ≡ get_or lanes place before → later.id ≡ before.id
     → ((n m : ℕ) → n < length (map lane_value lanes) → m < length (map lane_value lanes) → (lane_at (map lane_value lanes) n).id ≡ (lane_at (map lane_value lanes) m).id → n ≡ m)
     → (tokens : List Token) (attaches : List (Option Attach)) (contexts : ℕ → List Attached) → AllContextsFit activation (map lane_value lanes) tokens attaches contexts
-    → (s : ℕ) (own : Context) (attached : Option ℕ) → AttachesOwn activation own before later attached
+    → (s : ℕ) (own : Context) (attached : Option ℕ) → AttachesOwnContext activation own before later attached
     → AllContextsFit activation (map lane_value (set lanes place later)) (tokens ++ record { lane = before.id; id = s; attached = attached } ∷ []) (attaches ++ None ∷ []) (with_attached contexts before.id (if activation then Some (record { owner = EntryOf s; context = own }) else None))
 all_entered true lanes place before later within seen same differ tokens attaches contexts fit s own attached a =
     subst (λ (o : Option ℕ). AllContextsFit true (map lane_value (set lanes place later)) (tokens ++ record { lane = before.id; id = s; attached = o } ∷ []) (attaches ++ None ∷ []) (with_attached contexts before.id (Some (record { owner = EntryOf s; context = own })))) (sym a.is)

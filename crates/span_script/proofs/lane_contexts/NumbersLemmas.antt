@@ -1,5 +1,5 @@
 -- The numbers that owners keep, after an entry, an exit, an attach and a detach.
-use Rattle.span_script.proofs.Common.{list_any, cases_Bool, cases_eq, cond-true, cond-false, or_parts, and_parts, Context, has_number, last_passing, without_last, count_cons, Token, is_token, is_number, keeps_as, kept_by, Attach, Owner, EntryOf, GuardOf, Attached, is_owner, is_attached_by, slot_at, numbers_of, tokens_of, kept_on, numbers_by, HaveOwnNumbers, ContextsFit}
+use Rattle.span_script.proofs.Common.{list_any, cases_Bool, cases_eq, cond-true, cond-false, or_parts, and_parts, Context, has_number, last_passing, without_last, count_cons, Token, is_token, is_attached_as, keeps_as, kept_by, Attach, Owner, EntryOf, GuardOf, Attached, is_owner, is_attached_by, slot_at, numbers_of, tokens_of, kept_on, numbers_by, HaveOwnNumbers, ContextsFit}
 use Rattle.std.proofs.Common.{◌≡◌, ℕ, zero, suc, List, [], ◌∷◌, ◌++◌, length, Bool, true, false, Option, Some, None, map, count_by, refl, sym, ap, ◌∙◌, arith, inl, inr, ◌==◌, ◌&&◌, ◌||◌, if◌then◌else◌, filter, slice_set}
 use Rattle.std.proofs.lemmas.Bool.{eq-eqb, eqb-true, ne_eqb, true≢false}
 use Rattle.std.proofs.lemmas.List.{append-nil, get_or-set_same, get_or-set_other}
@@ -148,7 +148,7 @@ detach_other activation place other lane tokens attaches n a there on apart (Gua
 
 -- ---- what a guard keeps no entry keeps
 
-none_has : (o : Owner) (live : List (ℕ × Context)) (items : List Attached) (number : ℕ) → has_number number live ≡ false → list_any (is_number number) (numbers_of o live items) ≡ false
+none_has : (o : Owner) (live : List (ℕ × Context)) (items : List Attached) (number : ℕ) → has_number number live ≡ false → list_any (is_attached_as number) (numbers_of o live items) ≡ false
 none_has o [] items number none = refl
 none_has o (x ∷ live) [] number none = refl
 none_has o (x ∷ live) (a ∷ items) number none =
@@ -158,7 +158,7 @@ none_has o (x ∷ live) (a ∷ items) number none =
       | inr apart ↦ rw apart (none_has o live items number parts.1)
     ]
 
-once : (o r : Owner) → (o ≡ r → ⊥) → (live : List (ℕ × Context)) (items : List Attached) → HaveOwnNumbers live → (number : ℕ) → list_any (is_number number) (numbers_of o live items) ≡ true → list_any (is_number number) (numbers_of r live items) ≡ false
+once : (o r : Owner) → (o ≡ r → ⊥) → (live : List (ℕ × Context)) (items : List Attached) → HaveOwnNumbers live → (number : ℕ) → list_any (is_attached_as number) (numbers_of o live items) ≡ true → list_any (is_attached_as number) (numbers_of r live items) ≡ false
 once o r apart [] items distinct number some = refl
 once o r apart (x ∷ live) [] distinct number some = refl
 once o r apart (x ∷ live) (a ∷ items) distinct number some = elim (cases_Bool (x.0 == number)) [
@@ -168,13 +168,13 @@ once o r apart (x ∷ live) (a ∷ items) distinct number some = elim (cases_Boo
         | inl mine ↦ (
             let other : is_attached_by r a ≡ false = other_owner a.owner r (λ e. apart (sym (owner_is a.owner o mine) ∙ e)) in
             rw other (none_has r live items number fresh))
-        | inr fails ↦ absurd (let none : list_any (is_number number) (numbers_of o live items) ≡ true = (ap (λ (ns : List (Option ℕ)). list_any (is_number number) ns) (sym (cond-false {A = List (Option ℕ)} (is_attached_by o a) (Some x.0 ∷ numbers_of o live items) (numbers_of o live items) fails)) ∙ some) in
+        | inr fails ↦ absurd (let none : list_any (is_attached_as number) (numbers_of o live items) ≡ true = (ap (λ (ns : List (Option ℕ)). list_any (is_attached_as number) ns) (sym (cond-false {A = List (Option ℕ)} (is_attached_by o a) (Some x.0 ∷ numbers_of o live items) (numbers_of o live items) fails)) ∙ some) in
             true≢false (sym none ∙ none_has o live items number fresh))
       ])
   | inr next ↦ (
-      let below : list_any (is_number number) (numbers_of o live items) ≡ true = elim (cases_Bool (is_attached_by o a)) [
-        | inl mine ↦ ap (λ b. b || list_any (is_number number) (numbers_of o live items)) (sym next) ∙ ap (λ (ns : List (Option ℕ)). list_any (is_number number) ns) (sym (cond-true {A = List (Option ℕ)} (is_attached_by o a) (Some x.0 ∷ numbers_of o live items) (numbers_of o live items) mine)) ∙ some
-        | inr fails ↦ ap (λ (ns : List (Option ℕ)). list_any (is_number number) ns) (sym (cond-false {A = List (Option ℕ)} (is_attached_by o a) (Some x.0 ∷ numbers_of o live items) (numbers_of o live items) fails)) ∙ some
+      let below : list_any (is_attached_as number) (numbers_of o live items) ≡ true = elim (cases_Bool (is_attached_by o a)) [
+        | inl mine ↦ ap (λ b. b || list_any (is_attached_as number) (numbers_of o live items)) (sym next) ∙ ap (λ (ns : List (Option ℕ)). list_any (is_attached_as number) ns) (sym (cond-true {A = List (Option ℕ)} (is_attached_by o a) (Some x.0 ∷ numbers_of o live items) (numbers_of o live items) mine)) ∙ some
+        | inr fails ↦ ap (λ (ns : List (Option ℕ)). list_any (is_attached_as number) ns) (sym (cond-false {A = List (Option ℕ)} (is_attached_by o a) (Some x.0 ∷ numbers_of o live items) (numbers_of o live items) fails)) ∙ some
       ] in
       let rest = once o r apart live items distinct.1 number below in
       elim (cases_Bool (is_attached_by r a)) [
@@ -184,7 +184,7 @@ once o r apart (x ∷ live) (a ∷ items) distinct number some = elim (cases_Boo
 ]
 
 -- no open entry keeps a number that is in none of their lists
-none_keeps : (lane number : ℕ) (tokens : List Token) → ((s : ℕ) → list_any (is_number number) (tokens_of lane s tokens) ≡ false) → count_by (keeps_as lane number) tokens ≡ 0
+none_keeps : (lane number : ℕ) (tokens : List Token) → ((s : ℕ) → list_any (is_attached_as number) (tokens_of lane s tokens) ≡ false) → count_by (keeps_as lane number) tokens ≡ 0
 none_keeps lane number [] none = refl
 none_keeps lane number (k ∷ tokens) none =
     let tail = none_keeps lane number tokens (λ s. shorter s (none s)) in
@@ -192,26 +192,26 @@ none_keeps lane number (k ∷ tokens) none =
     let here = cond-false {A = ℕ} (keeps_as lane number k) 1 0 first in
     omega (arith, tail, count, here)
   where
-    shorter : (s : ℕ) → list_any (is_number number) (tokens_of lane s (k ∷ tokens)) ≡ false → list_any (is_number number) (tokens_of lane s tokens) ≡ false
+    shorter : (s : ℕ) → list_any (is_attached_as number) (tokens_of lane s (k ∷ tokens)) ≡ false → list_any (is_attached_as number) (tokens_of lane s tokens) ≡ false
     shorter s is = elim (cases_Bool (is_token lane s k)) [
-      | inl passes ↦ (or_parts (is_number number k.attached) (list_any (is_number number) (tokens_of lane s tokens))
-          (ap (λ (ks : List Token). list_any (is_number number) (map (λ k. k.attached) ks)) (sym (cond-true {A = List Token} (is_token lane s k) (k ∷ filter (is_token lane s) tokens) (filter (is_token lane s) tokens) passes)) ∙ is)).1
-      | inr fails ↦ ap (λ (ks : List Token). list_any (is_number number) (map (λ k. k.attached) ks)) (sym (cond-false {A = List Token} (is_token lane s k) (k ∷ filter (is_token lane s) tokens) (filter (is_token lane s) tokens) fails)) ∙ is
+      | inl passes ↦ (or_parts (is_attached_as number k.attached) (list_any (is_attached_as number) (tokens_of lane s tokens))
+          (ap (λ (ks : List Token). list_any (is_attached_as number) (map (λ k. k.attached) ks)) (sym (cond-true {A = List Token} (is_token lane s k) (k ∷ filter (is_token lane s) tokens) (filter (is_token lane s) tokens) passes)) ∙ is)).1
+      | inr fails ↦ ap (λ (ks : List Token). list_any (is_attached_as number) (map (λ k. k.attached) ks)) (sym (cond-false {A = List Token} (is_token lane s k) (k ∷ filter (is_token lane s) tokens) (filter (is_token lane s) tokens) fails)) ∙ is
     ]
 
     first : keeps_as lane number k ≡ false
     first = elim (cases_Bool (k.lane == lane)) [
       | inl on ↦ (
           let passes : is_token lane k.id k ≡ true = ap (λ b. b && (k.id == k.id)) on ∙ eq-eqb k.id k.id refl in
-          let any = ap (λ (ks : List Token). list_any (is_number number) (map (λ k. k.attached) ks)) (sym (cond-true {A = List Token} (is_token lane k.id k) (k ∷ filter (is_token lane k.id) tokens) (filter (is_token lane k.id) tokens) passes)) ∙ none k.id in
-          ap (λ b. b && is_number number k.attached) on ∙ (or_parts (is_number number k.attached) (list_any (is_number number) (tokens_of lane k.id tokens)) any).0)
-      | inr off ↦ ap (λ b. b && is_number number k.attached) off
+          let any = ap (λ (ks : List Token). list_any (is_attached_as number) (map (λ k. k.attached) ks)) (sym (cond-true {A = List Token} (is_token lane k.id k) (k ∷ filter (is_token lane k.id) tokens) (filter (is_token lane k.id) tokens) passes)) ∙ none k.id in
+          ap (λ b. b && is_attached_as number k.attached) on ∙ (or_parts (is_attached_as number k.attached) (list_any (is_attached_as number) (tokens_of lane k.id tokens)) any).0)
+      | inr off ↦ ap (λ b. b && is_attached_as number k.attached) off
     ]
 
 pub guard_alone : (activation : Bool) (place lane : ℕ) (tokens : List Token) (attaches : List (Option Attach)) (live : List (ℕ × Context)) (items : List Attached) (n number : ℕ) → ContextsFit (numbers_by activation place lane tokens attaches) live items
     → numbers_by activation place lane tokens attaches (GuardOf n) ≡ Some number ∷ [] → kept_by activation tokens lane number ≡ 0
 guard_alone false place lane tokens attaches live items n number fit mine = refl
 guard_alone true place lane tokens attaches live items n number fit mine = none_keeps lane number tokens (λ s.
-    ap (λ (ns : List (Option ℕ)). list_any (is_number number) ns) (sym (fit.numbers_are (EntryOf s)))
+    ap (λ (ns : List (Option ℕ)). list_any (is_attached_as number) ns) (sym (fit.numbers_are (EntryOf s)))
     ∙ once (GuardOf n) (EntryOf s) (λ e. absurd (cc e)) live items fit.distinct number
-    (ap (λ (ns : List (Option ℕ)). list_any (is_number number) ns) (fit.numbers_are (GuardOf n) ∙ mine) ∙ ap (λ b. b || false) (eq-eqb number number refl)))
+    (ap (λ (ns : List (Option ℕ)). list_any (is_attached_as number) ns) (fit.numbers_are (GuardOf n) ∙ mine) ∙ ap (λ b. b || false) (eq-eqb number number refl)))

@@ -1,6 +1,6 @@
 -- What is asked of the span extension, served.
 use Rattle.std.proofs.Common.{◌≡◌, ℕ, List, [], ◌∷◌, Option, Some, None, Result, Ok, Err, map, refl, sym, ap, subst, ◌∙◌, IsTrue, ◌≢◌, Bool, true, false, is_some, slice_get, if◌then◌else◌}
-use Rattle.span_script.proofs.Common.{Context, SpanContext, KeyValue, is_valid, ids_of, Op, SpanData, reply_after, is_growing, Worlds, Spans, data_at, with_op, waiting_context, context_unless_started, PartCall, Applies, AppliesTo, AppliesOn, AsksDone, AsksParent, link_of, event_at, done_answer, parent_reply, parent_answer, Recording, no_recording, Alike, member_of, Handle, Held, Scope, SpanOp, Tables, slot_at, own_span, here_at, Resolved, ◌>>=◌, need, op_on, ops_effect, effect_of_call, link_ops, happens_at, set_result, set_parent_result, named_by, opened_by, Views, State, state_of, held_by, held_of, StandsFor, IsKept, Served, Parts, AddsMeasures, AsksLaw, aside_in}
+use Rattle.span_script.proofs.Common.{Context, SpanContext, KeyValue, is_valid, ids_of, Op, SpanData, reply_after, is_growing, WorldValue, Spans, data_at, with_op, start_context, context_unless_started, PartCall, Applies, AppliesTo, AppliesOn, AsksDone, AsksParent, link_of, event_at, done_answer, parent_reply, parent_answer, Recording, no_recording, KeepsPlainData, read_subscriber, Handle, HeldSpan, Scope, SpanOp, Tables, slot_at, own_span, here_at, Resolved, ◌>>=◌, need, op_on, ops_effect, effect_of_call, link_ops, happens_at, set_result, set_parent_result, named_by, opened_by, Views, State, state_of, held_by, held_of, StandsFor, IsKept, Served, Parts, AddsMeasures, AsksLaw, aside_in}
 use Rattle.otel_base.specs.declared.memory.Memory.{Memory}
 use Rattle.otel_base.specs.declared.status.Status.{Status}
 use Rattle.otel_state.specs.declared.op.Op.TheVariants as ops
@@ -48,7 +48,7 @@ own_answer None context parent = refl
 own_answer (Some given) context parent = refl
 
 set_by : (o : Option SpanData) → o ≢ None → (held : ℕ × ℕ) (spans now : List (ℕ × SpanData)) (id at : ℕ) (context : Context) (answer : Option (Result OpReply Memory)) → AppliesTo o spans id at (ops.SetParent context) answer now
-    → parent_answer (Some held) answer ≡ set_result (is_some (waiting_context o))
+    → parent_answer (Some held) answer ≡ set_result (is_some (start_context o))
 set_by None known held spans now id at context answer did = absurd (known refl)
 set_by (Some told) known held spans now id at context None did = absurd did
 set_by (Some told) known held spans now id at context (Some (Ok x)) did = ap parent_reply did.0 ∙ own_answer told.own context told.parent
@@ -56,7 +56,7 @@ set_by (Some told) known held spans now id at context (Some (Err m)) did = absur
 
 -- ---- on the span of a handle
 
-module _ {S : Type 0} (spans : S → Spans) (views : Views S) (attaches : S → Bool) (kept : S → ℕ → ℕ → ℕ) (is_whole : S → Type 0) (parts : Parts S) (new : Worlds S)
+module _ {S : Type 0} (spans : S → Spans) (views : Views S) (attaches : S → Bool) (kept : S → ℕ → ℕ → ℕ) (is_whole : S → Type 0) (parts : Parts S) (new : WorldValue S)
     (touches : S → PartCall → S → Type 0) (law : AsksLaw spans views attaches kept is_whole touches)
     (at place : ℕ) (handle : ℕ) (h : Handle) (found : slot_at parts.handles handle ≡ Some h) where
   abbrev now : State
@@ -69,7 +69,7 @@ module _ {S : Type 0} (spans : S → Spans) (views : Views S) (attaches : S → 
   later = state_of spans views later_parts
 
   abbrev r : Recording
-  r = member_of views.recorded no_recording parts.world parts.dispatch
+  r = read_subscriber views.recorded no_recording parts.world parts.dispatch
 
   abbrev IsDone : List SpanOp → Type 0
   IsDone o = Does spans views attaches kept is_whole parts new at o []
@@ -94,11 +94,11 @@ module _ {S : Type 0} (spans : S → Spans) (views : Views S) (attaches : S → 
       record {
         spans_same = alike.spans_same;
         kept_same = alike.kept_same;
-        sites_same = ap (λ (w : Worlds S). w.sites) did.others;
+        sites_same = ap (λ (w : WorldValue S). w.sites) did.others;
         recorded_is = records.1 ∙ ap (λ (xs : List (ℕ × SpanData)). record r { spans = xs }) (applied_by (data_at s r.spans) (is_known s up refl) r.spans _ s at op answer records.0 done);
-        filter_is = told.1 ∙ heard_none (member_of views.filtered None parts.world parts.dispatch);
+        filter_is = told.1 ∙ heard_none (read_subscriber views.filtered None parts.world parts.dispatch);
         aside_is = told.2;
-        cached_same = ap (λ (w : Worlds S). w.cached) did.others;
+        cached_same = ap (λ (w : WorldValue S). w.cached) did.others;
         count = alike.count;
         whole = alike.whole;
       }
@@ -115,7 +115,7 @@ module _ {S : Type 0} (spans : S → Spans) (views : Views S) (attaches : S → 
 
   -- nothing of what is kept changed
   abbrev Rest : Type 0
-  Rest = Alike spans attaches kept is_whole parts.world new parts.dispatch × (new.sites ≡ parts.world.sites) × (member_of views.recorded no_recording new parts.dispatch ≡ r) × (member_of views.filtered None new parts.dispatch ≡ member_of views.filtered None parts.world parts.dispatch) × (new.cached ≡ parts.world.cached) × AddsMeasures (aside_in views parts.world parts.dispatch) (aside_in views new parts.dispatch) []
+  Rest = KeepsPlainData spans attaches kept is_whole parts.world new parts.dispatch × (new.sites ≡ parts.world.sites) × (read_subscriber views.recorded no_recording new parts.dispatch ≡ r) × (read_subscriber views.filtered None new parts.dispatch ≡ read_subscriber views.filtered None parts.world parts.dispatch) × (new.cached ≡ parts.world.cached) × AddsMeasures (aside_in views parts.world parts.dispatch) (aside_in views new parts.dispatch) []
 
   -- where memory was wanted nothing changed
   left : (line : Scope) (op : Op) (answer : Option (Result OpReply Memory)) (memory : Memory) → AppliesOn touches parts.world new at op (held_of parts.dispatch line) answer → done_answer answer ≡ Err memory
@@ -125,10 +125,10 @@ module _ {S : Type 0} (spans : S → Spans) (views : Views S) (attaches : S → 
       let told = law.viewed parts.world new parts.dispatch (Applies s at op answer) did in
       let records = told.0 in (
         law.shown parts.world new parts.dispatch (Applies s at op answer) did,
-        ap (λ (w : Worlds S). w.sites) did.others,
+        ap (λ (w : WorldValue S). w.sites) did.others,
         records.1 ∙ ap (λ (xs : List (ℕ × SpanData)). record r { spans = xs }) (left_by (data_at s r.spans) r.spans _ s at op answer memory records.0 wanted),
         told.1,
-        ap (λ (w : Worlds S). w.cached) did.others,
+        ap (λ (w : WorldValue S). w.cached) did.others,
         told.2,
       )
 
@@ -140,7 +140,7 @@ module _ {S : Type 0} (spans : S → Spans) (views : Views S) (attaches : S → 
 
   module _ (op : Op) (result : Result (Unit {0}) Memory) (did : AsksDone touches parts.world new at op h.held result) where
     line_did : (t : Tables) (fits : Fits now t) → AppliesOn touches parts.world new at op (held_of parts.dispatch (its_scope t fits).at) did.answer
-    line_did t fits = subst (λ (held : Held). AppliesOn touches parts.world new at op held did.answer) (its_scope t fits).is did.did
+    line_did t fits = subst (λ (held : HeldSpan). AppliesOn touches parts.world new at op held did.answer) (its_scope t fits).is did.did
 
     -- where no memory was wanted
     module _ (ok : result ≡ Ok tt) where
@@ -176,7 +176,7 @@ module _ {S : Type 0} (spans : S → Spans) (views : Views S) (attaches : S → 
   -- a status never wants memory
   module _ (status : Status) (did : (answer : Option (Result OpReply Memory)) × AppliesOn touches parts.world new at (ops.SetStatus status) h.held answer) where
     never_wants : (t : Tables) (fits : Fits now t) → done_answer did.0 ≡ Ok tt
-    never_wants t fits = (let line = its_scope t fits in still_done line.at (ops.SetStatus status) did.0 refl (subst (λ (held : Held). AppliesOn touches parts.world new at (ops.SetStatus status) held did.0) line.is did.1))
+    never_wants t fits = (let line = its_scope t fits in still_done line.at (ops.SetStatus status) did.0 refl (subst (λ (held : HeldSpan). AppliesOn touches parts.world new at (ops.SetStatus status) held did.0) line.is did.1))
 
     asks_status : AsksDone touches parts.world new at (ops.SetStatus status) h.held (done_answer did.0)
     asks_status = record { answer = did.0; did = did.1; is = refl }
@@ -209,12 +209,12 @@ module _ {S : Type 0} (spans : S → Spans) (views : Views S) (attaches : S → 
       -- a parent
       module _ (set : Result (Unit {0}) SetParentError) (did : AsksParent touches parts.world new at given h.held set) where
         parent_did : (t : Tables) (fits : Fits now t) → AppliesOn touches parts.world new at (ops.SetParent given) (held_of parts.dispatch (its_scope t fits).at) did.answer
-        parent_did t fits = subst (λ (held : Held). AppliesOn touches parts.world new at (ops.SetParent given) held did.answer) (its_scope t fits).is did.did
+        parent_did t fits = subst (λ (held : HeldSpan). AppliesOn touches parts.world new at (ops.SetParent given) held did.answer) (its_scope t fits).is did.did
 
         its_set : (t : Tables) (stands : StandsFor now t) → set ≡ set_parent_result t.recording (its_scope t stands.fits).at
         its_set t stands =
             let line = its_scope t stands.fits in
-            did.is ∙ ap (λ (held : Held). parent_answer held did.answer) line.is ∙ was_set line.at (known t stands line.at line.there) given did.answer (parent_did t stands.fits)
+            did.is ∙ ap (λ (held : HeldSpan). parent_answer held did.answer) line.is ∙ was_set line.at (known t stands line.at line.there) given did.answer (parent_did t stands.fits)
             ∙ ap (λ (x : Recording). set_parent_result x line.at) stands.recording.recorded
 
         its_parent : (t : Tables) (stands : StandsFor now t) → IsDone (op_on (its_scope t stands.fits).at (ops.SetParent given))

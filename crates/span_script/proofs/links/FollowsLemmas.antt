@@ -1,6 +1,6 @@
 -- A span that is followed, served.
 use Rattle.std.proofs.Common.{◌≡◌, ℕ, List, [], ◌∷◌, Bool, Option, Some, None, Ok, Err, map, refl, sym, ap, subst, ◌∙◌, ◌≢◌}
-use Rattle.span_script.proofs.Common.{ids_of, empty_context, SpanData, Worlds, Spans, SubscriberCall, link_of, with_link, data_at, with_op, own_or, ids_at, Recording, no_recording, with_start, member_of, Handle, Held, FollowsOn, AreOfOne, Scope, SpanOp, Effect, Tables, slot_at, here_at, ◌>>=◌, need, op_on, effect_of_call, own_context, follow_effect, named_by, opened_by, Views, State, state_of, held_by, held_of, StandsFor, IsKept, Served, Parts, CallsLaw}
+use Rattle.span_script.proofs.Common.{ids_of, empty_context, SpanData, WorldValue, Spans, SubscriberCall, link_of, with_link, data_at, with_op, own_context_or, ids_at, Recording, no_recording, with_start, read_subscriber, Handle, HeldSpan, FollowsOn, AreOfOne, Scope, SpanOp, Effect, Tables, slot_at, here_at, ◌>>=◌, need, op_on, effect_of_call, own_context, follow_effect, named_by, opened_by, Views, State, state_of, held_by, held_of, StandsFor, IsKept, Served, Parts, CallsLaw}
 use Rattle.span_script.specs.declared.reply.Refusal.TheVariants as refusal
 use Rattle.span_script.specs.declared.reply.Reply.TheVariants as reply
 use Rattle.span_script.specs.declared.reply.What.TheVariants as what
@@ -15,13 +15,13 @@ use Rattle.span_script.proofs.runs.RefusalsLemmas.{refuses_unknown}
 use Rattle.span_script.proofs.events.EventsLemmas.{Starts, does_none, starts_then, serves_starts, keeps_starts}
 
 -- the link to a known span is one to its own context
-linked_is : (o : Option SpanData) → o ≢ None → (s at : ℕ) (spans : List (ℕ × SpanData)) → with_link s at (ids_at o) spans ≡ with_op s at (link_of (ids_of (own_or empty_context o)) []) spans
+linked_is : (o : Option SpanData) → o ≢ None → (s at : ℕ) (spans : List (ℕ × SpanData)) → with_link s at (ids_at o) spans ≡ with_op s at (link_of (ids_of (own_context_or empty_context o)) []) spans
 linked_is None known s at spans = absurd (known refl)
 linked_is (Some told) known s at spans = refl
 
 -- handles of one world are of one dispatch
-pub of_one : (dispatch : ℕ) (line from : Scope) (held other : Held) → held ≡ held_of dispatch line → other ≡ held_of dispatch from → AreOfOne held other
-of_one dispatch line from held other is from_is = subst (λ (x : Held). AreOfOne x other) (sym is) (subst (λ (y : Held). AreOfOne (held_of dispatch line) y) (sym from_is) (both line from))
+pub of_one : (dispatch : ℕ) (line from : Scope) (held other : HeldSpan) → held ≡ held_of dispatch line → other ≡ held_of dispatch from → AreOfOne held other
+of_one dispatch line from held other is from_is = subst (λ (x : HeldSpan). AreOfOne x other) (sym is) (subst (λ (y : HeldSpan). AreOfOne (held_of dispatch line) y) (sym from_is) (both line from))
   where
     both : (line from : Scope) → AreOfOne (held_of dispatch line) (held_of dispatch from)
     both [] from = tt
@@ -34,7 +34,7 @@ module _ {S : Type 0} (spans : S → Spans) (views : Views S) (attaches : S → 
   now = state_of spans views parts
 
   abbrev r : Recording
-  r = member_of views.recorded no_recording parts.world parts.dispatch
+  r = read_subscriber views.recorded no_recording parts.world parts.dispatch
 
   its_scope : (t : Tables) → Fits now t → (n : ℕ) (x : Handle) → slot_at parts.handles n ≡ Some x → Found (held_of parts.dispatch) t.handles n x.held
   its_scope t fits n x there = find (held_of parts.dispatch) (map held_by parts.handles) t.handles n x.held fits.handle_slots (held_slot parts.handles n x there)
@@ -50,7 +50,7 @@ module _ {S : Type 0} (spans : S → Spans) (views : Views S) (attaches : S → 
     pub needs_one : IsKept spans views kept is_whole parts → AreOfOne h.held f.held
     needs_one inv = (let line = its_scope inv.tables inv.stands.fits handle h found in let other = its_scope inv.tables inv.stands.fits from f found_from in of_one parts.dispatch line.at other.at h.held f.held line.is other.is)
 
-    module _ (new : Worlds S) (at place : ℕ) (does : S → SubscriberCall → S → Type 0) (law : CallsLaw spans views attaches kept is_whole does)
+    module _ (new : WorldValue S) (at place : ℕ) (does : S → SubscriberCall → S → Type 0) (law : CallsLaw spans views attaches kept is_whole does)
         (did : FollowsOn does parts.world new at h.held f.held) where
       abbrev then_parts : Parts S
       then_parts = record parts { world = new; moment = at }
@@ -80,11 +80,11 @@ module _ {S : Type 0} (spans : S → Spans) (views : Views S) (attaches : S → 
             done = record {
               spans_same = shown.spans_after;
               kept_same = shown.lanes;
-              sites_same = ap (λ (w : Worlds S). w.sites) step.others;
+              sites_same = ap (λ (w : WorldValue S). w.sites) step.others;
               recorded_is = (law.viewed parts.world new parts.dispatch _ step).0 ∙ ap (λ (xs : List (ℕ × SpanData)). record r1 { spans = xs }) (linked_is (data_at q r1.spans) known s at r1.spans);
               filter_is = (law.viewed parts.world new parts.dispatch _ step).1;
               aside_is = (law.viewed parts.world new parts.dispatch _ step).2;
-              cached_same = ap (λ (w : Worlds S). w.cached) step.others;
+              cached_same = ap (λ (w : WorldValue S). w.cached) step.others;
               count = shown.count;
               whole = shown.whole;
             };
@@ -97,7 +97,7 @@ module _ {S : Type 0} (spans : S → Spans) (views : Views S) (attaches : S → 
           let line = its_scope t stands.fits handle h found in
           let other = its_scope t stands.fits from f found_from in
           followed_by t stands line.at other.at other.there
-          (subst (λ (x : Held). FollowsOn does parts.world new at x (held_of parts.dispatch other.at)) line.is (subst (λ (y : Held). FollowsOn does parts.world new at h.held y) other.is did))
+          (subst (λ (x : HeldSpan). FollowsOn does parts.world new at x (held_of parts.dispatch other.at)) line.is (subst (λ (y : HeldSpan). FollowsOn does parts.world new at h.held y) other.is did))
 
       its_effect : (t : Tables) (stands : StandsFor now t) → effect_of_call now.setup t at place (call.Follows handle from)
           ≡ Ok (starts_then spans views attaches kept is_whole parts new at place (its_follow t stands).starting (its_follow t stands).ops [] reply.Done)

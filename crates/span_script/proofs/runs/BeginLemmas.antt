@@ -1,6 +1,6 @@
 -- A pipeline without requests.
 use Rattle.std.proofs.Common.{◌≡◌, ℕ, ◌<◌, List, [], ◌∷◌, ◌++◌, length, Bool, true, false, Option, Some, None, option_map, map, refl, sym, ap, subst, ◌∙◌, arith, zero, suc, slice_get, IfSome, is_some}
-use Rattle.span_script.proofs.Common.{length-map, Lane, Callsite, Worlds, AreSame, IsFresh, Interest, FilterState, FilterWithRoom, plain_filter, IsNewFilter, interest_in, Measure, filter_if, text_filter, IsTextFilter, IsCounter, Spans, span_at, Has, Replaced, member_of, spans_in, kept_in, no_spans, new_recording, Handle, Guard, Setup, HasOwnIds, id_at, Recording, no_recording, Owner, EntryOf, GuardOf, no_tables, nothing_recorded, open_part, Context, Views, ShownFilter, shown_of, ContextSlots, State, state_of, StandsFor, RecordingFits, FilteringFits, numbers_by, ContextsFit, LaneValue, lane_value, lane_at, LanesFit, IsKept, Parts, AddsMeasures, SameLaw, aside_in}
+use Rattle.span_script.proofs.Common.{length-map, Lane, Callsite, WorldValue, AreSame, IsFresh, Interest, FilterState, FilterWithRoom, plain_filter, IsNewFilter, interest_in, Measure, filter_if, text_filter, IsTextFilter, IsCounter, Spans, span_at, Has, Replaced, read_subscriber, spans_in, kept_in, no_spans, new_recording, Handle, Guard, Setup, HasOwnIds, id_at, Recording, no_recording, Owner, EntryOf, GuardOf, no_tables, nothing_recorded, open_part, Context, Views, ShownFilter, shown_of, ContextSlots, State, state_of, StandsFor, RecordingFits, FilteringFits, numbers_by, ContextsFit, LaneValue, lane_value, lane_at, LanesFit, IsKept, Parts, AddsMeasures, SameLaw, aside_in}
 use Rattle.span_script.proofs.filter.CounterLemmas.{adds_nothing}
 use Rattle.span_script.proofs.filter.FilterLemmas.{cached_rows}
 use Rattle.span_script.specs.declared.settings.Texts.{Texts}
@@ -58,19 +58,19 @@ no_items (x ∷ xs) e = absurd (omega (arith, e))
 -- the only subscriber of a world, seen through what is the same
 module _ {S : Type 0} (same : S → S → Type 0) (spans : S → Spans) (views : Views S) (attaches : S → Bool) (kept : S → ℕ → ℕ → ℕ) (is_whole : S → Type 0)
     (law : SameLaw spans views attaches kept is_whole same) (first : S) where
-  pub record Only (world : Worlds S) (dispatch : ℕ) : Type 0 where
+  pub record Only (world : WorldValue S) (dispatch : ℕ) : Type 0 where
     pub there : dispatch < length world.subscribers
     pub spans_are : spans_in spans world dispatch ≡ spans first
     pub kept_is : kept_in kept world dispatch ≡ kept first
-    pub recorded_is : member_of views.recorded no_recording world dispatch ≡ views.recorded first
-    pub filter_is : member_of views.filtered None world dispatch ≡ views.filtered first
+    pub recorded_is : read_subscriber views.recorded no_recording world dispatch ≡ views.recorded first
+    pub filter_is : read_subscriber views.filtered None world dispatch ≡ views.filtered first
     pub aside_is : AddsMeasures (views.counter first, views.measured first) (aside_in views world dispatch) []
     pub alone : length world.subscribers ≡ 1
     pub whole : is_whole first → Has is_whole world dispatch
 
-  only_first : (world : Worlds S) (x : S) → world.subscribers ≡ x ∷ [] → same first x → Only world 0
+  only_first : (world : WorldValue S) (x : S) → world.subscribers ≡ x ∷ [] → same first x → Only world 0
   only_first world x is kin =
-      let old : Worlds S = record world { subscribers = first ∷ [] } in
+      let old : WorldValue S = record world { subscribers = first ∷ [] } in
       let r : Replaced same old world 0 = record { before = first; later = x; there = refl; did = kin; others = ap (λ (xs : List S). record world { subscribers = xs }) is } in
       let alike = law.shown old world 0 r in
       record {
@@ -84,7 +84,7 @@ module _ {S : Type 0} (same : S → S → Type 0) (spans : S → Spans) (views :
         whole = λ was. alike.whole (λ s there. (let e : first ≡ s = some_is first s there in subst is_whole e was));
       }
 
-  pub only_one : (world : Worlds S) (dispatch : ℕ) → dispatch ≡ 0 → AreSame same (first ∷ []) world.subscribers → Only world dispatch
+  pub only_one : (world : WorldValue S) (dispatch : ℕ) → dispatch ≡ 0 → AreSame same (first ∷ []) world.subscribers → Only world dispatch
   only_one world dispatch is are = subst (λ (d : ℕ). Only world d) (sym is) (by_list world.subscribers refl)
     where
       by_list : (xs : List S) → world.subscribers ≡ xs → Only world 0
@@ -107,7 +107,7 @@ no_live (l ∷ ls) are (suc n) = no_live ls (cc are) n
 -- what a pipeline begins with
 module _ {S : Type 0} (same : S → S → Type 0) (spans : S → Spans) (views : Views S) (attaches : S → Bool) (kept : S → ℕ → ℕ → ℕ) (is_whole : S → Type 0)
     (law : SameLaw spans views attaches kept is_whole same) (first : S)
-    (world before : Worlds S) (dispatch : ℕ) (opening : Texts) (lanes : List Lane) (ids : List ℕ) (is : dispatch ≡ length before.subscribers) (empty : length before.subscribers ≡ 0) (are : AreSame same (before.subscribers ++ first ∷ []) world.subscribers)
+    (world before : WorldValue S) (dispatch : ℕ) (opening : Texts) (lanes : List Lane) (ids : List ℕ) (is : dispatch ≡ length before.subscribers) (empty : length before.subscribers ≡ 0) (are : AreSame same (before.subscribers ++ first ∷ []) world.subscribers)
     (none : spans first ≡ no_spans) (base : Setup) (nothing : views.recorded first ≡ nothing_recorded base) (quiet : map (λ (l : Lane). l.contexts.live) lanes ≡ map (λ (l : Lane). []) lanes)
     (interest : S → Callsite → Interest) (shown : (s : S) (f : FilterState) (c : Callsite) → views.filtered s ≡ Some f → interest s c ≡ interest_in f c) (fresh : IsFresh interest world)
     (f : FilterState) (opened : IsTextFilter opening.filter f) (gate : views.filtered first ≡ Some f) (counts : IsCounter opening.counting (views.counter first)) (no_measures : views.measured first ≡ [])

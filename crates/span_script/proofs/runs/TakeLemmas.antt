@@ -1,6 +1,6 @@
 -- A record or a measure that is taken, and how many spans are open.
 use Rattle.std.proofs.Common.{◌≡◌, ℕ, List, [], ◌∷◌, drop, Bool, Option, Some, None, map, refl, sym, ap, subst, ◌∙◌, arith, slice_get, MatchOption}
-use Rattle.span_script.proofs.Common.{Worlds, Spans, Alike, member_of, Record, option_map_or, no_recording, Tables, Measure, Views, State, state_of, StandsFor, LanesFit, IsKept, lane_value, Parts}
+use Rattle.span_script.proofs.Common.{WorldValue, Spans, KeepsPlainData, read_subscriber, Record, option_map_or, no_recording, Tables, Measure, Views, State, state_of, StandsFor, LanesFit, IsKept, lane_value, Parts}
 use Rattle.span_script.specs.Fits.{Fits}
 
 -- what is kept, but that some of the records and measures were taken
@@ -35,10 +35,10 @@ stands_taken k t records measures stands = record {
 }
 
 -- a world whose stack has some records and measures
-module _ {S : Type 0} (spans : S → Spans) (views : Views S) (attaches : S → Bool) (kept : S → ℕ → ℕ → ℕ) (is_whole : S → Type 0) (parts : Parts S) (new : Worlds S) (alike : Alike spans attaches kept is_whole parts.world new parts.dispatch)
-    (sites : new.sites ≡ parts.world.sites) (cached : new.cached ≡ parts.world.cached) (filters : member_of views.filtered None new parts.dispatch ≡ member_of views.filtered None parts.world parts.dispatch) (counter : member_of views.counter None new parts.dispatch ≡ member_of views.counter None parts.world parts.dispatch)
-    (records : List Record) (finished : member_of views.recorded no_recording new parts.dispatch ≡ record (member_of views.recorded no_recording parts.world parts.dispatch) { finished = records })
-    (measures : List Measure) (waiting : member_of views.measured [] new parts.dispatch ≡ measures) where
+module _ {S : Type 0} (spans : S → Spans) (views : Views S) (attaches : S → Bool) (kept : S → ℕ → ℕ → ℕ) (is_whole : S → Type 0) (parts : Parts S) (new : WorldValue S) (alike : KeepsPlainData spans attaches kept is_whole parts.world new parts.dispatch)
+    (sites : new.sites ≡ parts.world.sites) (cached : new.cached ≡ parts.world.cached) (filters : read_subscriber views.filtered None new parts.dispatch ≡ read_subscriber views.filtered None parts.world parts.dispatch) (counter : read_subscriber views.counter None new parts.dispatch ≡ read_subscriber views.counter None parts.world parts.dispatch)
+    (records : List Record) (finished : read_subscriber views.recorded no_recording new parts.dispatch ≡ record (read_subscriber views.recorded no_recording parts.world parts.dispatch) { finished = records })
+    (measures : List Measure) (waiting : read_subscriber views.measured [] new parts.dispatch ≡ measures) where
   abbrev taken_parts : Parts S
   taken_parts = record parts { world = new }
 
@@ -62,5 +62,5 @@ oldest_by {A} read view k rest o same without is =
     subst (λ (x : State). MatchOption o (read x ≡ []) (λ a. read x ≡ a ∷ rest)) same
     (subst (λ (zs : List A). MatchOption o (read view ≡ []) (λ a. read view ≡ a ∷ zs)) (sym without) is)
 
-pub seen_there : {S A : Type 0} (read : S → A) (none : A) (world : Worlds S) (dispatch : ℕ) (s : S) → slice_get world.subscribers dispatch ≡ Some s → member_of read none world dispatch ≡ read s
+pub seen_there : {S A : Type 0} (read : S → A) (none : A) (world : WorldValue S) (dispatch : ℕ) (s : S) → slice_get world.subscribers dispatch ≡ Some s → read_subscriber read none world dispatch ≡ read s
 seen_there read none world dispatch s there = ap (λ (o : Option _). option_map_or read o none) there

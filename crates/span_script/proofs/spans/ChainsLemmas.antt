@@ -1,6 +1,6 @@
 -- A handle is dropped, and a chain of spans closes.
 use Rattle.std.proofs.Common.{◌≡◌, ℕ, zero, suc, ◌+◌, ◌<◌, ◌≤◌, List, [], ◌∷◌, Bool, true, false, cond, count_by, slice_set, Option, Some, None, option_map, map, refl, sym, ap, subst, ◌∙◌, arith, inl, inr, ◌==◌, ◌||◌}
-use Rattle.span_script.proofs.Common.{cases_eq, cond-true, cond-false, or_parts, map-set, sum_by-set, get_or-map, Span, Spans, Entries, entries_on, span_at, less_hold, without_hold, next_of, entered_lane_count, is_open_child, is_child_of, open_child_count, made_if_held, children_set, keeps_children, less_last, less_more, less_holds, holds_set, holds_other, OneEach, ReleasesChain, all_released, releases, id_at, Balanced, OpenGuard, names_span, named_by, opened_on, opened_by, Scope, MadeSpan, ScopeGuard, Tables, after_effect, slot_at, own_span, here_at, drop_effect, borrows, is_borrowed, is_named, ContextSlots, State, MadeFit, guard_of, lane_of}
+use Rattle.span_script.proofs.Common.{cases_eq, cond-true, cond-false, or_parts, map-set, sum_by-set, get_or-map, Span, Spans, Entries, entries_on, span_at, span_without_hold, without_hold, parent_to_release, entered_lane_count, is_open_child, is_child_of, open_child_count, made_if_held, children_set, keeps_children, less_last, less_more, less_holds, holds_set, holds_other, OneEach, ReleasesChain, all_released, releases, id_at, Balanced, OpenGuard, names_span, named_by, opened_on, opened_by, Scope, MadeSpan, ScopeGuard, Tables, after_effect, slot_at, own_span, here_at, drop_effect, borrows, is_borrowed, is_named, ContextSlots, State, MadeFit, guard_of, lane_of}
 use Rattle.std.proofs.lemmas.Bool.{eq-eqb, ne_eqb}
 use Rattle.std.proofs.lemmas.List.{length-set, get_or-set_other}
 use Rattle.span_script.specs.Fits.{Fits}
@@ -14,10 +14,10 @@ abbrev pub Loose : Spans → List (Option ℕ) → Option ℕ → Type 0
 Loose spans hs next = (q : ℕ) → (span_at spans.made q).holds ≡ count_by (names_span q) hs + entered_lane_count spans.lanes q + open_child_count spans.made q + cond (is_child_of q next) 1 0
 
 -- a release moves the hold on to the parent, or ends it
-pub loose_released : (x : Spans) (hs : List (Option ℕ)) (id : ℕ) → Loose x hs (Some id) → Loose (record x { made = without_hold x.made id }) hs (next_of x.made id)
+pub loose_released : (x : Spans) (hs : List (Option ℕ)) (id : ℕ) → Loose x hs (Some id) → Loose (record x { made = without_hold x.made id }) hs (parent_to_release x.made id)
 loose_released x hs id loose =
     let was = span_at x.made id in
-    let now : Span = less_hold was in
+    let now : Span = span_without_hold was in
     let fewer = less_holds was in
     let self = cond-true {A = ℕ} (id == id) 1 0 (eq-eqb id id refl) in
     let own = loose id in
@@ -66,7 +66,7 @@ pub record ChainEnds (x y : Spans) (hs : List (Option ℕ)) : Type 0 where
 pub chain_ends : (next : Option ℕ) (x y : Spans) → ReleasesChain next x y → (hs : List (Option ℕ)) → Loose x hs next → ChainEnds x y hs
 chain_ends _ _ _ (all_released x) hs loose = record { holds = loose; lanes = refl; fewer = λ q. omega arith; made = λ ms fit. fit }
 chain_ends _ _ _ (releases id at x y own rest) hs loose =
-    let more = chain_ends (next_of x.made id) (record x { made = without_hold x.made id }) y rest hs (loose_released x hs id loose) in
+    let more = chain_ends (parent_to_release x.made id) (record x { made = without_hold x.made id }) y rest hs (loose_released x hs id loose) in
     record {
       holds = more.holds;
       lanes = more.lanes;

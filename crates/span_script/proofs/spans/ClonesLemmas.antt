@@ -1,6 +1,6 @@
 -- Clones, served.
 use Rattle.std.proofs.Common.{◌≡◌, ℕ, ◌+◌, ◌<◌, ◌≤◌, List, [], ◌∷◌, ◌++◌, length, Bool, Option, Some, None, Ok, option_map, map, refl, sym, ap, subst, ◌∙◌, arith, inl, inr, is_some}
-use Rattle.span_script.proofs.Common.{cases_eq, length-map, length_push, map_push, get_or_append_left, Worlds, Spans, span_at, SubscriberCall, CloneSpan, OneEach, member_of, spans_in, kept_in, Handle, Held, id_of, ReplacedOn, Recording, no_recording, Scope, MadeSpan, ScopeGuard, Effect, Tables, slot_at, own_span, here_at, ◌>>=◌, need, effect_of_call, clone_effect, Balanced, named_by, opened_by, Views, State, state_of, lane_value, StandsFor, MadeFit, LanesFit, IsKept, Served, IsScope, held_of, held_by, site_by, Parts, holds_other, CallsLaw, aside_in}
+use Rattle.span_script.proofs.Common.{cases_eq, length-map, length_push, map_push, get_or_append_left, WorldValue, Spans, span_at, SubscriberCall, CloneSpan, OneEach, read_subscriber, spans_in, kept_in, Handle, HeldSpan, id_of, ReplacedOn, Recording, no_recording, Scope, MadeSpan, ScopeGuard, Effect, Tables, slot_at, own_span, here_at, ◌>>=◌, need, effect_of_call, clone_effect, Balanced, named_by, opened_by, Views, State, state_of, lane_value, StandsFor, MadeFit, LanesFit, IsKept, Served, IsScope, held_of, held_by, site_by, Parts, holds_other, CallsLaw, aside_in}
 use Rattle.span_script.specs.declared.reply.Reply.TheVariants as reply
 use Rattle.span_script.specs.declared.request.Call.TheVariants as call
 use Rattle.span_script.specs.declared.reply.What.TheVariants as what
@@ -39,31 +39,31 @@ pub the_scope : (a b : Scope) → ◌≡◌ {A = Option Scope} (Some a) (Some b)
 the_scope a b e = cc e
 
 -- whether a handle of a scope is enabled
-pub enabled_is : (dispatch : ℕ) (line : Scope) (held : Held) → held ≡ held_of dispatch line → is_some (id_of held) ≡ is_some (own_span line)
-enabled_is dispatch [] held is = ap (λ (h : Held). is_some (id_of h)) is
-enabled_is dispatch (s ∷ up) held is = ap (λ (h : Held). is_some (id_of h)) is
+pub enabled_is : (dispatch : ℕ) (line : Scope) (held : HeldSpan) → held ≡ held_of dispatch line → is_some (id_of held) ≡ is_some (own_span line)
+enabled_is dispatch [] held is = ap (λ (h : HeldSpan). is_some (id_of h)) is
+enabled_is dispatch (s ∷ up) held is = ap (λ (h : HeldSpan). is_some (id_of h)) is
 
 -- what a guard keeps stays where there is a handle more
 pub still_named_more : (gs : List (Option ScopeGuard)) (hs : List (Option Scope)) (line : Scope) → ((n : ℕ) (x : ScopeGuard) → slot_at gs n ≡ Some x → slot_at hs x.handle ≡ Some x.scope)
     → (n : ℕ) (x : ScopeGuard) → slot_at gs n ≡ Some x → slot_at (hs ++ Some line ∷ []) x.handle ≡ Some x.scope
 still_named_more gs hs line still n x there = let at = still n x there in get_or_append_left hs (Some line ∷ []) None x.handle (named_within hs x.handle x.scope at) ∙ at
 
-module _ {S : Type 0} (spans : S → Spans) (views : Views S) (attaches : S → Bool) (kept : S → ℕ → ℕ → ℕ) (is_whole : S → Type 0) (parts : Parts S) (new : Worlds S) where
+module _ {S : Type 0} (spans : S → Spans) (views : Views S) (attaches : S → Bool) (kept : S → ℕ → ℕ → ℕ) (is_whole : S → Type 0) (parts : Parts S) (new : WorldValue S) where
   pub held_spans : (line : Scope) → ShownOn spans views attaches kept is_whole parts.world new parts.dispatch line (λ id. CloneSpan id) → spans_in spans new parts.dispatch ≡ spans_held (spans_in spans parts.world parts.dispatch) line
-  held_spans [] same = ap (λ (w : Worlds S). spans_in spans w parts.dispatch) same
+  held_spans [] same = ap (λ (w : WorldValue S). spans_in spans w parts.dispatch) same
   held_spans (s ∷ up) shown = shown.0.spans_after
 
   pub clone_kept : (line : Scope) → ShownOn spans views attaches kept is_whole parts.world new parts.dispatch line (λ id. CloneSpan id) → kept_in kept new parts.dispatch ≡ kept_in kept parts.world parts.dispatch
-  clone_kept [] same = ap (λ (w : Worlds S). kept_in kept w parts.dispatch) same
+  clone_kept [] same = ap (λ (w : WorldValue S). kept_in kept w parts.dispatch) same
   clone_kept (s ∷ up) shown = shown.0.lanes
 
-  pub clone_recorded : (line : Scope) → ShownOn spans views attaches kept is_whole parts.world new parts.dispatch line (λ id. CloneSpan id) → member_of views.recorded no_recording new parts.dispatch ≡ member_of views.recorded no_recording parts.world parts.dispatch
-  clone_recorded [] same = ap (λ (w : Worlds S). member_of views.recorded no_recording w parts.dispatch) same
+  pub clone_recorded : (line : Scope) → ShownOn spans views attaches kept is_whole parts.world new parts.dispatch line (λ id. CloneSpan id) → read_subscriber views.recorded no_recording new parts.dispatch ≡ read_subscriber views.recorded no_recording parts.world parts.dispatch
+  clone_recorded [] same = ap (λ (w : WorldValue S). read_subscriber views.recorded no_recording w parts.dispatch) same
   clone_recorded (s ∷ up) shown = shown.2
 
-  pub clone_filter : (line : Scope) → ShownOn spans views attaches kept is_whole parts.world new parts.dispatch line (λ id. CloneSpan id) → member_of views.filtered None new parts.dispatch ≡ member_of views.filtered None parts.world parts.dispatch
-  clone_filter [] same = ap (λ (w : Worlds S). member_of views.filtered None w parts.dispatch) same
-  clone_filter (s ∷ up) shown = shown.3 ∙ sym (heard_none (member_of views.filtered None parts.world parts.dispatch))
+  pub clone_filter : (line : Scope) → ShownOn spans views attaches kept is_whole parts.world new parts.dispatch line (λ id. CloneSpan id) → read_subscriber views.filtered None new parts.dispatch ≡ read_subscriber views.filtered None parts.world parts.dispatch
+  clone_filter [] same = ap (λ (w : WorldValue S). read_subscriber views.filtered None w parts.dispatch) same
+  clone_filter (s ∷ up) shown = shown.3 ∙ sym (heard_none (read_subscriber views.filtered None parts.world parts.dispatch))
 
   module _ (does : S → SubscriberCall → S → Type 0) (law : CallsLaw spans views attaches kept is_whole does)
       (hs' : List (Option Handle)) (at place number : ℕ) (many : number ≡ length parts.handles) (inv : IsKept spans views kept is_whole parts) where
@@ -90,17 +90,17 @@ module _ {S : Type 0} (spans : S → Spans) (views : Views S) (attaches : S → 
           let ids = now.setup.ids in
           let same = clone_recorded line.at shown in
           let sites = call_sites spans views attaches kept is_whole parts new line.at (λ id. CloneSpan id) shown in
-          let setup : then.setup ≡ now.setup = ap (λ x. record now.setup { sites = x; layer = (member_of views.recorded no_recording new parts.dispatch).settings }) sites ∙ ap (λ (r : Recording). record now.setup { layer = r.settings }) same in
+          let setup : then.setup ≡ now.setup = ap (λ x. record now.setup { sites = x; layer = (read_subscriber views.recorded no_recording new parts.dispatch).settings }) sites ∙ ap (λ (r : Recording). record now.setup { layer = r.settings }) same in
           let live : (s : ℕ) (up : Scope) → line.at ≡ s ∷ up → 0 < (span_at sp.made s).holds = λ s up e. fits_live sp (map named_by t.handles) (map (opened_by ids) t.guards) t.entries fits.balanced handle s (named_slot t.handles handle line.at line.there ∙ ap own_span e) in
           let e : Effect = clone_effect (here_at now.setup t at place) line.at in
           serve now then t e _ (reply.Made enabled number) stands
           (ap (λ o. need what.Handle o >>= (λ line. Ok (clone_effect (here_at now.setup t at place) line))) line.there)
           (ap (λ n. reply.Made enabled n) (next_number t fits) ∙ ap (λ b. reply.Made b (length t.handles)) (shows ∙ enabled_is parts.dispatch line.at h.held line.is))
-          setup (member_of views.recorded no_recording parts.world parts.dispatch).tokens same
+          setup (read_subscriber views.recorded no_recording parts.world parts.dispatch).tokens same
           (fits_step now t fits then e (record {
             setup_is = setup;
             dispatch_is = refl;
-            handles_are = ap (map held_by) one ∙ map_push held_by parts.handles (Some copy) ∙ ap (λ (x : Handle). map held_by parts.handles ++ Some x.held ∷ []) is ∙ ap (λ (x : Held). map held_by parts.handles ++ Some x ∷ []) line.is;
+            handles_are = ap (map held_by) one ∙ map_push held_by parts.handles (Some copy) ∙ ap (λ (x : Handle). map held_by parts.handles ++ Some x.held ∷ []) is ∙ ap (λ (x : HeldSpan). map held_by parts.handles ++ Some x ∷ []) line.is;
             sites_are = ap (map site_by) one ∙ map_push site_by parts.handles (Some copy) ∙ ap (λ (x : Handle). map site_by parts.handles ++ Some x.site ∷ []) is ∙ ap (λ (o : Option ℕ). map site_by parts.handles ++ Some o ∷ []) (site_found now t fits parts.handles refl handle h found line.at line.there);
             guards_are = refl;
             attaches_are = refl;
@@ -116,9 +116,9 @@ module _ {S : Type 0} (spans : S → Spans) (views : Views S) (attaches : S → 
             few_holds = λ s. (let a = held_scope_most sp line.at s in let f = fits.few_holds s in let e = ap (λ (x : Spans). (span_at x.made s).holds) step in let l = length_push t.handles (Some line.at) in omega (arith, a, f, e, l));
             one = subst (λ (x : Spans). OneEach x.lanes) (sym step) (one_clone sp line.at fits.one_lane);
           }))
-          (λ s some. known_still now then t e (member_of views.recorded no_recording parts.world parts.dispatch).tokens same stands.recording s refl (clone_live sp line.at s live (subst (λ (x : Spans). 0 < (span_at x.made s).holds) step some)))
+          (λ s some. known_still now then t e (read_subscriber views.recorded no_recording parts.world parts.dispatch).tokens same stands.recording s refl (clone_live sp line.at s live (subst (λ (x : Spans). 0 < (span_at x.made s).holds) step some)))
           (all_same now then t.contexts setup refl refl (ap (λ (r : Recording). r.tokens) same) stands.recording.attached)
-          (record { quiet = refl; before = member_of views.filtered None parts.world parts.dispatch; later = member_of views.filtered None new parts.dispatch; shown_before = refl; shown_later = refl; told = clone_filter line.at shown ∙ heard_none (member_of views.filtered None parts.world parts.dispatch); known = refl; cached = call_cached spans views attaches kept is_whole parts new line.at (λ id. CloneSpan id) shown; aside = record { before = aside_in views parts.world parts.dispatch; later = aside_in views new parts.dispatch; shown_before = refl; shown_later = refl; waits_before = refl; waits_later = refl; adds = call_aside spans views attaches kept is_whole parts new line.at (λ id. CloneSpan id) (λ s. refl) shown } })
+          (record { quiet = refl; before = read_subscriber views.filtered None parts.world parts.dispatch; later = read_subscriber views.filtered None new parts.dispatch; shown_before = refl; shown_later = refl; told = clone_filter line.at shown ∙ heard_none (read_subscriber views.filtered None parts.world parts.dispatch); known = refl; cached = call_cached spans views attaches kept is_whole parts new line.at (λ id. CloneSpan id) shown; aside = record { before = aside_in views parts.world parts.dispatch; later = aside_in views new parts.dispatch; shown_before = refl; shown_later = refl; waits_before = refl; waits_later = refl; adds = call_aside spans views attaches kept is_whole parts new line.at (λ id. CloneSpan id) (λ s. refl) shown } })
 
       pub keeps_cloned : IsKept spans views kept is_whole then_parts
       keeps_cloned =

@@ -1,6 +1,6 @@
 -- The spans that a chain closes, in order: those of the line that are open no more.
 use Rattle.std.proofs.Common.{◌≡◌, ℕ, ◌<◌, List, [], ◌∷◌, true, false, Option, Some, None, map, refl, sym, ap, subst, ◌∙◌, arith, inl, inr, ◌==◌, not, nat_lt, slice_set}
-use Rattle.span_script.proofs.Common.{cases_eq, cond-true, cond-false, Span, Spans, span_at, less_hold, without_hold, next_of, made_if_held, less_holds, holds_set, ReleasesChain, all_released, releases, closed_in, map-set, Scope, MadeSpan, after_effect, slot_at, own_span, made_of, Here, is_open, closed_of, drop_effect, named_by, opened_by, State, MadeFit, IsScope, parent_in}
+use Rattle.span_script.proofs.Common.{cases_eq, cond-true, cond-false, Span, Spans, span_at, span_without_hold, without_hold, parent_to_release, made_if_held, less_holds, holds_set, ReleasesChain, all_released, releases, closed_in, map-set, Scope, MadeSpan, after_effect, slot_at, own_span, made_of, Here, is_open, closed_of, drop_effect, named_by, opened_by, State, MadeFit, IsScope, parent_in}
 use Rattle.std.proofs.lemmas.Bool.{eq-eqb, ne_eqb, lt-ltb}
 use Rattle.span_script.specs.Fits.{Fits}
 use Rattle.span_script.proofs.spans.ChainsLemmas.{Loose, loose_released, chain_ends, spent_loose}
@@ -30,27 +30,27 @@ module _ (hs : List (Option Scope)) (ms : List MadeSpan) (named : (n : ℕ) (lin
   closed_are _ _ _ (releases id at x y own_hold rest) (s ∷ up) is mine loose fit final =
       let same : s ≡ id = cc mine in
       let was = span_at x.made id in
-      let now : Span = less_hold was in
+      let now : Span = span_without_hold was in
       let fewer = less_holds was in
       let live : 0 < was.holds = omega (arith, own_hold) in
       let after_one : Spans = record x { made = without_hold x.made id } in
       let within = made_if_held x.made id (omega (arith, own_hold)) in
       let h = holds_set x.made id now within id refl in
-      let ends = chain_ends (next_of x.made id) after_one y rest (map named_by hs) (loose_released x (map named_by hs) id loose) in
+      let ends = chain_ends (parent_to_release x.made id) after_one y rest (map named_by hs) (loose_released x (map named_by hs) id loose) in
       let left = cond-true {A = Option ℕ} (was.holds == 1) was.parent None in
       let parent : was.parent ≡ own_span up = fit.parent id live ∙ ap (λ (k : ℕ). parent_in (made_of ms k).scope) (sym same) ∙ ap parent_in is.1 in
       elim (cases_eq was.holds 1) [
         | inl last ↦ (
             let gone : is_open hs s ≡ false = ap (is_open hs) same ∙ sym (final id) ∙ (let f = ends.fewer id in let z : (span_at y.made id).holds ≡ 0 = omega (arith, f, h, last, fewer) in ap (nat_lt 0) z) in
-            let more = closed_are (next_of x.made id) after_one y rest up is.3 (sym parent ∙ sym (left (eq-eqb was.holds 1 last))) (loose_released x (map named_by hs) id loose)
+            let more = closed_are (parent_to_release x.made id) after_one y rest up is.3 (sym parent ∙ sym (left (eq-eqb was.holds 1 last))) (loose_released x (map named_by hs) id loose)
             (made_released x.made ms id fit) final in
-            cond-true {A = List ℕ} (was.holds == 1) (id ∷ closed_in (next_of x.made id) after_one y rest) (closed_in (next_of x.made id) after_one y rest) (eq-eqb was.holds 1 last)
+            cond-true {A = List ℕ} (was.holds == 1) (id ∷ closed_in (parent_to_release x.made id) after_one y rest) (closed_in (parent_to_release x.made id) after_one y rest) (eq-eqb was.holds 1 last)
             ∙ ap (λ (xs : List ℕ). id ∷ xs) more ∙ ap (λ (k : ℕ). k ∷ closed_of hs up) (sym same)
             ∙ sym (cond-true {A = List ℕ} (not (is_open hs s)) (s ∷ closed_of hs up) (closed_of hs up) (ap not gone)))
         | inr several ↦ (
-            let over = at_end (next_of x.made id) after_one y rest (cond-false {A = Option ℕ} (was.holds == 1) was.parent None (ne_eqb was.holds 1 several)) in
+            let over = at_end (parent_to_release x.made id) after_one y rest (cond-false {A = Option ℕ} (was.holds == 1) was.parent None (ne_eqb was.holds 1 several)) in
             let still : is_open hs s ≡ true = ap (is_open hs) same ∙ sym (final id) ∙ (let e = ap (λ (z : Spans). (span_at z.made id).holds) over.1 in let l : 0 < (span_at y.made id).holds = omega (arith, e, h, several, own_hold, fewer) in lt-ltb 0 (span_at y.made id).holds l) in
-            cond-false {A = List ℕ} (was.holds == 1) (id ∷ closed_in (next_of x.made id) after_one y rest) (closed_in (next_of x.made id) after_one y rest) (ne_eqb was.holds 1 several)
+            cond-false {A = List ℕ} (was.holds == 1) (id ∷ closed_in (parent_to_release x.made id) after_one y rest) (closed_in (parent_to_release x.made id) after_one y rest) (ne_eqb was.holds 1 several)
             ∙ over.0 ∙ sym (none_closed (s ∷ up) is (λ q e. subst (λ (k : ℕ). is_open hs k ≡ true) (cc e) still)))
       ]
 

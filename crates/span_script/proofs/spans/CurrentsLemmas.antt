@@ -1,6 +1,6 @@
 -- Handles of a lane's current span, and handles that are exchanged for one of these, served.
 use Rattle.std.proofs.Common.{◌≡◌, ℕ, ◌+◌, ◌<◌, ◌≤◌, List, [], ◌∷◌, ◌++◌, length, Bool, true, false, cond, set, slice_set, get_or, Option, Some, None, Ok, Err, option_map, map, refl, sym, ap, subst, ◌∙◌, arith, is_some, IfSome}
-use Rattle.span_script.proofs.Common.{option_map_or, cond-true, cond-false, length-map, length_push, map_push, map-set, set-append_left, get_or_append_left, sum_by-set, get_or-map, Lane, Worlds, Spans, span_at, with_hold, current_of, entries_on, SubscriberCall, CloneSpan, IsLive, OneEach, count_push, Has, member_of, spans_in, kept_in, no_spans, Handle, Held, id_of, ReplacedOn, Copies, IsCurrent, Guard, id_at, Recording, no_recording, Scope, MadeSpan, ScopeGuard, Effect, Tables, slot_at, slots_after, own_span, site_of, Here, here_at, Resolved, refuse_if, ◌>>=◌, need, effect_of_call, clone_effect, current_scope, scope_or_current, exchange_effect, is_borrowed, is_named, Balanced, names_span, named_by, opened_by, Views, State, state_of, lane_value, StandsFor, MadeFit, LanesFit, IsKept, Served, IsScope, held_of, held_by, site_by, Parts, AddsMeasures, CallsLaw, aside_in}
+use Rattle.span_script.proofs.Common.{option_map_or, cond-true, cond-false, length-map, length_push, map_push, map-set, set-append_left, get_or_append_left, sum_by-set, get_or-map, Lane, WorldValue, Spans, span_at, with_hold, current_of, entries_on, SubscriberCall, CloneSpan, IsLive, OneEach, count_push, Has, read_subscriber, spans_in, kept_in, no_spans, Handle, HeldSpan, id_of, ReplacedOn, Copies, IsCurrent, Guard, id_at, Recording, no_recording, Scope, MadeSpan, ScopeGuard, Effect, Tables, slot_at, slots_after, own_span, site_of, Here, here_at, Resolved, refuse_if, ◌>>=◌, need, effect_of_call, clone_effect, current_scope, scope_or_current, exchange_effect, is_borrowed, is_named, Balanced, names_span, named_by, opened_by, Views, State, state_of, lane_value, StandsFor, MadeFit, LanesFit, IsKept, Served, IsScope, held_of, held_by, site_by, Parts, AddsMeasures, CallsLaw, aside_in}
 use Rattle.std.proofs.lemmas.List.{length-set, get_or-set_other}
 use Rattle.trace_base.specs.declared.span.Parent.TheVariants as parent
 use Rattle.span_script.specs.declared.reply.Reply.TheVariants as reply
@@ -84,12 +84,12 @@ is_on k t fits lane =
 live_at : (spans : Spans) (line : Scope) → IfSome (own_span line) (λ s. IsLive spans.made s) → (s : ℕ) (up : Scope) → line ≡ s ∷ up → 0 < (span_at spans.made s).holds
 live_at spans line live s up e = subst (λ (l : Scope). IfSome (own_span l) (λ s. IsLive spans.made s)) e live
 
-copied : {S : Type 0} (does : S → SubscriberCall → S → Type 0) (old new : Worlds S) (dispatch : ℕ) (site : ℕ → ℕ) (line : Scope) (h : Handle) → Copies does old new dispatch (option_map (λ id. (id, site id)) (own_span line)) h
+copied : {S : Type 0} (does : S → SubscriberCall → S → Type 0) (old new : WorldValue S) (dispatch : ℕ) (site : ℕ → ℕ) (line : Scope) (h : Handle) → Copies does old new dispatch (option_map (λ id. (id, site id)) (own_span line)) h
     → (h.held ≡ held_of dispatch line) × ReplacedOn (λ id s t. does s (CloneSpan id) t) old new h.held
 copied does old new dispatch site [] h did = (ap (λ (x : Handle). x.held) did.0, subst (λ (x : Handle). ReplacedOn (λ id s t. does s (CloneSpan id) t) old new x.held) (sym did.0) did.1)
 copied does old new dispatch site (s ∷ up) h did = (ap (λ (x : Handle). x.held) did.0, subst (λ (x : Handle). ReplacedOn (λ id s t. does s (CloneSpan id) t) old new x.held) (sym did.0) did.1)
 
-current_copied : {S : Type 0} (spans : S → Spans) (does : S → SubscriberCall → S → Type 0) (old new : Worlds S) (dispatch lane : ℕ) (line : Scope) (h : Handle) → dispatch < length old.subscribers → current_of (entries_on lane (spans_in spans old dispatch).lanes) ≡ own_span line
+current_copied : {S : Type 0} (spans : S → Spans) (does : S → SubscriberCall → S → Type 0) (old new : WorldValue S) (dispatch lane : ℕ) (line : Scope) (h : Handle) → dispatch < length old.subscribers → current_of (entries_on lane (spans_in spans old dispatch).lanes) ≡ own_span line
     → IsCurrent spans does old new lane (Some dispatch) h → (h.held ≡ held_of dispatch line) × ReplacedOn (λ id s t. does s (CloneSpan id) t) old new h.held
 current_copied {S} spans does old new dispatch lane line h there on did =
     let at = within_get old.subscribers dispatch there in
@@ -99,7 +99,7 @@ current_copied {S} spans does old new dispatch lane line h there on did =
     (subst (λ (o : Option ℕ). Copies does old new dispatch (option_map (λ id. (id, (span_at (spans at.0).made id).site)) o) h) same (did at.0 at.1))
 
 -- its callsite is that of the span that was made
-current_site : {S : Type 0} (spans : S → Spans) (does : S → SubscriberCall → S → Type 0) (old new : Worlds S) (dispatch lane : ℕ) (line : Scope) (h : Handle) → dispatch < length old.subscribers → current_of (entries_on lane (spans_in spans old dispatch).lanes) ≡ own_span line
+current_site : {S : Type 0} (spans : S → Spans) (does : S → SubscriberCall → S → Type 0) (old new : WorldValue S) (dispatch lane : ℕ) (line : Scope) (h : Handle) → dispatch < length old.subscribers → current_of (entries_on lane (spans_in spans old dispatch).lanes) ≡ own_span line
     → IsCurrent spans does old new lane (Some dispatch) h → (made : List MadeSpan) → MadeFit (spans_in spans old dispatch).made made → IfSome (own_span line) (λ s. IsLive (spans_in spans old dispatch).made s) → h.site ≡ site_of made line
 current_site {S} spans does old new dispatch lane line h there on did made fit live =
     let at = within_get old.subscribers dispatch there in
@@ -179,7 +179,7 @@ handed_on k t fits handle s up there free = record {
   one = fits.one_lane;
 }
 
-module _ {S : Type 0} (spans : S → Spans) (views : Views S) (attaches : S → Bool) (kept : S → ℕ → ℕ → ℕ) (is_whole : S → Type 0) (parts : Parts S) (new : Worlds S) where
+module _ {S : Type 0} (spans : S → Spans) (views : Views S) (attaches : S → Bool) (kept : S → ℕ → ℕ → ℕ) (is_whole : S → Type 0) (parts : Parts S) (new : WorldValue S) where
   module _ (does : S → SubscriberCall → S → Type 0) (law : CallsLaw spans views attaches kept is_whole does)
       (hs' : List (Option Handle)) (at place number : ℕ) (many : number ≡ length parts.handles) (before : Lane) (within : place < length parts.lanes) (here : before ≡ get_or parts.lanes place before)
       (inv : IsKept spans views kept is_whole parts) where
@@ -202,7 +202,7 @@ module _ {S : Type 0} (spans : S → Spans) (views : Views S) (attaches : S → 
     on_id t fits = ap (λ (l : ℕ). current_of (entries_on l now.spans.lanes)) (id_seen parts.lanes place before within here) ∙ (is_on now t fits place_id).on
 
     serves_handed : (t : Tables) → StandsFor now t → (resolved : Resolved) (line : Scope) (spent : Option ℕ) (enabled : Bool) → resolved ≡ Ok (hands (here_at now.setup t at place) line spent) → enabled ≡ is_some (own_span line) → new.sites ≡ parts.world.sites
-        → member_of views.recorded no_recording new parts.dispatch ≡ member_of views.recorded no_recording parts.world parts.dispatch → member_of views.filtered None new parts.dispatch ≡ member_of views.filtered None parts.world parts.dispatch → new.cached ≡ parts.world.cached → AddsMeasures (aside_in views parts.world parts.dispatch) (aside_in views new parts.dispatch) [] → then.handles ≡ slots_after now.handles (Some (held_of parts.dispatch line)) spent → then.handle_sites ≡ slots_after now.handle_sites (Some (site_of t.spans line)) spent → Handed now t then.spans line spent
+        → read_subscriber views.recorded no_recording new parts.dispatch ≡ read_subscriber views.recorded no_recording parts.world parts.dispatch → read_subscriber views.filtered None new parts.dispatch ≡ read_subscriber views.filtered None parts.world parts.dispatch → new.cached ≡ parts.world.cached → AddsMeasures (aside_in views parts.world parts.dispatch) (aside_in views new parts.dispatch) [] → then.handles ≡ slots_after now.handles (Some (held_of parts.dispatch line)) spent → then.handle_sites ≡ slots_after now.handle_sites (Some (site_of t.spans line)) spent → Handed now t then.spans line spent
         → Served resolved t now then (reply.Made enabled number)
     serves_handed t stands resolved line spent enabled is shows sites same filters cached aside handles handle_sites handed =
         let fits = stands.fits in
@@ -211,7 +211,7 @@ module _ {S : Type 0} (spans : S → Spans) (views : Views S) (attaches : S → 
         let more = one_more t.handles line spent in
         serve now then t e resolved (reply.Made enabled number) stands is
         (ap (λ n. reply.Made enabled n) (next_number t fits) ∙ ap (λ b. reply.Made b (length t.handles)) shows)
-        setup (member_of views.recorded no_recording parts.world parts.dispatch).tokens same
+        setup (read_subscriber views.recorded no_recording parts.world parts.dispatch).tokens same
         (fits_step now t fits then e (record {
           setup_is = setup;
           dispatch_is = refl;
@@ -231,9 +231,9 @@ module _ {S : Type 0} (spans : S → Spans) (views : Views S) (attaches : S → 
           few_holds = λ s. (let a = handed.most s in let f = fits.few_holds s in omega (arith, a, f, more));
           one = handed.one;
         }))
-        (λ s some. known_still now then t e (member_of views.recorded no_recording parts.world parts.dispatch).tokens same stands.recording s refl (handed.live s some))
+        (λ s some. known_still now then t e (read_subscriber views.recorded no_recording parts.world parts.dispatch).tokens same stands.recording s refl (handed.live s some))
         (all_same now then t.contexts setup refl refl (ap (λ (r : Recording). r.tokens) same) stands.recording.attached)
-        (record { quiet = refl; before = member_of views.filtered None parts.world parts.dispatch; later = member_of views.filtered None new parts.dispatch; shown_before = refl; shown_later = refl; told = filters ∙ heard_none (member_of views.filtered None parts.world parts.dispatch); known = refl; cached = cached; aside = record { before = aside_in views parts.world parts.dispatch; later = aside_in views new parts.dispatch; shown_before = refl; shown_later = refl; waits_before = refl; waits_later = refl; adds = aside } })
+        (record { quiet = refl; before = read_subscriber views.filtered None parts.world parts.dispatch; later = read_subscriber views.filtered None new parts.dispatch; shown_before = refl; shown_later = refl; told = filters ∙ heard_none (read_subscriber views.filtered None parts.world parts.dispatch); known = refl; cached = cached; aside = record { before = aside_in views parts.world parts.dispatch; later = aside_in views new parts.dispatch; shown_before = refl; shown_later = refl; waits_before = refl; waits_later = refl; adds = aside } })
 
     keeps_handed : (resolved : Resolved) (enabled : Bool) → Served resolved inv.tables now then (reply.Made enabled number) → length new.subscribers ≡ length parts.world.subscribers → (Has is_whole parts.world parts.dispatch → Has is_whole new parts.dispatch) → kept_in kept new parts.dispatch ≡ kept_in kept parts.world parts.dispatch → IsKept spans views kept is_whole then_parts
     keeps_handed resolved enabled served count whole same = kept_served spans views kept is_whole parts then_parts inv resolved _ served refl count whole
@@ -254,7 +254,7 @@ module _ {S : Type 0} (spans : S → Spans) (views : Views S) (attaches : S → 
           let shown = shown_on spans views attaches kept is_whole does law parts.world new parts.dispatch line h.held copy.0 (λ id. CloneSpan id) copy.1 in
           serves_handed t stands _ line None enabled refl (shows ∙ enabled_is parts.dispatch line h.held copy.0) (call_sites spans views attaches kept is_whole parts new line (λ id. CloneSpan id) shown)
           (clone_recorded spans views attaches kept is_whole parts new line shown) (clone_filter spans views attaches kept is_whole parts new line shown) (call_cached spans views attaches kept is_whole parts new line (λ id. CloneSpan id) shown) (call_aside spans views attaches kept is_whole parts new line (λ id. CloneSpan id) (λ s. refl) shown)
-          (ap (map held_by) one ∙ map_push held_by parts.handles (Some h) ∙ ap (λ (x : Held). map held_by parts.handles ++ Some x ∷ []) copy.0)
+          (ap (map held_by) one ∙ map_push held_by parts.handles (Some h) ∙ ap (λ (x : HeldSpan). map held_by parts.handles ++ Some x ∷ []) copy.0)
           (ap (map site_by) one ∙ map_push site_by parts.handles (Some h) ∙ ap (λ (o : Option ℕ). map site_by parts.handles ++ Some o ∷ []) (current_site spans does parts.world new parts.dispatch before.id line h inv.there (on_id t fits) (by_own h did) t.spans fits.made on.live))
           (subst (λ (x : Spans). Handed now t x line None) (sym (held_spans spans views attaches kept is_whole parts new line shown)) (handed_more now t fits line on.scope on.live))
 
@@ -271,9 +271,9 @@ module _ {S : Type 0} (spans : S → Spans) (views : Views S) (attaches : S → 
         (stays : IfSome h.held (λ held. (next ≡ h) × (new ≡ parts.world))) (takes : h.held ≡ None → IsCurrent spans does parts.world new before.id (dispatch_on before.default parts.world.global) next) where
       slots_are : (line : Scope) → next.held ≡ held_of parts.dispatch line → then.handles ≡ slots_after now.handles (Some (held_of parts.dispatch line)) (Some handle)
       slots_are line is =
-          let xs : List (Option Held) = map held_by parts.handles in
-          ap (map held_by) one ∙ map_push held_by (slice_set parts.handles handle None) (Some next) ∙ ap (λ (x : Held). map held_by (slice_set parts.handles handle None) ++ Some x ∷ []) is
-          ∙ ap (λ (ys : List (Option Held)). ys ++ Some (held_of parts.dispatch line) ∷ []) (map-set held_by parts.handles handle None)
+          let xs : List (Option HeldSpan) = map held_by parts.handles in
+          ap (map held_by) one ∙ map_push held_by (slice_set parts.handles handle None) (Some next) ∙ ap (λ (x : HeldSpan). map held_by (slice_set parts.handles handle None) ++ Some x ∷ []) is
+          ∙ ap (λ (ys : List (Option HeldSpan)). ys ++ Some (held_of parts.dispatch line) ∷ []) (map-set held_by parts.handles handle None)
           ∙ sym (set-append_left xs (Some (held_of parts.dispatch line) ∷ []) handle None (named_within xs handle h.held (held_slot parts.handles handle h found)))
 
       sites_are : (made : List MadeSpan) (line : Scope) → next.site ≡ site_of made line → then.handle_sites ≡ slots_after now.handle_sites (Some (site_of made line)) (Some handle)
@@ -316,15 +316,15 @@ module _ {S : Type 0} (spans : S → Spans) (views : Views S) (attaches : S → 
           }
       exchanged t stands (s ∷ up) there is =
           let fits = stands.fits in
-          let mine = subst (λ (x : Held). IfSome x (λ held. (next ≡ h) × (new ≡ parts.world))) is stays in
+          let mine = subst (λ (x : HeldSpan). IfSome x (λ held. (next ≡ h) × (new ≡ parts.world))) is stays in
           let held_is : next.held ≡ held_of parts.dispatch (s ∷ up) = ap (λ (x : Handle). x.held) mine.0 ∙ is in
           record {
-            served = serves_handed t stands _ (s ∷ up) (Some handle) enabled (its_effect t fits (s ∷ up) there) (shows ∙ enabled_is parts.dispatch (s ∷ up) next.held held_is) (ap (λ (w : Worlds S). w.sites) mine.1)
-                (ap (λ (w : Worlds S). member_of views.recorded no_recording w parts.dispatch) mine.1) (ap (λ (w : Worlds S). member_of views.filtered None w parts.dispatch) mine.1) (ap (λ (w : Worlds S). w.cached) mine.1) (adds_same views parts.world new parts.dispatch mine.1) (slots_are (s ∷ up) held_is) (sites_are t.spans (s ∷ up) (ap (λ (x : Handle). x.site) mine.0 ∙ site_found now t fits parts.handles refl handle h found (s ∷ up) there))
-                (subst (λ (x : Spans). Handed now t x (s ∷ up) (Some handle)) (sym (ap (λ (w : Worlds S). spans_in spans w parts.dispatch) mine.1)) (handed_on now t fits handle s up there (not_used t fits)));
-            count = ap (λ (w : Worlds S). length w.subscribers) mine.1;
-            whole = λ has. subst (λ (w : Worlds S). Has is_whole w parts.dispatch) (sym mine.1) has;
-            same = ap (λ (w : Worlds S). kept_in kept w parts.dispatch) mine.1;
+            served = serves_handed t stands _ (s ∷ up) (Some handle) enabled (its_effect t fits (s ∷ up) there) (shows ∙ enabled_is parts.dispatch (s ∷ up) next.held held_is) (ap (λ (w : WorldValue S). w.sites) mine.1)
+                (ap (λ (w : WorldValue S). read_subscriber views.recorded no_recording w parts.dispatch) mine.1) (ap (λ (w : WorldValue S). read_subscriber views.filtered None w parts.dispatch) mine.1) (ap (λ (w : WorldValue S). w.cached) mine.1) (adds_same views parts.world new parts.dispatch mine.1) (slots_are (s ∷ up) held_is) (sites_are t.spans (s ∷ up) (ap (λ (x : Handle). x.site) mine.0 ∙ site_found now t fits parts.handles refl handle h found (s ∷ up) there))
+                (subst (λ (x : Spans). Handed now t x (s ∷ up) (Some handle)) (sym (ap (λ (w : WorldValue S). spans_in spans w parts.dispatch) mine.1)) (handed_on now t fits handle s up there (not_used t fits)));
+            count = ap (λ (w : WorldValue S). length w.subscribers) mine.1;
+            whole = λ has. subst (λ (w : WorldValue S). Has is_whole w parts.dispatch) (sym mine.1) has;
+            same = ap (λ (w : WorldValue S). kept_in kept w parts.dispatch) mine.1;
           }
 
       pub serves_exchanged : (t : Tables) → StandsFor now t → Served (effect_of_call now.setup t at place (call.OrCurrent handle)) t now then (reply.Made enabled number)

@@ -1,6 +1,6 @@
 -- A handle that is dropped, served.
 use Rattle.std.proofs.Common.{◌≡◌, ℕ, ◌<◌, List, [], ◌∷◌, length, Bool, true, false, fold, slice_set, Option, Some, None, Err, option_map, map, refl, sym, ap, subst, ◌∙◌, inl, inr, Ok, ◌||◌, ◌&&◌, not}
-use Rattle.span_script.proofs.Common.{cases_lt, cond-true, cond-false, map-set, Worlds, is_in, Spans, span_at, SubscriberCall, FilterState, without_span, FiltersChain, member_of, spans_in, kept_in, Has, Chain, ReleasesChain, closed_in, ChainShown, Handle, Held, ReplacedOn, Guard, Recording, no_recording, RecordsChain, with_close, Scope, HookClose, Effect, Tables, after_effect, recorded_by, slot_at, here_at, Resolved, refuse_if, ◌>>=◌, need, effect_of_call, after_filter_hook, is_open, closed_of, drop_effect, is_borrowed, is_named, Views, State, state_of, lane_value, StandsFor, LanesFit, IsKept, Served, held_of, held_by, site_by, Parts, AddsMeasures, aside_in, ChainsLaw}
+use Rattle.span_script.proofs.Common.{cases_lt, cond-true, cond-false, map-set, WorldValue, is_in, Spans, span_at, SubscriberCall, FilterState, without_span, FiltersChain, read_subscriber, spans_in, kept_in, Has, Chain, ReleasesChain, closed_in, ChainChangesPlainData, Handle, HeldSpan, ReplacedOn, Guard, Recording, no_recording, RecordsChain, with_close, Scope, HookClose, Effect, Tables, after_effect, recorded_by, slot_at, here_at, Resolved, refuse_if, ◌>>=◌, need, effect_of_call, after_filter_hook, is_open, closed_of, drop_effect, is_borrowed, is_named, Views, State, state_of, lane_value, StandsFor, LanesFit, IsKept, Served, held_of, held_by, site_by, Parts, AddsMeasures, aside_in, ChainsLaw}
 use Rattle.std.proofs.lemmas.Bool.{lt-ltb, le-ltb, true≢false}
 use Rattle.span_script.proofs.filter.CounterLemmas.{adds_same}
 use Rattle.span_script.proofs.filter.FilterLemmas.{AreKnown, heard_none}
@@ -37,24 +37,24 @@ drop_known k next t at place handle line fits there later s some =
     and_no true = refl
     and_no false = refl
 
-module _ {S : Type 0} (spans : S → Spans) (views : Views S) (attaches : S → Bool) (kept : S → ℕ → ℕ → ℕ) (is_whole : S → Type 0) (does : S → SubscriberCall → S → Type 0) (parts : Parts S) (new : Worlds S) where
-  abbrev rec_in : Worlds S → Recording
-  rec_in world = member_of views.recorded no_recording world parts.dispatch
+module _ {S : Type 0} (spans : S → Spans) (views : Views S) (attaches : S → Bool) (kept : S → ℕ → ℕ → ℕ) (is_whole : S → Type 0) (does : S → SubscriberCall → S → Type 0) (parts : Parts S) (new : WorldValue S) where
+  abbrev rec_in : WorldValue S → Recording
+  rec_in world = read_subscriber views.recorded no_recording world parts.dispatch
 
   abbrev ChainOn : ℕ → Scope → Type 0
   ChainOn at [] = new ≡ parts.world
-  ChainOn at (s ∷ up) = ChainShown spans attaches kept is_whole parts.world new parts.dispatch s × (new.sites ≡ parts.world.sites) × RecordsChain at (Some s) (spans_in spans parts.world parts.dispatch) (spans_in spans new parts.dispatch) (rec_in parts.world) (rec_in new)
-      × FiltersChain (Some s) (spans_in spans parts.world parts.dispatch) (spans_in spans new parts.dispatch) (member_of views.filtered None parts.world parts.dispatch) (member_of views.filtered None new parts.dispatch) × (new.cached ≡ parts.world.cached) × AddsMeasures (aside_in views parts.world parts.dispatch) (aside_in views new parts.dispatch) []
+  ChainOn at (s ∷ up) = ChainChangesPlainData spans attaches kept is_whole parts.world new parts.dispatch s × (new.sites ≡ parts.world.sites) × RecordsChain at (Some s) (spans_in spans parts.world parts.dispatch) (spans_in spans new parts.dispatch) (rec_in parts.world) (rec_in new)
+      × FiltersChain (Some s) (spans_in spans parts.world parts.dispatch) (spans_in spans new parts.dispatch) (read_subscriber views.filtered None parts.world parts.dispatch) (read_subscriber views.filtered None new parts.dispatch) × (new.cached ≡ parts.world.cached) × AddsMeasures (aside_in views parts.world parts.dispatch) (aside_in views new parts.dispatch) []
 
-  chain_on : (at : ℕ) → ChainsLaw spans views attaches kept is_whole does → (line : Scope) (held : Held) → held ≡ held_of parts.dispatch line → ReplacedOn (λ id s t. Chain spans does at (Some id) s t) parts.world new held → ChainOn at line
-  chain_on at law [] held is did = subst (λ (h : Held). ReplacedOn (λ id s t. Chain spans does at (Some id) s t) parts.world new h) is did
+  chain_on : (at : ℕ) → ChainsLaw spans views attaches kept is_whole does → (line : Scope) (held : HeldSpan) → held ≡ held_of parts.dispatch line → ReplacedOn (λ id s t. Chain spans does at (Some id) s t) parts.world new held → ChainOn at line
+  chain_on at law [] held is did = subst (λ (h : HeldSpan). ReplacedOn (λ id s t. Chain spans does at (Some id) s t) parts.world new h) is did
   chain_on at law (s ∷ up) held is did =
-      let r = subst (λ (h : Held). ReplacedOn (λ id s t. Chain spans does at (Some id) s t) parts.world new h) is did in
+      let r = subst (λ (h : HeldSpan). ReplacedOn (λ id s t. Chain spans does at (Some id) s t) parts.world new h) is did in
       let told = law.viewed parts.world new parts.dispatch at s r in
-      (law.shown parts.world new parts.dispatch at s r, ap (λ (w : Worlds S). w.sites) r.others, told.0, told.1, ap (λ (w : Worlds S). w.cached) r.others, told.2)
+      (law.shown parts.world new parts.dispatch at s r, ap (λ (w : WorldValue S). w.sites) r.others, told.0, told.1, ap (λ (w : WorldValue S). w.cached) r.others, told.2)
 
   chain_spans : (at : ℕ) (line : Scope) → ChainOn at line → ReleasedOn (spans_in spans parts.world parts.dispatch) (spans_in spans new parts.dispatch) line
-  chain_spans at [] same = ap (λ (w : Worlds S). spans_in spans w parts.dispatch) same
+  chain_spans at [] same = ap (λ (w : WorldValue S). spans_in spans w parts.dispatch) same
   chain_spans at (s ∷ up) shown = shown.0.released
 
   record ChainKept : Type 0 where
@@ -66,7 +66,7 @@ module _ {S : Type 0} (spans : S → Spans) (views : Views S) (attaches : S → 
     aside : AddsMeasures (aside_in views parts.world parts.dispatch) (aside_in views new parts.dispatch) []
 
   chain_kept : (at : ℕ) (line : Scope) → ChainOn at line → ChainKept
-  chain_kept at [] same = record { kept_same = ap (λ (w : Worlds S). kept_in kept w parts.dispatch) same; count = ap (λ (w : Worlds S). length w.subscribers) same; whole = λ has. subst (λ (w : Worlds S). Has is_whole w parts.dispatch) (sym same) has; sites = ap (λ (w : Worlds S). w.sites) same; cached = ap (λ (w : Worlds S). w.cached) same; aside = adds_same views parts.world new parts.dispatch same }
+  chain_kept at [] same = record { kept_same = ap (λ (w : WorldValue S). kept_in kept w parts.dispatch) same; count = ap (λ (w : WorldValue S). length w.subscribers) same; whole = λ has. subst (λ (w : WorldValue S). Has is_whole w parts.dispatch) (sym same) has; sites = ap (λ (w : WorldValue S). w.sites) same; cached = ap (λ (w : WorldValue S). w.cached) same; aside = adds_same views parts.world new parts.dispatch same }
   chain_kept at (s ∷ up) shown = record { kept_same = shown.0.kept_same; count = shown.0.count; whole = shown.0.whole; sites = shown.1; cached = shown.4; aside = shown.5 }
 
   -- the records are those of the spans that the effect closes, in its order
@@ -89,10 +89,10 @@ module _ {S : Type 0} (spans : S → Spans) (views : Views S) (attaches : S → 
   filter_heard ss (Some f) = ap Some (closes_heard ss f)
 
   chain_heard : (at : ℕ) (line : Scope) → ChainOn at line → (lines : List (Option Scope)) → ((s : ℕ) (up : Scope) → line ≡ s ∷ up → (r : ReleasesChain (Some s) (spans_in spans parts.world parts.dispatch) (spans_in spans new parts.dispatch)) → closed_in (Some s) (spans_in spans parts.world parts.dispatch) (spans_in spans new parts.dispatch) r ≡ closed_of lines line)
-      → member_of views.filtered None new parts.dispatch ≡ option_map (λ f. fold after_filter_hook f (map HookClose (closed_of lines line))) (member_of views.filtered None parts.world parts.dispatch)
-  chain_heard at [] same lines order = ap (λ (w : Worlds S). member_of views.filtered None w parts.dispatch) same ∙ heard_none (member_of views.filtered None parts.world parts.dispatch)
-  chain_heard at (s ∷ up) shown lines order = shown.3.is ∙ ap (λ (ss : List ℕ). option_map (λ (f : FilterState). fold without_span f ss) (member_of views.filtered None parts.world parts.dispatch)) (order s up refl shown.3.chain)
-      ∙ filter_heard (closed_of lines (s ∷ up)) (member_of views.filtered None parts.world parts.dispatch)
+      → read_subscriber views.filtered None new parts.dispatch ≡ option_map (λ f. fold after_filter_hook f (map HookClose (closed_of lines line))) (read_subscriber views.filtered None parts.world parts.dispatch)
+  chain_heard at [] same lines order = ap (λ (w : WorldValue S). read_subscriber views.filtered None w parts.dispatch) same ∙ heard_none (read_subscriber views.filtered None parts.world parts.dispatch)
+  chain_heard at (s ∷ up) shown lines order = shown.3.is ∙ ap (λ (ss : List ℕ). option_map (λ (f : FilterState). fold without_span f ss) (read_subscriber views.filtered None parts.world parts.dispatch)) (order s up refl shown.3.chain)
+      ∙ filter_heard (closed_of lines (s ∷ up)) (read_subscriber views.filtered None parts.world parts.dispatch)
 
   module _ (law : ChainsLaw spans views attaches kept is_whole does)
       (hs' : List (Option Handle)) (at place handle : ℕ) (h : Handle) (found : slot_at parts.handles handle ≡ Some h) (inv : IsKept spans views kept is_whole parts) where
@@ -137,7 +137,7 @@ module _ {S : Type 0} (spans : S → Spans) (views : Views S) (attaches : S → 
           refl setup (recorded_by (length t.spans) e (rec_in parts.world)).tokens rec_is (later_of then refl setup refl refl refl refl refl refl)
           (λ s some. let left = drop_known now bare t at place handle line.at fits line.there bare_fits s some in known_still now then t e (recorded_by (length t.spans) e (rec_in parts.world)).tokens rec_is stands.recording s left.0 left.1)
           (all_same now then t.contexts setup refl refl tokens stands.recording.attached)
-          (record { quiet = refl; before = member_of views.filtered None parts.world parts.dispatch; later = member_of views.filtered None new parts.dispatch; shown_before = refl; shown_later = refl; known = closes_known (closed_of (slice_set t.handles handle None) line.at) (length t.spans); told = chain_heard at line.at chain (slice_set t.handles handle None) order; cached = (chain_kept at line.at chain).cached; aside = record { before = aside_in views parts.world parts.dispatch; later = aside_in views new parts.dispatch; shown_before = refl; shown_later = refl; waits_before = refl; waits_later = refl; adds = (chain_kept at line.at chain).aside } })
+          (record { quiet = refl; before = read_subscriber views.filtered None parts.world parts.dispatch; later = read_subscriber views.filtered None new parts.dispatch; shown_before = refl; shown_later = refl; known = closes_known (closed_of (slice_set t.handles handle None) line.at) (length t.spans); told = chain_heard at line.at chain (slice_set t.handles handle None) order; cached = (chain_kept at line.at chain).cached; aside = record { before = aside_in views parts.world parts.dispatch; later = aside_in views new parts.dispatch; shown_before = refl; shown_later = refl; waits_before = refl; waits_later = refl; adds = (chain_kept at line.at chain).aside } })
 
       pub keeps_dropped : IsKept spans views kept is_whole then_parts
       keeps_dropped =

@@ -1,6 +1,6 @@
 -- Spans that are kept fit those that were made.
 use Rattle.std.proofs.Common.{◌≡◌, ℕ, ◌+◌, ◌<◌, List, length, Bool, true, false, cond, set, refl, sym, ap, ◌∙◌, arith, inl, inr}
-use Rattle.span_script.proofs.Common.{cases_eq, cases_lt, get_or_past, Span, no_span, span_at, with_hold, less_hold, without_hold, less_more, less_last, less_holds, MadeSpan, MadeFit}
+use Rattle.span_script.proofs.Common.{cases_eq, cases_lt, get_or_past, Span, no_span, span_at, with_hold, span_without_hold, without_hold, less_more, less_last, less_holds, MadeSpan, MadeFit}
 use Rattle.std.proofs.lemmas.List.{length-set, get_or-set_same, get_or-set_other}
 
 -- a span with the same parent and callsite, or closed
@@ -40,7 +40,7 @@ made_held spans ms id fit live = made_written spans ms id (record (span_at spans
 pub made_released : (spans : List Span) (ms : List MadeSpan) (id : ℕ) → MadeFit spans ms → MadeFit (without_hold spans id) ms
 made_released spans ms id fit =
     let was = span_at spans id in
-    made_written spans ms id (less_hold was) fit (λ some.
+    made_written spans ms id (span_without_hold was) fit (λ some.
     let fewer = less_holds was in
     let more = less_more was (λ last. let h = ap (λ (s : Span). s.holds) (less_last was last) in omega (arith, h, some)) in
     (ap (λ (s : Span). s.parent) more, ap (λ (s : Span). s.site) more, omega (arith, fewer, some)))

@@ -1,6 +1,6 @@
 -- Makings, served.
 use Rattle.std.proofs.Common.{◌≡◌, ℕ, ◌+◌, ◌<◌, ◌≤◌, ◌^◌, List, [], ◌∷◌, ◌++◌, length, Bool, true, false, fold, get_or, Option, Some, None, Ok, option_map, map, refl, sym, ap, subst, ◌∙◌, arith, inl, inr, IfSome, slice_get, ◌≢◌, option_and_then}
-use Rattle.span_script.proofs.Common.{cases_eq, cases_lt, cond-true, cond-false, length-map, length_push, map_push, get_or_past, get_or_push, get_or_append_left, Lane, Parent, Callsite, ValueSet, Worlds, FilterState, Span, Spans, no_span, span_at, with_hold_of_child, entries_on, parent_on, current_of, SubscriberCall, NewSpan, with_new_span, IsLiveParent, HasFewHolds, AreFew, HasFewHoldsAbove, OneEach, Shown, Replaced, member_of, spans_in, kept_in, no_spans, Has, Handle, Makes, MayMake, no_handle, RequestParent, Setup, id_at, name_at, if_span, span_site, Context, KeyValue, empty_context, LayerSettings, SpanData, data_at_making, after_op, Token, parent_source, lane_context, context_from, new_span_data, data_at, with_span_data, Recording, source_of, no_recording, with_start, with_starts, Kind, length_held, holds_other, Scope, MadeSpan, Attached, no_made_span, HookNew, Effect, Tables, recorded_by, open_part, own_span, made_of, here_at, ◌>>=◌, need, effect_of_call, after_filter_hook, admits_at, lane_in, new_span_data_at, context_around, parent_at, new_effect, span_effect, disabled_effect, scope_at, Fields, all_values, parent_for, AreNamed, MakesNamed, MakesOnly, LetsThrough, Balanced, named_by, opened_by, Views, State, state_of, lane_value, StandsFor, MadeFit, LanesFit, IsKept, Served, IsScope, held_of, guard_of, held_by, site_by, Parts, parent_in, CallsLaw, SameLaw, aside_in}
+use Rattle.span_script.proofs.Common.{cases_eq, cases_lt, cond-true, cond-false, length-map, length_push, map_push, get_or_past, get_or_push, get_or_append_left, Lane, Parent, Callsite, ValueSet, WorldValue, FilterState, Span, Spans, no_span, span_at, with_hold_of_child, entries_on, parent_on, current_of, SubscriberCall, NewSpan, with_new_span, IsLiveParent, HasFewHolds, AreFew, HasFewHoldsAbove, OneEach, ChangesPlainData, Replaced, read_subscriber, spans_in, kept_in, no_spans, Has, Handle, Makes, MayMake, no_handle, RequestParent, Setup, id_at, name_at, if_span, span_site, Context, KeyValue, empty_context, LayerSettings, SpanData, data_at_making, after_op, Token, parent_source, lane_context, context_from, new_span_data, data_at, with_span_data, Recording, source_of, no_recording, with_start, with_starts, Kind, length_held, holds_other, Scope, MadeSpan, Attached, no_made_span, HookNew, Effect, Tables, recorded_by, open_part, own_span, made_of, here_at, ◌>>=◌, need, effect_of_call, after_filter_hook, admits_at, lane_in, new_span_data_at, context_around, parent_at, new_effect, span_effect, disabled_effect, scope_at, Fields, all_values, parent_for, AreNamed, MakesNamed, MakesOnly, LetsThrough, Balanced, named_by, opened_by, Views, State, state_of, lane_value, StandsFor, MadeFit, LanesFit, IsKept, Served, IsScope, held_of, guard_of, held_by, site_by, Parts, parent_in, CallsLaw, SameLaw, aside_in}
 use Rattle.span_handles.proofs.ChangedSubscriberLemmas.{seen_before}
 use Rattle.span_script.specs.declared.reply.Reply.TheVariants as reply
 use Rattle.span_script.specs.declared.request.Call.TheVariants as call
@@ -141,7 +141,7 @@ made_is setup t at place callsite c values p q before r current recorded layer c
     ∙ ap (λ (x : Context). new_span_data callsite before values (context_from (with_starts (source q (current_of (t.entries (here_at setup t at place).lane))) at t.recording).spans x (source q (current_of (t.entries (here_at setup t at place).lane)))) at r.settings r.counting) (around_is q before (t.contexts (here_at setup t at place).lane) contexts)
     ∙ ap (λ (first : List KeyValue). after_op (data_at_making (record { name = callsite.name; parent = context_from (with_starts (source q (current_of (t.entries (here_at setup t at place).lane))) at t.recording).spans (context_around (t.contexts (here_at setup t at place).lane) q) (source q (current_of (t.entries (here_at setup t at place).lane))); made_at = at; first = first; counting = r.counting; inactivity = r.settings.inactivity })) at (ops.Update (span_update callsite values r.settings))) (first_same callsite before (lane_in (here_at setup t at place)) r.settings id name)
 
-module _ {S : Type 0} (spans : S → Spans) (views : Views S) (attaches : S → Bool) (kept : S → ℕ → ℕ → ℕ) (is_whole : S → Type 0) (parts : Parts S) (new : Worlds S) where
+module _ {S : Type 0} (spans : S → Spans) (views : Views S) (attaches : S → Bool) (kept : S → ℕ → ℕ → ℕ) (is_whole : S → Type 0) (parts : Parts S) (new : WorldValue S) where
   module _ (does : S → SubscriberCall → S → Type 0) (law : CallsLaw spans views attaches kept is_whole does)
       (hs' : List (Option Handle)) (at place number : ℕ) (many : number ≡ length parts.handles) (inv : IsKept spans views kept is_whole parts) where
     abbrev now : State
@@ -157,7 +157,7 @@ module _ {S : Type 0} (spans : S → Spans) (views : Views S) (attaches : S → 
     place_id = id_at now.setup.ids place
 
     abbrev r : Recording
-    r = member_of views.recorded no_recording parts.world parts.dispatch
+    r = read_subscriber views.recorded no_recording parts.world parts.dispatch
 
     next_number : (t : Tables) → Fits now t → number ≡ length t.handles
     next_number t fits = many ∙ sym (length-map parts.handles held_by) ∙ ap length fits.handle_slots ∙ length-map t.handles (option_map (held_of parts.dispatch))
@@ -169,7 +169,7 @@ module _ {S : Type 0} (spans : S → Spans) (views : Views S) (attaches : S → 
         abbrev made_call : Replaced (λ s t. does s (NewSpan before at p site did.callsite values) t) parts.world new parts.dispatch
         made_call = record { before = did.made.before; later = did.made.later; there = did.made.there; did = did.made.did.1; others = did.made.others }
 
-        made_shown : Shown spans attaches kept is_whole parts.world new parts.dispatch (NewSpan before at p site did.callsite values)
+        made_shown : ChangesPlainData spans attaches kept is_whole parts.world new parts.dispatch (NewSpan before at p site did.callsite values)
         made_shown = law.shown parts.world new parts.dispatch _ made_call
 
         id_is : did.id ≡ length (spans_in spans parts.world parts.dispatch).made
@@ -201,15 +201,15 @@ module _ {S : Type 0} (spans : S → Spans) (views : Views S) (attaches : S → 
             let source = parent_source r.settings.activation p current in
             let source_is : source ≡ parent_source r.settings.activation q (current_of (t.entries place_id)) = ap (λ (x : Parent). parent_source r.settings.activation x current) up.parent_is ∙ ap (λ (o : Option ℕ). parent_source r.settings.activation q o) current_is in
             let viewed = law.viewed parts.world new parts.dispatch _ made_call in
-            let rec_is : member_of views.recorded no_recording new parts.dispatch ≡ record (recorded_by (length t.spans) e r) { tokens = r.tokens } =
+            let rec_is : read_subscriber views.recorded no_recording new parts.dispatch ≡ record (recorded_by (length t.spans) e r) { tokens = r.tokens } =
             viewed.0 ∙ ap (λ (n : ℕ). with_starts (source_of r.settings.eager n) at (made_record n raw (with_starts source at r))) fits.made.count
             ∙ ap (λ (x : SpanData). with_starts (source_of r.settings.eager (length t.spans)) at (made_record (length t.spans) x (with_starts source at r))) told_is
             ∙ ap (λ (x : Recording). with_starts (source_of r.settings.eager (length t.spans)) at (made_record (length t.spans) told x)) (sym (starts_fold source at r) ∙ ap (λ (o : Option ℕ). fold (λ r s. with_start s at r) r (option_to_list o)) source_is)
             ∙ ap (λ (ts : List Token). record (recorded_by (length t.spans) e r) { tokens = ts }) (recorded_tokens (length t.spans) e r) in
             let settings = ap (λ (x : Recording). x.settings) rec_is ∙ recorded_settings (length t.spans) e r in
-            let sites = ap (λ (w : Worlds S). w.sites) did.made.others in
-            let setup : then.setup ≡ now.setup = ap (λ x. record now.setup { sites = x; layer = (member_of views.recorded no_recording new parts.dispatch).settings }) sites ∙ ap (λ x. record now.setup { layer = x }) settings in
-            let known : (s : ℕ) → 0 < (span_at then.spans.made s).holds → data_at s (member_of views.recorded no_recording new parts.dispatch).spans ≢ None = λ s some. elim (cases_eq s (length t.spans)) [
+            let sites = ap (λ (w : WorldValue S). w.sites) did.made.others in
+            let setup : then.setup ≡ now.setup = ap (λ x. record now.setup { sites = x; layer = (read_subscriber views.recorded no_recording new parts.dispatch).settings }) sites ∙ ap (λ x. record now.setup { layer = x }) settings in
+            let known : (s : ℕ) → 0 < (span_at then.spans.made s).holds → data_at s (read_subscriber views.recorded no_recording new parts.dispatch).spans ≢ None = λ s some. elim (cases_eq s (length t.spans)) [
               | inl here ↦ (λ none. recorded_known (length t.spans) s e r refl (subst (λ (k : ℕ). data_at k (with_span_data (length t.spans) told (fold (λ r s. with_start s at r) r e.starts).spans) ≢ None) (sym here) (new_known (length t.spans) told (fold (λ r s. with_start s at r) r e.starts).spans)) (ap (λ (x : Recording). data_at s x.spans) (sym rec_is) ∙ none))
               | inr other ↦ known_still now then t e r.tokens rec_is stands.recording s refl (new_live sp.made (own_span up.up) site s up.live (λ e. other (e ∙ length_held sp.made (own_span up.up) ∙ fits.made.count)) (subst (λ (x : Spans). 0 < (span_at x.made s).holds) step some))
             ] in
@@ -243,14 +243,14 @@ module _ {S : Type 0} (spans : S → Spans) (views : Views S) (attaches : S → 
             (all_same now then t.contexts setup refl refl (ap (λ (x : Recording). x.tokens) rec_is) stands.recording.attached)
             (record {
               quiet = refl;
-              before = member_of views.filtered None parts.world parts.dispatch;
-              later = member_of views.filtered None new parts.dispatch;
+              before = read_subscriber views.filtered None parts.world parts.dispatch;
+              later = read_subscriber views.filtered None new parts.dispatch;
               shown_before = refl;
               shown_later = refl;
               known = (refl, sym (length_push t.spans new_made));
-              told = viewed.1 ∙ ap (λ (n : ℕ). option_map (λ (f : FilterState). after_filter_hook f (HookNew n did.callsite values)) (member_of views.filtered None parts.world parts.dispatch)) fits.made.count
-                  ∙ ap (λ (c : Callsite). option_map (λ (f : FilterState). after_filter_hook f (HookNew (length t.spans) c values)) (member_of views.filtered None parts.world parts.dispatch)) callsite_is;
-              cached = ap (λ (w : Worlds S). w.cached) did.made.others;
+              told = viewed.1 ∙ ap (λ (n : ℕ). option_map (λ (f : FilterState). after_filter_hook f (HookNew n did.callsite values)) (read_subscriber views.filtered None parts.world parts.dispatch)) fits.made.count
+                  ∙ ap (λ (c : Callsite). option_map (λ (f : FilterState). after_filter_hook f (HookNew (length t.spans) c values)) (read_subscriber views.filtered None parts.world parts.dispatch)) callsite_is;
+              cached = ap (λ (w : WorldValue S). w.cached) did.made.others;
               aside = record { before = aside_in views parts.world parts.dispatch; later = aside_in views new parts.dispatch; shown_before = refl; shown_later = refl; waits_before = refl; waits_later = refl; adds = viewed.2 };
             })
 
@@ -266,9 +266,9 @@ module _ {S : Type 0} (spans : S → Spans) (views : Views S) (attaches : S → 
             let up = find_up now t fits place_id under p found in
             let sp = spans_in spans parts.world parts.dispatch in
             let ids = now.setup.ids in
-            let step : spans_in spans new parts.dispatch ≡ sp = ap (λ (w : Worlds S). spans_in spans w parts.dispatch) same in
-            let rec_is : member_of views.recorded no_recording new parts.dispatch ≡ r = ap (λ (w : Worlds S). member_of views.recorded no_recording w parts.dispatch) same in
-            let setup : then.setup ≡ now.setup = ap (λ (w : Worlds S). record now.setup { sites = w.sites; layer = (member_of views.recorded no_recording w parts.dispatch).settings }) same in
+            let step : spans_in spans new parts.dispatch ≡ sp = ap (λ (w : WorldValue S). spans_in spans w parts.dispatch) same in
+            let rec_is : read_subscriber views.recorded no_recording new parts.dispatch ≡ r = ap (λ (w : WorldValue S). read_subscriber views.recorded no_recording w parts.dispatch) same in
+            let setup : then.setup ≡ now.setup = ap (λ (w : WorldValue S). record now.setup { sites = w.sites; layer = (read_subscriber views.recorded no_recording w parts.dispatch).settings }) same in
             let e : Effect = disabled_effect (here_at now.setup t at place) in
             serve now then t e _ (reply.Made false number) stands
             (ap (λ o. need what.Site o >>= (λ callsite. need what.Handle (scope_at t place_id under) >>= (λ up. need what.Field (all_values callsite fields) >>= (λ v. Ok (new_effect (here_at now.setup t at place) site callsite v under up))))) sited
@@ -298,15 +298,15 @@ module _ {S : Type 0} (spans : S → Spans) (views : Views S) (attaches : S → 
             }))
             (λ s some. known_still now then t e r.tokens rec_is stands.recording s refl (subst (λ (x : Spans). 0 < (span_at x.made s).holds) step some))
             (all_same now then t.contexts setup refl refl (ap (λ (x : Recording). x.tokens) rec_is) stands.recording.attached)
-            (record { quiet = refl; before = member_of views.filtered None parts.world parts.dispatch; later = member_of views.filtered None new parts.dispatch; shown_before = refl; shown_later = refl; told = ap (λ (w : Worlds S). member_of views.filtered None w parts.dispatch) same ∙ heard_none (member_of views.filtered None parts.world parts.dispatch); known = refl; cached = ap (λ (w : Worlds S). w.cached) same; aside = record { before = aside_in views parts.world parts.dispatch; later = aside_in views new parts.dispatch; shown_before = refl; shown_later = refl; waits_before = refl; waits_later = refl; adds = adds_same views parts.world new parts.dispatch same } })
+            (record { quiet = refl; before = read_subscriber views.filtered None parts.world parts.dispatch; later = read_subscriber views.filtered None new parts.dispatch; shown_before = refl; shown_later = refl; told = ap (λ (w : WorldValue S). read_subscriber views.filtered None w parts.dispatch) same ∙ heard_none (read_subscriber views.filtered None parts.world parts.dispatch); known = refl; cached = ap (λ (w : WorldValue S). w.cached) same; aside = record { before = aside_in views parts.world parts.dispatch; later = aside_in views new parts.dispatch; shown_before = refl; shown_later = refl; waits_before = refl; waits_later = refl; adds = adds_same views parts.world new parts.dispatch same } })
 
         pub keeps_declined : IsKept spans views kept is_whole then_parts
-        keeps_declined = kept_served spans views kept is_whole parts then_parts inv _ _ (serves_declined inv.tables inv.stands) refl (ap (λ (w : Worlds S). length w.subscribers) same) (λ has. subst (λ (w : Worlds S). Has is_whole w parts.dispatch) (sym same) has)
-            (subst (λ (w : Worlds S). LanesFit parts.dispatch (kept_in kept w parts.dispatch) (map lane_value parts.lanes)) (sym same) inv.lanes)
+        keeps_declined = kept_served spans views kept is_whole parts then_parts inv _ _ (serves_declined inv.tables inv.stands) refl (ap (λ (w : WorldValue S). length w.subscribers) same) (λ has. subst (λ (w : WorldValue S). Has is_whole w parts.dispatch) (sym same) has)
+            (subst (λ (w : WorldValue S). LanesFit parts.dispatch (kept_in kept w parts.dispatch) (map lane_value parts.lanes)) (sym same) inv.lanes)
 
     -- let through or not, as a request names it
     module _ (under : RequestParent) (parent : Option Parent) (found : parent ≡ parent_for (map held_by parts.handles) under) (site : ℕ) (fields : Fields) (made : Handle × Bool) (one : hs' ≡ parts.handles ++ Some made.0 ∷ [])
-        (before : Lane) (within : place < length parts.lanes) (seen_is : before ≡ get_or parts.lanes place before) (gate : LetsThrough (member_of views.filtered None parts.world parts.dispatch) parts.world.sites before.id site made.1)
+        (before : Lane) (within : place < length parts.lanes) (seen_is : before ≡ get_or parts.lanes place before) (gate : LetsThrough (read_subscriber views.filtered None parts.world parts.dispatch) parts.world.sites before.id site made.1)
         (did : MakesNamed spans does parts.world new before at parent site fields parts.dispatch made) where
       abbrev named : AreNamed (span_site parts.world.sites site) parent fields
       named = did.named
@@ -365,13 +365,13 @@ module _ {S : Type 0} (spans : S → Spans) (views : Views S) (kept : S → ℕ 
 
 -- after a refusal for want of memory
 pub made_alike : {S : Type 0} (spans : S → Spans) (views : Views S) (attaches : S → Bool) (kept : S → ℕ → ℕ → ℕ) (is_whole : S → Type 0) (same : S → S → Type 0) → SameLaw spans views attaches kept is_whole same
-    → (parts : Parts S) (new : Worlds S) (hs' : List (Option Handle)) → hs' ≡ parts.handles → Replaced same parts.world new parts.dispatch
+    → (parts : Parts S) (new : WorldValue S) (hs' : List (Option Handle)) → hs' ≡ parts.handles → Replaced same parts.world new parts.dispatch
     → (state_of spans views (record parts { world = new; handles = hs' }) ≡ state_of spans views parts) × (IsKept spans views kept is_whole parts → IsKept spans views kept is_whole (record parts { world = new; handles = hs' }))
 made_alike {S} spans views attaches kept is_whole same law parts new hs' handles did =
     let alike = law.shown parts.world new parts.dispatch did in
-    let sites = ap (λ (w : Worlds S). w.sites) did.others in
+    let sites = ap (λ (w : WorldValue S). w.sites) did.others in
     let told = law.viewed parts.world new parts.dispatch did in
-    let cached = ap (λ (w : Worlds S). w.cached) did.others in
+    let cached = ap (λ (w : WorldValue S). w.cached) did.others in
     let next : Parts S = record parts { world = new; handles = hs' } in
     let still = adds_nothing (aside_in views parts.world parts.dispatch) (aside_in views new parts.dispatch) told.2 in
     let state : state_of spans views next ≡ state_of spans views parts = rw (alike.spans_same, sites, told.0, told.1, cached, still.0, still.1, handles) refl in

@@ -1,6 +1,6 @@
 -- A handle more, of a span that is there or of a new one.
 use Rattle.std.proofs.Common.{◌≡◌, ℕ, ◌+◌, ◌<◌, List, [], ◌∷◌, ◌++◌, length, cond, count_by, Option, Some, None, option_map, map, refl, sym, ap, subst, ◌∙◌, arith, inl, inr, ◌==◌, IfSome}
-use Rattle.span_script.proofs.Common.{cases_eq, cases_lt, cond-true, cond-false, length_push, map_push, get_or_past, get_or_push, get_or_append_left, get_or-map, Span, Spans, no_span, span_at, with_hold, entered_lane_count, is_open_child, is_child_of, open_child_count, entries_on, current_of, parent_on, with_new_span, IsLive, IsLiveParent, Parent, count_push, made_if_held, keeps_children, holds_set, holds_other, current_in, first_if_in, place_under, Balanced, OpenGuard, names_span, named_by, opened_by, RequestParent, Scope, ScopeGuard, Tables, slot_at, own_span, scope_of, scope_at, parent_at, parent_for, State, IsScope, held_of}
+use Rattle.span_script.proofs.Common.{cases_eq, cases_lt, cond-true, cond-false, length_push, map_push, get_or_past, get_or_push, get_or_append_left, get_or-map, Span, Spans, no_span, span_at, with_hold, entered_lane_count, is_open_child, is_child_of, open_child_count, entries_on, current_of, parent_on, with_new_span, IsLive, IsLiveParent, Parent, count_push, made_if_held, keeps_children, holds_set, holds_other, current_in, first_if_in, as_parent, Balanced, OpenGuard, names_span, named_by, opened_by, RequestParent, Scope, ScopeGuard, Tables, slot_at, own_span, scope_of, scope_at, parent_at, parent_for, State, IsScope, held_of}
 use Rattle.std.proofs.lemmas.Bool.{eq-eqb, ne_eqb}
 use Rattle.std.proofs.lemmas.List.{length-set}
 use Rattle.trace_base.specs.declared.span.Parent.TheVariants as parent
@@ -152,14 +152,14 @@ find_up k t fits lane request_parent.Contextual p is =
       | inr there ↦ (let first = first_if_in k.spans.lanes lane s there in let h = fits.balanced.holds s in omega (arith, first, h))
     ]) in
     subst (FoundUp k t lane request_parent.Contextual) (the_place parent.Current p is) (record { up = scope_of t.spans o; is = refl; parent_is = refl; scope = mine.1; on = same ∙ mine.0; live_place = tt; live = mine.2 })
-find_up k t fits lane (request_parent.Under handle) p is = by_slot (slot_at t.handles handle) refl (sym (ap (λ xs. option_map place_under (slot_at xs handle)) fits.handle_slots ∙ ap (option_map place_under) (get_or-map (option_map (held_of k.dispatch)) t.handles handle None)) ∙ is)
+find_up k t fits lane (request_parent.Under handle) p is = by_slot (slot_at t.handles handle) refl (sym (ap (λ xs. option_map as_parent (slot_at xs handle)) fits.handle_slots ∙ ap (option_map as_parent) (get_or-map (option_map (held_of k.dispatch)) t.handles handle None)) ∙ is)
   where
-    by_line : (line : Scope) → slot_at t.handles handle ≡ Some line → place_under (held_of k.dispatch line) ≡ p → FoundUp k t lane (request_parent.Under handle) p
+    by_line : (line : Scope) → slot_at t.handles handle ≡ Some line → as_parent (held_of k.dispatch line) ≡ p → FoundUp k t lane (request_parent.Under handle) p
     by_line [] there e = subst (FoundUp k t lane (request_parent.Under handle)) e (record { up = []; is = there; parent_is = refl; scope = tt; on = refl; live_place = tt; live = tt })
     by_line (s ∷ up) there e =
         let live = fits_live k.spans (map named_by t.handles) (map (opened_by k.setup.ids) t.guards) t.entries fits.balanced handle s (named_slot t.handles handle (s ∷ up) there) in
         subst (FoundUp k t lane (request_parent.Under handle)) e (record { up = s ∷ up; is = there; parent_is = refl; scope = fits.scopes handle (s ∷ up) there; on = refl; live_place = live; live = live })
 
-    by_slot : (o : Option Scope) → slot_at t.handles handle ≡ o → option_map place_under (option_map (held_of k.dispatch) o) ≡ Some p → FoundUp k t lane (request_parent.Under handle) p
+    by_slot : (o : Option Scope) → slot_at t.handles handle ≡ o → option_map as_parent (option_map (held_of k.dispatch) o) ≡ Some p → FoundUp k t lane (request_parent.Under handle) p
     by_slot None there e = absurd (cc e)
-    by_slot (Some line) there e = by_line line there (the_place (place_under (held_of k.dispatch line)) p e)
+    by_slot (Some line) there e = by_line line there (the_place (as_parent (held_of k.dispatch line)) p e)

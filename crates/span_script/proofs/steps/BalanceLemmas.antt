@@ -1,6 +1,6 @@
 -- Holds, entries and guards after what disabled handles do, and the numbers of holds.
 use Rattle.std.proofs.Common.{◌≡◌, ℕ, Bool, zero, suc, ◌+◌, ◌≤◌, List, [], ◌∷◌, ◌++◌, length, set, Option, Some, None, map, refl, sym, ap, subst, ◌∙◌, arith, inl, inr, ◌==◌, slice_set}
-use Rattle.span_script.proofs.Common.{cases_eq, cases_Bool, cases_lt, cond-true, cond-false, map_push, map-set, get_or_past, get_or-map, Span, Spans, no_span, span_at, is_in, times_in, entries_on, with_hold, less_hold, without_hold, with_span_entry, with_span_exit, count_push, less_holds, holds_set, holds_other, id_at, Balanced, OpenGuard, guards_span, named_by, opened_on, opened_by, Scope, ScopeGuard, slot_at, own_span, lanes_with, lanes_with_entry, lanes_with_exit}
+use Rattle.span_script.proofs.Common.{cases_eq, cases_Bool, cases_lt, cond-true, cond-false, map_push, map-set, get_or_past, get_or-map, Span, Spans, no_span, span_at, is_in, times_in, entries_on, with_hold, span_without_hold, without_hold, with_span_entry, with_span_exit, count_push, less_holds, holds_set, holds_other, id_at, Balanced, OpenGuard, guards_span, named_by, opened_on, opened_by, Scope, ScopeGuard, slot_at, own_span, lanes_with, lanes_with_entry, lanes_with_exit}
 use Rattle.std.proofs.lemmas.List.{length-set}
 use Rattle.span_script.proofs.entries.EntriesFitLemmas.{fits_enter, fits_exit}
 use Rattle.span_script.proofs.steps.SlotsLemmas.{named_push}
@@ -52,7 +52,7 @@ held_most made id q =
 
 pub released_less : (made : List Span) (id q : ℕ) → (span_at (without_hold made id) q).holds ≤ (span_at made q).holds
 released_less made id q =
-    let now : Span = less_hold (span_at made id) in
+    let now : Span = span_without_hold (span_at made id) in
     let less = less_holds (span_at made id) in
     elim (cases_eq q id) [
       | inl here ↦ elim (cases_lt id (length made)) [

@@ -1,5 +1,5 @@
 -- Spans that are known to the layer stay so until they close.
-use Rattle.span_script.proofs.Common.{list_any, cases_Bool, cond-true, cond-false, or_parts, Context, Op, SpanData, data_at, knows_span, with_span_data, waiting_context, Recording, with_start, with_starts, with_applied, with_close, without_closed, data_after, data_started, MadeSpan, SpanOp, Effect, with_span_made, recorded_by}
+use Rattle.span_script.proofs.Common.{list_any, cases_Bool, cond-true, cond-false, or_parts, Context, Op, SpanData, data_at, knows_span, with_span_data, start_context, Recording, with_start, with_starts, with_applied, with_close, without_closed, data_after, data_started, MadeSpan, SpanOp, Effect, with_span_made, recorded_by}
 use Rattle.std.proofs.Common.{◌≡◌, ℕ, List, [], ◌∷◌, fold, Bool, true, false, Option, Some, None, refl, sym, ap, ◌∙◌, inl, inr, ◌==◌, ◌||◌, ◌≢◌}
 use Rattle.std.proofs.lemmas.Bool.{eq-eqb, true≢false}
 use Rattle.otel_layer.proofs.FoundSpanLemmas.{told_at_op, told_at_start, told_at_removed}
@@ -17,7 +17,7 @@ started_none None b n at x e = e
 started_none (Some under) b n at x e = after_none b at _ x e
 
 pub start_known : (s at q : ℕ) (r : Recording) → IsKnown q r → IsKnown q (with_start s at r)
-start_known s at q r known none = known (started_none (waiting_context (data_at s r.spans)) (q == s) r.started at (data_at q r.spans) (sym (told_at_start s q at r) ∙ none))
+start_known s at q r known none = known (started_none (start_context (data_at s r.spans)) (q == s) r.started at (data_at q r.spans) (sym (told_at_start s q at r) ∙ none))
 
 op_known : (s at q : ℕ) (op : Op) (r : Recording) → IsKnown q r → IsKnown q (with_applied s at op r)
 op_known s at q op r known none = known (after_none (q == s) at op (data_at q r.spans) (sym (told_at_op s q at op r.spans) ∙ none))

@@ -1,6 +1,6 @@
 -- Lanes, and what every pipeline keeps.
 use Rattle.std.proofs.Common.{◌≡◌, ℕ, Bool, false, zero, suc, ◌<◌, ◌≤◌, List, [], ◌∷◌, length, count_by, get_or, set, Option, Some, None, map, refl, sym, ap, subst, ◌∙◌, arith, inl, inr, Result, Ok, Err, OnErr, ◌==◌}
-use Rattle.span_script.proofs.Common.{cases_eq, cond-true, cond-false, length-map, map-set, Lane, Worlds, Spans, attached_as, AreAttached, KeepsAttached, Has, Alike, member_of, spans_in, kept_in, Handle, Held, ReplacedOn, LeavesLane, Guard, Attach, no_recording, Scope, slot_at, id_at, name_at, Views, State, state_of, LaneValue, lane_value, no_lane_value, lane_at, held_by, LanesFit, IsKept, held_of, StandsFor, Parts, AddsMeasures, SameLaw, aside_in}
+use Rattle.span_script.proofs.Common.{cases_eq, cond-true, cond-false, length-map, map-set, Lane, WorldValue, Spans, attached_as, AreAttached, KeepsAttached, Has, KeepsPlainData, read_subscriber, spans_in, kept_in, Handle, HeldSpan, ReplacedOn, KeepsLaneButRoom, Guard, Attach, no_recording, Scope, slot_at, id_at, name_at, Views, State, state_of, LaneValue, lane_value, no_lane_value, lane_at, held_by, LanesFit, IsKept, held_of, StandsFor, Parts, AddsMeasures, SameLaw, aside_in}
 use Rattle.std.proofs.lemmas.Bool.{eq-eqb, ne_eqb}
 use Rattle.trace_base.specs.Gate.{IsInWorld, dispatch_on}
 use Rattle.span_handles.specs.Handles.{HasIf}
@@ -103,14 +103,14 @@ lane_served dispatch kept lanes n before within is fits =
     ap (λ (l : LaneValue). l.default) (sym (lane_seen lanes n before within is)) ∙ fits.served n (let k = length-map lanes lane_value in omega (arith, within, k))
 
 -- what holds of a subscriber holds of the own one of a lane that it serves
-pub has_own : {S : Type 0} (P : S → Type 0) (world : Worlds S) (dispatch : ℕ) (own : Option ℕ) → own ≡ Some dispatch → Has P world dispatch → HasIf P world (dispatch_on own world.global)
+pub has_own : {S : Type 0} (P : S → Type 0) (world : WorldValue S) (dispatch : ℕ) (own : Option ℕ) → own ≡ Some dispatch → Has P world dispatch → HasIf P world (dispatch_on own world.global)
 has_own P world dispatch own is has = subst (λ (o : Option ℕ). HasIf P world (dispatch_on o world.global)) (sym is) has
 
 -- a lane's own subscriber serves it
 pub own_serves : (dispatch : ℕ) (own global : Option ℕ) → own ≡ Some dispatch → dispatch_on own global ≡ Some dispatch
 own_serves dispatch own global is = ap (λ (o : Option ℕ). dispatch_on o global) is
 
-pub own_there : {S : Type 0} (world : Worlds S) (dispatch : ℕ) (own : Option ℕ) → own ≡ Some dispatch → dispatch < length world.subscribers → IsInWorld world own
+pub own_there : {S : Type 0} (world : WorldValue S) (dispatch : ℕ) (own : Option ℕ) → own ≡ Some dispatch → dispatch < length world.subscribers → IsInWorld world own
 own_there world dispatch own is there = subst (λ (o : Option ℕ). IsInWorld world o) (sym is) there
 
 -- where a call keeps what it attached
@@ -133,37 +133,37 @@ pub own_lane : {S : Type 0} (spans : S → Spans) (views : Views S) (kept : S �
 own_lane spans views kept is_whole parts inv n before within is = lane_served parts.dispatch (kept_in kept parts.world parts.dispatch) parts.lanes n before within is inv.lanes
 
 module _ {S : Type 0} (spans : S → Spans) (views : Views S) (attaches : S → Bool) (kept : S → ℕ → ℕ → ℕ) (is_whole : S → Type 0) where
-  abbrev pub AlikeOn : Worlds S → Worlds S → ℕ → Scope → Type 0
+  abbrev pub AlikeOn : WorldValue S → WorldValue S → ℕ → Scope → Type 0
   AlikeOn old new dispatch [] = new ≡ old
-  AlikeOn old new dispatch (s ∷ up) = Alike spans attaches kept is_whole old new dispatch × (new.sites ≡ old.sites) × (member_of views.recorded no_recording new dispatch ≡ member_of views.recorded no_recording old dispatch) × (member_of views.filtered None new dispatch ≡ member_of views.filtered None old dispatch) × (new.cached ≡ old.cached) × AddsMeasures (aside_in views old dispatch) (aside_in views new dispatch) []
+  AlikeOn old new dispatch (s ∷ up) = KeepsPlainData spans attaches kept is_whole old new dispatch × (new.sites ≡ old.sites) × (read_subscriber views.recorded no_recording new dispatch ≡ read_subscriber views.recorded no_recording old dispatch) × (read_subscriber views.filtered None new dispatch ≡ read_subscriber views.filtered None old dispatch) × (new.cached ≡ old.cached) × AddsMeasures (aside_in views old dispatch) (aside_in views new dispatch) []
 
   pub alike_on : (same : S → S → Type 0) → SameLaw spans views attaches kept is_whole same
-      → (old new : Worlds S) (dispatch : ℕ) (line : Scope) (held : Held) → held ≡ held_of dispatch line → ReplacedOn (λ id s t. same s t) old new held → AlikeOn old new dispatch line
-  alike_on same law old new dispatch [] held is did = subst (λ (h : Held). ReplacedOn (λ id s t. same s t) old new h) is did
+      → (old new : WorldValue S) (dispatch : ℕ) (line : Scope) (held : HeldSpan) → held ≡ held_of dispatch line → ReplacedOn (λ id s t. same s t) old new held → AlikeOn old new dispatch line
+  alike_on same law old new dispatch [] held is did = subst (λ (h : HeldSpan). ReplacedOn (λ id s t. same s t) old new h) is did
   alike_on same law old new dispatch (s ∷ up) held is did =
-      let r = subst (λ (h : Held). ReplacedOn (λ id s t. same s t) old new h) is did in
+      let r = subst (λ (h : HeldSpan). ReplacedOn (λ id s t. same s t) old new h) is did in
       let told = law.viewed old new dispatch r in
-      (law.shown old new dispatch r, ap (λ (w : Worlds S). w.sites) r.others, told.0, told.1, ap (λ (w : Worlds S). w.cached) r.others, told.2)
+      (law.shown old new dispatch r, ap (λ (w : WorldValue S). w.sites) r.others, told.0, told.1, ap (λ (w : WorldValue S). w.cached) r.others, told.2)
 
-  pub alike_line : (old new : Worlds S) (dispatch : ℕ) (line : Scope) → AlikeOn old new dispatch line → Alike spans attaches kept is_whole old new dispatch × (new.sites ≡ old.sites) × (member_of views.recorded no_recording new dispatch ≡ member_of views.recorded no_recording old dispatch) × (member_of views.filtered None new dispatch ≡ member_of views.filtered None old dispatch) × (new.cached ≡ old.cached) × AddsMeasures (aside_in views old dispatch) (aside_in views new dispatch) []
+  pub alike_line : (old new : WorldValue S) (dispatch : ℕ) (line : Scope) → AlikeOn old new dispatch line → KeepsPlainData spans attaches kept is_whole old new dispatch × (new.sites ≡ old.sites) × (read_subscriber views.recorded no_recording new dispatch ≡ read_subscriber views.recorded no_recording old dispatch) × (read_subscriber views.filtered None new dispatch ≡ read_subscriber views.filtered None old dispatch) × (new.cached ≡ old.cached) × AddsMeasures (aside_in views old dispatch) (aside_in views new dispatch) []
   alike_line old new dispatch [] same = (
     record {
-      spans_same = ap (λ (w : Worlds S). spans_in spans w dispatch) same;
-      attaches_same = ap (λ (w : Worlds S). member_of attaches false w dispatch) same;
-      kept_same = ap (λ (w : Worlds S). kept_in kept w dispatch) same;
-      count = ap (λ (w : Worlds S). length w.subscribers) same;
-      whole = λ has. subst (λ (w : Worlds S). Has is_whole w dispatch) (sym same) has;
+      spans_same = ap (λ (w : WorldValue S). spans_in spans w dispatch) same;
+      attaches_same = ap (λ (w : WorldValue S). read_subscriber attaches false w dispatch) same;
+      kept_same = ap (λ (w : WorldValue S). kept_in kept w dispatch) same;
+      count = ap (λ (w : WorldValue S). length w.subscribers) same;
+      whole = λ has. subst (λ (w : WorldValue S). Has is_whole w dispatch) (sym same) has;
     },
-    ap (λ (w : Worlds S). w.sites) same,
-    ap (λ (w : Worlds S). member_of views.recorded no_recording w dispatch) same,
-    ap (λ (w : Worlds S). member_of views.filtered None w dispatch) same,
-    ap (λ (w : Worlds S). w.cached) same,
+    ap (λ (w : WorldValue S). w.sites) same,
+    ap (λ (w : WorldValue S). read_subscriber views.recorded no_recording w dispatch) same,
+    ap (λ (w : WorldValue S). read_subscriber views.filtered None w dispatch) same,
+    ap (λ (w : WorldValue S). w.cached) same,
     adds_same views old new dispatch same,
   )
   alike_line old new dispatch (s ∷ up) same = same
 
   -- what alike is kept is kept on
-  pub kept_alike : (parts next : Parts S) → IsKept spans views kept is_whole parts → state_of spans views next ≡ state_of spans views parts → Alike spans attaches kept is_whole parts.world next.world parts.dispatch → IsKept spans views kept is_whole next
+  pub kept_alike : (parts next : Parts S) → IsKept spans views kept is_whole parts → state_of spans views next ≡ state_of spans views parts → KeepsPlainData spans attaches kept is_whole parts.world next.world parts.dispatch → IsKept spans views kept is_whole next
   kept_alike parts next inv same alike =
       let on : next.dispatch ≡ parts.dispatch = ap (λ (k : State). k.dispatch) same in
       record {
@@ -179,18 +179,18 @@ module _ {S : Type 0} (spans : S → Spans) (views : Views S) (attaches : S → 
 
   -- after a refusal for want of memory what is kept is as it was
   module _ (same : S → S → Type 0) (law : SameLaw spans views attaches kept is_whole same)
-      (parts : Parts S) (new : Worlds S) (inv : IsKept spans views kept is_whole parts) (handle : ℕ) (named : Handle) (found : slot_at parts.handles handle ≡ Some named) (did : ReplacedOn (λ id s t. same s t) parts.world new named.held) where
+      (parts : Parts S) (new : WorldValue S) (inv : IsKept spans views kept is_whole parts) (handle : ℕ) (named : Handle) (found : slot_at parts.handles handle ≡ Some named) (did : ReplacedOn (λ id s t. same s t) parts.world new named.held) where
     its_line : Found (held_of parts.dispatch) inv.tables.handles handle named.held
     its_line = find (held_of parts.dispatch) (map held_by parts.handles) inv.tables.handles handle named.held inv.stands.fits.handle_slots (held_slot parts.handles handle named found)
 
-    its_alike : Alike spans attaches kept is_whole parts.world new parts.dispatch × (new.sites ≡ parts.world.sites) × (member_of views.recorded no_recording new parts.dispatch ≡ member_of views.recorded no_recording parts.world parts.dispatch) × (member_of views.filtered None new parts.dispatch ≡ member_of views.filtered None parts.world parts.dispatch) × (new.cached ≡ parts.world.cached) × AddsMeasures (aside_in views parts.world parts.dispatch) (aside_in views new parts.dispatch) []
+    its_alike : KeepsPlainData spans attaches kept is_whole parts.world new parts.dispatch × (new.sites ≡ parts.world.sites) × (read_subscriber views.recorded no_recording new parts.dispatch ≡ read_subscriber views.recorded no_recording parts.world parts.dispatch) × (read_subscriber views.filtered None new parts.dispatch ≡ read_subscriber views.filtered None parts.world parts.dispatch) × (new.cached ≡ parts.world.cached) × AddsMeasures (aside_in views parts.world parts.dispatch) (aside_in views new parts.dispatch) []
     its_alike = alike_line parts.world new parts.dispatch its_line.at (alike_on same law parts.world new parts.dispatch its_line.at named.held its_line.is did)
 
     its_rest : ((aside_in views new parts.dispatch).0 ≡ (aside_in views parts.world parts.dispatch).0) × ((aside_in views new parts.dispatch).1 ≡ (aside_in views parts.world parts.dispatch).1)
     its_rest = adds_nothing (aside_in views parts.world parts.dispatch) (aside_in views new parts.dispatch) its_alike.5
 
     -- where a lane or guards got room
-    module _ (n : ℕ) (before later : Lane) (within : n < length parts.lanes) (seen_is : before ≡ get_or parts.lanes n before) (lane : LeavesLane before later)
+    module _ (n : ℕ) (before later : Lane) (within : n < length parts.lanes) (seen_is : before ≡ get_or parts.lanes n before) (lane : KeepsLaneButRoom before later)
         (gs' : List (Option Guard)) (guards_same : gs' ≡ parts.guards) (ks' : List (Option Attach)) (attaches_same : ks' ≡ parts.contexts.attaches) where
       abbrev refused_parts : Parts S
       refused_parts = record parts { world = new; lanes = set parts.lanes n later; guards = gs'; contexts = record parts.contexts { attaches = ks' } }

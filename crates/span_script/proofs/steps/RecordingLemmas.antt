@@ -2,7 +2,7 @@
 use Rattle.std.specs.Option.{option_to_list}
 use Rattle.std.proofs.Common.{◌≡◌, ℕ, Bool, List, [], ◌∷◌, ◌++◌, length, fold, Option, Some, None, refl, sym, ap, ◌∙◌}
 use Rattle.std.proofs.lemmas.List.{append-nil, append_assoc}
-use Rattle.span_script.proofs.Common.{LayerSettings, Context, Record, SpanData, Token, data_at, waiting_context, Recording, started_under, with_start, with_starts, with_applied, with_close, without_closed, closed_started, MadeSpan, SpanOp, Effect, Tables, after_effect, with_span_made, recorded_by, open_part, records_of}
+use Rattle.span_script.proofs.Common.{LayerSettings, Context, Record, SpanData, Token, data_at, start_context, Recording, with_start_under, with_start, with_starts, with_applied, with_close, without_closed, closed_started, MadeSpan, SpanOp, Effect, Tables, after_effect, with_span_made, recorded_by, open_part, records_of}
 
 -- a recording with other entries, and records before its own
 abbrev shifted : List Token → List Record → Recording → Recording
@@ -10,9 +10,9 @@ shifted ts fs r = record r { tokens = ts; finished = fs ++ r.finished }
 
 module _ (ts : List Token) (fs : List Record) where
   start_apart : (s at : ℕ) (r : Recording) → with_start s at (shifted ts fs r) ≡ shifted ts fs (with_start s at r)
-  start_apart s at r = by_context (waiting_context (data_at s r.spans))
+  start_apart s at r = by_context (start_context (data_at s r.spans))
     where
-      by_context : (o : Option Context) → started_under o s at (shifted ts fs r) ≡ shifted ts fs (started_under o s at r)
+      by_context : (o : Option Context) → with_start_under o s at (shifted ts fs r) ≡ shifted ts fs (with_start_under o s at r)
       by_context None = refl
       by_context (Some under) = refl
 
@@ -84,9 +84,9 @@ abbrev stays : Recording → LayerSettings × List Token × Bool
 stays r = (r.settings, r.tokens, r.counting)
 
 start_stays : (s at : ℕ) (r : Recording) → stays (with_start s at r) ≡ stays r
-start_stays s at r = by_context (waiting_context (data_at s r.spans))
+start_stays s at r = by_context (start_context (data_at s r.spans))
   where
-    by_context : (o : Option Context) → stays (started_under o s at r) ≡ stays r
+    by_context : (o : Option Context) → stays (with_start_under o s at r) ≡ stays r
     by_context None = refl
     by_context (Some under) = refl
 
@@ -132,9 +132,9 @@ recorded_tokens n e r = ap (λ (x : LayerSettings × List Token × Bool). x.1) (
 
 -- a start of the open part
 pub start_open : (s at : ℕ) (r x : Recording) → open_part r ≡ x → (with_start s at r).spans ≡ (with_start s at x).spans
-start_open s at r x is = by_context (waiting_context (data_at s r.spans)) ∙ ap (λ (y : Recording). (with_start s at y).spans) is
+start_open s at r x is = by_context (start_context (data_at s r.spans)) ∙ ap (λ (y : Recording). (with_start s at y).spans) is
   where
-    by_context : (o : Option Context) → (started_under o s at r).spans ≡ (started_under o s at (open_part r)).spans
+    by_context : (o : Option Context) → (with_start_under o s at r).spans ≡ (with_start_under o s at (open_part r)).spans
     by_context None = refl
     by_context (Some under) = refl
 

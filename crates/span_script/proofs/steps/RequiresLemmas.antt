@@ -1,13 +1,13 @@
 -- What a call on the subscriber of a handle requires is what every pipeline keeps.
 use Rattle.std.proofs.Common.{◌≡◌, ℕ, ◌<◌, ◌^◌, List, ◌∷◌, length, get_or, Option, Some, None, option_map, map, sym, ap, subst, ◌∙◌, arith}
-use Rattle.span_script.proofs.Common.{length-map, get_or-map, Lane, Spans, HasOwnHold, HasFewHolds, MayExit, AreAttached, Has, spans_in, kept_in, no_spans, Handle, Held, HasOn, IsKnown, IsThere, Guard, id_at, Scope, slot_at, own_span, named_by, opened_on, opened_by, Views, state_of, held_by, IsKept, held_of, guard_of, Parts}
+use Rattle.span_script.proofs.Common.{length-map, get_or-map, Lane, Spans, HasOwnHold, HasFewHolds, MayExit, AreAttached, Has, spans_in, kept_in, no_spans, Handle, HeldSpan, HasOn, IsKnown, IsThere, Guard, id_at, Scope, slot_at, own_span, named_by, opened_on, opened_by, Views, state_of, held_by, IsKept, held_of, guard_of, Parts}
 use Rattle.span_script.proofs.steps.SlotsLemmas.{Found, find, held_slot}
 use Rattle.span_script.proofs.entries.EntriesFitLemmas.{fits_own, fits_may_exit}
 use Rattle.span_script.proofs.steps.BalanceLemmas.{named_slot, opened_slot}
 use Rattle.span_script.proofs.steps.CallsLemmas.{has_by, there_on, has_on, known_on}
 use Rattle.span_script.proofs.steps.LanesLemmas.{are_attached, id_seen}
 
-the_held : (a b : Held) → ◌≡◌ {A = Option Held} (Some a) (Some b) → a ≡ b
+the_held : (a b : HeldSpan) → ◌≡◌ {A = Option HeldSpan} (Some a) (Some b) → a ≡ b
 the_held a b e = cc e
 
 module _ {S : Type 0} (spans : S → Spans) (views : Views S) (kept : S → ℕ → ℕ → ℕ) (is_whole : S → Type 0) (parts : Parts S)

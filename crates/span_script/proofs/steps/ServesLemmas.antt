@@ -1,7 +1,7 @@
 -- What calls on the span of a scope keep, whatever their kind.
 use Rattle.std.proofs.Common.{◌≡◌, ℕ, ◌<◌, List, [], ◌∷◌, ◌++◌, length, Bool, Option, None, false, Ok, Err, refl, sym, ap, subst, ◌∙◌, arith, map, ◌==◌, ◌≢◌}
 use Rattle.std.proofs.lemmas.Bool.{true≢false}
-use Rattle.span_script.proofs.Common.{Lane, Worlds, Spans, span_at, SubscriberCall, KeepsAttached, CallLanes, kept_in, Has, Reply, Refusal, Token, list_any, data_at, Recording, Attach, Setup, Scope, Attached, Effect, Tables, after_effect, recorded_by, Resolved, effect_of_call, Views, State, LaneValue, StandsFor, RecordingFits, FilteringFits, AllContextsFit, LanesFit, IsKept, Served, state_of, lane_value, Parts, is_for_memory, IsRefusal, ServesResolved, Serves, Measure, measured_by, AddsMeasures, aside_in}
+use Rattle.span_script.proofs.Common.{Lane, WorldValue, Spans, span_at, SubscriberCall, KeepsAttached, CallLanes, kept_in, Has, Reply, Refusal, Token, list_any, data_at, Recording, Attach, Setup, Scope, Attached, Effect, Tables, after_effect, recorded_by, Resolved, effect_of_call, Views, State, LaneValue, StandsFor, RecordingFits, FilteringFits, AllContextsFit, LanesFit, IsKept, Served, state_of, lane_value, Parts, is_for_memory, IsRefusal, ServesResolved, Serves, Measure, measured_by, AddsMeasures, aside_in}
 use Rattle.span_script.specs.declared.request.Call.{Call}
 use Rattle.span_script.specs.Fits.{Fits}
 use Rattle.span_script.specs.calls.Refusals.{takes_no_memory}
@@ -89,18 +89,18 @@ kept_served spans views kept is_whole parts next inv resolved answer served disp
   stands = served.stands;
 }
 
-module _ {S : Type 0} (spans : S → Spans) (views : Views S) (attaches : S → Bool) (kept : S → ℕ → ℕ → ℕ) (is_whole : S → Type 0) (parts : Parts S) (new : Worlds S) where
+module _ {S : Type 0} (spans : S → Spans) (views : Views S) (attaches : S → Bool) (kept : S → ℕ → ℕ → ℕ) (is_whole : S → Type 0) (parts : Parts S) (new : WorldValue S) where
   -- what one call on a scope keeps
   pub call_count : (line : Scope) (call : ℕ → SubscriberCall) → ShownOn spans views attaches kept is_whole parts.world new parts.dispatch line call → length new.subscribers ≡ length parts.world.subscribers
-  call_count [] call same = ap (λ (w : Worlds S). length w.subscribers) same
+  call_count [] call same = ap (λ (w : WorldValue S). length w.subscribers) same
   call_count (s ∷ up) call shown = shown.0.count
 
   pub call_sites : (line : Scope) (call : ℕ → SubscriberCall) → ShownOn spans views attaches kept is_whole parts.world new parts.dispatch line call → new.sites ≡ parts.world.sites
-  call_sites [] call same = ap (λ (w : Worlds S). w.sites) same
+  call_sites [] call same = ap (λ (w : WorldValue S). w.sites) same
   call_sites (s ∷ up) call shown = shown.1
 
   pub call_cached : (line : Scope) (call : ℕ → SubscriberCall) → ShownOn spans views attaches kept is_whole parts.world new parts.dispatch line call → new.cached ≡ parts.world.cached
-  call_cached [] call same = ap (λ (w : Worlds S). w.cached) same
+  call_cached [] call same = ap (λ (w : WorldValue S). w.cached) same
   call_cached (s ∷ up) call shown = shown.4
 
   pub call_aside : (line : Scope) (call : ℕ → SubscriberCall) → ((s : ℕ) → measured_by (call s) ≡ []) → ShownOn spans views attaches kept is_whole parts.world new parts.dispatch line call → AddsMeasures (aside_in views parts.world parts.dispatch) (aside_in views new parts.dispatch) []
@@ -108,7 +108,7 @@ module _ {S : Type 0} (spans : S → Spans) (views : Views S) (attaches : S → 
   call_aside (s ∷ up) call none shown = subst (λ (ms : List Measure). AddsMeasures (aside_in views parts.world parts.dispatch) (aside_in views new parts.dispatch) ms) (none s) shown.5
 
   pub call_whole : (line : Scope) (call : ℕ → SubscriberCall) → ShownOn spans views attaches kept is_whole parts.world new parts.dispatch line call → Has is_whole parts.world parts.dispatch → Has is_whole new parts.dispatch
-  call_whole [] call same has = subst (λ (w : Worlds S). Has is_whole w parts.dispatch) (sym same) has
+  call_whole [] call same has = subst (λ (w : WorldValue S). Has is_whole w parts.dispatch) (sym same) has
   call_whole (s ∷ up) call shown has = shown.0.whole has
 
   pub call_lanes : (line : Scope) (call : ℕ → SubscriberCall) (before later : Lane) → ((s : ℕ) (b : Bool) (f g : ℕ → ℕ → ℕ) → CallLanes b f (call s) g → (later.id ≡ before.id) × (later.name ≡ before.name) × (later.default ≡ before.default) × KeepsAttached f before later g)
@@ -118,6 +118,6 @@ module _ {S : Type 0} (spans : S → Spans) (views : Views S) (attaches : S → 
     ap (λ (l : Lane). l.id) (none refl),
     ap (λ (l : Lane). l.name) (none refl),
     ap (λ (l : Lane). l.default) (none refl),
-    subst (λ (w : Worlds S). KeepsAttached (kept_in kept parts.world parts.dispatch) before later (kept_in kept w parts.dispatch)) (sym same) (subst (λ (l : Lane). KeepsAttached (kept_in kept parts.world parts.dispatch) before l (kept_in kept parts.world parts.dispatch)) (sym (none refl)) (λ l n. refl)),
+    subst (λ (w : WorldValue S). KeepsAttached (kept_in kept parts.world parts.dispatch) before later (kept_in kept w parts.dispatch)) (sym same) (subst (λ (l : Lane). KeepsAttached (kept_in kept parts.world parts.dispatch) before l (kept_in kept parts.world parts.dispatch)) (sym (none refl)) (λ l n. refl)),
   )
   call_lanes (s ∷ up) call before later step none shown = step s _ _ _ shown.0.lanes

@@ -6,7 +6,7 @@ use Rattle.otel_base.specs.Stack.{empty_context}
 use Rattle.otel_base.specs.declared.context.Context.{Context}
 use Rattle.otel_base.specs.declared.context.SpanContext.{SpanContext}
 use Rattle.otel_layer.specs.Recording.{Recording, with_start}
-use Rattle.otel_layer.specs.Table.{data_at, own_or}
+use Rattle.otel_layer.specs.Table.{data_at, own_context_or}
 use Rattle.span_script.specs.declared.reply.Reply.TheVariants as reply
 use Rattle.span_script.specs.declared.reply.Refusal.TheVariants as refusal
 use Rattle.span_script.specs.declared.reply.What.TheVariants as what
@@ -27,7 +27,7 @@ remote_call here ids = Ok (context_effect here None (record { span = Some ids })
 -- the own context of a scope's span, which starts; the empty one where there is no span
 abbrev pub own_context : Recording → ℕ → Scope → Context
 own_context r at [] = empty_context
-own_context r at (s ∷ up) = own_or empty_context (data_at s (with_start s at r).spans)
+own_context r at (s ∷ up) = own_context_or empty_context (data_at s (with_start s at r).spans)
 
 abbrev pub context_call : Here → ℕ → Resolved
 context_call here handle = do

@@ -5,7 +5,7 @@ use Rattle.otel_base.specs.Stack.{empty_context}
 use Rattle.otel_base.specs.declared.stack.TheConstants.{MAX_CONTEXTS}
 use Rattle.otel_state.specs.declared.op.Op.TheVariants as ops
 use Rattle.otel_layer.specs.Recording.{Recording, with_start}
-use Rattle.otel_layer.specs.Table.{data_at, own_or}
+use Rattle.otel_layer.specs.Table.{data_at, own_context_or}
 use Rattle.span_script.specs.declared.reply.Reply.TheVariants as reply
 use Rattle.span_script.specs.declared.reply.Refusal.TheVariants as refusal
 use Rattle.span_script.specs.declared.reply.What.TheVariants as what
@@ -20,7 +20,7 @@ activated_span activation scope = if activation then own_span scope else None
 
 abbrev pub attached_by : Recording → ℕ → Option ℕ → Option Attached
 attached_by r at None = None
-attached_by r at (Some s) = Some (record { owner = EntryOf s; context = own_or empty_context (data_at s (with_start s at r).spans) })
+attached_by r at (Some s) = Some (record { owner = EntryOf s; context = own_context_or empty_context (data_at s (with_start s at r).spans) })
 
 -- an entry of a handle's span, by a guard that owns the handle or not
 abbrev pub enter_effect : Here → ℕ → Bool → Scope → Effect

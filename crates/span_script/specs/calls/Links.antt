@@ -9,7 +9,7 @@ use Rattle.otel_state.specs.declared.op.SetParentError.{SetParentError}
 use Rattle.otel_state.specs.declared.op.SetParentError.TheVariants as unset
 use Rattle.otel_layer.specs.Asking.{link_of}
 use Rattle.otel_layer.specs.Recording.{Recording}
-use Rattle.otel_layer.specs.Table.{data_at, waiting_context}
+use Rattle.otel_layer.specs.Table.{data_at, start_context}
 use Rattle.span_script.specs.declared.reply.Reply.TheVariants as reply
 use Rattle.span_script.specs.declared.reply.What.TheVariants as what
 use Rattle.span_script.specs.calls.Here.{Here, Resolved, ◌>>=◌, need, answer_effect, ops_effect, op_on}
@@ -39,7 +39,7 @@ set_result false = Err unset.AlreadyStarted
 -- it can be until the span starts
 abbrev pub set_parent_result : Recording → Scope → Result (Unit {0}) SetParentError
 set_parent_result r [] = Err unset.SpanDisabled
-set_parent_result r (s ∷ up) = set_result (is_some (waiting_context (data_at s r.spans)))
+set_parent_result r (s ∷ up) = set_result (is_some (start_context (data_at s r.spans)))
 
 abbrev pub set_parent_call : Here → ℕ → ℕ → Resolved
 set_parent_call here handle context = do

@@ -1,6 +1,6 @@
 -- A stack admits by the rule of the filter in place: what lies below takes everything.
 use Rattle.std.proofs.Common.{◌≡◌, ℕ, Bool, true, Option, Some, None, refl, ap, ◌∙◌, slice_get, ◌&&◌}
-use Rattle.span_stack.proofs.Common.{option_map_or, Callsite, LevelFilter, Admits, IsFresh, fresh_admits, hint_both, Has, member_of, FilterState, FilterWithRoom, plain_filter, AreWhole, hint_in, enables_in, is_admitted, layer_or, HoldsIfThere, never_enabled, Stacks, StackWorlds, filter_in_place, stack_interest}
+use Rattle.span_stack.proofs.Common.{option_map_or, Callsite, LevelFilter, Admits, IsFresh, fresh_admits, hint_both, Has, read_subscriber, FilterState, FilterWithRoom, plain_filter, IsWholeFilter, hint_in, enables_in, is_admitted, layer_or, HoldsIfThere, never_enabled, Stacks, StackWorlds, filter_in_place, stack_interest}
 use Rattle.std.specs.Option.{option_map}
 use Rattle.trace_base.specs.declared.subscriber.Interest.TheVariants as interests
 use Rattle.env_filter.specs.Worlds.{in_place_rule, IsWholeInPlace}
@@ -26,13 +26,13 @@ rule_of : (o : Option FilterWithRoom) (f : FilterState) (lane : ℕ) (c : Callsi
 rule_of None f lane c e = absurd (cc e)
 rule_of (Some g) f lane c e = (let same : plain_filter g ≡ f = cc e in ap (λ (x : FilterState). is_admitted x lane c) same)
 
-whole_in : (o : Option FilterWithRoom) → HoldsIfThere (λ f. AreWhole (plain_filter f)) o → IsWholeInPlace o
+whole_in : (o : Option FilterWithRoom) → HoldsIfThere (λ f. IsWholeFilter (plain_filter f)) o → IsWholeInPlace o
 whole_in None w = tt
 whole_in (Some f) w = w
 
 pub admits_by_rule : (world : StackWorlds) (dispatch lane site : ℕ) (answer : Bool) → Admits hint_over enables_over world lane site (Some dispatch) answer → IsFresh stack_interest world
-    → Has (λ (s : Stacks). HoldsIfThere (λ f. AreWhole (plain_filter f)) s.layer.inner) world dispatch
-    → (f : FilterState) (c : Callsite) → member_of filter_in_place None world dispatch ≡ Some f → slice_get world.sites site ≡ Some c → answer ≡ is_admitted f lane c
+    → Has (λ (s : Stacks). HoldsIfThere (λ f. IsWholeFilter (plain_filter f)) s.layer.inner) world dispatch
+    → (f : FilterState) (c : Callsite) → read_subscriber filter_in_place None world dispatch ≡ Some f → slice_get world.sites site ≡ Some c → answer ≡ is_admitted f lane c
 admits_by_rule world dispatch lane site answer admits fresh whole f c in_force at =
     let read = read_of filter_in_place (slice_get world.subscribers dispatch) f in_force in
     let o = read.from.layer.inner in

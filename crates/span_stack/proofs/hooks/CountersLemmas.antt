@@ -1,8 +1,8 @@
 -- What the calls of a layer that may count events make of what it keeps.
 use Rattle.std.proofs.Common.{◌≡◌, ℕ, List, [], ◌∷◌, length, Bool, true, false, Option, Some, None, refl, sym, ap, ◌∙◌, inl, inr, ◌==◌}
 use Rattle.std.specs.Option.{option_map}
-use Rattle.span_stack.proofs.Common.{cases_Bool, cases_eq, cond-true, cond-false, RecorderValue, Callsite, Lane, Worlds, Hook, OnEvent, Spans, next_of, span_at, entries_on, parent_on, SubscriberCall, NewSpan, Records, Follows, Event, Enter, Exit, CloneSpan, TryClose, spans_after_call, Allowed, Layered, DoesBoth, InStep, both_allowed, both_shows, Replaced, member_of, Chain, ended, closes, no_spans, Core, CoreWithRoom, seen_in, PartCall, Applies, Shows, Touches, data_at, update, Recording, recording_of, no_recording, RecordsCall, RecordsChain, RecordsPart, FilterState, FilterWithRoom, plain_filter, enables_in, FilteredOpenTelemetryLayer, events_by, with_counted, with_event_by, RecordsCallBy}
-use Rattle.otel_base.specs.Recorder.{Records as RecordsBy}
+use Rattle.span_stack.proofs.Common.{cases_Bool, cases_eq, cond-true, cond-false, RecorderValue, Callsite, Lane, WorldValue, Hook, OnEvent, Spans, parent_to_release, span_at, entries_on, parent_on, SubscriberCall, NewSpan, Records, Follows, Event, Enter, Exit, CloneSpan, TryClose, spans_after_call, Allowed, Layered, DoesBoth, InStep, both_allowed, both_shows, Replaced, read_subscriber, Chain, ended, closes, no_spans, Core, CoreWithRoom, seen_in, PartCall, Applies, GivesContext, Touches, data_at, update, Recording, recording_of, no_recording, RecordsCall, RecordsChain, RecordsPart, FilterState, FilterWithRoom, plain_filter, enables_in, FilteredOpenTelemetryLayer, events_by, with_counted, with_event_by, RecordsCallBy}
+use Rattle.otel_base.specs.Recorder.{DoesRecorder as RecordsBy}
 use Rattle.trace_base.specs.declared.field.ValueSet.{ValueSet}
 use Rattle.span_registry.specs.Registering.{RegistryValue, DoesRegistry}
 use Rattle.otel_state.specs.declared.op.Op.TheVariants as ops
@@ -171,10 +171,10 @@ base_shows s call t d = both_shows spans_of DoesRegistry hooks_of room_of active
 
 quiet_chain : (at : ℕ) (next : Option ℕ) (s t : Base) → Chain base_spans BaseDoes at next s t → Chain base_spans Quietly at next s t
 quiet_chain at _ _ _ (ended s) = ended s
-quiet_chain at _ _ _ (closes id s m t did rest) = closes id s m t (did, tt) (quiet_chain at (next_of (base_spans s).made id) m t rest)
+quiet_chain at _ _ _ (closes id s m t did rest) = closes id s m t (did, tt) (quiet_chain at (parent_to_release (base_spans s).made id) m t rest)
 
-pub base_chain : (at : ℕ) (old new : Worlds Base) (dispatch id : ℕ) → Replaced (λ s t. Chain base_spans BaseDoes at (Some id) s t) old new dispatch
-    → RecordsChain at (Some id) (member_of base_spans no_spans old dispatch) (member_of base_spans no_spans new dispatch) (member_of base_recorded no_recording old dispatch) (member_of base_recorded no_recording new dispatch)
+pub base_chain : (at : ℕ) (old new : WorldValue Base) (dispatch id : ℕ) → Replaced (λ s t. Chain base_spans BaseDoes at (Some id) s t) old new dispatch
+    → RecordsChain at (Some id) (read_subscriber base_spans no_spans old dispatch) (read_subscriber base_spans no_spans new dispatch) (read_subscriber base_recorded no_recording old dispatch) (read_subscriber base_recorded no_recording new dispatch)
 base_chain at old new dispatch id r =
     chain_recording base_spans Quietly base_recorded (λ s call t d. quiet_records s call t d.1 d.0) base_allowed base_shows at old new dispatch id
     (record { before = r.before; later = r.later; there = r.there; did = quiet_chain at (Some id) r.before r.later r.did; others = r.others })
@@ -195,4 +195,4 @@ base_next s step = told_at_next (length s.inner.spans.made) s.layer.inner.core.s
 
 pub base_part : (c : Core RecorderValue) (call : PartCall) (d : Core RecorderValue) → Touches RecordsBy c call d → RecordsPart (recording_of c) call (recording_of d)
 base_part c (Applies id at op answer) d h = (h.1, ap recording_of h.2)
-base_part c (Shows id at answer) d h = (start_recording id at c d h.0, h.1)
+base_part c (GivesContext id at answer) d h = (start_recording id at c d h.0, h.1)

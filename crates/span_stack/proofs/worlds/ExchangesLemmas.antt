@@ -1,7 +1,7 @@
 -- Another filter over the same subscriber, in a world whose other subscribers take room at most.
 use Rattle.std.proofs.Common.{◌≡◌, ℕ, zero, suc, ◌+◌, ◌<◌, List, [], ◌∷◌, length, Bool, true, false, Option, Some, None, refl, sym, ap, subst, ◌∙◌, inl, inr, arith, slice_get, slice_set, get_or, ◌||◌, if◌then◌else◌, is_some}
 use Rattle.std.specs.Option.{option_map}
-use Rattle.span_stack.proofs.Common.{cases_eq, slice_get_within, slice_get-get_or, Worlds, AreSame, Spans, entries_on, times_in, KnownSpans, no_known_spans, Layered, InStep, IsWholeBoth, KnowsNone, Replaced, Alike, member_of, no_spans, now_there, as_many, seen_before, StaysStack, Layer, FilterState, FilterWithRoom, plain_filter, AreWhole, IsNewFilter, layer_or, HoldsIfThere, Both, both_refl, Swaps, none_kept, same_in_place, filter_in_place}
+use Rattle.span_stack.proofs.Common.{cases_eq, slice_get_within, slice_get-get_or, WorldValue, AreSame, Spans, entries_on, times_in, KnownSpans, no_known_spans, Layered, InStep, IsWholeBoth, KnowsNone, Replaced, KeepsPlainData, read_subscriber, no_spans, now_there, as_many, seen_before, StaysStack, Layer, FilterState, FilterWithRoom, plain_filter, IsWholeFilter, IsNewFilter, layer_or, HoldsIfThere, Both, both_refl, Swaps, none_kept, same_in_place, filter_in_place}
 use Rattle.std.proofs.lemmas.Bool.{true≢false}
 use Rattle.env_filter.specs.Filtering.{seen_in}
 use Rattle.span_stack.proofs.worlds.ViewsLemmas.{the_one, see}
@@ -15,8 +15,8 @@ get_other (x ∷ xs) zero (suc k) y apart = refl
 get_other (x ∷ xs) (suc n) zero y apart = refl
 get_other (x ∷ xs) (suc n) (suc k) y apart = get_other xs n k y (λ e. apart (ap suc e))
 
-pub other_there : {S : Type 0} (R : S → S → Type 0) (old new : Worlds S) (dispatch : ℕ) → Replaced R old new dispatch → (other : ℕ) → (other ≡ dispatch → ⊥) → slice_get new.subscribers other ≡ slice_get old.subscribers other
-other_there {S} R old new dispatch r other apart = ap (λ (w : Worlds S). slice_get w.subscribers other) r.others ∙ get_other old.subscribers dispatch other r.later apart
+pub other_there : {S : Type 0} (R : S → S → Type 0) (old new : WorldValue S) (dispatch : ℕ) → Replaced R old new dispatch → (other : ℕ) → (other ≡ dispatch → ⊥) → slice_get new.subscribers other ≡ slice_get old.subscribers other
+other_there {S} R old new dispatch r other apart = ap (λ (w : WorldValue S). slice_get w.subscribers other) r.others ∙ get_other old.subscribers dispatch other r.later apart
 
 -- what is the same as the subscriber of a place
 pub record SameThere {S : Type 0} (same : S → S → Type 0) (s : S) (later : List S) (dispatch : ℕ) : Type 0 where
@@ -40,8 +40,8 @@ stays_both spans kept attaches is_whole s m t f g = record {
   whole = λ w. g.whole (f.whole w);
 }
 
-pub alike_there : {S : Type 0} (spans : S → Spans) (kept : S → ℕ → ℕ → ℕ) (attaches : S → Bool) (is_whole : S → Type 0) (old new : Worlds S) (dispatch : ℕ) (s t : S) → slice_get old.subscribers dispatch ≡ Some s → slice_get new.subscribers dispatch ≡ Some t
-    → length new.subscribers ≡ length old.subscribers → StaysStack spans kept attaches is_whole s t → Alike spans attaches kept is_whole old new dispatch
+pub alike_there : {S : Type 0} (spans : S → Spans) (kept : S → ℕ → ℕ → ℕ) (attaches : S → Bool) (is_whole : S → Type 0) (old new : WorldValue S) (dispatch : ℕ) (s t : S) → slice_get old.subscribers dispatch ≡ Some s → slice_get new.subscribers dispatch ≡ Some t
+    → length new.subscribers ≡ length old.subscribers → StaysStack spans kept attaches is_whole s t → KeepsPlainData spans attaches kept is_whole old new dispatch
 alike_there spans kept attaches is_whole old new dispatch s t before later count stays = record {
   spans_same = see spans no_spans new dispatch t later ∙ stays.spans_same ∙ sym (see spans no_spans old dispatch s before);
   attaches_same = see attaches false new dispatch t later ∙ stays.attaches_same ∙ sym (see attaches false old dispatch s before);
@@ -82,7 +82,7 @@ attaches_over attaches = λ p. layer_or false (λ _. false) p.layer.inner || att
 
 abbrev pub whole_over : {S : Type 0} → (S → Spans) → (S → Bool) → (S → Type 0) → Option FilterWithRoom → S → Type 0
 whole_over spans attaches is_whole o below =
-    IsWholeBoth (is_whole below) (HoldsIfThere (λ f. AreWhole (plain_filter f)) o) (spans below) (layer_or no_known_spans (λ f. seen_in (plain_filter f)) o) (attaches below) (layer_or false (λ _. false) o)
+    IsWholeBoth (is_whole below) (HoldsIfThere (λ f. IsWholeFilter (plain_filter f)) o) (spans below) (layer_or no_known_spans (λ f. seen_in (plain_filter f)) o) (attaches below) (layer_or false (λ _. false) o)
 
 abbrev pub is_whole_over : {S : Type 0} → (S → Spans) → (S → Bool) → (S → Type 0) → Over S → Type 0
 is_whole_over spans attaches is_whole = λ p. whole_over spans attaches is_whole p.layer.inner p.inner
@@ -128,7 +128,7 @@ module _ {S : Type 0} (same : S → S → Type 0) where
   )
 
   -- put in, room taken, and put back: nothing but room changed
-  pub put_back : (w v x y : Worlds (Over S)) (dispatch : ℕ) (f out last : FilterWithRoom) → Replaced (swap f out) w v dispatch → AreSame (room_over same) v.subscribers x.subscribers → Replaced (swap out last) x y dispatch → AreSame (room_over same) w.subscribers y.subscribers
+  pub put_back : (w v x y : WorldValue (Over S)) (dispatch : ℕ) (f out last : FilterWithRoom) → Replaced (swap f out) w v dispatch → AreSame (room_over same) v.subscribers x.subscribers → Replaced (swap out last) x y dispatch → AreSame (room_over same) w.subscribers y.subscribers
   put_back w v x y dispatch f out last first all second = record {
     count = as_many (swap out last) x y dispatch second ∙ all.count ∙ as_many (swap f out) w v dispatch first;
     each = λ k p q hp hq. elim (cases_eq k dispatch) [
@@ -144,19 +144,19 @@ module _ {S : Type 0} (same : S → S → Type 0) where
   }
 
   -- what is read of the subscriber below, where its room alone changed
-  module _ (w v x : Worlds (Over S)) (dispatch : ℕ) (f out : FilterWithRoom) (first : Replaced (swap f out) w v dispatch) (all : AreSame (room_over same) v.subscribers x.subscribers) where
+  module _ (w v x : WorldValue (Over S)) (dispatch : ℕ) (f out : FilterWithRoom) (first : Replaced (swap f out) w v dispatch) (all : AreSame (room_over same) v.subscribers x.subscribers) where
     now : SameThere (room_over same) first.later x.subscribers dispatch
     now = same_there (room_over same) v.subscribers x.subscribers dispatch first.later all (now_there (swap f out) w v dispatch first)
 
-    is_put : is_some (member_of filter_in_place None w dispatch) ≡ true → first.later.layer.inner ≡ Some f
+    is_put : is_some (read_subscriber filter_in_place None w dispatch) ≡ true → first.later.layer.inner ≡ Some f
     is_put there = swapped_in first.before.layer.inner first.later.layer.inner f out (subst (λ (o : Option FilterState). is_some o ≡ true) (seen_before (swap f out) w v dispatch first filter_in_place None) there) first.did.1
 
-    pub filter_put : is_some (member_of filter_in_place None w dispatch) ≡ true → member_of filter_in_place None x dispatch ≡ Some (plain_filter f)
+    pub filter_put : is_some (read_subscriber filter_in_place None w dispatch) ≡ true → read_subscriber filter_in_place None x dispatch ≡ Some (plain_filter f)
     filter_put there =
         see filter_in_place None x dispatch now.now now.there ∙ same_in_place (Unit {0}) first.later.layer.inner now.now.layer.inner now.is_same.1
         ∙ ap (λ (o : Option FilterWithRoom). option_map plain_filter o) (is_put there)
 
-    pub read_put : {A : Type 0} (read : S → A) (none : A) → ((s t : S) → same s t → read t ≡ read s) → member_of (λ (p : Over S). read p.inner) none x dispatch ≡ member_of (λ (p : Over S). read p.inner) none w dispatch
+    pub read_put : {A : Type 0} (read : S → A) (none : A) → ((s t : S) → same s t → read t ≡ read s) → read_subscriber (λ (p : Over S). read p.inner) none x dispatch ≡ read_subscriber (λ (p : Over S). read p.inner) none w dispatch
     read_put read none reads =
         see (λ (p : Over S). read p.inner) none x dispatch now.now now.there ∙ reads first.later.inner now.now.inner now.is_same.0 ∙ ap read first.did.0
         ∙ sym (seen_before (swap f out) w v dispatch first (λ (p : Over S). read p.inner) none)
@@ -165,8 +165,8 @@ module _ {S : Type 0} (same : S → S → Type 0) where
     rest_put other s t apart before later = all.each other s t (other_there (swap f out) w v dispatch first other apart ∙ before) later
 
     module _ (spans : S → Spans) (kept : S → ℕ → ℕ → ℕ) (attaches : S → Bool) (is_whole : S → Type 0) where
-      pub alike_put : ((s t : Over S) → (room_over same) s t → StaysStack (spans_over spans) (kept_over kept) (attaches_over attaches) (is_whole_over spans attaches is_whole) s t) → IsNewFilter (plain_filter f) → is_some (member_of filter_in_place None w dispatch) ≡ true
-          → Alike (spans_over spans) (attaches_over attaches) (kept_over kept) (is_whole_over spans attaches is_whole) w x dispatch
+      pub alike_put : ((s t : Over S) → (room_over same) s t → StaysStack (spans_over spans) (kept_over kept) (attaches_over attaches) (is_whole_over spans attaches is_whole) s t) → IsNewFilter (plain_filter f) → is_some (read_subscriber filter_in_place None w dispatch) ≡ true
+          → KeepsPlainData (spans_over spans) (attaches_over attaches) (kept_over kept) (is_whole_over spans attaches is_whole) w x dispatch
       alike_put room new there =
           let whole : Over S → Type 0 = is_whole_over spans attaches is_whole in
           let stays = stays_both (spans_over spans) (kept_over kept) (attaches_over attaches) whole first.before first.later now.now
@@ -175,12 +175,12 @@ module _ {S : Type 0} (same : S → S → Type 0) where
 
 -- ---- subscribers that are the same but for room
 
-module _ {S : Type 0} (same : S → S → Type 0) (w y : Worlds S) (dispatch : ℕ) (s : S) (there : slice_get w.subscribers dispatch ≡ Some s) (all : AreSame same w.subscribers y.subscribers) where
+module _ {S : Type 0} (same : S → S → Type 0) (w y : WorldValue S) (dispatch : ℕ) (s : S) (there : slice_get w.subscribers dispatch ≡ Some s) (all : AreSame same w.subscribers y.subscribers) where
   left : SameThere same s y.subscribers dispatch
   left = same_there same w.subscribers y.subscribers dispatch s all there
 
-  pub read_left : {A : Type 0} (read : S → A) (none : A) → ((s t : S) → same s t → read t ≡ read s) → member_of read none y dispatch ≡ member_of read none w dispatch
+  pub read_left : {A : Type 0} (read : S → A) (none : A) → ((s t : S) → same s t → read t ≡ read s) → read_subscriber read none y dispatch ≡ read_subscriber read none w dispatch
   read_left read none reads = see read none y dispatch left.now left.there ∙ reads s left.now left.is_same ∙ sym (see read none w dispatch s there)
 
-  pub alike_left : (spans : S → Spans) (kept : S → ℕ → ℕ → ℕ) (attaches : S → Bool) (is_whole : S → Type 0) → ((s t : S) → same s t → StaysStack spans kept attaches is_whole s t) → Alike spans attaches kept is_whole w y dispatch
+  pub alike_left : (spans : S → Spans) (kept : S → ℕ → ℕ → ℕ) (attaches : S → Bool) (is_whole : S → Type 0) → ((s t : S) → same s t → StaysStack spans kept attaches is_whole s t) → KeepsPlainData spans attaches kept is_whole w y dispatch
   alike_left spans kept attaches is_whole room = alike_there spans kept attaches is_whole w y dispatch s left.now there left.there all.count (room s left.now left.is_same)

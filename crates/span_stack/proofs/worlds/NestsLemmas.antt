@@ -1,7 +1,7 @@
 -- Through a layer that leaves lanes as they are.
 use Rattle.std.proofs.Common.{◌≡◌, ℕ, Bool, true, false, Option, Some, None, sym, subst, refl}
 use Rattle.std.proofs.lemmas.Bool.{true≢false}
-use Rattle.span_stack.proofs.Common.{Lane, Spans, next_of, SubscriberCall, NewSpan, Records, Follows, Event, Enter, Exit, CloneSpan, TryClose, Hook, OnEnter, OnExit, HookLanes, Layered, DoesBoth, Chain, ended, closes, PartCall, TouchesFirst, FilterWithRoom, layer_or}
+use Rattle.span_stack.proofs.Common.{Lane, Spans, parent_to_release, SubscriberCall, NewSpan, Records, Follows, Event, Enter, Exit, CloneSpan, TryClose, Hook, OnEnter, OnExit, HookLanes, Layered, DoesBoth, Chain, ended, closes, PartCall, TouchesFirst, FilterWithRoom, layer_or}
 
 pub both_below : {S L : Type 0} (spans : S → Spans) (inner : S → SubscriberCall → S → Type 0) (outer : L → Hook → L → Type 0) (same : L → L → Type 0) (attaches : L → Bool) (kept : L → ℕ → ℕ → ℕ)
     → ((l : L) (hook : Hook) (m : L) → outer l hook m → HookLanes (attaches l) (kept l) hook (kept m)) → ((l : L) → attaches l ≡ false)
@@ -24,7 +24,7 @@ pub chain_below : {L S : Type 0} (spans : S → Spans) (does : S → SubscriberC
     → ((s : Layered L S) (id at : ℕ) (t : Layered L S) → outer s (TryClose id at) t → does s.inner (TryClose id at) t.inner) → (at : ℕ) (next : Option ℕ) (s t : Layered L S)
     → Chain (λ (p : Layered L S). spans p.inner) outer at next s t → Chain spans does at next s.inner t.inner
 chain_below spans does outer step at _ _ _ (ended s) = ended s.inner
-chain_below spans does outer step at _ _ _ (closes id s m t did rest) = closes id s.inner m.inner t.inner (step s id at m did) (chain_below spans does outer step at (next_of (spans s.inner).made id) m t rest)
+chain_below spans does outer step at _ _ _ (closes id s m t did rest) = closes id s.inner m.inner t.inner (step s id at m did) (chain_below spans does outer step at (parent_to_release (spans s.inner).made id) m t rest)
 
 pub first_below : {L S : Type 0} (has : Bool) (outer : L → PartCall → L → Type 0) (inner : S → PartCall → S → Type 0) (l : L) (s : S) (call : PartCall) (m : L) (t : S) → has ≡ false → TouchesFirst has outer inner l s call m t → (m ≡ l) × inner s call t
 first_below true outer inner l s call m t e d = absurd (true≢false e)

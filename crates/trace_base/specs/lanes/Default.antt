@@ -3,5 +3,5 @@ use Rattle.std.specs.Prelude.{ℕ, Option}
 use Rattle.trace_base.specs.declared.lane.Lane.{Lane}
 
 -- the lane with another default
-abbrev pub with_own : Lane → Option ℕ → Lane
-with_own lane own = record lane { default = own }
+abbrev pub with_lane_default : Lane → Option ℕ → Lane
+with_lane_default lane own = record lane { default = own }

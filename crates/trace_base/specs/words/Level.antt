@@ -35,13 +35,13 @@ level_text level.DEBUG = codes "DEBUG"
 level_text level.TRACE = codes "TRACE"
 
 -- a filter's text, in lower case
-abbrev pub filter_text : LevelFilter → List ℕ
-filter_text filter.OFF = codes "off"
-filter_text filter.ERROR = codes "error"
-filter_text filter.WARN = codes "warn"
-filter_text filter.INFO = codes "info"
-filter_text filter.DEBUG = codes "debug"
-filter_text filter.TRACE = codes "trace"
+abbrev pub level_filter_text : LevelFilter → List ℕ
+level_filter_text filter.OFF = codes "off"
+level_filter_text filter.ERROR = codes "error"
+level_filter_text filter.WARN = codes "warn"
+level_filter_text filter.INFO = codes "info"
+level_filter_text filter.DEBUG = codes "debug"
+level_filter_text filter.TRACE = codes "trace"
 
 -- the filter that lets a level through, and none that is more verbose
 abbrev pub filter_of_level : Level → LevelFilter

@@ -45,7 +45,7 @@ fn tell_at<S: Subscriber>(
     ensures gate { IfOk result (Admits S.hint S.enables world.old lane.now.id site (Some dispatch)) }
     ensures refused { IfErr result (λ refusal. is_for_memory refusal ≡ false
         → named_values (event_site world.old.sites site) parent fields ≡ Err refusal) }
-    ensures leaves { OnErr result (Replaced S.same world.old world.new dispatch) }
+    ensures leaves { OnErr result (Replaced S.same_but_room world.old world.new dispatch) }
 {
     let Some(id) = world.site_at(site) else {
         return Err(Refusal::UnknownName { what: What::Site });

@@ -46,7 +46,7 @@ fn make_at<S: Subscriber>(
         Admits S.hint S.enables world.old lane.now.id site (Some dispatch) made.1) }
     ensures refused { IfErr result (λ refusal. is_for_memory refusal ≡ false
         → named_values (span_site world.old.sites site) parent fields ≡ Err refusal) }
-    ensures leaves { OnErr result (Replaced S.same world.old world.new dispatch) }
+    ensures leaves { OnErr result (Replaced S.same_but_room world.old world.new dispatch) }
 {
     let Some(id) = world.site_at(site) else {
         return Err(Refusal::UnknownName { what: What::Site });

@@ -3,7 +3,7 @@ use Rattle.std.proofs.Common.{◌≡◌, ◌<◌, ◌≤◌, ◌+◌, ℕ, List,
 use Rattle.std.proofs.lemmas.Bool.{eq-eqb, cond-false}
 use Rattle.std.proofs.lemmas.Bool.Decides.{eqb_tells}
 use Rattle.std.proofs.lemmas.List.Sums.{sum_by-append}
-use Rattle.trace_tasks.proofs.Common.{cond-true, count_cons, Lane, SubscriberCall, Enter, Exit, CallLanes, attached_as, Worlds, Spans, entries_on, Replaced, spans_in, kept_in, no_spans, now_there, seen_before, seen_later, HasAll, SameAttached}
+use Rattle.trace_tasks.proofs.Common.{cond-true, count_cons, Lane, SubscriberCall, Enter, Exit, CallLanes, attached_as, WorldValue, Spans, entries_on, Replaced, spans_in, kept_in, no_spans, now_there, seen_before, seen_later, HasAll, SameAttached}
 
 -- ---- as many of each number are as many
 
@@ -66,7 +66,7 @@ as_many_live before later same = (
 module _ {S : Type 0} (spans : S → Spans) (attaches : S → Bool) (kept : S → ℕ → ℕ → ℕ) (is_whole : S → Type 0) (does : S → SubscriberCall → S → Type 0) (lanes : (s : S) (call : SubscriberCall) (t : S) → does s call t → CallLanes (attaches s) (kept s) call (kept t))
     (none_kept : (s : S) (lane number : ℕ) → is_whole s → entries_on lane (spans s).lanes ≡ [] → kept s lane number ≡ 0) (d id at : ℕ) where
   -- where no entry is open before and behind them
-  pub entered_and_left : (old world left new : Worlds S) (before lane later : Lane) (e : Replaced (λ s t. does s (Enter id at before lane) t) old world d) → kept_in kept left d ≡ kept_in kept world d → (q : Replaced (λ s t. does s (Exit id at lane later) t) left new d)
+  pub entered_and_left : (old world left new : WorldValue S) (before lane later : Lane) (e : Replaced (λ s t. does s (Enter id at before lane) t) old world d) → kept_in kept left d ≡ kept_in kept world d → (q : Replaced (λ s t. does s (Exit id at lane later) t) left new d)
       → HasAll is_whole old → HasAll is_whole new → entries_on before.id (spans_in spans old d).lanes ≡ [] → entries_on later.id (spans_in spans new d).lanes ≡ [] → SameAttached before later
   entered_and_left old world left new before lane later e same q whole whole_after none_open none_left = λ number. (
       let In : S → S → Type 0 = λ s t. does s (Enter id at before lane) t in

@@ -1,12 +1,12 @@
 -- A poll of a task that was refused.
-use Rattle.std.proofs.Common.{◌≡◌, ℕ, List, [], ◌∷◌, ◌++◌, length, map, Bool, Option, Some, None, Err, refl, sym, ap, subst, ◌∙◌, slice_get, inl, inr, ◌⊎◌, append_assoc}
-use Rattle.trace_tasks.proofs.Common.{EnterError, Callsite, Lane, LevelFilter, SubscriberCall, Enter, spans_after_call, with_span_entry, CallLanes, Worlds, Spans, entries_on, current_on, Replaced, Chain, spans_in, no_spans, Handle, Held, ReplacedOn, BeginsInside, LeavesLane, MeetsFullLane, seen_before, seen_later, Instrumented, Polled, CannotEnter, IsInside, PartCall, StaysStack, Request, on_first_lane, Running, Step, steps_left, PollsSteps, Wants, untouched, spare, TaskScene, Entered, Exited, Handled, UnfinishedTask, step_call, moment_of, drop_at_end, poll_requests, StopsPoll, TurnStops, MeetsFull, dispatch_serving, Ready, IsAlone, IsAloneAs, left_as}
+use Rattle.std.proofs.Common.{◌≡◌, ℕ, List, [], ◌∷◌, ◌++◌, length, map, Bool, Option, Some, None, Err, refl, sym, ap, subst, ◌∙◌, slice_get, inl, inr, ◌⊎◌}
+use Rattle.trace_tasks.proofs.Common.{EnterError, Callsite, Lane, LevelFilter, SubscriberCall, Enter, spans_after_call, with_span_entry, CallLanes, WorldValue, Spans, entries_on, current_on, Replaced, Chain, spans_in, no_spans, Handle, HeldSpan, ReplacedOn, BeginsInside, KeepsLaneButRoom, MeetsFullLane, seen_before, seen_later, Instrumented, Polled, CannotEnter, IsInside, PartCall, StaysStack, Request, on_first_lane, Running, Step, PollsSteps, Wants, untouched, spare, TaskScene, Entered, Exited, Handled, UnfinishedTask, step_call, moment_of, StopsPoll, TurnStops, MeetsFull, dispatch_serving, Ready, IsAlone, IsAloneAs, left_as}
 use Rattle.span_script.specs.declared.request.Call.TheVariants as call
 use Rattle.trace_tasks.proofs.queues.RootLemmas.{entered_current, none_current}
 use Rattle.trace_tasks.proofs.polls.StepLemmas.{IsAt, disabled, enabled, first_acts, acts_carry}
 use Rattle.trace_tasks.proofs.polls.EntryLemmas.{get_push, current_by}
 
-same_lane : (lane : Lane) → LeavesLane lane lane
+same_lane : (lane : Lane) → KeepsLaneButRoom lane lane
 same_lane lane = record { id = refl; name = refl; default = refl; live = refl }
 
 map_both : {A B : Type 0} (f : A → B) (xs ys : List A) → map f (xs ++ ys) ≡ map f xs ++ map f ys
@@ -18,21 +18,21 @@ module _ {S : Type 0} (spans : S → Spans) (hint : S → Option LevelFilter) (e
     (shows : (s : S) (call : SubscriberCall) (t : S) → does s call t → spans t ≡ spans_after_call (spans s) call) (lanes : (s : S) (call : SubscriberCall) (t : S) → does s call t → CallLanes (attaches s) (kept s) call (kept t))
     (stays : (s : S) (call : PartCall) (t : S) → touches s call t → StaysStack spans kept attaches is_whole s t) where
   -- what is current once a task's span was entered
-  record Inner (d : ℕ) (held : Held) (own : Option ℕ) (site : ℕ) (old world : Worlds S) (before lane : Lane) : Type 0 where
+  record Inner (d : ℕ) (held : HeldSpan) (own : Option ℕ) (site : ℕ) (old world : WorldValue S) (before lane : Lane) : Type 0 where
     sites : world.sites ≡ old.sites
     default : lane.default ≡ before.default
     current : current_on lane.id (spans_in spans world d) ≡ current_by held site
     here : IsAt d site (record { held = held; site = own }) (current_by held site)
 
-  inner : (d : ℕ) (held : Held) (own : Option ℕ) (site at : ℕ) (old world : Worlds S) (before lane : Lane) → own ≡ Some site → entries_on before.id (spans_in spans old d).lanes ≡ []
+  inner : (d : ℕ) (held : HeldSpan) (own : Option ℕ) (site at : ℕ) (old world : WorldValue S) (before lane : Lane) → own ≡ Some site → entries_on before.id (spans_in spans old d).lanes ≡ []
       → IsAloneAs (spans_in spans old d).made d site held → BeginsInside does at held old before world lane → Inner d held own site old world before lane
   inner d None own site at old world before lane own_is none_open lone begins =
       let lane_same : lane ≡ before = begins.none refl in
       let world_same : world ≡ old = begins.entered in
       record {
-        sites = ap (λ (w : Worlds S). w.sites) world_same;
+        sites = ap (λ (w : WorldValue S). w.sites) world_same;
         default = ap (λ (l : Lane). l.default) lane_same;
-        current = ap (λ (l : Lane). current_on l.id (spans_in spans world d)) lane_same ∙ ap (λ (w : Worlds S). current_on before.id (spans_in spans w d)) world_same ∙ none_current (spans_in spans old d) before.id none_open;
+        current = ap (λ (l : Lane). current_on l.id (spans_in spans world d)) lane_same ∙ ap (λ (w : WorldValue S). current_on before.id (spans_in spans w d)) world_same ∙ none_current (spans_in spans old d) before.id none_open;
         here = subst (λ (o : Option ℕ). IsAt d site (record { held = None; site = o }) None) (sym own_is) disabled;
       }
   inner d (Some h) own site at old world before lane own_is none_open lone begins =
@@ -47,18 +47,18 @@ module _ {S : Type 0} (spans : S → Spans) (hint : S → Option LevelFilter) (e
             seen_later (λ (s t : S). does s (Enter h.1 at before lane) t) old world d e spans no_spans ∙ shows e.before (Enter h.1 at before lane) e.later e.did
             ∙ ap (λ (y : Spans). with_span_entry y h.1 before.id) (sym (seen_before (λ (s t : S). does s (Enter h.1 at before lane) t) old world d e spans no_spans)) in
             record {
-              sites = ap (λ (w : Worlds S). w.sites) e.others;
+              sites = ap (λ (w : WorldValue S). w.sites) e.others;
               default = el.0.default;
               current = ap (λ (n : ℕ). current_on n (spans_in spans world d)) el.0.id ∙ ap (λ (y : Spans). current_on before.id y) entered_spans ∙ entered_current x h.1 before.id none_open site lone.1;
               here = subst (λ (o : Option ℕ). IsAt d site (record { held = Some (d, h.1); site = o }) (Some (h.1, site))) (sym own_is) (enabled h.1);
             }
 
   -- what a poll of a task's steps is
-  abbrev pub RunPolls : Running → Worlds S → Lane → ℕ → Polled (Unit {0}) → Running → Worlds S → Lane → Type 0
+  abbrev pub RunPolls : Running → WorldValue S → Lane → ℕ → Polled (Unit {0}) → Running → WorldValue S → Lane → Type 0
   RunPolls f world lane at r g new later = PollsSteps spans hint enables does touches same f.steps.items world lane at r g.steps.items new later
 
-  module _ (f g : Instrumented Running) (site : ℕ) (old world new : Worlds S) (before later : Lane) (e : EnterError) (ready : Ready spans kept is_whole old before) (lone : IsAlone (spans_in spans old (dispatch_serving before)).made (dispatch_serving before) site f.span)
-      (number k : ℕ) (handles : List Handle) (guards : List Held) (is : slice_get handles number ≡ Some f.span) (count : length guards ≡ k) where
+  module _ (f g : Instrumented Running) (site : ℕ) (old world new : WorldValue S) (before later : Lane) (e : EnterError) (ready : Ready spans kept is_whole old before) (lone : IsAlone (spans_in spans old (dispatch_serving before)).made (dispatch_serving before) site f.span)
+      (number k : ℕ) (handles : List Handle) (guards : List HeldSpan) (is : slice_get handles number ≡ Some f.span) (count : length guards ≡ k) where
     abbrev d : ℕ
     d = dispatch_serving before
 
@@ -68,22 +68,22 @@ module _ {S : Type 0} (spans : S → Spans) (hint : S → Option LevelFilter) (e
     abbrev m : ℕ
     m = moment_of k
 
-    abbrev guarded : List Held
+    abbrev guarded : List HeldSpan
     guarded = guards ++ f.span.held ∷ []
 
     abbrev start : TaskScene S
     start = record { world = old; lane = before; handles = handles; guards = guards }
 
-    drop_at : (gs : List Held) → ReplacedOn (λ id s t. Chain spans does m (Some id) s t) world new f.span.held
+    drop_at : (gs : List HeldSpan) → ReplacedOn (λ id s t. Chain spans does m (Some id) s t) world new f.span.held
         → Handled spans hint enables does touches d m number (call.Drop number) (record { world = world; lane = later; handles = handles; guards = gs }) (record { world = new; lane = later; handles = handles; guards = gs })
     drop_at gs chain = record { handle = f.span; is = is; did = (refl, chain); handles = refl; guards = refl }
 
     -- the entry was refused
-    wants_on : (held : Held) → ReplacedOn (λ id s t. same s t) old world held → Wants spans hint enables does touches same m old world
+    wants_on : (held : HeldSpan) → ReplacedOn (λ id s t. same s t) old world held → Wants spans hint enables does touches same m old world
     wants_on None nothing = untouched nothing
     wants_on (Some h) room = spare h.0 room
 
-    meets : (held : Held) → (held ≡ None → ⊥) → IsAloneAs (spans_in spans old d).made d site held → ReplacedOn (λ id s t. same s t) old world held → MeetsFullLane activates old before held → MeetsFull spans hint enables activates does touches same d start
+    meets : (held : HeldSpan) → (held ≡ None → ⊥) → IsAloneAs (spans_in spans old d).made d site held → ReplacedOn (λ id s t. same s t) old world held → MeetsFullLane activates old before held → MeetsFull spans hint enables activates does touches same d start
     meets None some lone_as room full = absurd (some refl)
     meets (Some h) some lone_as room full = record {
       subscriber = room.before;
@@ -96,8 +96,7 @@ module _ {S : Type 0} (spans : S → Spans) (hint : S → Option LevelFilter) (e
     refused : CannotEnter {A = Unit {0}} same activates f old before (Err e) g world later → ReplacedOn (λ id s t. Chain spans does m (Some id) s t) world new f.span.held → StopsPoll spans hint enables activates does touches same d old.sites m k t e start new later
     refused r chain = record {
       part = [];
-      others = poll_requests old.sites k t;
-      within = refl;
+      in_poll = (_, _, refl);
       not_entered = λ is_full. refl;
       stopped = record {
         here = start;
@@ -126,7 +125,7 @@ module _ {S : Type 0} (spans : S → Spans) (hint : S → Option LevelFilter) (e
           guards = refl;
         } in
         let did = acts_carry spans hint enables attaches kept is_whole does touches d shows lanes stays old.sites t m i.lane handles guarded (inn.default ∙ ready.default) f.span (current_by f.span.held site) inn.here is
-        stop.done (first_acts stop.done stop.others f.inner.steps.items stop.within) i.world stop.world inn.sites inn.current stop.did in
+        stop.done (first_acts stop.done (stop.refused ∷ stop.others) f.inner.steps.items stop.within) i.world stop.world inn.sites inn.current stop.did in
         let exit : Exited spans hint enables does touches d m k (record { world = i.left_world; lane = i.left_lane; handles = handles; guards = guarded }) (record { world = world; lane = later; handles = handles; guards = guarded }) = record {
           held = f.span.held;
           is = get_push guards f.span.held k count;
@@ -135,18 +134,19 @@ module _ {S : Type 0} (spans : S → Spans) (hint : S → Option LevelFilter) (e
           handles = refl;
           guards = refl;
         } in
-        let tail : List Request = on_first_lane m (call.Exit k) ∷ drop_at_end k number (steps_left f.inner.steps.items) in
         record {
           part = on_first_lane m (call.Enter number) ∷ map f' stop.done;
-          others = map f' stop.others ++ tail;
-          within = sym (append_assoc (on_first_lane m (call.Enter number) ∷ map f' stop.done) (map f' stop.others) tail)
-              ∙ ap (λ (xs : List Request). (on_first_lane m (call.Enter number) ∷ xs) ++ tail) (sym (map_both f' stop.done stop.others) ∙ ap (λ (xs : List Step). map f' xs) stop.within);
+          in_poll = (
+            f' stop.refused,
+            map f' stop.others,
+            ap (λ (xs : List Request). on_first_lane m (call.Enter number) ∷ xs) (sym (map_both f' stop.done (stop.refused ∷ stop.others)) ∙ ap (λ (xs : List Step). map f' xs) stop.within),
+          );
           not_entered = λ is_full. absurd (cc (polled.1, is_full));
           stopped = record {
             here = record { world = stop.world; lane = i.lane; handles = handles; guards = guarded };
             carried = (_, enter, did.0);
             failed = record { world = i.left_world; lane = i.left_lane; handles = handles; guards = guarded };
-            fails = record { world = stop.wants; lane = subst (λ (l : Lane). LeavesLane i.lane l) (sym polled.0) (same_lane i.lane); handles = refl; guards = refl };
+            fails = record { world = stop.wants; lane = subst (λ (l : Lane). KeepsLaneButRoom i.lane l) (sym polled.0) (same_lane i.lane); handles = refl; guards = refl };
             guards = guarded;
             closed = (_, exit, (_, drop_at guarded chain, refl));
             full = λ is_full. absurd (cc (polled.1, is_full));
@@ -159,7 +159,7 @@ module _ {S : Type 0} (spans : S → Spans) (hint : S → Option LevelFilter) (e
     either (inl r) chain = refused r (subst (λ (h : Instrumented Running). ReplacedOn (λ id s t. Chain spans does m (Some id) s t) world new h.span.held) r.future_same chain)
     either (inr i) chain = inside i (subst (λ (h : Handle). ReplacedOn (λ id s t. Chain spans does m (Some id) s t) world new h.held) i.span_same chain)
 
-  pub stops : (f g : Instrumented Running) (at site : ℕ) (old world new : Worlds S) (before later : Lane) (e : EnterError) → Ready spans kept is_whole old before → IsAlone (spans_in spans old (dispatch_serving before)).made (dispatch_serving before) site f.span
+  pub stops : (f g : Instrumented Running) (at site : ℕ) (old world new : WorldValue S) (before later : Lane) (e : EnterError) → Ready spans kept is_whole old before → IsAlone (spans_in spans old (dispatch_serving before)).made (dispatch_serving before) site f.span
       → CannotEnter {A = Unit {0}} same activates f old before (Err e) g world later ⊎ IsInside does activates RunPolls f old before at (Err e) g world later → ReplacedOn (λ id s t. Chain spans does at (Some id) s t) world new g.span.held
       → TurnStops spans hint enables activates does touches same at f old before e new later
   stops f g at site old world new before later e ready lone polled chain = record {

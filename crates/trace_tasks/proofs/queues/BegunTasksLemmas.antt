@@ -1,8 +1,8 @@
 -- Tasks that were begun, one more.
-use Rattle.std.proofs.Common.{◌≡◌, ℕ, ◌+◌, ◌<◌, ◌≤◌, ◌^◌, List, [], ◌∷◌, ◌++◌, length, Bool, Option, Some, None, Result, Ok, Err, refl, sym, ap, subst, ◌∙◌, arith, sum_by, append_assoc, inl, inr, IfOk, IfErr, OnErr}
+use Rattle.std.proofs.Common.{◌≡◌, ◌≢◌, ℕ, ◌+◌, ◌<◌, ◌≤◌, ◌^◌, List, [], ◌∷◌, ◌++◌, length, Bool, Option, Some, None, Result, Ok, Err, refl, sym, ap, subst, ◌∙◌, arith, sum_by, append_assoc, inl, inr, IfOk, IfErr, OnErr}
 use Rattle.std.proofs.lemmas.List.{append-nil, length_push}
 use Rattle.otel_base.specs.declared.enter_error.EnterError.TheVariants as faults
-use Rattle.trace_tasks.proofs.Common.{sum_by-cons, EnterError, Callsite, Lane, LevelFilter, SubscriberCall, Worlds, Span, Spans, span_at, made_if_held, spans_in, Handle, Held, id_of, Instrumented, PartCall, Request, on_first_lane, Running, Task, Begins, AreBegun, Ran, TaskScene, Carries, UnfinishedTask, yield_count, polls_left, all_polls, tasks_at_first, makings, moment_of, rounds_requests, untouched, turns_requests, DropsAll, leaving_requests, StopsTurns, StopsBeginning, IsPartOfPoll, GaveUp, IsAloneAs, Ready, dispatch_serving, Waits, AllWait, AllKnown, AllStand, TakesTurns, polls_in}
+use Rattle.trace_tasks.proofs.Common.{sum_by-cons, EnterError, Callsite, Lane, LevelFilter, SubscriberCall, WorldValue, Span, Spans, span_at, made_if_held, spans_in, Handle, HeldSpan, id_of, Instrumented, PartCall, Request, on_first_lane, Running, Task, Begins, AreBegun, Ran, TaskScene, Carries, UnfinishedTask, yield_count, polls_left, all_polls, tasks_at_first, makings, moment_of, rounds_requests, untouched, turns_requests, DropsAll, leaving_requests, StopsTurns, StopsBeginning, IsPartOfPoll, IsFrontOf, GaveUp, IsAloneAs, Ready, dispatch_serving, Waits, AllWait, AllKnown, AllStand, TakesTurns, polls_in}
 use Rattle.span_handles.specs.Knowing.{KeepsHandles}
 use Rattle.span_script.specs.declared.request.Call.TheVariants as call
 use Rattle.span_script.specs.declared.request.RequestParent.TheVariants as request_parent
@@ -41,7 +41,7 @@ makings_both (x ∷ first) others = ap (λ (rs : List Request). on_first_lane 0 
 
 module _ {S : Type 0} (spans : S → Spans) where
   -- the span of a task that waits is there
-  below : (world : Worlds S) (d site : ℕ) (held : Held) (id : ℕ) → IsAloneAs (spans_in spans world d).made d site held → id_of held ≡ Some id → id < length (spans_in spans world d).made
+  below : (world : WorldValue S) (d site : ℕ) (held : HeldSpan) (id : ℕ) → IsAloneAs (spans_in spans world d).made d site held → id_of held ≡ Some id → id < length (spans_in spans world d).made
   below world d site None id lone is = absurd (cc is)
   below world d site (Some h) id lone is =
       let same : h.1 ≡ id = cc is in
@@ -49,12 +49,12 @@ module _ {S : Type 0} (spans : S → Spans) where
       let there = made_if_held (spans_in spans world d).made h.1 some in
       omega (arith, same, there)
 
-  lone_stays : (old new : Worlds S) (d site : ℕ) (held : Held) → ((q : ℕ) → q < length (spans_in spans old d).made → span_at (spans_in spans new d).made q ≡ span_at (spans_in spans old d).made q)
+  lone_stays : (old new : WorldValue S) (d site : ℕ) (held : HeldSpan) → ((q : ℕ) → q < length (spans_in spans old d).made → span_at (spans_in spans new d).made q ≡ span_at (spans_in spans old d).made q)
       → IsAloneAs (spans_in spans old d).made d site held → IsAloneAs (spans_in spans new d).made d site held
   lone_stays old new d site None stay lone = tt
   lone_stays old new d site (Some h) stay lone = (lone.0, stay h.1 (below old d site (Some h) h.1 lone refl) ∙ lone.1)
 
-  module _ (old new : Worlds S) (d : ℕ) (f : Instrumented Running) (keeps : KeepsHandles spans old new) (stay : (q : ℕ) → q < length (spans_in spans old d).made → span_at (spans_in spans new d).made q ≡ span_at (spans_in spans old d).made q)
+  module _ (old new : WorldValue S) (d : ℕ) (f : Instrumented Running) (keeps : KeepsHandles spans old new) (stay : (q : ℕ) → q < length (spans_in spans old d).made → span_at (spans_in spans new d).made q ≡ span_at (spans_in spans old d).made q)
       (fresh : (id : ℕ) → id_of f.span.held ≡ Some id → length (spans_in spans old d).made ≤ id) (one : Waits spans new d f) where
     pub wait_end : (fs : List (Instrumented Running)) → AllWait spans old d fs → AllWait spans new d (fs ++ f ∷ [])
     wait_end [] all = (one, tt, tt)
@@ -68,13 +68,13 @@ module _ {S : Type 0} (spans : S → Spans) where
       wait_end fs all.2,
     )
 
-  pub known_stays : (old new : Worlds S) (fs : List (Instrumented Running)) → KeepsHandles spans old new → AllKnown spans old fs → AllKnown spans new fs
+  pub known_stays : (old new : WorldValue S) (fs : List (Instrumented Running)) → KeepsHandles spans old new → AllKnown spans old fs → AllKnown spans new fs
   known_stays old new [] keeps all = tt
   known_stays old new (f ∷ fs) keeps all = (keeps.known f.span.held all.0, all.1, known_stays old new fs keeps all.2)
 
 module _ {S : Type 0} (spans : S → Spans) (hint : S → Option LevelFilter) (enables : S → ℕ → Callsite → Bool) (kept : S → ℕ → ℕ → ℕ) (is_whole : S → Type 0) (does : S → SubscriberCall → S → Type 0) (touches : S → PartCall → S → Type 0) where
   -- one task more
-  pub one_more_begun : (tasks : List Task) (task : Task) (lane : Lane) (old world new : Worlds S) (fs : List (Instrumented Running)) (f : Instrumented Running) → AreBegun spans hint enables kept is_whole does touches tasks lane old world fs
+  pub one_more_begun : (tasks : List Task) (task : Task) (lane : Lane) (old world new : WorldValue S) (fs : List (Instrumented Running)) (f : Instrumented Running) → AreBegun spans hint enables kept is_whole does touches tasks lane old world fs
       → Begins spans hint enables kept is_whole does touches task lane world new f → KeepsHandles spans world new → AreBegun spans hint enables kept is_whole does touches (tasks ++ task ∷ []) lane old new (fs ++ f ∷ [])
   one_more_begun tasks task lane old world new fs f so_far one keeps =
       let d : ℕ = dispatch_serving lane in
@@ -98,7 +98,7 @@ module _ {S : Type 0} (spans : S → Spans) (hint : S → Option LevelFilter) (e
       }
 
   -- no task yet
-  pub none_begun : (lane : Lane) (old : Worlds S) → Ready spans kept is_whole old lane → AreBegun spans hint enables kept is_whole does touches [] lane old old []
+  pub none_begun : (lane : Lane) (old : WorldValue S) → Ready spans kept is_whole old lane → AreBegun spans hint enables kept is_whole does touches [] lane old old []
   none_begun lane old ready = record { handles = []; count = refl; stand = tt; wait = tt; ready = ready; sites = refl; few = omega arith; carried = refl }
 
 -- as many polls as the tasks take
@@ -113,12 +113,17 @@ same_polls handles (t ∷ ts) (f ∷ fs) all = (
     let r = same_polls handles ts fs all.1 in
     omega (arith, a, b, e, r))
 
+-- of tasks none of which is begun
+front_of : (tasks : List Task) → tasks ≢ [] → IsFrontOf [] tasks
+front_of [] some = absurd (some refl)
+front_of (t ∷ tasks) some = (t, tasks, refl)
+
 module _ {S : Type 0} (spans : S → Spans) (hint : S → Option LevelFilter) (enables : S → ℕ → Callsite → Bool) (kept : S → ℕ → ℕ → ℕ) (is_whole : S → Type 0) (does : S → SubscriberCall → S → Type 0) (touches : S → PartCall → S → Type 0) where
-  pub few_polls : (tasks : List Task) (lane : Lane) (old world : Worlds S) (fs : List (Instrumented Running)) → AreBegun spans hint enables kept is_whole does touches tasks lane old world fs → all_polls (tasks_at_first 0 tasks) < 2 ^ 60 → polls_in fs < 2 ^ 60
+  pub few_polls : (tasks : List Task) (lane : Lane) (old world : WorldValue S) (fs : List (Instrumented Running)) → AreBegun spans hint enables kept is_whole does touches tasks lane old world fs → all_polls (tasks_at_first 0 tasks) < 2 ^ 60 → polls_in fs < 2 ^ 60
   few_polls tasks lane old world fs all few = (let e = same_polls all.handles (tasks_at_first 0 tasks) fs all.stand in omega (arith, e, few))
 
   -- the makings and the turns are the flat list
-  pub ran : (sites : List Callsite) (tasks : List Task) (lane later : Lane) (old world new : Worlds S) (fs : List (Instrumented Running)) (result : Result ℕ EnterError) → old.sites ≡ sites → AreBegun spans hint enables kept is_whole does touches tasks lane old world fs
+  pub ran : (sites : List Callsite) (tasks : List Task) (lane later : Lane) (old world new : WorldValue S) (fs : List (Instrumented Running)) (result : Result ℕ EnterError) → old.sites ≡ sites → AreBegun spans hint enables kept is_whole does touches tasks lane old world fs
       → IfOk result (λ polls. (handles : List Handle) (ts : List UnfinishedTask) → AllStand handles ts fs → TakesTurns spans hint enables does touches handles ts world new lane later polls)
       → IfOk result (λ polls. Ran spans hint enables does touches sites tasks old new lane later polls)
   ran sites tasks lane later old world new fs (Err e) same all turned = tt
@@ -139,7 +144,7 @@ module _ {S : Type 0} (spans : S → Spans) (hint : S → Option LevelFilter) (e
       }
 
   -- a run that was refused in a poll
-  pub gave_up_polls : (activates : S → ℕ → Bool) (same : S → S → Type 0) (sites : List Callsite) (tasks : List Task) (lane later : Lane) (old world new : Worlds S) (fs : List (Instrumented Running)) (e : EnterError) → old.sites ≡ sites
+  pub gave_up_polls : (activates : S → ℕ → Bool) (same : S → S → Type 0) (sites : List Callsite) (tasks : List Task) (lane later : Lane) (old world new : WorldValue S) (fs : List (Instrumented Running)) (e : EnterError) → old.sites ≡ sites
       → AreBegun spans hint enables kept is_whole does touches tasks lane old world fs
       → ((handles : List Handle) (ts : List UnfinishedTask) → AllStand handles ts fs → StopsTurns spans hint enables activates does touches same (dispatch_serving lane) world.sites ts e (record { world = world; lane = lane; handles = handles; guards = [] }) new later)
       → GaveUp spans hint enables activates does touches same (dispatch_serving lane) sites tasks e (record { world = old; lane = lane; handles = []; guards = [] }) new later
@@ -175,7 +180,7 @@ module _ {S : Type 0} (spans : S → Spans) (hint : S → Option LevelFilter) (e
       }
 
   -- a run that was refused as it made spans
-  pub gave_up_begun : (activates : S → ℕ → Bool) (same : S → S → Type 0) (sites : List Callsite) (tasks : List Task) (lane : Lane) (old world new : Worlds S) (fs : List (Instrumented Running))
+  pub gave_up_begun : (activates : S → ℕ → Bool) (same : S → S → Type 0) (sites : List Callsite) (tasks : List Task) (lane : Lane) (old world new : WorldValue S) (fs : List (Instrumented Running))
       → StopsBeginning spans hint enables kept is_whole does touches same tasks lane old world fs
       → DropsAll spans hint enables does touches 0 fs world new
       → GaveUp spans hint enables activates does touches same (dispatch_serving lane) sites tasks faults.Memory (record { world = old; lane = lane; handles = []; guards = [] }) new lane
@@ -183,6 +188,7 @@ module _ {S : Type 0} (spans : S → Spans) (hint : S → Option LevelFilter) (e
       let d : ℕ = dispatch_serving lane in
       let b = stop.so_far in
       let made : List Request = makings stop.first in
+      let behind : List Task = stop.within.0 ∷ stop.within.1 in
       let ts : List UnfinishedTask = tasks_at_first 0 tasks in
       let later : List Request = rounds_requests sites (all_polls ts) 0 ts in
       let start : TaskScene S = record { world = old; lane = lane; handles = []; guards = [] } in
@@ -192,11 +198,11 @@ module _ {S : Type 0} (spans : S → Spans) (hint : S → Option LevelFilter) (e
         first = stop.first;
         polls = 0;
         part = [];
-        others = makings stop.others ++ later;
-        within = ap (λ (rs : List Request). rs ++ (makings stop.others ++ later)) none ∙ sym (append_assoc made (makings stop.others) later)
-            ∙ ap (λ (rs : List Request). rs ++ later) (sym (makings_both stop.first stop.others) ∙ ap makings stop.within);
+        others = makings behind ++ later;
+        within = ap (λ (rs : List Request). rs ++ (makings behind ++ later)) none ∙ sym (append_assoc made (makings behind) later)
+            ∙ ap (λ (rs : List Request). rs ++ later) (sym (makings_both stop.first behind) ∙ ap makings stop.within.2);
         at = 0;
-        moment = inr (refl, refl, refl, refl);
+        moment = inr (refl, refl, refl, refl, stop.within);
         not_entered = λ is_full. refl;
         full_at_call = λ is_full. absurd (cc is_full);
         stopped = record {
@@ -211,13 +217,13 @@ module _ {S : Type 0} (spans : S → Spans) (hint : S → Option LevelFilter) (e
       }
 
   -- a run that was refused before it made a span
-  pub gave_up_first : (activates : S → ℕ → Bool) (same : S → S → Type 0) (sites : List Callsite) (tasks : List Task) (lane : Lane) (world : Worlds S) → Ready spans kept is_whole world lane
+  pub gave_up_first : (activates : S → ℕ → Bool) (same : S → S → Type 0) (sites : List Callsite) (tasks : List Task) (lane : Lane) (world : WorldValue S) → tasks ≢ [] → Ready spans kept is_whole world lane
       → GaveUp spans hint enables activates does touches same (dispatch_serving lane) sites tasks faults.Memory (record { world = world; lane = lane; handles = []; guards = [] }) world lane
-  gave_up_first activates same sites tasks lane world ready =
-      gave_up_begun activates same sites tasks lane world world world [] (record { first = []; others = tasks; within = refl; world = world; so_far = none_begun spans hint enables kept is_whole does touches lane world ready; wants = untouched refl })
+  gave_up_first activates same sites tasks lane world some ready =
+      gave_up_begun activates same sites tasks lane world world world [] (record { first = []; within = front_of tasks some; world = world; so_far = none_begun spans hint enables kept is_whole does touches lane world ready; wants = untouched refl })
       (λ handles ts stand. closed_all spans hint enables does touches 0 [] [] world world handles ts refl (closing_first spans hint enables does touches 0 [] world handles ts stand))
 
-  pub gave_up_if : (activates : S → ℕ → Bool) (same : S → S → Type 0) (sites : List Callsite) (tasks : List Task) (lane later : Lane) (old world new : Worlds S) (fs : List (Instrumented Running)) (result : Result ℕ EnterError) → old.sites ≡ sites
+  pub gave_up_if : (activates : S → ℕ → Bool) (same : S → S → Type 0) (sites : List Callsite) (tasks : List Task) (lane later : Lane) (old world new : WorldValue S) (fs : List (Instrumented Running)) (result : Result ℕ EnterError) → old.sites ≡ sites
       → AreBegun spans hint enables kept is_whole does touches tasks lane old world fs
       → IfErr result (λ e. (handles : List Handle) (ts : List UnfinishedTask) → AllStand handles ts fs → StopsTurns spans hint enables activates does touches same (dispatch_serving lane) world.sites ts e (record { world = world; lane = lane; handles = handles; guards = [] }) new later)
       → IfErr result (λ e. GaveUp spans hint enables activates does touches same (dispatch_serving lane) sites tasks e (record { world = old; lane = lane; handles = []; guards = [] }) new later)
@@ -235,7 +241,7 @@ answer_is n (t ∷ tasks) = (
     omega (arith, a, b, r))
 
 pub answered : {S : Type 0} (spans : S → Spans) (hint : S → Option LevelFilter) (enables : S → ℕ → Callsite → Bool) (does : S → SubscriberCall → S → Type 0) (touches : S → PartCall → S → Type 0)
-    (sites : List Callsite) (tasks : List Task) (old new : Worlds S) (lane later : Lane) (result : Result ℕ EnterError) → IfOk result (λ polls. Ran spans hint enables does touches sites tasks old new lane later polls)
+    (sites : List Callsite) (tasks : List Task) (old new : WorldValue S) (lane later : Lane) (result : Result ℕ EnterError) → IfOk result (λ polls. Ran spans hint enables does touches sites tasks old new lane later polls)
     → IfOk result (λ polls. polls ≡ sum_by (λ t. yield_count t.steps) tasks + length tasks)
 answered spans hint enables does touches sites tasks old new lane later (Ok polls) ran = ran.answer ∙ answer_is 0 tasks
 answered spans hint enables does touches sites tasks old new lane later (Err e) ran = tt

@@ -1,7 +1,7 @@
 -- A queue after a poll of its first task.
 use Rattle.std.proofs.Common.{◌≡◌, ℕ, suc, ◌+◌, List, [], ◌∷◌, ◌++◌, Option, Some, None, refl, sym, ap, subst, ◌∙◌, arith}
 use Rattle.std.specs.Option.{option_map}
-use Rattle.trace_tasks.proofs.Common.{sum_by-cons, sum_by_push, Worlds, Span, Spans, span_at, spans_in, Handle, Held, IsKnown, id_of, Instrumented, Running, Step, steps_left, UnfinishedTask, yield_count, polls_left, all_polls, after_poll, requeue, IsAlone, IsAloneAs, IsLeft, SpansStay, Waits, IsApart, AreApart, AllWait, AllKnown, TaskStands, AllStand, KeepsBut, queue_with, polls_in}
+use Rattle.trace_tasks.proofs.Common.{sum_by-cons, sum_by_push, WorldValue, Span, Spans, span_at, spans_in, Handle, HeldSpan, IsKnown, id_of, Instrumented, Running, Step, steps_left, UnfinishedTask, yield_count, polls_left, all_polls, after_poll, requeue, IsAlone, IsAloneAs, IsLeft, SpansStay, Waits, IsApart, AreApart, AllWait, AllKnown, TaskStands, AllStand, KeepsBut, queue_with, polls_in}
 use Rattle.trace_tasks.specs.declared.script.Step.TheVariants as step
 
 -- ---- polls
@@ -72,7 +72,7 @@ stand_after handles t ts f fs (Some g) one all is =
 
 -- ---- which tasks wait
 
-apart_sym : (a b : Held) → IsApart a b → IsApart b a
+apart_sym : (a b : HeldSpan) → IsApart a b → IsApart b a
 apart_sym a b apart = λ id is other. apart id other is
 
 pub apart_push : (f : Instrumented Running) (fs : List (Instrumented Running)) (g : Instrumented Running) → AreApart f fs → IsApart f.span.held g.span.held → AreApart f (fs ++ g ∷ [])
@@ -81,20 +81,20 @@ apart_push f (x ∷ fs) g all one = (all.0, apart_push f fs g all.1 one)
 
 module _ {S : Type 0} (spans : S → Spans) where
   -- of another span than the one that closed it is known still
-  known_apart : (old new : Worlds S) (closed held : Held) → KeepsBut spans old new closed → IsApart closed held → IsKnown spans old held → IsKnown spans new held
+  known_apart : (old new : WorldValue S) (closed held : HeldSpan) → KeepsBut spans old new closed → IsApart closed held → IsKnown spans old held → IsKnown spans new held
   known_apart old new closed None keeps apart known = tt
   known_apart old new closed (Some h) keeps apart known = keeps (Some h) (λ is. apart h.1 (ap id_of (sym is)) refl) known
 
-  lone_apart : (old new : Worlds S) (d site : ℕ) (closed held : Held) → ((q : ℕ) → (option_map (λ h. h.1) closed ≡ Some q → ⊥) → span_at (spans_in spans new d).made q ≡ span_at (spans_in spans old d).made q)
+  lone_apart : (old new : WorldValue S) (d site : ℕ) (closed held : HeldSpan) → ((q : ℕ) → (option_map (λ h. h.1) closed ≡ Some q → ⊥) → span_at (spans_in spans new d).made q ≡ span_at (spans_in spans old d).made q)
       → IsApart closed held → IsAloneAs (spans_in spans old d).made d site held → IsAloneAs (spans_in spans new d).made d site held
   lone_apart old new d site closed None stay apart lone = tt
   lone_apart old new d site closed (Some h) stay apart lone = (lone.0, stay h.1 (λ is. apart h.1 is refl) ∙ lone.1)
 
-  stay_all : (left : Option (Instrumented Running)) (held : Held) (old new : List Span) → SpansStay left held old new → (q : ℕ) → (option_map (λ h. h.1) held ≡ Some q → ⊥) → span_at new q ≡ span_at old q
+  stay_all : (left : Option (Instrumented Running)) (held : HeldSpan) (old new : List Span) → SpansStay left held old new → (q : ℕ) → (option_map (λ h. h.1) held ≡ Some q → ⊥) → span_at new q ≡ span_at old q
   stay_all None held old new stay = stay
   stay_all (Some g) held old new stay = λ q apart. ap (λ (made : List Span). span_at made q) stay
 
-  module _ (old new : Worlds S) (d : ℕ) (f : Instrumented Running) (keeps : KeepsBut spans old new f.span.held) (stay : (q : ℕ) → (option_map (λ h. h.1) f.span.held ≡ Some q → ⊥) → span_at (spans_in spans new d).made q ≡ span_at (spans_in spans old d).made q) where
+  module _ (old new : WorldValue S) (d : ℕ) (f : Instrumented Running) (keeps : KeepsBut spans old new f.span.held) (stay : (q : ℕ) → (option_map (λ h. h.1) f.span.held ≡ Some q → ⊥) → span_at (spans_in spans new d).made q ≡ span_at (spans_in spans old d).made q) where
     others_wait : (fs : List (Instrumented Running)) → AreApart f fs → AllWait spans old d fs → AllWait spans new d fs
     others_wait [] apart all = tt
     others_wait (g ∷ fs) apart all = (
@@ -107,7 +107,7 @@ module _ {S : Type 0} (spans : S → Spans) where
       others_wait fs apart.1 all.2,
     )
 
-  wait_push : (world : Worlds S) (d : ℕ) (fs : List (Instrumented Running)) (g : Instrumented Running) → AllWait spans world d fs → AreApart g fs → Waits spans world d g → AllWait spans world d (fs ++ g ∷ [])
+  wait_push : (world : WorldValue S) (d : ℕ) (fs : List (Instrumented Running)) (g : Instrumented Running) → AllWait spans world d fs → AreApart g fs → Waits spans world d g → AllWait spans world d (fs ++ g ∷ [])
   wait_push world d [] g all apart one = (one, tt, tt)
   wait_push world d (f ∷ fs) g all apart one = (all.0, apart_push f fs g all.1 (apart_sym g.span.held f.span.held apart.0), wait_push world d fs g all.2 apart.1 one)
 
@@ -115,7 +115,7 @@ module _ {S : Type 0} (spans : S → Spans) where
   same_apart f g [] is apart = tt
   same_apart f g (x ∷ fs) is apart = (subst (λ (h : Handle). IsApart h.held x.span.held) (sym is) apart.0, same_apart f g fs is apart.1)
 
-  pub wait_after : (old new : Worlds S) (d : ℕ) (f : Instrumented Running) (fs : List (Instrumented Running)) (left : Option (Instrumented Running)) → AllWait spans old d (f ∷ fs) → IsLeft left f
+  pub wait_after : (old new : WorldValue S) (d : ℕ) (f : Instrumented Running) (fs : List (Instrumented Running)) (left : Option (Instrumented Running)) → AllWait spans old d (f ∷ fs) → IsLeft left f
       → SpansStay left f.span.held (spans_in spans old d).made (spans_in spans new d).made → KeepsBut spans old new f.span.held → ((g : Instrumented Running) → left ≡ Some g → IsKnown spans new g.span.held)
       → AllWait spans new d (queue_with fs left)
   wait_after old new d f fs None all is stay keeps known = others_wait old new d f keeps stay fs all.1 all.2
@@ -128,10 +128,10 @@ module _ {S : Type 0} (spans : S → Spans) where
 
   -- ---- which are known
 
-  pub all_known : (world : Worlds S) (d : ℕ) (fs : List (Instrumented Running)) → AllWait spans world d fs → AllKnown spans world fs
+  pub all_known : (world : WorldValue S) (d : ℕ) (fs : List (Instrumented Running)) → AllWait spans world d fs → AllKnown spans world fs
   all_known world d [] all = tt
   all_known world d (f ∷ fs) all = (all.0.known, all.1, all_known world d fs all.2)
 
-  pub known_after : (old new : Worlds S) (f : Instrumented Running) (fs : List (Instrumented Running)) → KeepsBut spans old new f.span.held → AreApart f fs → AllKnown spans old fs → AllKnown spans new fs
+  pub known_after : (old new : WorldValue S) (f : Instrumented Running) (fs : List (Instrumented Running)) → KeepsBut spans old new f.span.held → AreApart f fs → AllKnown spans old fs → AllKnown spans new fs
   known_after old new f [] keeps apart all = tt
   known_after old new f (g ∷ fs) keeps apart all = (known_apart old new f.span.held g.span.held keeps apart.0 all.0, all.1, known_after old new f fs keeps apart.1 all.2)

@@ -1,13 +1,13 @@
 -- A root that one handle holds, while it is entered and after.
 use Rattle.std.proofs.Common.{◌≡◌, ℕ, zero, suc, ◌+◌, List, [], ◌∷◌, ◌++◌, Some, None, refl, sym, ap, ◌∙◌, arith, if◌then◌else◌, ◌==◌}
 use Rattle.std.specs.Option.{option_map}
-use Rattle.trace_tasks.proofs.Common.{cond-true, Span, Spans, span_at, entries_on, times_in, is_in, without_last, current_of, current_on, with_hold, without_hold, less_hold, next_of, with_span_entry, with_span_exit, count_cons, with_same, root_of_one_handle}
+use Rattle.trace_tasks.proofs.Common.{cond-true, Span, Spans, span_at, entries_on, times_in, is_in, without_last, current_of, current_on, with_hold, without_hold, span_without_hold, parent_to_release, with_span_entry, with_span_exit, count_cons, with_same, root_of_one_handle}
 use Rattle.std.proofs.lemmas.Bool.{eq-eqb}
 
 -- entered and exited, it is as it was
 pub back : (made : List Span) (id site : ℕ) → span_at made id ≡ root_of_one_handle site → without_hold (with_hold made id) id ≡ made
 back [] id site is = absurd (let e = ap (λ (x : Span). x.holds) is in omega (arith, e))
-back (x ∷ made) zero site is = ap (λ (y : Span). less_hold (record y { holds = y.holds + 1 }) ∷ made) is ∙ ap (λ (y : Span). y ∷ made) (sym is)
+back (x ∷ made) zero site is = ap (λ (y : Span). span_without_hold (record y { holds = y.holds + 1 }) ∷ made) is ∙ ap (λ (y : Span). y ∷ made) (sym is)
 back (x ∷ made) (suc id) site is = ap (λ (ys : List Span). x ∷ ys) (back made id site is)
 
 -- its callsite while it is entered
@@ -25,7 +25,7 @@ others_stay (x ∷ made) (suc id) zero apart = refl
 others_stay (x ∷ made) (suc id) (suc q) apart = others_stay made id q (λ e. apart (ap suc e))
 
 -- nothing is to be released after it
-pub no_next : (made : List Span) (id site : ℕ) → span_at made id ≡ root_of_one_handle site → next_of made id ≡ None
+pub no_next : (made : List Span) (id site : ℕ) → span_at made id ≡ root_of_one_handle site → parent_to_release made id ≡ None
 no_next made id site is = ap (λ (x : Span). if x.holds == 1 then x.parent else None) is
 
 module _ (x : Spans) (id at : ℕ) (none : entries_on at x.lanes ≡ []) where

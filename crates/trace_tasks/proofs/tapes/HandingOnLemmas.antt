@@ -2,11 +2,13 @@
 use Rattle.std.proofs.Common.{◌≡◌, ℕ, zero, suc, ◌+◌, ◌<◌, ◌^◌, List, [], ◌∷◌, ◌++◌, length, true, false, Option, Some, None, Result, Ok, Err, refl, sym, ap, subst, ◌∙◌, arith, slice_get, slice_set, OnOk}
 use Rattle.std.proofs.lemmas.Bool.{true≢false}
 use Rattle.otel_base.specs.declared.enter_error.EnterError.TheVariants as faults
-use Rattle.trace_tasks.proofs.Common.{EnterError, Memory, Callsite, Lane, Worlds, Spans, cached_at, entries_on, no_spans, spans_in, now_there, seen_before, seen_later, Handle, Held, Request, Instrumented, Running, refused, TapeValue, DoesTape, TouchesTape, Step, steps_left, TaskScene, UnfinishedTask, poll_requests, after_poll, requeue, turns_requests, all_polls, moment_of, tape_spans, CarriesTape, left_after, Ready, IsAlone, left_as, Turned, dispatch_serving, served_by, AllStand, AllWait, AllKnown, polls_in, queue_with, TakesTurn, StopsInTurn}
+use Rattle.trace_tasks.proofs.Common.{EnterError, Memory, Callsite, Lane, WorldValue, Spans, cached_at, entries_on, no_spans, spans_in, now_there, seen_before, seen_later, Handle, HeldSpan, Request, Instrumented, Running, refused, TapeValue, DoesTape, TouchesTape, Step, steps_left, TaskScene, UnfinishedTask, poll_requests, after_poll, requeue, turns_requests, all_polls, moment_of, tape_spans, CarriesTape, left_after, Ready, IsAlone, left_as, Turned, dispatch_serving, served_by, AllStand, AllWait, AllKnown, polls_in, queue_with, TakesTurn, StopsInTurn}
 use Rattle.span_futures.specs.Lent.{more_parts}
 use Rattle.span_handles.specs.Knowing.{KeepsHandles}
 use Rattle.span_handles.proofs.KnownHandlesLemmas.{handles_same}
-use Rattle.trace_tasks.specs.TapeTurns.{BetweenPolls, AllCanBePolled, WaitOnTape, TakesAll, OnlyRequestsChange, HandsOn, HandsTurnsOn}
+use Rattle.trace_tape.proofs.ItemsLemmas.{takes_after}
+use Rattle.trace_tape.specs.Sinks.{TakesAll}
+use Rattle.trace_tasks.specs.TapeTurns.{BetweenPolls, AllCanBePolled, WaitOnTape, OnlyRequestsChange, HandsOn, HandsTurnsOn}
 use Rattle.trace_tasks.proofs.queues.BegunTasksLemmas.{known_stays}
 use Rattle.trace_tasks.proofs.queues.QueueLemmas.{left_less, stand_after}
 use Rattle.trace_tasks.proofs.queues.TurnsLemmas.{one_poll_less}
@@ -16,7 +18,7 @@ use Rattle.trace_tasks.proofs.tapes.RunsLemmas.{tasks_after}
 
 -- ---- where only the requests on the tape are others
 
-module _ (d : ℕ) (old new : Worlds TapeValue) (r : OnlyRequestsChange d old new) where
+module _ (d : ℕ) (old new : WorldValue TapeValue) (r : OnlyRequestsChange d old new) where
   same_spans : (s t : TapeValue) → t ≡ record s { requests = t.requests } → tape_spans t ≡ tape_spans s
   same_spans s t is = ap (λ (x : TapeValue). x.below.spans) is
 
@@ -55,52 +57,31 @@ module _ (d : ℕ) (old new : Worlds TapeValue) (r : OnlyRequestsChange d old ne
             (ap (λ (x : Spans). entries_on lane.id x.lanes) spans_same ∙ subst (λ (n : ℕ). entries_on lane.id (spans_in tape_spans old n).lanes ≡ []) serves ready.none_open);
       }
 
--- ---- what a sink took
-
-pub takes_after : {K : Type 0} (takes : K → Request → K → Type 0) (rs more : List Request) (old mid new : K) → TakesAll takes rs old mid → TakesAll takes more mid new → TakesAll takes (rs ++ more) old new
-takes_after {K} takes [] more old mid new is rest = subst (λ (k : K). TakesAll takes more k new) is rest
-takes_after takes (r ∷ rs) more old mid new (m, one, later) rest = (m, one, takes_after takes rs more m mid new later rest)
-
 -- ---- requests are taken off the tape
 
-pub taken_off : (d : ℕ) (old : Worlds TapeValue) (tape now : TapeValue) → slice_get old.subscribers d ≡ Some tape → now ≡ record tape { requests = [] } → OnlyRequestsChange d old (record old { subscribers = slice_set old.subscribers d now })
-taken_off d old tape now there is = record {
-  before = tape;
-  later = now;
-  there = there;
-  did = is ∙ ap (λ (x : TapeValue). let y : TapeValue = record tape { requests = x.requests } in y) (sym is);
-  others = refl;
-}
+pub left_on : (d : ℕ) (old : WorldValue TapeValue) (tape now : TapeValue) → slice_get old.subscribers d ≡ Some tape → now ≡ record tape { requests = now.requests } → OnlyRequestsChange d old (record old { subscribers = slice_set old.subscribers d now })
+left_on d old tape now there is = record { before = tape; later = now; there = there; did = is; others = refl }
 
-pub left_on : (d : ℕ) (old : Worlds TapeValue) (tape now : TapeValue) → slice_get old.subscribers d ≡ Some tape → now ≡ tape → OnlyRequestsChange d old (record old { subscribers = slice_set old.subscribers d now })
-left_on d old tape now there is = record {
-  before = tape;
-  later = now;
-  there = there;
-  did = is ∙ ap (λ (x : TapeValue). let y : TapeValue = record tape { requests = x.requests } in y) (sym is);
-  others = refl;
-}
-
-pub pushed : {K : Type 0} (takes : K → Request → K → Type 0) (d : ℕ) (old : Worlds TapeValue) (tape now : TapeValue) (start end : K) (result : Result (Unit {0}) Memory) (requests : List Request) → slice_get old.subscribers d ≡ Some tape → requests ≡ tape.requests → now ≡ record tape { requests = [] }
-    → OnOk result (TakesAll takes requests start end) → OnOk result (HandsOn takes d old (record old { subscribers = slice_set old.subscribers d now }) start end)
-pushed takes d old tape now start end (Ok x) requests there same is taken = record {
+pub taken_off : {K : Type 0} (takes : K → Request → K → Type 0) (d : ℕ) (old : WorldValue TapeValue) (tape now : TapeValue) (start end : K) (result : Result (Unit {0}) Memory) → slice_get old.subscribers d ≡ Some tape → now ≡ record tape { requests = now.requests }
+    → OnOk result (now.requests ≡ []) → OnOk result (TakesAll takes tape.requests start end) → OnOk result (HandsOn takes d old (record old { subscribers = slice_set old.subscribers d now }) start end)
+taken_off takes d old tape now start end (Ok x) there is none taken = record {
   tape = tape;
   there = there;
-  emptied = ap (λ (t : TapeValue). let w : Worlds TapeValue = record old { subscribers = slice_set old.subscribers d t } in w) is;
-  taken = subst (λ (rs : List Request). TakesAll takes rs start end) same taken;
+  emptied = ap (λ (t : TapeValue). let w : WorldValue TapeValue = record old { subscribers = slice_set old.subscribers d t } in w) (is ∙ ap (λ (rs : List Request). let t : TapeValue = record tape { requests = rs } in t) none);
+  taken = taken;
 }
-pushed takes d old tape now start end (Err e) requests there same is taken = tt
+taken_off takes d old tape now start end (Err e) there is none taken = tt
 
 -- ---- the tape is emptied
 
 the_tape : (a b : TapeValue) → ◌≡◌ {A = Option TapeValue} (Some a) (Some b) → a ≡ b
 the_tape a b e = cc e
 
-module _ {K : Type 0} (takes : K → Request → K → Type 0) (d : ℕ) (sites : List Callsite) (old new : Worlds TapeValue) (before later : K) (h : HandsOn takes d old new before later) where
+module _ {K : Type 0} (takes : K → Request → K → Type 0) (d : ℕ) (sites : List Callsite) (old new : WorldValue TapeValue) (before later : K) (h : HandsOn takes d old new before later) where
   abbrev pub only_requests : OnlyRequestsChange d old new
   only_requests = record { before = h.tape; later = record h.tape { requests = [] }; there = h.there; did = refl; others = h.emptied }
 
-  module _ (lane : Lane) (handles : List Handle) (guards : List Held) (tape : TapeValue) where
+  module _ (lane : Lane) (handles : List Handle) (guards : List HeldSpan) (tape : TapeValue) where
     abbrev pub stage_before : TaskScene TapeValue
     stage_before = record { world = old; lane = lane; handles = handles; guards = guards }
 
@@ -111,8 +92,8 @@ module _ {K : Type 0} (takes : K → Request → K → Type 0) (d : ℕ) (sites 
     emptied_between k between = record {
       there = now_there (λ s t. t ≡ record s { requests = t.requests }) old new d only_requests
           ∙ ap (λ (x : TapeValue). let y : TapeValue = record x { requests = [] } in Some y) (the_tape h.tape tape (sym h.there ∙ between.there));
-      sites_are = ap (λ (w : Worlds TapeValue). w.sites) h.emptied ∙ between.sites_are;
-      cached = λ n less. ap (λ (w : Worlds TapeValue). cached_at w.cached d n) h.emptied ∙ between.cached n less;
+      sites_are = ap (λ (w : WorldValue TapeValue). w.sites) h.emptied ∙ between.sites_are;
+      cached = λ n less. ap (λ (w : WorldValue TapeValue). cached_at w.cached d n) h.emptied ∙ between.cached n less;
       no_due = between.no_due;
       no_entries = between.no_entries;
       guards = between.guards;
@@ -151,21 +132,21 @@ module _ {K : Type 0} (takes : K → Request → K → Type 0) (d : ℕ) (sites 
 -- ---- one turn
 
 -- the subscriber is there still
-pub still_there : (d at : ℕ) (all last : List (Instrumented Running)) (world next : Worlds TapeValue) (lane later : Lane) → dispatch_serving lane ≡ d → TakesTurn tape_spans (λ s. None) (λ s lane c. true) (λ s lane number. 0) (λ s. Unit {0}) DoesTape TouchesTape at all world lane last next later → d < length next.subscribers
+pub still_there : (d at : ℕ) (all last : List (Instrumented Running)) (world next : WorldValue TapeValue) (lane later : Lane) → dispatch_serving lane ≡ d → TakesTurn tape_spans (λ s. None) (λ s lane c. true) (λ s lane number. 0) (λ s. Unit {0}) DoesTape TouchesTape at all world lane last next later → d < length next.subscribers
 still_there d at all last world next lane later serves turn = (
     let there = turn.turned.ready.there in
     let same : dispatch_serving later ≡ d = ap served_by turn.turned.default ∙ serves in
     omega (arith, there, same))
 
 module _ {K : Type 0} (takes : K → Request → K → Type 0) (d : ℕ) (sites : List Callsite) where
-  pub record TurnHandedOn (k : ℕ) (ts : List UnfinishedTask) (new : Worlds TapeValue) (later : Lane) (fs : List (Instrumented Running)) (before after : K) : Type 0 where
+  pub record TurnHandedOn (k : ℕ) (ts : List UnfinishedTask) (new : WorldValue TapeValue) (later : Lane) (fs : List (Instrumented Running)) (before after : K) : Type 0 where
     pub t : UnfinishedTask
     pub rest : List UnfinishedTask
     pub is : ts ≡ t ∷ rest
     pub waits : WaitOnTape d sites (k + 1) (requeue rest (after_poll t)) new later fs
     pub taken : TakesAll takes (poll_requests sites k t) before after
 
-  hands_turn_on : (k : ℕ) (ts : List UnfinishedTask) (f : Instrumented Running) (fs : List (Instrumented Running)) (left : Option (Instrumented Running)) (world next new : Worlds TapeValue) (lane later : Lane) (before after : K) → k < 2 ^ 63 → dispatch_serving lane ≡ d
+  hands_turn_on : (k : ℕ) (ts : List UnfinishedTask) (f : Instrumented Running) (fs : List (Instrumented Running)) (left : Option (Instrumented Running)) (world next new : WorldValue TapeValue) (lane later : Lane) (before after : K) → k < 2 ^ 63 → dispatch_serving lane ≡ d
       → WaitOnTape d sites k ts world lane (f ∷ fs) → Turned tape_spans (λ s. None) (λ s lane c. true) (λ s lane number. 0) (λ s. Unit {0}) DoesTape TouchesTape (moment_of k) f world lane left next later → HandsOn takes d next new before after
       → TurnHandedOn k ts new later (queue_with fs left) before after
   hands_turn_on k [] f fs left world next new lane later before after few serves w turned handed = absurd w.stand
@@ -192,21 +173,21 @@ module _ {K : Type 0} (takes : K → Request → K → Type 0) (d : ℕ) (sites 
 
   -- ---- all turns so far
 
-  pub record TurnsSoFar (ts : List UnfinishedTask) (polls : ℕ) (world : Worlds TapeValue) (lane : Lane) (fs : List (Instrumented Running)) (start now : K) : Type 0 where
+  pub record TurnsSoFar (ts : List UnfinishedTask) (polls : ℕ) (world : WorldValue TapeValue) (lane : Lane) (fs : List (Instrumented Running)) (start now : K) : Type 0 where
     pub left : List UnfinishedTask
     pub after : left_after polls ts ≡ left
     pub polled : polls + all_polls left ≡ all_polls ts
     pub waits : WaitOnTape d sites polls left world lane fs
     pub taken : TakesAll takes (turns_requests sites polls 0 ts) start now
 
-  pub record HandedSoFar (first fs : List (Instrumented Running)) (old world : Worlds TapeValue) (before lane : Lane) (polls : ℕ) (start now : K) : Type 0 where
+  pub record HandedSoFar (first fs : List (Instrumented Running)) (old world : WorldValue TapeValue) (before lane : Lane) (polls : ℕ) (start now : K) : Type 0 where
     pub ready : Ready tape_spans (λ s lane number. 0) (λ s. Unit {0}) world lane
     pub serves : dispatch_serving lane ≡ d
     pub wait : AllWait tape_spans world (dispatch_serving lane) fs
     pub few : polls + polls_in fs ≡ polls_in first
     pub so_far : (ts : List UnfinishedTask) → WaitOnTape d sites 0 ts old before first → TurnsSoFar ts polls world lane fs start now
 
-  pub handed_first : (fs : List (Instrumented Running)) (world : Worlds TapeValue) (lane : Lane) (start : K) → Ready tape_spans (λ s lane number. 0) (λ s. Unit {0}) world lane → dispatch_serving lane ≡ d → AllWait tape_spans world (dispatch_serving lane) fs
+  pub handed_first : (fs : List (Instrumented Running)) (world : WorldValue TapeValue) (lane : Lane) (start : K) → Ready tape_spans (λ s lane number. 0) (λ s. Unit {0}) world lane → dispatch_serving lane ≡ d → AllWait tape_spans world (dispatch_serving lane) fs
       → HandedSoFar fs fs world world lane lane 0 start start
   handed_first fs world lane start ready serves wait = record {
     ready = ready;
@@ -216,7 +197,7 @@ module _ {K : Type 0} (takes : K → Request → K → Type 0) (d : ℕ) (sites 
     so_far = λ ts waits. record { left = ts; after = refl; polled = omega arith; waits = waits; taken = refl };
   }
 
-  turns_so_far : (ts : List UnfinishedTask) (f : Instrumented Running) (fs : List (Instrumented Running)) (left : Option (Instrumented Running)) (world next new : Worlds TapeValue) (lane later : Lane) (polls : ℕ) (start before after : K) → polls < 2 ^ 63 → dispatch_serving lane ≡ d
+  turns_so_far : (ts : List UnfinishedTask) (f : Instrumented Running) (fs : List (Instrumented Running)) (left : Option (Instrumented Running)) (world next new : WorldValue TapeValue) (lane later : Lane) (polls : ℕ) (start before after : K) → polls < 2 ^ 63 → dispatch_serving lane ≡ d
       → Turned tape_spans (λ s. None) (λ s lane c. true) (λ s lane number. 0) (λ s. Unit {0}) DoesTape TouchesTape (moment_of polls) f world lane left next later → HandsOn takes d next new before after
       → TurnsSoFar ts polls world lane (f ∷ fs) start before → TurnsSoFar ts (polls + 1) new later (queue_with fs left) start after
   turns_so_far ts f fs left world next new lane later polls start before after few serves turned handed s =
@@ -231,7 +212,7 @@ module _ {K : Type 0} (takes : K → Request → K → Type 0) (d : ℕ) (sites 
             (takes_after takes (turns_requests sites polls 0 ts) (poll_requests sites polls one.t) start before after s.taken one.taken);
       }
 
-  pub handed_more : (first all last : List (Instrumented Running)) (old world next new : Worlds TapeValue) (before lane later : Lane) (polls at : ℕ) (start now then : K) → polls_in first < 2 ^ 60 → at ≡ moment_of polls → HandedSoFar first all old world before lane polls start now
+  pub handed_more : (first all last : List (Instrumented Running)) (old world next new : WorldValue TapeValue) (before lane later : Lane) (polls at : ℕ) (start now then : K) → polls_in first < 2 ^ 60 → at ≡ moment_of polls → HandedSoFar first all old world before lane polls start now
       → TakesTurn tape_spans (λ s. None) (λ s lane c. true) (λ s lane number. 0) (λ s. Unit {0}) DoesTape TouchesTape at all world lane last next later → HandsOn takes d next new now then → HandedSoFar first last old new before later (polls + 1) start then
   handed_more first all last old world next new before lane later polls at start now then bound moment h turn handed =
       let T : ℕ → Type 0 = λ n. Turned tape_spans (λ s. None) (λ s lane c. true) (λ s lane number. 0) (λ s. Unit {0}) DoesTape TouchesTape n turn.f world lane turn.left next later in
@@ -249,13 +230,13 @@ module _ {K : Type 0} (takes : K → Request → K → Type 0) (d : ℕ) (sites 
             (subst (λ (xs : List (Instrumented Running)). TurnsSoFar ts polls world lane xs start now) turn.is (h.so_far ts waits)));
       }
 
-  at_last : (ts : List UnfinishedTask) (polls : ℕ) (world : Worlds TapeValue) (lane : Lane) (start now : K) (left : List UnfinishedTask) → polls + all_polls left ≡ all_polls ts → WaitOnTape d sites polls left world lane [] → TakesAll takes (turns_requests sites polls 0 ts) start now → HandsTurnsOn takes sites ts polls start now
+  at_last : (ts : List UnfinishedTask) (polls : ℕ) (world : WorldValue TapeValue) (lane : Lane) (start now : K) (left : List UnfinishedTask) → polls + all_polls left ≡ all_polls ts → WaitOnTape d sites polls left world lane [] → TakesAll takes (turns_requests sites polls 0 ts) start now → HandsTurnsOn takes sites ts polls start now
   at_last ts polls world lane start now [] polled waits taken =
       let is : polls ≡ all_polls ts = omega (arith, polled) in
       record { polled = is; taken = subst (λ (n : ℕ). TakesAll takes (turns_requests sites n 0 ts) start now) is taken }
   at_last ts polls world lane start now (t ∷ left) polled waits taken = absurd waits.stand
 
-  pub handed_all : (first fs : List (Instrumented Running)) (old world : Worlds TapeValue) (before lane : Lane) (polls : ℕ) (start now : K) → fs ≡ [] → HandedSoFar first fs old world before lane polls start now → (ts : List UnfinishedTask) → WaitOnTape d sites 0 ts old before first
+  pub handed_all : (first fs : List (Instrumented Running)) (old world : WorldValue TapeValue) (before lane : Lane) (polls : ℕ) (start now : K) → fs ≡ [] → HandedSoFar first fs old world before lane polls start now → (ts : List UnfinishedTask) → WaitOnTape d sites 0 ts old before first
       → HandsTurnsOn takes sites ts polls start now
   handed_all first fs old world before lane polls start now none h ts waits =
       let s = subst (λ (xs : List (Instrumented Running)). TurnsSoFar ts polls world lane xs start now) none (h.so_far ts waits) in
@@ -263,7 +244,7 @@ module _ {K : Type 0} (takes : K → Request → K → Type 0) (d : ℕ) (sites 
 
 -- ---- a tape attaches nothing, so no lane is full for it
 
-abbrev no_guards : ℕ → List Held
+abbrev no_guards : ℕ → List HeldSpan
 no_guards zero = []
 no_guards (suc n) = None ∷ no_guards n
 
@@ -271,7 +252,7 @@ guard_count : (n : ℕ) → length (no_guards n) ≡ n
 guard_count zero = refl
 guard_count (suc n) = (let e = guard_count n in omega (arith, e))
 
-pub full_never : (d polls at : ℕ) (all : List (Instrumented Running)) (old new : Worlds TapeValue) (before later : Lane) (e : EnterError) → AllWait tape_spans old d all → at ≡ moment_of polls
+pub full_never : (d polls at : ℕ) (all : List (Instrumented Running)) (old new : WorldValue TapeValue) (before later : Lane) (e : EnterError) → AllWait tape_spans old d all → at ≡ moment_of polls
     → StopsInTurn tape_spans (λ s. None) (λ s lane c. true) (λ s id. false) DoesTape TouchesTape (λ s t. t ≡ s) at all old before e new later → e ≡ faults.Full → ⊥
 full_never d polls at all old new before later e wait moment turn is =
     let waits = (subst (λ (xs : List (Instrumented Running)). AllWait tape_spans old d xs) turn.is wait).0 in

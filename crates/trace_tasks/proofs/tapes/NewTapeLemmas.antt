@@ -5,7 +5,7 @@ use Rattle.std.specs.Option.{option_map_or}
 use Rattle.trace_base.specs.declared.callsite.Callsite.{Callsite}
 use Rattle.trace_base.specs.declared.lane.Lane.{Lane}
 use Rattle.trace_base.specs.declared.subscriber.Interest.TheVariants as interests
-use Rattle.trace_base.specs.Gate.{Worlds, AreSame, IsFresh, cached_at, interests_of_sites}
+use Rattle.trace_base.specs.Gate.{WorldValue, AreSame, IsFresh, cached_at, interests_of_sites}
 use Rattle.trace_base.specs.Spans.{entries_on}
 use Rattle.span_handles.specs.Worlds.{spans_in, no_spans}
 use Rattle.span_registry.specs.Registering.{RegistryValue}
@@ -27,7 +27,7 @@ always_at tape (c ∷ sites) (suc n) less = always_at tape sites n (omega (arith
 unfoldable pub below_at_first : RegistryValue
 below_at_first = record { spans = record { made = []; lanes = [] }; slots = 0 }
 
-module _ (world : Worlds TapeValue) (d : ℕ) (tape : TapeValue) (new : tape ≡ blank_tape below_at_first) (same : AreSame (λ s t. t ≡ s) (tape ∷ []) world.subscribers) (first : d ≡ 0) where
+module _ (world : WorldValue TapeValue) (d : ℕ) (tape : TapeValue) (new : tape ≡ blank_tape below_at_first) (same : AreSame (λ s t. t ≡ s) (tape ∷ []) world.subscribers) (first : d ≡ 0) where
   only : world.subscribers ≡ blank_tape below_at_first ∷ []
   only = only_tape world.subscribers tape same ∙ ap (λ (t : TapeValue). t ∷ []) new
 

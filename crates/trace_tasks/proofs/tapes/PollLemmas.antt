@@ -1,7 +1,7 @@
 -- A poll of a task over a tape.
 use Rattle.std.proofs.Common.{◌≡◌, ℕ, zero, suc, ◌<◌, List, [], ◌∷◌, ◌++◌, length, map, Bool, true, Option, Some, None, Result, Ok, Err, refl, sym, ap, subst, ◌∙◌, arith, slice_get, append_assoc}
 use Rattle.std.proofs.lemmas.List.{append-nil}
-use Rattle.trace_tasks.proofs.Common.{Memory, OpReply, Callsite, SubscriberCall, Records, Event, spans_after_call, Worlds, cached_at, gate, Spans, Replaced, Handle, RecordsAt, RecordsOn, callsite_in, handle_of, now_there, Applies, Request, TapeValue, DoesTape, taped_after, on_first_lane, TouchesTape, AppliesTape, is_live, Step, steps_now, CallsIf, TellsAt, IsGranted, TaskScene, EventTold, Handled, Fields, values_of, values_by, UnfinishedTask, declared_ones, step_call, tape_spans, CarriesTape, IsDeclared, IsTested}
+use Rattle.trace_tasks.proofs.Common.{Memory, OpReply, Callsite, SubscriberCall, Records, Event, spans_after_call, WorldValue, cached_at, gate, Spans, Replaced, Handle, RecordsAt, RecordsOn, callsite_in, handle_of, now_there, Applies, Request, TapeValue, DoesTape, taped_after, on_first_lane, TouchesTape, AppliesTape, is_live, Step, steps_now, CallsIf, TellsAt, IsGranted, TaskScene, EventTold, Handled, Fields, values_of, values_by, UnfinishedTask, declared_ones, step_call, tape_spans, CarriesTape, IsDeclared, IsTested}
 use Rattle.otel_state.specs.declared.op.Op.TheVariants as ops
 use Rattle.trace_base.specs.declared.subscriber.Interest.TheVariants as interests
 use Rattle.trace_base.specs.declared.span.Parent.TheVariants as parent
@@ -133,8 +133,8 @@ module _ (d : ℕ) (sites : List Callsite) (t : UnfinishedTask) (at : ℕ) where
               there = now_there (λ (a b : TapeValue). TouchesTape a (Applies t.number at (ops.SetAttribute (record { key = key; value = value })) (Some (Ok reply))) b) s.world m.world d r;
               spans_same = ap (λ (x : TapeValue). x.below.spans) did.1;
               is = did.1 ∙ ap (λ b. let y : TapeValue = record tape { below = b; requests = tape.requests ++ on_first_lane at (call.SetAttribute t.number key value) ∷ [] } in y) (sym (ap (λ (x : TapeValue). x.below) did.1));
-              sites = ap (λ (w : Worlds TapeValue). w.sites) r.others;
-              cached = ap (λ (w : Worlds TapeValue). w.cached) r.others;
+              sites = ap (λ (w : WorldValue TapeValue). w.sites) r.others;
+              cached = ap (λ (w : WorldValue TapeValue). w.cached) r.others;
               lane = done.did.0;
               handles = done.handles;
               guards = done.guards;

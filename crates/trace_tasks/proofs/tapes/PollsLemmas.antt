@@ -1,7 +1,7 @@
 -- Polls over a tape spell their requests.
 use Rattle.std.proofs.Common.{◌≡◌, ℕ, zero, suc, ◌+◌, ◌-◌, ◌<◌, ◌^◌, List, [], ◌∷◌, ◌++◌, length, map, Bool, true, Option, Some, None, refl, sym, ap, subst, ◌∙◌, arith, slice_get, slice_set, append_assoc, ◌==◌, ◌&&◌, if◌then◌else◌, nat_lt}
 use Rattle.std.proofs.lemmas.List.{append-nil, length_push}
-use Rattle.trace_tasks.proofs.Common.{cond-true, Callsite, Lane, Enter, Exit, TryClose, with_span_entry, with_span_exit, cached_at, Span, Spans, span_at, entries_on, with_hold, without_hold, without_last, next_of, Replaced, Chain, ended, closes, Handle, Held, ReplacedOn, handle_of, BeginsInside, Request, TapeValue, DoesTape, on_first_lane, is_opened, is_due, let_go, exit_requests, drop_requests, handles_of, one_more, TouchesTape, is_live, Step, steps_now, steps_left, TaskScene, Entered, Exited, UnfinishedTask, step_call, moment_of, drop_at_end, poll_requests, tape_spans, CarriesTape, IsTested, root_of_one_handle}
+use Rattle.trace_tasks.proofs.Common.{cond-true, Callsite, Lane, Enter, Exit, TryClose, with_span_entry, with_span_exit, cached_at, Span, Spans, span_at, entries_on, with_hold, without_hold, without_last, parent_to_release, Replaced, Chain, ended, closes, Handle, HeldSpan, ReplacedOn, handle_of, BeginsInside, Request, TapeValue, DoesTape, on_first_lane, is_opened, is_due, let_go, exit_requests, drop_requests, handles_of, one_more, TouchesTape, is_live, Step, steps_now, steps_left, TaskScene, Entered, Exited, UnfinishedTask, step_call, moment_of, drop_at_end, poll_requests, tape_spans, CarriesTape, IsTested, root_of_one_handle}
 use Rattle.std.proofs.lemmas.Bool.{eq-eqb, lt-ltb}
 use Rattle.otel_state.specs.Stack.{last_passing}
 use Rattle.trace_tape.specs.declared.opened.Opened.{Opened}
@@ -16,7 +16,7 @@ pub split : (d : ℕ) (rs more : List Request) (s t : TaskScene TapeValue) → C
 split d [] more s t did = (s, refl, did)
 split d (r ∷ rs) more s t (x, one, rest) = (let two = split d rs more x t rest in (two.0, (x, one, two.1), two.2))
 
-the_held : (a b : Held) → ◌≡◌ {A = Option Held} (Some a) (Some b) → a ≡ b
+the_held : (a b : HeldSpan) → ◌≡◌ {A = Option HeldSpan} (Some a) (Some b) → a ≡ b
 the_held a b e = cc e
 
 the_handle : (a b : Handle) → ◌≡◌ {A = Option Handle} (Some a) (Some b) → a ≡ b
@@ -50,11 +50,11 @@ chain_none : (d at : ℕ) (o : Option ℕ) (s t : TapeValue) → Chain tape_span
 chain_none d at _ _ _ (ended s) is = refl
 chain_none d at _ _ _ (closes id s m t did rest) is = absurd (cc is)
 
-chain_one : (d at : ℕ) (o : Option ℕ) (s t : TapeValue) → Chain tape_spans DoesTape at o s t → (id : ℕ) → o ≡ Some id → next_of s.below.spans.made id ≡ None → DoesTape s (TryClose id at) t
+chain_one : (d at : ℕ) (o : Option ℕ) (s t : TapeValue) → Chain tape_spans DoesTape at o s t → (id : ℕ) → o ≡ Some id → parent_to_release s.below.spans.made id ≡ None → DoesTape s (TryClose id at) t
 chain_one d at _ _ _ (ended s) id is none = absurd (cc is)
 chain_one d at _ _ _ (closes i s m t did rest) id is none =
     let same : i ≡ id = cc is in
-    let last : t ≡ m = chain_none d at (next_of s.below.spans.made i) m t rest (ap (λ (n : ℕ). next_of s.below.spans.made n) same ∙ none) in
+    let last : t ≡ m = chain_none d at (parent_to_release s.below.spans.made i) m t rest (ap (λ (n : ℕ). parent_to_release s.below.spans.made n) same ∙ none) in
     subst (λ (x : TapeValue). DoesTape s (TryClose id at) x) (sym last) (subst (λ (n : ℕ). DoesTape s (TryClose n at) m) same did)
 
 held_live : (made : List Span) (id site : ℕ) → span_at made id ≡ root_of_one_handle site → (span_at (with_hold made id) id).holds ≡ 2
@@ -117,7 +117,7 @@ module _ (d : ℕ) (sites : List Callsite) (k : ℕ) (t : UnfinishedTask) (few :
         cached = one.cached;
         lane = r.did.below.lane;
         table = enter.handles;
-        guarded = enter.guards ∙ ap (λ (h : Held). s.guards ++ h ∷ []) held_is;
+        guarded = enter.guards ∙ ap (λ (h : HeldSpan). s.guards ++ h ∷ []) held_is;
       }
 
   -- the steps
@@ -161,8 +161,8 @@ module _ (d : ℕ) (sites : List Callsite) (k : ℕ) (t : UnfinishedTask) (few :
   leaves s e m tape between waits rs inside exit =
       let n : ℕ = t.number in
       let a : ℕ = moment_of k in
-      let held_is : exit.held ≡ Some (d, n) = the_held exit.held (Some (d, n)) (sym exit.is ∙ ap (λ (gs : List Held). slice_get gs k) inside.guarded ∙ get_push s.guards (Some (d, n)) k between.guard_count) in
-      let r : Replaced (λ x y. DoesTape x (Exit n a e.lane m.lane) y) e.world m.world d = subst (λ (h : Held). ReplacedOn (λ id x y. DoesTape x (Exit id a e.lane m.lane) y) e.world m.world h) held_is exit.exited in
+      let held_is : exit.held ≡ Some (d, n) = the_held exit.held (Some (d, n)) (sym exit.is ∙ ap (λ (gs : List HeldSpan). slice_get gs k) inside.guarded ∙ get_push s.guards (Some (d, n)) k between.guard_count) in
+      let r : Replaced (λ x y. DoesTape x (Exit n a e.lane m.lane) y) e.world m.world d = subst (λ (h : HeldSpan). ReplacedOn (λ id x y. DoesTape x (Exit id a e.lane m.lane) y) e.world m.world h) held_is exit.exited in
       let one = one_call e.world m.world d inside.now (Exit n a e.lane m.lane) inside.there r in
       let lane_same : m.lane ≡ e.lane = r.did.below.lane in
       let at_start : e.lane.id ≡ s.lane.id = ap (λ (l : Lane). l.id) inside.lane in
@@ -181,7 +181,7 @@ module _ (d : ℕ) (sites : List Callsite) (k : ℕ) (t : UnfinishedTask) (few :
           no_due = ap (λ (x : TapeValue). x.due) one.is ∙ inside.due;
           no_entries = ap (λ (x : TapeValue). x.entries) one.is ∙ ap (λ (xs : List Opened). without_last p xs) inside.entries ∙ without_is p o passes;
           guards = ap (λ (x : TapeValue). x.guards) one.is ∙ inside.guards;
-          guard_count = (let l = ap (λ (gs : List Held). length gs) (exit.guards ∙ inside.guarded) in let q = length_push s.guards (Some (d, n)) in let z = between.guard_count in omega (arith, l, q, z));
+          guard_count = (let l = ap (λ (gs : List HeldSpan). length gs) (exit.guards ∙ inside.guarded) in let q = length_push s.guards (Some (d, n)) in let z = between.guard_count in omega (arith, l, q, z));
           none_open = ap (λ (l : Lane). entries_on l.id one.now.below.spans.lanes) (lane_same ∙ inside.lane) ∙ ap (λ (x : Spans). entries_on s.lane.id x.lanes) spans_now ∙ exited_entries y n s.lane.id open_one;
         };
         made = ap (λ (x : Spans). x.made) spans_now ∙ exited_made y n s.lane.id open_one ∙ ap (λ (made : List Span). without_hold made n) (entered_made tape.below.spans n s.lane.id between.none_open) ∙ back tape.below.spans.made n t.site waits.lone;
@@ -211,7 +211,7 @@ module _ (d : ℕ) (sites : List Callsite) (k : ℕ) (t : UnfinishedTask) (few :
       let chain : Replaced (λ b q. Chain tape_spans DoesTape a (Some n) b q) e.world x.world d = subst (λ (h : Handle). ReplacedOn (λ id b q. Chain tape_spans DoesTape a (Some id) b q) e.world x.world h.held) handle_is drop.did.1 in
       let before_is : chain.before ≡ out.now = the_now chain.before out.now (sym chain.there ∙ out.between.there) in
       let lone : span_at out.now.below.spans.made n ≡ root_of_one_handle t.site = ap (λ (made : List Span). span_at made n) out.made ∙ waits.lone in
-      let no_more : next_of chain.before.below.spans.made n ≡ None = ap (λ (y : TapeValue). next_of y.below.spans.made n) before_is ∙ no_next out.now.below.spans.made n t.site lone in
+      let no_more : parent_to_release chain.before.below.spans.made n ≡ None = ap (λ (y : TapeValue). parent_to_release y.below.spans.made n) before_is ∙ no_next out.now.below.spans.made n t.site lone in
       let r : Replaced (λ b q. DoesTape b (TryClose n a) q) e.world x.world d = record {
         before = chain.before;
         later = chain.later;
@@ -222,8 +222,8 @@ module _ (d : ℕ) (sites : List Callsite) (k : ℕ) (t : UnfinishedTask) (few :
       let one = one_call e.world x.world d out.now (TryClose n a) out.between.there r in
       let once : handles_of out.now.handles n ≡ 1 = ap (λ (hs : List ℕ). handles_of hs n) out.holds ∙ waits.once in
       -- what the release is, since nothing is due
-      let let_it_go : one.now ≡ record (record (let_go out.now n a) { due = next_of out.now.below.spans.made n }) { below = one.now.below } =
-      one.is ∙ ap (λ (b : Bool). let y : TapeValue = record (record (if b then out.now else let_go out.now n a) { due = next_of out.now.below.spans.made n }) { below = one.now.below } in y) (ap (λ (o : Option ℕ). is_due o n) out.between.no_due) in
+      let let_it_go : one.now ≡ record (record (let_go out.now n a) { due = parent_to_release out.now.below.spans.made n }) { below = one.now.below } =
+      one.is ∙ ap (λ (b : Bool). let y : TapeValue = record (record (if b then out.now else let_go out.now n a) { due = parent_to_release out.now.below.spans.made n }) { below = one.now.below } in y) (ap (λ (o : Option ℕ). is_due o n) out.between.no_due) in
       let spans_now : one.now.below.spans.made ≡ without_hold out.now.below.spans.made n = ap (λ (y : Spans). y.made) one.spans_are in (
         one.now,
         subst (λ (y : TaskScene TapeValue). BetweenPolls d sites (k + 1) y one.now) (sym last) (record {
@@ -233,7 +233,7 @@ module _ (d : ℕ) (sites : List Callsite) (k : ℕ) (t : UnfinishedTask) (few :
           no_due = ap (λ (y : TapeValue). y.due) let_it_go ∙ no_next out.now.below.spans.made n t.site lone;
           no_entries = ap (λ (y : TapeValue). y.entries) let_it_go ∙ out.between.no_entries;
           guards = ap (λ (y : TapeValue). y.guards) let_it_go ∙ out.between.guards;
-          guard_count = ap (λ (gs : List Held). length gs) drop.guards ∙ out.between.guard_count;
+          guard_count = ap (λ (gs : List HeldSpan). length gs) drop.guards ∙ out.between.guard_count;
           none_open = ap (λ (l : Lane). entries_on l.id one.now.below.spans.lanes) drop.did.0 ∙ ap (λ (y : Spans). entries_on e.lane.id y.lanes) one.spans_are ∙ out.between.none_open;
         }),
         ap (λ (y : TapeValue). y.requests) let_it_go ∙ ap (λ (h : ℕ). out.now.requests ++ drop_requests a n h) once ∙ ap (λ (qs : List Request). qs ++ on_first_lane a (call.Drop n) ∷ []) out.spells ∙ append_assoc tape.requests rs (on_first_lane a (call.Drop n) ∷ []),

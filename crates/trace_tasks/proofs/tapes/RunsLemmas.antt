@@ -2,7 +2,7 @@
 use Rattle.std.proofs.Common.{◌≡◌, ℕ, zero, suc, ◌+◌, ◌<◌, ◌^◌, List, [], ◌∷◌, ◌++◌, length, Bool, true, Option, Some, None, refl, sym, ap, subst, ◌∙◌, arith, slice_get, append_assoc, slice_index_or}
 use Rattle.std.proofs.lemmas.List.{append-nil, length_push}
 use Rattle.std.proofs.lemmas.Option.{slice_get_within}
-use Rattle.trace_tasks.proofs.Common.{list_all, option_map_or, Callsite, Lane, SubscriberCall, NewSpan, with_new_span, Worlds, cached_at, gate, Span, Spans, no_span, span_at, entries_on, parent_on, Replaced, spans_in, no_spans, Handle, handle_of, Request, TapeValue, DoesTape, on_first_lane, named_values, handles_of, TouchesTape, Step, steps_left, TaskScene, MakesGated, Made, Fields, declares, values_of, UnfinishedTask, requeue, tasks_at_first, makings, tape_spans, CarriesTape, IsDeclared, IsTested, AreTested, IsNewTape, Ready, root_of_one_handle, dispatch_serving, Task, Instrumented, Running, AreBegun}
+use Rattle.trace_tasks.proofs.Common.{list_all, option_map_or, Callsite, Lane, SubscriberCall, NewSpan, with_new_span, WorldValue, cached_at, gate, Span, Spans, no_span, span_at, entries_on, parent_on, Replaced, spans_in, no_spans, Handle, handle_of, Request, TapeValue, DoesTape, on_first_lane, named_values, handles_of, TouchesTape, Step, steps_left, TaskScene, MakesGated, Made, Fields, declares, values_of, UnfinishedTask, requeue, tasks_at_first, makings, tape_spans, CarriesTape, IsDeclared, IsTested, AreTested, IsNewTape, Ready, root_of_one_handle, dispatch_serving, Task, Instrumented, Running, AreBegun}
 use Rattle.std.specs.Option.{option_map}
 use Rattle.trace_base.specs.declared.span.Parent.TheVariants as parent
 use Rattle.span_script.specs.declared.request.Call.TheVariants as call
@@ -203,14 +203,14 @@ makings_spell d sites i (t ∷ tasks) s m tape making tested (x, new, rest) =
 
 -- ---- begun tasks
 
-spans_there : (world : Worlds TapeValue) (d : ℕ) (tape : TapeValue) → IsNewTape world d tape → spans_in tape_spans world d ≡ tape.below.spans
+spans_there : (world : WorldValue TapeValue) (d : ℕ) (tape : TapeValue) → IsNewTape world d tape → spans_in tape_spans world d ≡ tape.below.spans
 spans_there world d tape new = ap (λ (o : Option TapeValue). option_map_or tape_spans o no_spans) new.there
 
-pub few_new : (world : Worlds TapeValue) (d n : ℕ) (tape : TapeValue) → IsNewTape world d tape → n < 2 ^ 63 → length (spans_in tape_spans world d).made + n < 2 ^ 63
+pub few_new : (world : WorldValue TapeValue) (d n : ℕ) (tape : TapeValue) → IsNewTape world d tape → n < 2 ^ 63 → length (spans_in tape_spans world d).made + n < 2 ^ 63
 few_new world d n tape new few = (let e = ap (λ (x : Spans). length x.made) (spans_there world d tape new) in let z = ap (λ (xs : List Span). length xs) new.no_spans in omega (arith, e, z, few))
 
 -- before the makings
-pub none_made : (d : ℕ) (old : Worlds TapeValue) (lane : Lane) (tape : TapeValue) → dispatch_serving lane ≡ d → IsNewTape old d tape → Ready tape_spans (λ s lane number. 0) (λ s. Unit {0}) old lane → OnlySpansMade d old.sites 0 (record { world = old; lane = lane; handles = []; guards = [] }) tape
+pub none_made : (d : ℕ) (old : WorldValue TapeValue) (lane : Lane) (tape : TapeValue) → dispatch_serving lane ≡ d → IsNewTape old d tape → Ready tape_spans (λ s lane number. 0) (λ s. Unit {0}) old lane → OnlySpansMade d old.sites 0 (record { world = old; lane = lane; handles = []; guards = [] }) tape
 none_made d old lane tape serves new ready = record {
   between = record {
     there = new.there;
@@ -228,7 +228,7 @@ none_made d old lane tape serves new ready = record {
 }
 
 -- tasks that were begun over a new tape spelled their makings
-pub begun_spells : (d : ℕ) (tasks : List Task) (old world : Worlds TapeValue) (lane : Lane) (tape : TapeValue) (fs : List (Instrumented Running)) → dispatch_serving lane ≡ d → IsNewTape old d tape → Ready tape_spans (λ s lane number. 0) (λ s. Unit {0}) old lane → AreTested old.sites tasks
+pub begun_spells : (d : ℕ) (tasks : List Task) (old world : WorldValue TapeValue) (lane : Lane) (tape : TapeValue) (fs : List (Instrumented Running)) → dispatch_serving lane ≡ d → IsNewTape old d tape → Ready tape_spans (λ s lane number. 0) (λ s. Unit {0}) old lane → AreTested old.sites tasks
     → (b : AreBegun tape_spans (λ s. None) (λ s lane c. true) (λ s lane number. 0) (λ s. Unit {0}) DoesTape TouchesTape tasks lane old world fs)
     → MadeAll d old.sites 0 tasks (record { world = old; lane = lane; handles = []; guards = [] }) (record { world = world; lane = lane; handles = b.handles; guards = [] }) tape
 begun_spells d tasks old world lane tape fs serves new ready tested b =

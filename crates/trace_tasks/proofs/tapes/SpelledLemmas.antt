@@ -1,6 +1,6 @@
 -- What requests that are carried out over a tape spell.
 use Rattle.std.proofs.Common.{◌≡◌, ℕ, List, [], ◌∷◌, map, Bool, true, false, Option, Some, None, refl, sym, ap, ◌∙◌, slice_get, ◌&&◌, if◌then◌else◌, filter_map, is_some, position, bytes_eq, slice_index_or}
-use Rattle.trace_tasks.proofs.Common.{list_all, cons_option, Callsite, SubscriberCall, spans_after_call, place_of, Worlds, Replaced, now_there, TapeValue, DoesTape, taped_after, field_name_at, named_values, Fields, declared_value, declares, values_of, declared_ones}
+use Rattle.trace_tasks.proofs.Common.{list_all, cons_option, Callsite, SubscriberCall, spans_after_call, place_of, WorldValue, Replaced, now_there, TapeValue, DoesTape, taped_after, field_name_at, named_values, Fields, declared_value, declares, values_of, declared_ones}
 use Rattle.std.specs.Option.{option_map}
 use Rattle.std.proofs.lemmas.Bool.{true≢false}
 use Rattle.std.specs.Cmp.Lexicographic.{same_text}
@@ -42,7 +42,7 @@ module _ (c : Callsite) where
 -- ---- one call
 
 -- the tape after a call, in its world
-pub record After (old new : Worlds TapeValue) (d : ℕ) (tape : TapeValue) (call : SubscriberCall) : Type 0 where
+pub record After (old new : WorldValue TapeValue) (d : ℕ) (tape : TapeValue) (call : SubscriberCall) : Type 0 where
   pub now : TapeValue
   pub there : slice_get new.subscribers d ≡ Some now
   pub spans_are : now.below.spans ≡ spans_after_call tape.below.spans call
@@ -53,7 +53,7 @@ pub record After (old new : Worlds TapeValue) (d : ℕ) (tape : TapeValue) (call
 the_tape : (a b : TapeValue) → ◌≡◌ {A = Option TapeValue} (Some a) (Some b) → a ≡ b
 the_tape a b e = cc e
 
-pub one_call : (old new : Worlds TapeValue) (d : ℕ) (tape : TapeValue) (call : SubscriberCall) → slice_get old.subscribers d ≡ Some tape → Replaced (λ s t. DoesTape s call t) old new d → After old new d tape call
+pub one_call : (old new : WorldValue TapeValue) (d : ℕ) (tape : TapeValue) (call : SubscriberCall) → slice_get old.subscribers d ≡ Some tape → Replaced (λ s t. DoesTape s call t) old new d → After old new d tape call
 one_call old new d tape call there r =
     let same : r.before ≡ tape = the_tape r.before tape (sym r.there ∙ there) in
     record {
@@ -61,6 +61,6 @@ one_call old new d tape call there r =
       there = now_there (λ (s t : TapeValue). DoesTape s call t) old new d r;
       spans_are = r.did.below.shows ∙ ap (λ (x : TapeValue). spans_after_call x.below.spans call) same;
       is = r.did.tape ∙ ap (λ (x : TapeValue). let y : TapeValue = record (taped_after x call) { below = r.later.below } in y) same;
-      sites = ap (λ (w : Worlds TapeValue). w.sites) r.others;
-      cached = ap (λ (w : Worlds TapeValue). w.cached) r.others;
+      sites = ap (λ (w : WorldValue TapeValue). w.sites) r.others;
+      cached = ap (λ (w : WorldValue TapeValue). w.cached) r.others;
     }

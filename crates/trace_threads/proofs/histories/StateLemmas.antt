@@ -2,7 +2,7 @@
 use Rattle.std.proofs.Common.{◌≡◌, ℕ, ◌+◌, ◌-◌, ◌<◌, ◌≤◌, ◌==◌, ◌^◌, Bool, true, false, max, List, [], ◌∷◌, ◌++◌, length, refl, ap, sym, ◌∙◌, subst, arith, length-append, append_assoc, true≢false, fold, flat_map, is_some, Result, Ok, Err, OnErr, IsTrue}
 use Rattle.std.proofs.lemmas.List.{append-nil}
 use Rattle.std.proofs.lemmas.List.Sums.{fold-append}
-use Rattle.trace_threads.proofs.Common.{flat_map-append, Op, Making, Entry, HandleAct, Clone, Call, Join, Release, SpanData, data_at_making, after_stamped, Stands, is_growing, Move, enters, exits, stays, move_of, open_count_after, Sum, start, entry, has, sum_after, clones_after, held_after, inside_after, move_in, may, may_do, may_move, sum_of, is_legal, IsLegal, IsHeld, is_closed, base_of, own_op, ops_by, ops_in, ops_of, data_by, started_by, ops_at_close, content_of, IsKept}
+use Rattle.trace_threads.proofs.Common.{flat_map-append, Op, Making, Entry, HandleAct, Clone, Call, Join, Release, SpanData, data_at_making, after_stamped, Represents, is_growing, Move, enters, exits, stays, move_of, open_count_after, Sum, start, entry, has, sum_after, clones_after, held_after, inside_after, move_in, may, may_do, may_move, sum_of, is_legal, IsLegal, IsHeld, is_closed, base_of, own_op, ops_by, ops_in, ops_of, data_by, started_by, ops_at_close, content_of, IsKept}
 use Rattle.otel_base.specs.declared.context.SpanContext.{SpanContext}
 use Rattle.otel_state.specs.declared.op.Op.TheVariants as ops
 use Rattle.otel_base.specs.declared.record.Record.{Record}
@@ -117,7 +117,7 @@ ordered making log l low =
     ordered_all making (start making.made_at) log (record { at = making.made_at; op = ops.Update making.update } ∷ []) l low (record { order = (omega arith, omega (arith, up, low)); late = omega arith })
 
 close_case : (making : Making) (log : List Entry) (b : Bool) → is_some (data_by making log).own ≡ b → IsLegal making.made_at log → (sum making.made_at log).last ≤ GREATEST
-    → Stands (base_of making) (ops_at_close making log) (started_by making.own (sum making.made_at log).last (data_by making log)) × MomentsRise making.made_at (ops_at_close making log)
+    → Represents (base_of making) (ops_at_close making log) (started_by making.own (sum making.made_at log).last (data_by making log)) × MomentsRise making.made_at (ops_at_close making log)
 close_case making log true is l low = let o = ordered making log l low in rw is (refl, o.order)
 close_case making log false is l low =
     let o = ordered making log l low in
@@ -127,7 +127,7 @@ close_case making log false is l low =
 
 -- what the close of a state has to know
 pub closes : (making : Making) (log : List Entry) (span_data span_data' : SpanData) (own : SpanContext) (last clones holders inside room : ℕ) (result : Record) → IsKept making log span_data own last clones holders inside room → span_data' ≡ started_by own last span_data
-    → ((base : Base) (ops : List TimedOp) → Stands base ops span_data' → MomentsRise base.made_at ops → result ≡ content base ops last) → result ≡ content_of making log
+    → ((base : Base) (ops : List TimedOp) → Represents base ops span_data' → MomentsRise base.made_at ops → result ≡ content base ops last) → result ≡ content_of making log
 closes making log span_data span_data' own last clones holders inside room result k e f =
     let low : (sum making.made_at log).last ≤ GREATEST = let a = k.at_last in let b = k.low in omega (arith, a, b) in
     let c = close_case making log (is_some (data_by making log).own) refl k.legal low in

@@ -1,9 +1,9 @@
 -- What is done between a making and a close, or an entry and an exit, put together from what the calls say.
 use Rattle.std.proofs.Common.{◌≡◌, ℕ, Result, Ok, OnOk, ap, ◌∙◌, subst}
-use Rattle.traced.proofs.Common.{Memory, ValueSet, Lane, Parent, Ghosts, Worlds, Exit, Handle, ReplacedOn, EntryGuard, TellsOne, TellsIfAnswered, MakesIfAnswered, Closes, Enters, Exits, MakesAndCloses, EntersAndExits, Tells}
+use Rattle.traced.proofs.Common.{Memory, ValueSet, Lane, Parent, Ghosts, WorldValue, Exit, Handle, ReplacedOn, EntryGuard, TellsOne, TellsIfAnswered, MakesIfAnswered, Closes, Enters, Exits, MakesAndCloses, EntersAndExits, Tells}
 
-module _ {S : Type 0} {sub : Ghosts S} {old new : Worlds S} where
-  pub makes_and_closes : {begun ended : Worlds S} {lane : Lane} {parent : Parent} {site begins ends : ℕ} {values : ValueSet} {handle : Handle} {between : Handle → Worlds S → Worlds S → Type 0}
+module _ {S : Type 0} {sub : Ghosts S} {old new : WorldValue S} where
+  pub makes_and_closes : {begun ended : WorldValue S} {lane : Lane} {parent : Parent} {site begins ends : ℕ} {values : ValueSet} {handle : Handle} {between : Handle → WorldValue S → WorldValue S → Type 0}
       → MakesIfAnswered sub old begun lane begins parent site values (Ok handle) → between handle begun ended → Closes sub ended new ends handle → MakesAndCloses sub lane parent site values begins ends between old new
   makes_and_closes {begun} {ended} {handle = handle} makes meanwhile closes = record {
     handle = handle;
@@ -15,7 +15,7 @@ module _ {S : Type 0} {sub : Ghosts S} {old new : Worlds S} where
   }
 
   -- the guard is of the span that was entered
-  pub enters_and_exits : {world left_world : Worlds S} {before later lane left_lane : Lane} {handle : Handle} {guard : EntryGuard} {enters exits : ℕ} {between : Worlds S → Lane → Worlds S → Lane → Type 0}
+  pub enters_and_exits : {world left_world : WorldValue S} {before later lane left_lane : Lane} {handle : Handle} {guard : EntryGuard} {enters exits : ℕ} {between : WorldValue S → Lane → WorldValue S → Lane → Type 0}
       → Enters sub old world before lane enters handle guard → between world lane left_world left_lane → Exits sub left_world new left_lane later exits guard → EntersAndExits sub handle enters exits between old new before later
   enters_and_exits {world} {left_world} {later = later} {lane = lane} {left_lane = left_lane} {exits = exits} entered meanwhile exited = record {
     world = world;

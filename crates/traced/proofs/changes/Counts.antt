@@ -1,6 +1,6 @@
 -- How many spans and holds there are after a call.
 use Rattle.std.proofs.Common.{◌≡◌, ℕ, ◌+◌, ◌≤◌, List, [], ◌∷◌, ◌++◌, length, set, Option, Some, None, refl, sym, ap, subst, arith, inl, inr, ◌==◌}
-use Rattle.traced.proofs.Common.{cases_eq, cases_lt, cases_order, cases_Bool, cond-true, cond-false, length_push, get_or_past, get_or_push, get_or_append_left, Span, Spans, no_span, span_at, entries_on, is_in, times_in, next_of, with_hold, without_hold, less_hold, with_hold_of_child, TryClose, spans_after_call, with_new_span, with_span_entry, with_span_exit, length_held, holds_set, holds_other, less_holds, ReleasesChain, all_released, releases, AreAtMost}
+use Rattle.traced.proofs.Common.{cases_eq, cases_lt, cases_order, cases_Bool, cond-true, cond-false, length_push, get_or_past, get_or_push, get_or_append_left, Span, Spans, no_span, span_at, entries_on, is_in, times_in, parent_to_release, with_hold, without_hold, span_without_hold, with_hold_of_child, TryClose, spans_after_call, with_new_span, with_span_entry, with_span_exit, length_held, holds_set, holds_other, less_holds, ReleasesChain, all_released, releases, AreAtMost}
 use Rattle.std.proofs.lemmas.List.{length-set}
 
 pub more : (n m : ℕ) (x : Spans) → n ≤ m → AreAtMost n x → AreAtMost m x
@@ -29,7 +29,7 @@ with_held n x id few =
 
 pub with_released : (n : ℕ) (x : Spans) (id : ℕ) → AreAtMost n x → AreAtMost n (record x { made = without_hold x.made id })
 with_released n x id few =
-    let now : Span = less_hold (span_at x.made id) in
+    let now : Span = span_without_hold (span_at x.made id) in
     record {
       spans = (let e = length-set x.made id now in omega (arith, e, few.spans));
       holds = written n x.made id now (let e = less_holds (span_at x.made id) in let h = few.holds id in omega (arith, e, h)) few.holds;
@@ -75,4 +75,4 @@ with_exit n x id lane few =
 -- a chain of closes leaves entries
 pub with_closes : (n : ℕ) (next : Option ℕ) (x y : Spans) → ReleasesChain next x y → AreAtMost n x → AreAtMost n y × (y.lanes ≡ x.lanes)
 with_closes n _ _ _ (all_released x) few = (few, refl)
-with_closes n _ _ _ (releases id at x y own rest) few = with_closes n (next_of x.made id) (spans_after_call x (TryClose id at)) y rest (with_released n x id few)
+with_closes n _ _ _ (releases id at x y own rest) few = with_closes n (parent_to_release x.made id) (spans_after_call x (TryClose id at)) y rest (with_released n x id few)

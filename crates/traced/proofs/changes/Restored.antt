@@ -1,7 +1,7 @@
 -- What is made is closed, and what is entered is exited.
 use Rattle.std.proofs.Common.{◌≡◌, ℕ, ◌+◌, ◌-◌, ◌<◌, List, [], ◌∷◌, ◌++◌, length, Option, Some, None, Bool, true, refl, sym, ap, ◌∙◌, subst, arith, inl, inr, ◌==◌, if◌then◌else◌}
 use Rattle.std.specs.List.{list_any}
-use Rattle.traced.proofs.Common.{cases_eq, cases_order, cases_Bool, cond-true, cond-false, length_push, get_or_past, get_or_push, get_or_append_left, Span, Spans, no_span, span_at, entries_on, is_in, times_in, without_last, next_of, with_hold, without_hold, less_hold, with_hold_of_child, with_new_span, with_span_entry, with_span_exit, count_push, counted_if_any, any_if_counted, none_counted, length_held, made_if_held, with_same, with_other, less_last, less_more, ReleasesChain, all_released, releases, Held, AreAsBefore, IsNewest, IsOfNewest, IsLiveOn, IsEntered, IsOpen}
+use Rattle.traced.proofs.Common.{cases_eq, cases_order, cases_Bool, cond-true, cond-false, length_push, get_or_past, get_or_push, get_or_append_left, Span, Spans, no_span, span_at, entries_on, is_in, times_in, without_last, parent_to_release, with_hold, without_hold, span_without_hold, with_hold_of_child, with_new_span, with_span_entry, with_span_exit, count_push, counted_if_any, any_if_counted, none_counted, length_held, made_if_held, with_same, with_other, less_last, less_more, ReleasesChain, all_released, releases, HeldSpan, AreAsBefore, IsNewest, IsOfNewest, IsLiveOn, IsEntered, IsOpen}
 use Rattle.std.proofs.lemmas.Bool.{eq-eqb, ne_eqb}
 use Rattle.std.proofs.lemmas.List.{get_or-set_same, get_or-set_other}
 
@@ -13,11 +13,11 @@ pub on : (x y z : Spans) → AreAsBefore x y → AreAsBefore y z → AreAsBefore
 on x y z first later = record { spans = λ id. later.spans id ∙ first.spans id; entries = λ lane. later.entries lane ∙ first.entries lane }
 
 -- a span that has a hold, and another one, where one hold less is written
-at_released : (made : List Span) (id q : ℕ) → 0 < (span_at made id).holds → q ≡ id → span_at (without_hold made id) q ≡ less_hold (span_at made id)
-at_released made id q live here = ap (span_at (without_hold made id)) here ∙ get_or-set_same made id (less_hold (span_at made id)) no_span (made_if_held made id live)
+at_released : (made : List Span) (id q : ℕ) → 0 < (span_at made id).holds → q ≡ id → span_at (without_hold made id) q ≡ span_without_hold (span_at made id)
+at_released made id q live here = ap (span_at (without_hold made id)) here ∙ get_or-set_same made id (span_without_hold (span_at made id)) no_span (made_if_held made id live)
 
 beside_released : (made : List Span) (id q : ℕ) → (q ≡ id → ⊥) → span_at (without_hold made id) q ≡ span_at made q
-beside_released made id q other = get_or-set_other made id q (less_hold (span_at made id)) no_span other
+beside_released made id q other = get_or-set_other made id q (span_without_hold (span_at made id)) no_span other
 
 -- one hold more and one less
 at_held : (made : List Span) (id q : ℕ) → 0 < (span_at made id).holds → q ≡ id → span_at (with_hold made id) q ≡ record (span_at made id) { holds = (span_at made id).holds + 1 }
@@ -26,11 +26,11 @@ at_held made id q live here = ap (span_at (with_hold made id)) here ∙ get_or-s
 beside_held : (made : List Span) (id q : ℕ) → (q ≡ id → ⊥) → span_at (with_hold made id) q ≡ span_at made q
 beside_held made id q other = get_or-set_other made id q (record (span_at made id) { holds = (span_at made id).holds + 1 }) no_span other
 
-less_of_more : (s now : Span) → 0 < s.holds → now ≡ record s { holds = s.holds + 1 } → less_hold now ≡ s
+less_of_more : (s now : Span) → 0 < s.holds → now ≡ record s { holds = s.holds + 1 } → span_without_hold now ≡ s
 less_of_more s now live is =
     let more : Span = record s { holds = s.holds + 1 } in
     let back : s.holds + 1 - 1 ≡ s.holds = omega arith in
-    ap less_hold is ∙ less_more more (λ e. omega (arith, e, live)) ∙ ap (λ (n : ℕ). record s { holds = n }) back
+    ap span_without_hold is ∙ less_more more (λ e. omega (arith, e, live)) ∙ ap (λ (n : ℕ). record s { holds = n }) back
 
 -- a hold is given back, and the other spans are as they were
 given_back : (made now : List Span) (id : ℕ) → 0 < (span_at made id).holds → ((q : ℕ) → span_at now q ≡ span_at (with_hold made id) q) → (q : ℕ) → span_at (without_hold now id) q ≡ span_at made q
@@ -46,11 +46,11 @@ ends : (next : Option ℕ) (x y : Spans) → ReleasesChain next x y → next ≡
 ends _ _ _ (all_released x) nothing = refl
 ends _ _ _ (releases id at x y own rest) nothing = absurd (cc nothing)
 
-goes_on : (next : Option ℕ) (x y : Spans) → ReleasesChain next x y → (id : ℕ) → next ≡ Some id → ReleasesChain (next_of x.made id) (record x { made = without_hold x.made id }) y
+goes_on : (next : Option ℕ) (x y : Spans) → ReleasesChain next x y → (id : ℕ) → next ≡ Some id → ReleasesChain (parent_to_release x.made id) (record x { made = without_hold x.made id }) y
 goes_on _ _ _ (all_released x) id is = absurd (cc is)
 goes_on _ _ _ (releases k at x y own rest) id is =
     let same : k ≡ id = cc is in
-    subst (λ (j : ℕ). ReleasesChain (next_of x.made j) (record x { made = without_hold x.made j }) y) same rest
+    subst (λ (j : ℕ). ReleasesChain (parent_to_release x.made j) (record x { made = without_hold x.made j }) y) same rest
 
 -- the spans beside the newest
 beside_newest : (made : List Span) (new : Span) (q : ℕ) → (q ≡ length made → ⊥) → span_at (made ++ new ∷ []) q ≡ span_at made q
@@ -68,7 +68,7 @@ module _ (x y z : Spans) (id : ℕ) (newest : IsNewest x y id) (chain : Releases
   last : (span_at y.made id).holds ≡ 1
   last = ap (λ (s : Span). s.holds) at_newest
 
-  above : next_of y.made id ≡ newest.above
+  above : parent_to_release y.made id ≡ newest.above
   above = cond-true {A = Option ℕ} ((span_at y.made id).holds == 1) (span_at y.made id).parent None (eq-eqb (span_at y.made id).holds 1 last) ∙ ap (λ (s : Span). s.parent) at_newest
 
   rest : ReleasesChain newest.above (record y { made = without_hold y.made id }) z
@@ -98,12 +98,12 @@ under x y z id newest chain (Some p) is q =
     let many : ((span_at (without_hold y.made id) p).holds ≡ 1 → ⊥) = λ one. (let e = ap (λ (s : Span). s.holds) (now p ∙ at_held x.made p p live refl) in omega (arith, e, one, live)) in
     let w : Spans = record y { made = without_hold y.made id } in
     let on = goes_on newest.above w z (rest x y z id newest chain) p is in
-    let ended = ends (next_of w.made p) (record w { made = without_hold w.made p }) z on
+    let ended = ends (parent_to_release w.made p) (record w { made = without_hold w.made p }) z on
     (cond-false {A = Option ℕ} ((span_at w.made p).holds == 1) (span_at w.made p).parent None (ne_eqb (span_at w.made p).holds 1 many)) in
     ap (λ (v : Spans). span_at v.made q) ended ∙ given_back x.made (without_hold y.made id) p live now q
 
 -- it is the newest after calls that leave spans as they were
-pub stays_newest : (h : Held) (x w y : Spans) → IsOfNewest x w h → AreAsBefore w y → IsOfNewest x y h
+pub stays_newest : (h : HeldSpan) (x w y : Spans) → IsOfNewest x w h → AreAsBefore w y → IsOfNewest x y h
 stays_newest None x w y newest same = on x w y newest same
 stays_newest (Some h) x w y newest same = record {
   above = newest.above;
@@ -114,16 +114,16 @@ stays_newest (Some h) x w y newest same = record {
 }
 
 -- what the close of a handle makes
-abbrev pub IsReleasedOn : Held → Spans → Spans → Type 0
+abbrev pub IsReleasedOn : HeldSpan → Spans → Spans → Type 0
 IsReleasedOn None y z = z ≡ y
 IsReleasedOn (Some h) y z = ReleasesChain (Some h.1) y z
 
 -- a chain of closes leaves entries as they are
 same_lanes : (next : Option ℕ) (x y : Spans) → ReleasesChain next x y → y.lanes ≡ x.lanes
 same_lanes _ _ _ (all_released x) = refl
-same_lanes _ _ _ (releases id at x y own rest) = same_lanes (next_of x.made id) (record x { made = without_hold x.made id }) y rest
+same_lanes _ _ _ (releases id at x y own rest) = same_lanes (parent_to_release x.made id) (record x { made = without_hold x.made id }) y rest
 
-pub closes : (h : Held) (x y z : Spans) → IsOfNewest x y h → IsReleasedOn h y z → AreAsBefore x z
+pub closes : (h : HeldSpan) (x y z : Spans) → IsOfNewest x y h → IsReleasedOn h y z → AreAsBefore x z
 closes None x y z newest did = on x y z newest (unchanged y z did)
 closes (Some h) x y z newest did = record {
   spans = under x y z h.1 newest did newest.above refl;
@@ -131,7 +131,7 @@ closes (Some h) x y z newest did = record {
 }
 
 -- what an exit makes
-abbrev pub IsExitedOn : Held → ℕ → Spans → Spans → Type 0
+abbrev pub IsExitedOn : HeldSpan → ℕ → Spans → Spans → Type 0
 IsExitedOn None lane y z = z ≡ y
 IsExitedOn (Some h) lane y z = z ≡ with_span_exit y h.1 lane
 
@@ -174,7 +174,7 @@ entries_both x y id lane lanes l =
     ]
 
 -- an entry is exited
-pub exits : (h : Held) (x y z : Spans) (lane : ℕ) → IsLiveOn h x → IsEntered h lane x y → IsExitedOn h lane y z → AreAsBefore x z
+pub exits : (h : HeldSpan) (x y z : Spans) (lane : ℕ) → IsLiveOn h x → IsEntered h lane x y → IsExitedOn h lane y z → AreAsBefore x z
 exits None x y z lane live enter exit = on x y z enter (unchanged y z exit)
 exits (Some h) x y z lane live enter exit =
     let back : AreAsBefore x (with_span_exit y h.1 lane) = record {
@@ -184,11 +184,11 @@ exits (Some h) x y z lane live enter exit =
     on x (with_span_exit y h.1 lane) z back (unchanged (with_span_exit y h.1 lane) z exit)
 
 -- it is entered still after calls that leave spans as they were
-pub stays_entered : (h : Held) (lane : ℕ) (x w y : Spans) → IsEntered h lane x w → AreAsBefore w y → IsEntered h lane x y
+pub stays_entered : (h : HeldSpan) (lane : ℕ) (x w y : Spans) → IsEntered h lane x w → AreAsBefore w y → IsEntered h lane x y
 stays_entered None lane x w y enter same = on x w y enter same
 stays_entered (Some h) lane x w y enter same = on (with_span_entry x h.1 lane) w y enter same
 
-pub opened : (h : Held) (lane : ℕ) (x y : Spans) → IsEntered h lane x y → IsOpen h lane y
+pub opened : (h : HeldSpan) (lane : ℕ) (x y : Spans) → IsEntered h lane x y → IsOpen h lane y
 opened None lane x y enter = tt
 opened (Some h) lane x y enter =
     let ids = entries_on lane x.lanes in
@@ -197,6 +197,6 @@ opened (Some h) lane x y enter =
     let one = cond-true {A = ℕ} (h.1 == h.1) 1 0 (eq-eqb h.1 h.1 refl) in
     omega (arith, there, push, one)
 
-pub stays_open : (h : Held) (lane : ℕ) (x y : Spans) → IsOpen h lane x → AreAsBefore x y → IsOpen h lane y
+pub stays_open : (h : HeldSpan) (lane : ℕ) (x y : Spans) → IsOpen h lane x → AreAsBefore x y → IsOpen h lane y
 stays_open None lane x y entered same = tt
 stays_open (Some h) lane x y entered same = (let e = ap (times_in h.1) (same.entries lane) in omega (arith, e, entered))

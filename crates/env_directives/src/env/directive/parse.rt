@@ -1,7 +1,7 @@
 //! Reading a directive from its text, one cut after the other.
 ghost use Rattle.std.specs.Prelude.{◌≡◌, [], IfOk, Some, false, true};
 ghost use Rattle.env_directives.specs.reading.Forms.{begins, may_begin, head_alone, target_at, level_behind, unless_empty};
-ghost use Rattle.env_directives.specs.reading.Reading.{AnswersRead, read_last, read_level, LeadsToNoPattern, SpanLeadsToNoPattern, read_end, read_close, read_fields, read_fielded, read_bracket, reading};
+ghost use Rattle.env_directives.specs.reading.Reading.{AnswersRead, read_last, read_level, LeadsToNoPattern, SpanLeadsToNoPattern, read_end, read_close, read_fields, read_fielded, read_bracket, read_directive};
 ghost use Rattle.trace_base.specs.declared.level.LevelFilter.TheVariants.{TRACE};
 ghost use Rattle.env_directives.specs.reading.Faults.{HasNoPattern};
 ghost use Rattle.env_directives.specs.reading.Values.{HavePatterns};
@@ -18,9 +18,9 @@ use trace_base::level::LevelFilter;
 use unicode::properties::{GeneralCategory, GeneralCategoryGroup, is_alphabetic};
 
 // Reads a text without white space at its ends.
-#[tactic(auto, unfolding(crate::specs::reading::Reading::reading))]
+#[tactic(auto, unfolding(crate::specs::reading::Reading::read_directive))]
 pub(super) fn read(alloc: Global, text: &str, patterns: bool) -> Result<Directive, ParseError>
-    ensures is { AnswersRead (λ d. d) patterns (HasNoPattern text.now) result (reading patterns text.now) }
+    ensures is { AnswersRead (λ d. d) patterns (HasNoPattern text.now) result (read_directive patterns text.now) }
     ensures patterns { IfOk result (λ d. HavePatterns d.fields) }
 {
     if !begins(text) {

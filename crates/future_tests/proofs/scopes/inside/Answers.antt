@@ -19,5 +19,5 @@ returns-clause-whole g c =
     either_way c.in_scope.result _ _ _ _
     (λ x ok. (polled_inside g.S.Subscriber.spans g.S.Subscriber.attaches g.S.Subscriber.kept g.S.Subscriber.is_whole g.S.Subscriber.does g.met.S.Subscriber.sound g.met.S.Subscriber.allowed g.met.S.Subscriber.shows g.met.S.Subscriber.lanes g.met.S.Subscriber.keeps_whole 10 c.args.span.now.held c.args.world.now ok.0.now ok.2.now c.in_scope.new.world c.args.lane.now ok.1.now ok.3.now c.in_scope.new.lane c.requires.known ok.4
     (nothing_lent g.S.Subscriber.spans g.S.Subscriber.kept g.S.Subscriber.is_whole ok.0.now ok.2.now ok.1.now ok.3.now ok.5.0 ok.5.1) ok.6 ok.7).whole c.requires.ready.whole)
-    (λ leaves lane_leaves. (refused g.S.Subscriber.spans g.S.Subscriber.kept g.S.Subscriber.is_whole g.S.Subscriber.same g.met.S.Subscriber.same_spans g.met.S.Subscriber.same_kept g.met.S.Subscriber.same_whole c.args.span.now.held c.args.world.now c.in_scope.new.world c.args.lane.now c.in_scope.new.lane leaves lane_leaves).whole c.requires.ready.whole)
+    (λ leaves lane_leaves. (refused g.S.Subscriber.spans g.S.Subscriber.kept g.S.Subscriber.is_whole g.S.Subscriber.same_but_room g.met.S.Subscriber.same_spans g.met.S.Subscriber.same_kept g.met.S.Subscriber.same_whole c.args.span.now.held c.args.world.now c.in_scope.new.world c.args.lane.now c.in_scope.new.lane leaves lane_leaves).whole c.requires.ready.whole)
     c.in_scope.ensures.ok c.in_scope.ensures.leaves c.in_scope.ensures.lane_leaves

@@ -16,7 +16,7 @@ returns-in-Some-clause-did g c =
 
 pub returns-in-Some-clause-memory_leaves : goal.returns-in-Some-clause-memory_leaves
 returns-in-Some-clause-memory_leaves g c =
-    subst (λ (o : Option ℕ). OnErr c.tell.result (ReplacedIf g.S.Subscriber.same c.args.world.now c.tell.new.world o)) (sym (sym c.get_default.ensures.value ∙ c.in-Some.is)) c.tell.ensures.memory_leaves
+    subst (λ (o : Option ℕ). OnErr c.tell.result (ReplacedIf g.S.Subscriber.same_but_room c.args.world.now c.tell.new.world o)) (sym (sym c.get_default.ensures.value ∙ c.in-Some.is)) c.tell.ensures.memory_leaves
 
 pub returns-in-None-clause-did : goal.returns-in-None-clause-did
 returns-in-None-clause-did g c =

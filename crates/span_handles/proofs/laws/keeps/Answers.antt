@@ -9,7 +9,7 @@ pub returns-clause-copy : goal.returns-clause-copy
 returns-clause-copy g c = gains_call g.S.Subscriber.spans g.S.Subscriber.does g.met.S.Subscriber.sound g.met.S.Subscriber.allowed g.met.S.Subscriber.shows
 
 pub returns-clause-same : goal.returns-clause-same
-returns-clause-same g c = λ old new dispatch. handles_same g.S.Subscriber.spans g.S.Subscriber.same g.met.S.Subscriber.same_spans old new dispatch
+returns-clause-same g c = λ old new dispatch. handles_same g.S.Subscriber.spans g.S.Subscriber.same_but_room g.met.S.Subscriber.same_spans old new dispatch
 
 pub returns-clause-chain : goal.returns-clause-chain
 returns-clause-chain g c = λ old new dispatch at id. others_chain g.S.Subscriber.spans g.S.Subscriber.does g.met.S.Subscriber.allowed g.met.S.Subscriber.shows old new dispatch at id

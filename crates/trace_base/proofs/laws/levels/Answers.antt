@@ -1,11 +1,11 @@
 use Rattle.std.proofs.Common.{refl}
 use Rattle.trace_base.specs.declared.level.Level.TheVariants as level
 use Rattle.trace_base.specs.declared.level.LevelFilter.TheVariants as filter
-use Rattle.trace_base.specs.words.LevelWords.{filter_of_word, named_filter}
+use Rattle.trace_base.specs.words.LevelWords.{filter_of_word, named_level_filter}
 use Rattle.trace_base.proofs.laws.levels.Goals as goal
 
 pub returns-clause-level : goal.returns-clause-level
-unfolding named_filter filter_of_word
+unfolding named_level_filter filter_of_word
 returns-clause-level c level.ERROR = refl
 returns-clause-level c level.WARN = refl
 returns-clause-level c level.INFO = refl
@@ -13,7 +13,7 @@ returns-clause-level c level.DEBUG = refl
 returns-clause-level c level.TRACE = refl
 
 pub returns-clause-filter : goal.returns-clause-filter
-unfolding named_filter filter_of_word
+unfolding named_level_filter filter_of_word
 returns-clause-filter c filter.OFF = refl
 returns-clause-filter c filter.ERROR = refl
 returns-clause-filter c filter.WARN = refl

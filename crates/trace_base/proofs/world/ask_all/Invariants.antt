@@ -5,6 +5,6 @@ use Rattle.trace_base.proofs.world.ask_all.Given as goal
 
 abbrev pub invariant-loop-site : goal.invariant-loop-site
 invariant-loop-site g l = record {
-  same : AreSame g.S.Subscriber.same l.initial.subscribers.items l.subscribers.items;
+  same : AreSame g.S.Subscriber.same_but_room l.initial.subscribers.items l.subscribers.items;
   rows : l.rows.items ≡ map (interests_in g.S.Subscriber.interest l.initial.subscribers.items) (take l.site-index l.sites);
 }

@@ -39,10 +39,10 @@ loop-task-preserved g c =
 
 pub returns-in_err-reserve-clause-stops : goal.returns-in_err-reserve-clause-stops
 returns-in_err-reserve-clause-stops g c =
-    let stops : StopsBeginning g.S.Subscriber.spans g.S.Subscriber.hint g.S.Subscriber.enables g.S.Subscriber.kept g.S.Subscriber.is_whole g.S.Subscriber.does g.S.OtelPart.touches g.S.Subscriber.same c.args.tasks c.args.lane.now c.args.world.now c.loop-task.world c.reserve.new.self.items = record {
+    let next : c.loop-task.task-iterator.rest.items ≡ c.in-Some.task ∷ c.next.new.self.rest.items = search rules in
+    let stops : StopsBeginning g.S.Subscriber.spans g.S.Subscriber.hint g.S.Subscriber.enables g.S.Subscriber.kept g.S.Subscriber.is_whole g.S.Subscriber.does g.S.OtelPart.touches g.S.Subscriber.same_but_room c.args.tasks c.args.lane.now c.args.world.now c.loop-task.world c.reserve.new.self.items = record {
       first = c.loop-task.invariant.0;
-      others = c.loop-task.task-iterator.rest.items;
-      within = c.loop-task.invariant.1;
+      within = (c.in-Some.task, c.next.new.self.rest.items, ap (λ (xs : List Task). c.loop-task.invariant.0 ++ xs) (sym next) ∙ c.loop-task.invariant.1);
       world = c.loop-task.world;
       so_far = subst (λ (fs : List (Instrumented Running)). AreBegun g.S.Subscriber.spans g.S.Subscriber.hint g.S.Subscriber.enables g.S.Subscriber.kept g.S.Subscriber.is_whole g.S.Subscriber.does g.S.OtelPart.touches c.loop-task.invariant.0 c.args.lane.now c.args.world.now c.loop-task.world fs) (sym c.reserve.ensures.items) c.loop-task.invariant.3;
       wants = untouched refl;
@@ -51,10 +51,10 @@ returns-in_err-reserve-clause-stops g c =
 
 pub returns-in_err-begun-clause-stops : goal.returns-in_err-begun-clause-stops
 returns-in_err-begun-clause-stops g c =
-    let stops : StopsBeginning g.S.Subscriber.spans g.S.Subscriber.hint g.S.Subscriber.enables g.S.Subscriber.kept g.S.Subscriber.is_whole g.S.Subscriber.does g.S.OtelPart.touches g.S.Subscriber.same c.args.tasks c.args.lane.now c.args.world.now c.begin.new.world c.reserve.new.self.items = record {
+    let next : c.loop-task.task-iterator.rest.items ≡ c.in-Some.task ∷ c.next.new.self.rest.items = search rules in
+    let stops : StopsBeginning g.S.Subscriber.spans g.S.Subscriber.hint g.S.Subscriber.enables g.S.Subscriber.kept g.S.Subscriber.is_whole g.S.Subscriber.does g.S.OtelPart.touches g.S.Subscriber.same_but_room c.args.tasks c.args.lane.now c.args.world.now c.begin.new.world c.reserve.new.self.items = record {
       first = c.loop-task.invariant.0;
-      others = c.loop-task.task-iterator.rest.items;
-      within = c.loop-task.invariant.1;
+      within = (c.in-Some.task, c.next.new.self.rest.items, ap (λ (xs : List Task). c.loop-task.invariant.0 ++ xs) (sym next) ∙ c.loop-task.invariant.1);
       world = c.loop-task.world;
       so_far = subst (λ (fs : List (Instrumented Running)). AreBegun g.S.Subscriber.spans g.S.Subscriber.hint g.S.Subscriber.enables g.S.Subscriber.kept g.S.Subscriber.is_whole g.S.Subscriber.does g.S.OtelPart.touches c.loop-task.invariant.0 c.args.lane.now c.args.world.now c.loop-task.world fs) (sym c.reserve.ensures.items) c.loop-task.invariant.3;
       wants = c.in_err-begun.ensures.wants;

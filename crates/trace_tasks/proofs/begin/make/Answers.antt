@@ -19,9 +19,9 @@ returns-then-not-admits-clause-ok g c =
 
 pub returns-clause-whole : goal.returns-clause-whole
 returns-clause-whole g c =
-    whole_made g.S.Subscriber.is_whole g.S.Subscriber.spans g.S.Subscriber.does g.S.Subscriber.same g.met.S.Subscriber.keeps_whole g.met.S.Subscriber.same_whole
+    whole_made g.S.Subscriber.is_whole g.S.Subscriber.spans g.S.Subscriber.does g.S.Subscriber.same_but_room g.met.S.Subscriber.keeps_whole g.met.S.Subscriber.same_whole
     c.args.lane.now 0 c.args.site c.in_ok-values.values c.args.world.now c.new.new.world _ c.new.result c.requires.ready.whole c.new.ensures.makes.ok c.new.ensures.makes.memory_leaves
 
 pub returns-clause-wants : goal.returns-clause-wants
 returns-clause-wants g c =
-    wants_made g.S.Subscriber.spans g.S.Subscriber.hint g.S.Subscriber.enables g.S.Subscriber.does g.S.OtelPart.touches g.S.Subscriber.same c.args.world.now c.new.new.world _ c.new.result c.new.ensures.makes.memory_leaves
+    wants_made g.S.Subscriber.spans g.S.Subscriber.hint g.S.Subscriber.enables g.S.Subscriber.does g.S.OtelPart.touches g.S.Subscriber.same_but_room c.args.world.now c.new.new.world _ c.new.result c.new.ensures.makes.memory_leaves

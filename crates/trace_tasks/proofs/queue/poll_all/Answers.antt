@@ -40,5 +40,5 @@ returns-in_err-take_turn-clause-stops g c =
     let p = err_from_is_err_and c.from_residual.result c.from_residual.ensures.1 in
     let same : c.from_residual.result ≡ Err c.in_err-take_turn.field-0.0 = p.1 ∙ ap Err p.2 in
     at_err c.from_residual.result c.in_err-take_turn.field-0.0 _ same (λ handles ts stand.
-    stops_turns g.S.Subscriber.spans g.S.Subscriber.hint g.S.Subscriber.enables g.S.Subscriber.kept g.S.Subscriber.is_whole g.S.Subscriber.does g.S.OtelPart.touches g.S.Subscriber.activates g.S.Subscriber.same c.args.queue.now.items c.loop-polls.queue.items c.args.world.now c.loop-polls.world c.take_turn.new.world c.args.lane.now c.loop-polls.lane c.take_turn.new.lane c.loop-polls.polls _ c.in_err-take_turn.field-0.0 refl
+    stops_turns g.S.Subscriber.spans g.S.Subscriber.hint g.S.Subscriber.enables g.S.Subscriber.kept g.S.Subscriber.is_whole g.S.Subscriber.does g.S.OtelPart.touches g.S.Subscriber.activates g.S.Subscriber.same_but_room c.args.queue.now.items c.loop-polls.queue.items c.args.world.now c.loop-polls.world c.take_turn.new.world c.args.lane.now c.loop-polls.lane c.take_turn.new.lane c.loop-polls.polls _ c.in_err-take_turn.field-0.0 refl
     c.loop-polls.invariant.taking c.in_err-take_turn.ensures.stops handles ts stand)

@@ -7,7 +7,7 @@ use Rattle.explain_stack.proofs.scene.Scene.make_under.Goals as goal
 
 pub returns-in_err-span-clause-keeps : goal.returns-in_err-span-clause-keeps
 returns-in_err-span-clause-keeps g c = record {
-  order = quiet_stands g.S.Subscriber.spans g.S.Subscriber.kept g.S.Subscriber.is_whole g.S.Subscriber.same (quiet_same g.S.Subscriber.spans g.S.Subscriber.kept g.S.Subscriber.is_whole g.S.Subscriber.same g.met.S.Subscriber.same_spans g.met.S.Subscriber.same_kept g.met.S.Subscriber.same_whole) c.args.self.now.world c.child_of_with.new.world c.args.self.now.dispatch c.args.self.now.dispatch c.args.self.now.span_count c.args.self.now.site_count c.args.self.now.lane c.args.self.now.other c.in_err-span.ensures.makes.memory_leaves c.requires.order;
+  order = quiet_stands g.S.Subscriber.spans g.S.Subscriber.kept g.S.Subscriber.is_whole g.S.Subscriber.same_but_room (quiet_same g.S.Subscriber.spans g.S.Subscriber.kept g.S.Subscriber.is_whole g.S.Subscriber.same_but_room g.met.S.Subscriber.same_spans g.met.S.Subscriber.same_kept g.met.S.Subscriber.same_whole) c.args.self.now.world c.child_of_with.new.world c.args.self.now.dispatch c.args.self.now.dispatch c.args.self.now.span_count c.args.self.now.site_count c.args.self.now.lane c.args.self.now.other c.in_err-span.ensures.makes.memory_leaves c.requires.order;
   known = c.child_of_with.ensures.makes.keeps.known;
   site_count = refl;
 }

@@ -8,7 +8,7 @@ use Rattle.explain_stack.proofs.scene.Scene.record.Goals as goal
 pub returns-in_err-record_all : goal.returns-in_err-record_all
 returns-in_err-record_all g c = record {
   keeps = record {
-    order = quiet_on g.S.Subscriber.spans g.S.Subscriber.kept g.S.Subscriber.is_whole (λ id. g.S.Subscriber.same) (λ id. quiet_same g.S.Subscriber.spans g.S.Subscriber.kept g.S.Subscriber.is_whole g.S.Subscriber.same g.met.S.Subscriber.same_spans g.met.S.Subscriber.same_kept g.met.S.Subscriber.same_whole) c.args.self.now.world c.record_all.new.world c.args.span.now.held c.args.self.now.dispatch c.args.self.now.span_count c.args.self.now.site_count c.args.self.now.lane c.args.self.now.other c.in_err-record_all.ensures.memory_leaves c.requires.order;
+    order = quiet_on g.S.Subscriber.spans g.S.Subscriber.kept g.S.Subscriber.is_whole (λ id. g.S.Subscriber.same_but_room) (λ id. quiet_same g.S.Subscriber.spans g.S.Subscriber.kept g.S.Subscriber.is_whole g.S.Subscriber.same_but_room g.met.S.Subscriber.same_spans g.met.S.Subscriber.same_kept g.met.S.Subscriber.same_whole) c.args.self.now.world c.record_all.new.world c.args.span.now.held c.args.self.now.dispatch c.args.self.now.span_count c.args.self.now.site_count c.args.self.now.lane c.args.self.now.other c.in_err-record_all.ensures.memory_leaves c.requires.order;
     known = c.record_all.ensures.keeps.known;
     site_count = refl;
   };

@@ -6,7 +6,7 @@ use Rattle.otel_base.proofs.Numbered.{removed, rises_without, without_is_no_long
 use Rattle.otel_base.proofs.stack.ContextStack.detach.Goals as goal
 
 taken : (c : goal.After-remove) → c.remove.new.self.items ≡ without_number c.attached.inside.number c.self.inside.items.items
-taken c = c.remove.ensures.items ∙ removed 0 c.attached.inside.number c.self.inside.items.items c.place-at.result (0, empty_context) c.self.invariant.0 (rw c.as_slice.ensures.value at c.place-at.ensures.within) (rw c.as_slice.ensures.value at (c.place-at.ensures.found (0, empty_context)))
+taken c = c.remove.ensures.items ∙ removed 0 c.attached.inside.number c.self.inside.items.items c.index_of-at.result (0, empty_context) c.self.invariant.0 (rw c.as_slice.ensures.value at c.index_of-at.ensures.within) (rw c.as_slice.ensures.value at (c.index_of-at.ensures.found (0, empty_context)))
 
 pub invariant_of-self : goal.invariant_of-self
 invariant_of-self c =

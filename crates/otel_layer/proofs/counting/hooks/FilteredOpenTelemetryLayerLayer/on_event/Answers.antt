@@ -9,16 +9,16 @@ use Rattle.otel_layer.proofs.counting.hooks.FilteredOpenTelemetryLayerLayer.on_e
 pub count_op-requires : goal.count_op-requires
 count_op-requires g c =
     let s = c.args.self.now.inner in
-    let ready = subst (λ r. IsReadyOtel s (ForEvent (Some c.in-Some-reached.id) c.args.callsite.now c.args.values.now) r) c.in-Happened.is (subst (λ o. IsReadyOtel s (ForEvent o c.args.callsite.now c.args.values.now) c.args.prepared) c.in-Some-reached.is c.requires.ready) in
-    room_retimed c.in-Some-reached.id c.args.at c.in-Happened.op.value c.set_moment.new.op s.rooms (c.set_moment.ensures ∙ ap (with_moment c.args.at) c.into_inner-op.ensures) ready.1
+    let ready = subst (λ r. IsReadyOtel s (ForEvent (Some c.in-Some-reached.id) c.args.callsite.now c.args.values.now) r) c.in-PreparedOp.is (subst (λ o. IsReadyOtel s (ForEvent o c.args.callsite.now c.args.values.now) c.args.prepared) c.in-Some-reached.is c.requires.ready) in
+    room_retimed c.in-Some-reached.id c.args.at c.in-PreparedOp.op.value c.set_moment.new.op s.rooms (c.set_moment.ensures ∙ ap (with_moment c.args.at) c.into_inner-op.ensures) ready.1
 
-pub returns-in-Happened : goal.returns-in-Happened
-returns-in-Happened g c =
+pub returns-in-PreparedOp : goal.returns-in-PreparedOp
+returns-in-PreparedOp g c =
     let s = c.args.self.now.inner in
     let callsite = c.args.callsite.now in
     let values = c.args.values.now in
     let events = counted_events (g.F.Filter.enables c.in-Some.filter) in
-    let ready = subst (λ r. IsReadyOtel s (ForEvent (Some c.in-Some-reached.id) callsite values) r) c.in-Happened.is (subst (λ o. IsReadyOtel s (ForEvent o callsite values) c.args.prepared) c.in-Some-reached.is c.requires.ready) in
+    let ready = subst (λ r. IsReadyOtel s (ForEvent (Some c.in-Some-reached.id) callsite values) r) c.in-PreparedOp.is (subst (λ o. IsReadyOtel s (ForEvent o callsite values) c.args.prepared) c.in-Some-reached.is c.requires.ready) in
     let op = c.set_moment.ensures ∙ ap (with_moment c.args.at) (c.into_inner-op.ensures ∙ ready.0) in (
       subst (λ f. DoesHook g.T.Tracer.does (events_by g.F.Filter.enables f) s.core (OnEvent c.args.reached c.args.lane.now c.args.at callsite values) c.count_op.new.self.core) (sym c.in-Some.is)
           (step_from_prepared g.T.Tracer.does events s.core (OnEvent c.args.reached c.args.lane.now c.args.at callsite values) _

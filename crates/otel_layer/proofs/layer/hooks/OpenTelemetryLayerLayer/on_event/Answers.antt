@@ -7,15 +7,15 @@ use Rattle.otel_layer.proofs.layer.hooks.OpenTelemetryLayerLayer.on_event.Goals 
 pub put_op-requires : goal.put_op-requires
 put_op-requires g c =
     let s = c.args.self.now in
-    let ready = subst (λ r. IsReadyOtel s (ForEvent (Some c.in-Some.id) c.args._callsite.now c.args._values.now) r) c.in-Happened.is (subst (λ o. IsReadyOtel s (ForEvent o c.args._callsite.now c.args._values.now) c.args.prepared) c.in-Some.is c.requires.ready) in
-    room_retimed c.in-Some.id c.args.at c.in-Happened.op.value c.set_moment.new.op s.rooms (c.set_moment.ensures ∙ ap (with_moment c.args.at) c.into_inner-op.ensures) ready.1
+    let ready = subst (λ r. IsReadyOtel s (ForEvent (Some c.in-Some.id) c.args._callsite.now c.args._values.now) r) c.in-PreparedOp.is (subst (λ o. IsReadyOtel s (ForEvent o c.args._callsite.now c.args._values.now) c.args.prepared) c.in-Some.is c.requires.ready) in
+    room_retimed c.in-Some.id c.args.at c.in-PreparedOp.op.value c.set_moment.new.op s.rooms (c.set_moment.ensures ∙ ap (with_moment c.args.at) c.into_inner-op.ensures) ready.1
 
-pub returns-in-Happened : goal.returns-in-Happened
-returns-in-Happened g c =
+pub returns-in-PreparedOp : goal.returns-in-PreparedOp
+returns-in-PreparedOp g c =
     let s = c.args.self.now in
     let callsite = c.args._callsite.now in
     let values = c.args._values.now in
-    let ready = subst (λ r. IsReadyOtel s (ForEvent (Some c.in-Some.id) callsite values) r) c.in-Happened.is (subst (λ o. IsReadyOtel s (ForEvent o callsite values) c.args.prepared) c.in-Some.is c.requires.ready) in
+    let ready = subst (λ r. IsReadyOtel s (ForEvent (Some c.in-Some.id) callsite values) r) c.in-PreparedOp.is (subst (λ o. IsReadyOtel s (ForEvent o callsite values) c.args.prepared) c.in-Some.is c.requires.ready) in
     let op = c.set_moment.ensures ∙ ap (with_moment c.args.at) (c.into_inner-op.ensures ∙ ready.0) in
     step_from_prepared g.T.Tracer.does all_events s.core (OnEvent c.args.reached c.args._lane.now c.args.at callsite values) _
     (subst (λ o. Step g.T.Tracer.does all_events s.core (OnEvent o c.args._lane.now c.args.at callsite values) c.put_op.new.self.core) (sym c.in-Some.is)

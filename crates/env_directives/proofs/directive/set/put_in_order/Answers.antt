@@ -1,7 +1,7 @@
 use Rattle.std.proofs.Common.{◌∙◌}
 use Rattle.std.proofs.lemmas.List.{length-set}
 use Rattle.env_directives.proofs.tables.PlacesLemmas.{replaced, inserted, searchable, refilled}
-use Rattle.env_directives.proofs.directive.set.place.Goals as goal
+use Rattle.env_directives.proofs.directive.set.put_in_order.Goals as goal
 
 pub returns-in-Ok-clause-ok : goal.returns-in-Ok-clause-ok
 returns-in-Ok-clause-ok g c =

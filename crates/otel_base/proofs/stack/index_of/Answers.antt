@@ -3,7 +3,7 @@ use Rattle.std.proofs.Common.{arith, ◌≡◌, ◌-◌, suc}
 use Rattle.std.proofs.lemmas.Bool.{ne_eqb}
 use Rattle.otel_base.specs.Stack.{empty_context}
 use Rattle.otel_base.proofs.Numbered.{stands_before}
-use Rattle.otel_base.proofs.stack.place.Goals as goal
+use Rattle.otel_base.proofs.stack.index_of.Goals as goal
 
 pub loop-above-preserved : goal.loop-above-preserved
 loop-above-preserved c =

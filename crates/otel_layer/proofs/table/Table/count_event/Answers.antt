@@ -3,7 +3,7 @@ use Rattle.std.proofs.Common.{rules, ◌≡◌, List, length, ap, ◌∙◌, ℕ
 use Rattle.otel_layer.proofs.Common.{SpanData, Entry, entry_ids, all_data, after_counted, update}
 use Rattle.otel_layer.proofs.Gaps.{updated_count}
 use Rattle.otel_layer.proofs.RisingIdsLemmas.{kept_whole}
-use Rattle.otel_layer.proofs.table.Table.count.Goals as goal
+use Rattle.otel_layer.proofs.table.Table.count_event.Goals as goal
 
 pub invariant_of-self : goal.invariant_of-self
 invariant_of-self c =
