@@ -18,7 +18,7 @@ use otel_base::context::{Context, SpanContext};
 use otel_base::memory::Memory;
 use otel_state::settings::LayerSettings;
 use span_stack::gate::put_in_force;
-use span_stack::laws::takes;
+use span_stack::laws::takes_record;
 use span_stack::stack::{Stack, new_stack, take_record};
 use std::alloc::Global;
 use std::io::{self, ErrorKind};
@@ -114,7 +114,7 @@ fn tell_records(alloc: Global, desk: Desk<Stack>, dispatch: Dispatch) -> Result<
     let mut told = String::new(alloc);
     let mut outcome = Ok(());
     while let Some(record) = take_record(&mut world, dispatch) {
-        takes();
+        takes_record();
         outcome = report::add_record(alloc, &mut told, &record);
         drop(record);
         if outcome.is_err() {

@@ -239,7 +239,11 @@ fn apply_in<S: Subscriber + OtelPart>(
 }
 
 // Starts the span of a handle, if it is enabled, and answers its own context.
-fn start_for_context<S: Subscriber + OtelPart>(span: &Span, world: &mut World<S>, at: u64) -> Option<Context>
+fn start_for_context<S: Subscriber + OtelPart>(
+    span: &Span,
+    world: &mut World<S>,
+    at: u64,
+) -> Option<Context>
     requires there { IsThere world.old span.now.held }
     requires can_start { HasOn (λ s id. S.can_start s) world.old span.now.held }
     ensures { GivesContextOn S.touches world.old world.new at span.now.held result }

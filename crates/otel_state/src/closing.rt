@@ -35,12 +35,7 @@ pub(crate) fn add_count(
 }
 
 // Adds the times, where these are told, in room that is there.
-pub(crate) fn add_times(
-    attributes: &mut Vec<KeyValue>,
-    inactivity: bool,
-    busy: u64,
-    idle: u64,
-)
+pub(crate) fn add_times(attributes: &mut Vec<KeyValue>, inactivity: bool, busy: u64, idle: u64)
     requires room { vec_len attributes.old + closing_room false inactivity ≤ vec_capacity attributes.old }
     requires busy { busy ≤ GREATEST }
     requires idle { idle ≤ GREATEST }

@@ -1,7 +1,7 @@
 -- What stands of the history of a script whose spans don't start at their making: no entry is open of a span that closes, and
 -- the order of starts is read off what is recorded.
 use Rattle.std.proofs.Common.{◌≡◌, ℕ, ◌≤◌, List, [], ◌∷◌, ◌++◌, length, Bool, false, Option, Some, None, Ok, Err, refl, sym, ap, subst, ◌∙◌, arith, append_assoc}
-use Rattle.span_eager.proofs.Common.{nat_tests, SpanData, data_at, Request, Setup, MadeSpan, Effect, History, Tables, no_tables, tables, done_by, after_effect, Resolved, effect_of, followed_by, history_from, IsHistory, more, occurrences, at_making, starting_order, order_in, effect_order}
+use Rattle.span_eager.proofs.Common.{nat_tests, SpanData, data_at, Request, Setup, MadeSpan, Effect, History, Tables, no_tables, tables, with_ops_of, after_effect, Resolved, effect_of, with_effects_behind, history_from, IsHistory, more, occurrences, starts_at_making, starting_order, order_in, effect_order}
 use Rattle.std.proofs.lemmas.Bool.{le-ltb}
 use Rattle.std.proofs.lemmas.List.{append-nil}
 use Rattle.std.proofs.lemmas.List.Sums.{fold_push}
@@ -19,7 +19,7 @@ order_from t (e ∷ h) = order_in t e ++ order_from (after_effect t e) h
 -- the spans that close do so once, and no entry of theirs is open
 pub record Ends (t : Tables) (e : Effect) : Type 0 where
   pub once : AreOnce e.closes
-  pub shut : Shut e.closes (done_by (length t.spans) e t.recording).spans
+  pub shut : Shut e.closes (with_ops_of (length t.spans) e t.recording).spans
 
 abbrev pub AreShut : Tables → History → Type 0
 AreShut t [] = Unit {0}
@@ -46,16 +46,16 @@ module _ (setup : Setup) (lazily : setup.layer.eager ≡ false) where
       let step = step_of setup t (fits setup h now) request e is in
       record {
         once = once_by e.closes (λ s. (let once = closing_once setup h now request.at (is_drop request.call) e step.0 step.1 s in grind (arith, nat_tests, once)));
-        shut = λ s there. no_entries (data_at s (done_by (length t.spans) e t.recording).spans)
+        shut = λ s there. no_entries (data_at s (with_ops_of (length t.spans) e t.recording).spans)
             (closing_shut setup h now request.at (is_drop request.call) e step.0 step.1 s (let counted = is_in_counted s e.closes in grind (arith, nat_tests, counted, there)));
       }
 
   none_begins : (h : History) (request : Request) (e : Effect) → IsHistory setup h → effect_of setup (tables setup h) request ≡ Ok e → e.begins ≡ None
   none_begins h request e legal is =
       let t : Tables = tables setup h in
-      (step_of setup t (fits setup h (whole setup h legal)) request e is).1.early ∙ ap (λ (b : Bool). at_making b (length t.spans) e.new_span) lazily ∙ by_made (length t.spans) e.new_span
+      (step_of setup t (fits setup h (whole setup h legal)) request e is).1.early ∙ ap (λ (b : Bool). starts_at_making b (length t.spans) e.new_span) lazily ∙ by_made (length t.spans) e.new_span
     where
-      by_made : (n : ℕ) (o : Option MadeSpan) → at_making false n o ≡ None
+      by_made : (n : ℕ) (o : Option MadeSpan) → starts_at_making false n o ≡ None
       by_made n None = refl
       by_made n (Some m) = refl
 
@@ -66,7 +66,7 @@ module _ (setup : Setup) (lazily : setup.layer.eager ≡ false) where
 
   by_effect : (requests : List Request) (h : History) (request : Request) (r : Resolved) → effect_of setup (tables setup h) request ≡ r → IsHistory setup h
       → ((e : Effect) → IsHistory setup (h ++ e ∷ []) → GoesOn (h ++ e ∷ []) (tables setup (h ++ e ∷ [])) (history_from setup (tables setup (h ++ e ∷ [])) requests))
-      → GoesOn h (tables setup h) (followed_by r (λ e. history_from setup (after_effect (tables setup h) e) requests))
+      → GoesOn h (tables setup h) (with_effects_behind r (λ e. history_from setup (after_effect (tables setup h) e) requests))
   by_effect requests h request (Err refusal) is legal behind = (tt, ap starting_order (append-nil h) ∙ sym (append-nil (starting_order h)))
   by_effect requests h request (Ok e) is legal behind =
       let t : Tables = tables setup h in

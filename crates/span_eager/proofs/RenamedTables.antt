@@ -1,6 +1,6 @@
 -- What an early start makes of effects and of tables, and that it is kept by one effect more.
 use Rattle.std.proofs.Common.{◌≡◌, ℕ, suc, ◌≤◌, ◌==◌, ◌||◌, List, [], ◌∷◌, ◌++◌, length, map, fold, Bool, true, false, Option, Some, None, refl, sym, ap, ap₂, subst, subst₂, ◌∙◌, arith, append_assoc, if◌then◌else◌, option_map}
-use Rattle.span_eager.proofs.Common.{AllByRecursion, list_any, map-append, LayerSettings, GREATEST, deed, Recording, with_start, with_starts, with_applied, without_last, MadeSpan, SpanOp, Owner, Attached, is_attached_by, Effect, Tables, with_item, with_attached, with_detached, with_span_made, begun_by, done_by, recorded_by, open_part, after_effect, starts_from, closes_from, IsSettled, context_by, reply_by}
+use Rattle.span_eager.proofs.Common.{AllByRecursion, list_any, map-append, LayerSettings, GREATEST, deed, Recording, with_start, with_starts, with_applied, without_last, MadeSpan, SpanOp, Owner, Attached, is_attached_by, Effect, Tables, with_item, with_attached, with_detached, with_span_made, with_starts_of, with_ops_of, recording_after, open_part, after_effect, starts_from, closes_from, LeavesStartData, renamed_context, renamed_reply}
 use Rattle.std.proofs.lemmas.List.{length-append}
 use Rattle.span_eager.proofs.SameSpan.{Ids, told_by}
 use Rattle.span_eager.proofs.SameRecordings.{SameRecording, Shut, AreOnce, done_with, later_same, starts_same, made_same, ops_same, closes_same}
@@ -9,23 +9,23 @@ abbrev pub made_by : (ℕ → ℕ) → MadeSpan → MadeSpan
 made_by f m = record m { made_with = told_by f m.made_with }
 
 abbrev pub attached_by : (ℕ → ℕ) → Attached → Attached
-attached_by f a = record a { context = context_by f a.context }
+attached_by f a = record a { context = renamed_context f a.context }
 
 -- the effect where spans start at their making, so many having been made before
 abbrev pub effect_by : (ℕ → ℕ) → ℕ → Effect → Effect
 effect_by f n e = record e {
-  new_context = option_map (context_by f) e.new_context;
+  new_context = option_map (renamed_context f) e.new_context;
   new_span = option_map (made_by f) e.new_span;
   begins = option_map (λ (m : MadeSpan). n) e.new_span;
   ops = map (done_with f) e.ops;
   attach = option_map (attached_by f) e.attach;
-  reply = reply_by f e.reply;
+  reply = renamed_reply f e.reply;
 }
 
 -- the tables, with what was recorded
 abbrev pub tables_by : (ℕ → ℕ) → Recording → Tables → Tables
 tables_by f r t = record t {
-  named_contexts = map (context_by f) t.named_contexts;
+  named_contexts = map (renamed_context f) t.named_contexts;
   spans = map (made_by f) t.spans;
   contexts = λ lane. map (attached_by f) (t.contexts lane);
   recording = r;
@@ -71,9 +71,9 @@ map_detached f ds cs lane (Some o) same l =
     ∙ map_if f (lane == l) (without_last (is_attached_by o) (cs lane)) (cs l)
 
 pub after_by : (f : ℕ → ℕ) (n : ℕ) (r : Recording) (t : Tables) (e : Effect)
-    → after_effect (tables_by f r t) (effect_by f n e) ≡ tables_by f (open_part (recorded_by (length (map (made_by f) t.spans)) (effect_by f n e) r)) (after_effect t e)
+    → after_effect (tables_by f r t) (effect_by f n e) ≡ tables_by f (open_part (recording_after (length (map (made_by f) t.spans)) (effect_by f n e) r)) (after_effect t e)
 after_by f n r t e = λ i. record (after_effect (tables_by f r t) (effect_by f n e)) {
-  named_contexts = map_new (context_by f) t.named_contexts e.new_context i;
+  named_contexts = map_new (renamed_context f) t.named_contexts e.new_context i;
   spans = map_new (made_by f) t.spans e.new_span i;
   contexts = λ l. map_detached f (with_attached (λ m. map (attached_by f) (t.contexts m)) e.lane (option_map (attached_by f) e.attach)) (with_attached t.contexts e.lane e.attach) e.lane e.detach (map_attached f t.contexts e.lane e.attach) l i;
 }
@@ -112,28 +112,28 @@ module _ (f : Ids) (layer : LayerSettings) where
 
   -- what is recorded before spans close
   pub done_same : (n at : ℕ) (pending : List ℕ) (e : Effect) (r l : Recording) → e.at ≡ at → at ≤ GREATEST → IsPlain at e
-      → AllByRecursion (IsSettled (begun_by n e l)) e.ops → Same n at (starts_from at l e.starts ++ pending) r l
-      → Same (count_made n e.new_span) at pending (done_by n (effect_by f.new n e) r) (done_by n e l)
+      → AllByRecursion (LeavesStartData (with_starts_of n e l)) e.ops → Same n at (starts_from at l e.starts ++ pending) r l
+      → Same (count_made n e.new_span) at pending (with_ops_of n (effect_by f.new n e) r) (with_ops_of n e l)
   done_same n at pending e r l at_is within plain settled same =
       let started = starts_same f layer n at e.starts pending r l within same in
       let begun = made_by_effect n at pending (fold (λ r s. with_start s at r) r e.starts) (fold (λ r s. with_start s at r) l e.starts) e.new_span within plain.made started in
-      let lazily : begun_by n e l ≡ with_span_made n e.new_span (fold (λ r s. with_start s at r) l e.starts) =
+      let lazily : with_starts_of n e l ≡ with_span_made n e.new_span (fold (λ r s. with_start s at r) l e.starts) =
       ap (λ (b : Option ℕ). with_starts b e.at (with_span_made n e.new_span (fold (λ r s. with_start s e.at r) l e.starts))) plain.begins
       ∙ ap (λ (m : ℕ). with_span_made n e.new_span (fold (λ r s. with_start s m r) l e.starts)) at_is in
-      let early : begun_by n (effect_by f.new n e) r ≡ with_starts (option_map (λ (m : MadeSpan). n) e.new_span) at (with_span_made n (option_map (made_by f.new) e.new_span) (fold (λ r s. with_start s at r) r e.starts)) =
+      let early : with_starts_of n (effect_by f.new n e) r ≡ with_starts (option_map (λ (m : MadeSpan). n) e.new_span) at (with_span_made n (option_map (made_by f.new) e.new_span) (fold (λ r s. with_start s at r) r e.starts)) =
       ap (λ (m : ℕ). with_starts (option_map (λ (m : MadeSpan). n) e.new_span) m (with_span_made n (option_map (made_by f.new) e.new_span) (fold (λ r s. with_start s m r) r e.starts))) at_is in
       let ready = subst₂ (Same (count_made n e.new_span) at pending) (sym early) (sym lazily) begun in
-      let done = ops_same f layer (count_made n e.new_span) at pending e.ops (begun_by n (effect_by f.new n e) r) (begun_by n e l) within plain.starts_none settled ready in
-      subst (λ (m : ℕ). Same (count_made n e.new_span) at pending (fold (λ r d. with_applied d.span m d.op r) (begun_by n (effect_by f.new n e) r) (map (done_with f.new) e.ops)) (fold (λ r d. with_applied d.span m d.op r) (begun_by n e l) e.ops))
+      let done = ops_same f layer (count_made n e.new_span) at pending e.ops (with_starts_of n (effect_by f.new n e) r) (with_starts_of n e l) within plain.starts_none settled ready in
+      subst (λ (m : ℕ). Same (count_made n e.new_span) at pending (fold (λ r d. with_applied d.span m d.op r) (with_starts_of n (effect_by f.new n e) r) (map (done_with f.new) e.ops)) (fold (λ r d. with_applied d.span m d.op r) (with_starts_of n e l) e.ops))
       (sym at_is) done
 
   pub recorded_same : (n before : ℕ) (pending : List ℕ) (e : Effect) (r l : Recording) → before ≤ e.at → e.at ≤ GREATEST → IsPlain e.at e
-      → AllByRecursion (IsSettled (begun_by n e l)) e.ops → AreOnce e.closes → Shut e.closes (done_by n e l).spans
-      → Same n before ((starts_from e.at l e.starts ++ closes_from e.at (done_by n e l) e.closes) ++ pending) r l
-      → Same (count_made n e.new_span) e.at pending (recorded_by n (effect_by f.new n e) r) (recorded_by n e l)
+      → AllByRecursion (LeavesStartData (with_starts_of n e l)) e.ops → AreOnce e.closes → Shut e.closes (with_ops_of n e l).spans
+      → Same n before ((starts_from e.at l e.starts ++ closes_from e.at (with_ops_of n e l) e.closes) ++ pending) r l
+      → Same (count_made n e.new_span) e.at pending (recording_after n (effect_by f.new n e) r) (recording_after n e l)
   recorded_same n before pending e r l past within plain settled once shut same =
-      let closing = closes_from e.at (done_by n e l) e.closes in
+      let closing = closes_from e.at (with_ops_of n e l) e.closes in
       let now = later_same f layer n before e.at ((starts_from e.at l e.starts ++ closing) ++ pending) r l past same in
       let first = subst (λ (xs : List ℕ). Same n e.at xs r l) (append_assoc (starts_from e.at l e.starts) closing pending) now in
       let done = done_same n e.at (closing ++ pending) e r l refl within plain settled first in
-      closes_same f layer (count_made n e.new_span) e.at e.closes pending (done_by n (effect_by f.new n e) r) (done_by n e l) within once shut done
+      closes_same f layer (count_made n e.new_span) e.at e.closes pending (with_ops_of n (effect_by f.new n e) r) (with_ops_of n e l) within once shut done

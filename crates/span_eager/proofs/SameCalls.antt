@@ -1,6 +1,6 @@
 -- What a request changes where spans start at their making is what it changes where they don't, with other ids.
 use Rattle.std.proofs.Common.{◌≡◌, ℕ, zero, suc, ◌≤◌, ◌==◌, ◌&&◌, List, [], ◌∷◌, length, map, fold, min, max, Bool, true, false, Option, Some, None, Ok, Err, IfSome, refl, sym, ap, subst, subst₂, ◌∙◌, arith, if◌then◌else◌, is_some, option_map, slice_get, option_and_then, not}
-use Rattle.span_eager.proofs.Common.{AllByRecursion, length-map, slice_get-map, Context, SpanContext, is_valid, ids_of, Op, LayerSettings, GREATEST, deed, SpanData, Recording, source_of, with_start, with_starts, data_at, start_context, own_context_or, current_of, Reply, Refusal, Request, Setup, span_site, event_site, Here, here_at, Resolved, refuse_if, ◌>>=◌, need, op_on, ops_on, ops_effect, effect_of_call, is_bad_moment, effect_of, scope_at, disabled_effect, parent_at, last_attached, context_around, lane_in, span_effect, new_effect, clone_effect, drop_effect, is_borrowed, current_scope, scope_or_current, exchange_effect, Scope, SpanOp, MadeSpan, EntryOf, Attached, HookNew, Tables, slot_at, own_span, site_of, scope_of, made_of, begun_by, quiet_effect, lazy_setup, IsSettled, is_far, gives_far, ids_by, context_by, reply_by}
+use Rattle.span_eager.proofs.Common.{AllByRecursion, length-map, slice_get-map, Context, SpanContext, is_valid, ids_of, Op, LayerSettings, GREATEST, deed, SpanData, Recording, source_of, with_start, with_starts, data_at, start_context, own_context_or, current_of, Reply, Refusal, Request, Setup, span_site, event_site, Here, here_at, Resolved, refuse_if, ◌>>=◌, need, op_on, ops_on, ops_effect, effect_of_call, is_bad_moment, effect_of, scope_at, disabled_effect, parent_under, last_attached, context_around, lane_in, span_effect, new_effect, clone_effect, drop_effect, is_borrowed, current_scope, scope_or_current, exchange_effect, Scope, SpanOp, MadeSpan, EntryOf, Attached, HookNew, Tables, slot_at, span_of_scope, site_of, scope_of, made_span_at, with_starts_of, quiet_effect, lazy_setup, LeavesStartData, is_no_span_id, gives_no_span_id, renamed_ids, renamed_context, renamed_reply}
 use Rattle.std.specs.Option.{option_to_list}
 use Rattle.env_directives.specs.orders.Choice.{admits}
 use Rattle.otel_base.specs.declared.value.KeyValue.{KeyValue}
@@ -26,12 +26,12 @@ use Rattle.span_script.specs.declared.request.Call.{Call}
 use Rattle.span_script.specs.declared.request.Call.TheVariants as call
 use Rattle.span_script.specs.Admission.{TextRead, text_read, text_filter}
 use Rattle.span_script.specs.Fields.{Fields, all_values, declared_by}
-use Rattle.span_script.specs.calls.Contexts.{context_effect, own_context, attach_effect, detach_effect}
-use Rattle.span_script.specs.calls.Entries.{activated_span, enter_effect, is_full, meets_full, entry_call, exit_effect, is_shared, attached_by as attaches_by}
+use Rattle.span_script.specs.calls.Contexts.{context_effect, context_of_scope, attach_effect, detach_effect}
+use Rattle.span_script.specs.calls.Entries.{activated_span, enter_effect, is_full, meets_full, entry_call, exit_effect, is_shared, entry_context as attaches_by}
 use Rattle.span_script.specs.calls.Events.{if_enabled, event_ops, event_effect}
 use Rattle.span_script.specs.calls.Fields.{callsite_of, update_ops, hooks_of_values, record_effect}
-use Rattle.span_script.specs.calls.Filter.{admits_at, enabled_effect, reload_by}
-use Rattle.span_script.specs.calls.Links.{follow_effect, set_result, set_parent_result, link_ops, happens_at}
+use Rattle.span_script.specs.calls.Filter.{admits_on, enabled_effect, reload_by}
+use Rattle.span_script.specs.calls.Links.{follow_effect, set_result, set_parent_result, link_ops, event_time}
 use Rattle.span_eager.proofs.SameSpan.{Ids, early_ids, op_by, told_by, valid_by, ids_of_by}
 use Rattle.span_eager.proofs.SameSpans.{SameAt, same_at}
 use Rattle.span_eager.proofs.SameRecordings.{SameRecording, done_with, early_stays, none_waits, has_started}
@@ -47,17 +47,17 @@ Agrees f n at (Err a) (Ok l) = ⊥
 -- the spans that it starts are started alike, and its ops settle nothing too early
 abbrev pub IsReady : Ids → LayerSettings → ℕ → ℕ → Recording → Recording → Resolved → Type 0
 IsReady f layer n at r l (Ok e) =
-    e.at ≡ at → ((pending : List ℕ) × SameRecording f layer n at pending r (fold (λ r s. with_start s at r) l e.starts)) × AllByRecursion (IsSettled (begun_by n e l)) e.ops
+    e.at ≡ at → ((pending : List ℕ) × SameRecording f layer n at pending r (fold (λ r s. with_start s at r) l e.starts)) × AllByRecursion (LeavesStartData (with_starts_of n e l)) e.ops
 IsReady f layer n at r l (Err refusal) = Unit {0}
 
 -- ---- what is looked up
 
-scope_by : (f : ℕ → ℕ) (ms : List MadeSpan) (s : ℕ) → (made_of (map (made_by f) ms) s).scope ≡ (made_of ms s).scope
+scope_by : (f : ℕ → ℕ) (ms : List MadeSpan) (s : ℕ) → (made_span_at (map (made_by f) ms) s).scope ≡ (made_span_at ms s).scope
 scope_by f [] s = refl
 scope_by f (m ∷ ms) zero = refl
 scope_by f (m ∷ ms) (suc s) = scope_by f ms s
 
-site_by : (f : ℕ → ℕ) (ms : List MadeSpan) (s : ℕ) → (made_of (map (made_by f) ms) s).site ≡ (made_of ms s).site
+site_by : (f : ℕ → ℕ) (ms : List MadeSpan) (s : ℕ) → (made_span_at (map (made_by f) ms) s).site ≡ (made_span_at ms s).site
 site_by f [] s = refl
 site_by f (m ∷ ms) zero = refl
 site_by f (m ∷ ms) (suc s) = site_by f ms s
@@ -70,11 +70,11 @@ sited : (f : ℕ → ℕ) (ms : List MadeSpan) (scope : Scope) → site_of (map 
 sited f ms [] = refl
 sited f ms (s ∷ up) = ap (λ (n : ℕ). Some n) (site_by f ms s)
 
-last_by : (f : ℕ → ℕ) (items : List Attached) (context : Context) → last_attached (context_by f context) (map (attached_by f) items) ≡ context_by f (last_attached context items)
+last_by : (f : ℕ → ℕ) (items : List Attached) (context : Context) → last_attached (renamed_context f context) (map (attached_by f) items) ≡ renamed_context f (last_attached context items)
 last_by f [] context = refl
 last_by f (a ∷ items) context = last_by f items a.context
 
-around_by : (f : ℕ → ℕ) (items : List Attached) (p : Parent) → context_around (map (attached_by f) items) p ≡ context_by f (context_around items p)
+around_by : (f : ℕ → ℕ) (items : List Attached) (p : Parent) → context_around (map (attached_by f) items) p ≡ renamed_context f (context_around items p)
 around_by f items parent.Root = refl
 around_by f items (parent.Of s) = refl
 around_by f items parent.Current = last_by f items empty_context
@@ -113,20 +113,20 @@ module _ (f : Ids) (setup : Setup) (eager : setup.layer.eager ≡ true) (t : Tab
 
   -- ---- contexts
 
-  own_by : (s : ℕ) (e l : Option SpanData) (d c : Context) → SameAt f.new s at e l → ((m : SpanData) → l ≡ Some m → (ids : SpanContext) × (m.own ≡ Some ids)) → d ≡ context_by f.new c → own_context_or d e ≡ context_by f.new (own_context_or c l)
+  own_by : (s : ℕ) (e l : Option SpanData) (d c : Context) → SameAt f.new s at e l → ((m : SpanData) → l ≡ Some m → (ids : SpanContext) × (m.own ≡ Some ids)) → d ≡ renamed_context f.new c → own_context_or d e ≡ renamed_context f.new (own_context_or c l)
   own_by s None None d c alike started same = same
   own_by s None (Some m) d c alike started same = absurd alike
   own_by s (Some e) None d c alike started same = absurd alike
   own_by s (Some e) (Some m) d c alike started same =
       let has = started m refl in
-      let is : ids_by f.new has.0 ≡ early_ids f.new s m.parent = own_is has.0 has.1 in
-      λ i. record { span = (ap (λ (t : SpanData). t.own) alike.is ∙ ap (λ (ids : SpanContext). Some ids) (sym is) ∙ sym (ap (option_map (ids_by f.new)) has.1)) i }
+      let is : renamed_ids f.new has.0 ≡ early_ids f.new s m.parent = own_is has.0 has.1 in
+      λ i. record { span = (ap (λ (t : SpanData). t.own) alike.is ∙ ap (λ (ids : SpanContext). Some ids) (sym is) ∙ sym (ap (option_map (renamed_ids f.new)) has.1)) i }
     where
-      own_is : (ids : SpanContext) → m.own ≡ Some ids → ids_by f.new ids ≡ early_ids f.new s m.parent
-      own_is ids is = subst (λ (o : Option SpanContext). IfSome o (λ ids. ids_by f.new ids ≡ early_ids f.new s m.parent)) is alike.own_is
+      own_is : (ids : SpanContext) → m.own ≡ Some ids → renamed_ids f.new ids ≡ early_ids f.new s m.parent
+      own_is ids is = subst (λ (o : Option SpanContext). IfSome o (λ ids. renamed_ids f.new ids ≡ early_ids f.new s m.parent)) is alike.own_is
 
-  context_alike : (pending : List ℕ) (s : ℕ) (d c : Context) → SameRecording f setup.layer (length t.spans) at pending r (with_start s at t.recording) → d ≡ context_by f.new c
-      → own_context_or d (data_at s (with_start s at r).spans) ≡ context_by f.new (own_context_or c (data_at s (with_start s at t.recording).spans))
+  context_alike : (pending : List ℕ) (s : ℕ) (d c : Context) → SameRecording f setup.layer (length t.spans) at pending r (with_start s at t.recording) → d ≡ renamed_context f.new c
+      → own_context_or d (data_at s (with_start s at r).spans) ≡ renamed_context f.new (own_context_or c (data_at s (with_start s at t.recording).spans))
   context_alike pending s d c same others =
       let now = with_start s at t.recording in
       ap (λ (x : Recording). own_context_or d (data_at s x.spans)) (early_stays f setup.layer (length t.spans) at at s pending r now same)
@@ -201,7 +201,7 @@ module _ (f : Ids) (setup : Setup) (eager : setup.layer.eager ≡ true) (t : Tab
   -- ---- ops
 
   -- ops on one span that a start settles nothing of
-  tells_agree : (scope : Scope) (op : Op) → (deed op).own ≡ None → (answer : Reply) → reply_by f.new answer ≡ answer
+  tells_agree : (scope : Scope) (op : Op) → (deed op).own ≡ None → (answer : Reply) → renamed_reply f.new answer ≡ answer
       → A (Ok (ops_effect hl answer (op_on scope (op_by f.new op)))) (Ok (ops_effect hl answer (op_on scope op)))
   tells_agree scope op none answer same = (
     (λ i. record (ops_effect hl (sym same i) (op_on scope (op_by f.new op))) { ops = on_by scope op i }),
@@ -238,30 +238,30 @@ module _ (f : Ids) (setup : Setup) (eager : setup.layer.eager ≡ true) (t : Tab
 
   -- ---- contexts
 
-  gives_agree : (starting : Option ℕ) (d c : Context) → d ≡ context_by f.new c → A (Ok (context_effect he starting d)) (Ok (context_effect hl starting c))
+  gives_agree : (starting : Option ℕ) (d c : Context) → d ≡ renamed_context f.new c → A (Ok (context_effect he starting d)) (Ok (context_effect hl starting c))
   gives_agree starting d c same = (
     (λ i. record (context_effect hl starting c) {
       new_context = Some (same i);
-      reply = reply.Context (length-map t.named_contexts (context_by f.new) i) ((ap ids_of same ∙ ids_of_by f c) i);
+      reply = reply.Context (length-map t.named_contexts (renamed_context f.new) i) ((ap ids_of same ∙ ids_of_by f c) i);
     }),
     record { at_is = refl; begins = refl; made = tt; starts_none = tt },
   )
 
-  context_agrees : (scope : Scope) → P (Ok (context_effect hl (own_span scope) (own_context t.recording at scope))) → A (Ok (context_effect he (own_span scope) (own_context r at scope))) (Ok (context_effect hl (own_span scope) (own_context t.recording at scope)))
+  context_agrees : (scope : Scope) → P (Ok (context_effect hl (span_of_scope scope) (context_of_scope t.recording at scope))) → A (Ok (context_effect he (span_of_scope scope) (context_of_scope r at scope))) (Ok (context_effect hl (span_of_scope scope) (context_of_scope t.recording at scope)))
   context_agrees [] ready = gives_agree None empty_context empty_context refl
   context_agrees (s ∷ up) ready =
-      gives_agree (Some s) (own_context r at (s ∷ up)) (own_context t.recording at (s ∷ up)) (context_alike (ready refl).0.0 s empty_context empty_context (ready refl).0.1 refl)
+      gives_agree (Some s) (context_of_scope r at (s ∷ up)) (context_of_scope t.recording at (s ∷ up)) (context_alike (ready refl).0.0 s empty_context empty_context (ready refl).0.1 refl)
 
   far_and : (a b : Bool) → (a && b) ≡ true → (a ≡ true) × (b ≡ true)
   far_and true b is = (refl, is)
   far_and false b is = absurd (cc is)
 
-  remote_agrees : (ids : SpanContext) → (is_far f.many ids.trace && is_far f.many ids.span) ≡ true → A (Ok (context_effect he None (record { span = Some ids }))) (Ok (context_effect hl None (record { span = Some ids })))
+  remote_agrees : (ids : SpanContext) → (is_no_span_id f.many ids.trace && is_no_span_id f.many ids.span) ≡ true → A (Ok (context_effect he None (record { span = Some ids }))) (Ok (context_effect hl None (record { span = Some ids })))
   remote_agrees ids far =
-      let both = far_and (is_far f.many ids.trace) (is_far f.many ids.span) far in
+      let both = far_and (is_no_span_id f.many ids.trace) (is_no_span_id f.many ids.span) far in
       gives_agree None (record { span = Some ids }) (record { span = Some ids }) (λ i. record { span = Some (record { trace = sym (f.far ids.trace both.0) i; span = sym (f.far ids.span both.1) i }) })
 
-  attaches_agree : (given : Context) → A (Ok (attach_effect he (context_by f.new given))) (Ok (attach_effect hl given))
+  attaches_agree : (given : Context) → A (Ok (attach_effect he (renamed_context f.new given))) (Ok (attach_effect hl given))
   attaches_agree given = (refl, record { at_is = refl; begins = refl; made = tt; starts_none = tt })
 
   -- ---- what is asked of spans from outside
@@ -271,15 +271,15 @@ module _ (f : Ids) (setup : Setup) (eager : setup.layer.eager ≡ true) (t : Tab
   follows_agree (s ∷ up) [] ready = (refl, record { at_is = refl; begins = refl; made = tt; starts_none = tt })
   follows_agree (s ∷ up) (q ∷ over) ready =
       let same = context_alike (ready refl).0.0 q empty_context empty_context (ready refl).0.1 refl in (
-        (λ i. record (follow_effect hl (s ∷ up) (q ∷ over)) { ops = op_on (s ∷ up) (link_of ((ap ids_of same ∙ ids_of_by f (own_context t.recording at (q ∷ over))) i) []) }),
+        (λ i. record (follow_effect hl (s ∷ up) (q ∷ over)) { ops = op_on (s ∷ up) (link_of ((ap ids_of same ∙ ids_of_by f (context_of_scope t.recording at (q ∷ over))) i) []) }),
         record { at_is = refl; begins = refl; made = tt; starts_none = (refl, tt) },
       )
 
   sets_agree : (scope : Scope) (given : Context) → P (Ok (ops_effect hl (reply.Set (set_parent_result t.recording scope)) (op_on scope (ops.SetParent given))))
-      → A (Ok (ops_effect he (reply.Set (set_parent_result r scope)) (op_on scope (ops.SetParent (context_by f.new given))))) (Ok (ops_effect hl (reply.Set (set_parent_result t.recording scope)) (op_on scope (ops.SetParent given))))
+      → A (Ok (ops_effect he (reply.Set (set_parent_result r scope)) (op_on scope (ops.SetParent (renamed_context f.new given))))) (Ok (ops_effect hl (reply.Set (set_parent_result t.recording scope)) (op_on scope (ops.SetParent given))))
   sets_agree [] given ready = (refl, record { at_is = refl; begins = refl; made = tt; starts_none = tt })
   sets_agree (s ∷ up) given ready = (
-    (λ i. record (ops_effect hl (reply.Set (set_result (waits_not i))) (op_on (s ∷ up) (ops.SetParent given))) { ops = op_on (s ∷ up) (ops.SetParent (context_by f.new given)) }),
+    (λ i. record (ops_effect hl (reply.Set (set_result (waits_not i))) (op_on (s ∷ up) (ops.SetParent given))) { ops = op_on (s ∷ up) (ops.SetParent (renamed_context f.new given)) }),
     record { at_is = refl; begins = refl; made = tt; starts_none = (refl, tt) },
   )
     where
@@ -289,7 +289,7 @@ module _ (f : Ids) (setup : Setup) (eager : setup.layer.eager ≡ true) (t : Tab
           ∙ sym (ready refl).1.0
 
   links_agree : (scope : Scope) (given : SpanContext) (attributes : List KeyValue) (b : Bool)
-      → A (Ok (ops_effect hl reply.Done (if b then op_on scope (link_of (ids_by f.new given) attributes) else []))) (Ok (ops_effect hl reply.Done (if b then op_on scope (link_of given attributes) else [])))
+      → A (Ok (ops_effect hl reply.Done (if b then op_on scope (link_of (renamed_ids f.new given) attributes) else []))) (Ok (ops_effect hl reply.Done (if b then op_on scope (link_of given attributes) else [])))
   links_agree scope given attributes true = tells_agree scope (link_of given attributes) refl reply.Done refl
   links_agree scope given attributes false = (refl, record { at_is = refl; begins = refl; made = tt; starts_none = tt })
 
@@ -298,13 +298,13 @@ module _ (f : Ids) (setup : Setup) (eager : setup.layer.eager ≡ true) (t : Tab
   last_of : (m : ℕ) → min (max m (min m GREATEST)) GREATEST ≤ m
   last_of m = omega arith
 
-  told_alike : (c : Callsite) (l : Lane) (values : ValueSet) (d x : Context) (se sl : LayerSettings) (ke kl : Bool) → d ≡ context_by f.new x → se ≡ setup.layer → sl ≡ (lazy_setup setup).layer → ke ≡ kl
+  told_alike : (c : Callsite) (l : Lane) (values : ValueSet) (d x : Context) (se sl : LayerSettings) (ke kl : Bool) → d ≡ renamed_context f.new x → se ≡ setup.layer → sl ≡ (lazy_setup setup).layer → ke ≡ kl
       → new_span_data c l values d at se ke ≡ told_by f.new (new_span_data c l values x at sl kl)
   told_alike c l values d x se sl ke kl same e_set l_set count =
       (λ i. new_span_data c l values (same i) at (e_set i) (count i))
       ∙ ap (λ (s : LayerSettings). told_by f.new (new_span_data c l values x at s kl)) (sym l_set)
 
-  made_agrees : (c : Callsite) (l : Lane) (values : ValueSet) (d x : Context) (o : Option ℕ) (pending : List ℕ) → d ≡ context_by f.new x
+  made_agrees : (c : Callsite) (l : Lane) (values : ValueSet) (d x : Context) (o : Option ℕ) (pending : List ℕ) → d ≡ renamed_context f.new x
       → SameRecording f setup.layer (length t.spans) at pending r (fold (λ r s. with_start s at r) t.recording (option_to_list o))
       → new_span_data c l values (context_from (with_starts o at r).spans d o) at (with_starts o at r).settings (with_starts o at r).counting
       ≡ told_by f.new (new_span_data c l values (context_from (with_starts o at t.recording).spans x o) at (with_starts o at t.recording).settings (with_starts o at t.recording).counting)
@@ -321,7 +321,7 @@ module _ (f : Ids) (setup : Setup) (eager : setup.layer.eager ≡ true) (t : Tab
       → A (Ok (span_effect he site c values under up)) (Ok (span_effect hl site c values under up))
   spans_agree site c values under up ready =
       let k : length te.spans ≡ length t.spans = length-map t.spans (made_by f.new) in
-      let p = parent_at under up in
+      let p = parent_under under up in
       let source = parent_source setup.layer.activation p (current_of (t.entries id)) in
       let told = made_agrees c (lane_in hl) values (context_around (te.contexts id) p) (context_around (t.contexts id) p) source (ready refl).0.0 (around_by f.new (t.contexts id) p) (ready refl).0.1 in (
         (λ i. record (span_effect hl site c values under up) {
@@ -341,7 +341,7 @@ module _ (f : Ids) (setup : Setup) (eager : setup.layer.eager ≡ true) (t : Tab
 
   -- ---- all calls
 
-  pub call_agrees : (c : Call) → gives_far f.many c ≡ true → P (effect_of_call (lazy_setup setup) t at place c) → A (effect_of_call setup te at place c) (effect_of_call (lazy_setup setup) t at place c)
+  pub call_agrees : (c : Call) → gives_no_span_id f.many c ≡ true → P (effect_of_call (lazy_setup setup) t at place c) → A (effect_of_call setup te at place c) (effect_of_call (lazy_setup setup) t at place c)
   call_agrees (call.New site under fields) far ready =
       named_agrees what.Site (span_site setup.sites site)
       (λ c. need what.Handle (scope_at te id under) >>= (λ up. need what.Field (all_values c fields) >>= (λ values. Ok (new_effect he site c values under up))))
@@ -353,7 +353,7 @@ module _ (f : Ids) (setup : Setup) (eager : setup.layer.eager ≡ true) (t : Tab
       (λ up. need what.Field (all_values c fields) >>= (λ values. Ok (new_effect he site c values under up)))
       (λ up. need what.Field (all_values c fields) >>= (λ values. Ok (new_effect hl site c values under up))) given
       (λ up more. named_agrees what.Field (all_values c fields) (λ values. Ok (new_effect he site c values under up)) (λ values. Ok (new_effect hl site c values under up)) more
-      (λ values last. makes_agree site c values under up (admits_at setup t id c) last))))
+      (λ values last. makes_agree site c values under up (admits_on setup t id c) last))))
   call_agrees (call.Clone handle) far ready =
       named_agrees what.Handle (slot_at t.handles handle) (λ scope. Ok (clone_effect he scope)) (λ scope. Ok (clone_effect hl scope)) ready (λ scope given. clones_agree scope)
   call_agrees (call.Drop handle) far ready =
@@ -401,20 +401,20 @@ module _ (f : Ids) (setup : Setup) (eager : setup.layer.eager ≡ true) (t : Tab
       (λ reached. need what.Field (all_values c fields) >>= (λ values. Ok (event_effect he c values reached)))
       (λ reached. need what.Field (all_values c fields) >>= (λ values. Ok (event_effect hl c values reached))) given
       (λ reached more. named_agrees what.Field (all_values c fields) (λ values. Ok (event_effect he c values reached)) (λ values. Ok (event_effect hl c values reached)) more
-      (λ values last. events_agree c values (admits_at setup t id c) reached setup.counting))))
+      (λ values last. events_agree c values (admits_on setup t id c) reached setup.counting))))
   call_agrees (call.Remote ids) far ready = remote_agrees ids far
   call_agrees (call.Context handle) far ready =
       named_agrees what.Handle (slot_at t.handles handle)
-      (λ scope. Ok (context_effect he (own_span scope) (own_context r at scope))) (λ scope. Ok (context_effect hl (own_span scope) (own_context t.recording at scope))) ready
+      (λ scope. Ok (context_effect he (span_of_scope scope) (context_of_scope r at scope))) (λ scope. Ok (context_effect hl (span_of_scope scope) (context_of_scope t.recording at scope))) ready
       (λ scope given. context_agrees scope given)
   call_agrees (call.Attach context) far ready =
       subst₂ (λ (o : Option Context) (b : Bool). A (need what.Context o >>= (λ given. refuse_if b (refusal.Full place) (Ok (attach_effect he given)))) (effect_of_call (lazy_setup setup) t at place (call.Attach context)))
-      (sym (slice_get-map (context_by f.new) t.named_contexts context)) (sym full_by) (by_slot (slice_get t.named_contexts context) ready)
+      (sym (slice_get-map (renamed_context f.new) t.named_contexts context)) (sym full_by) (by_slot (slice_get t.named_contexts context) ready)
     where
       by_slot : (o : Option Context) → P (need what.Context o >>= (λ given. refuse_if (is_full (t.contexts id)) (refusal.Full place) (Ok (attach_effect hl given))))
-          → A (need what.Context (option_map (context_by f.new) o) >>= (λ given. refuse_if (is_full (t.contexts id)) (refusal.Full place) (Ok (attach_effect he given)))) (need what.Context o >>= (λ given. refuse_if (is_full (t.contexts id)) (refusal.Full place) (Ok (attach_effect hl given))))
+          → A (need what.Context (option_map (renamed_context f.new) o) >>= (λ given. refuse_if (is_full (t.contexts id)) (refusal.Full place) (Ok (attach_effect he given)))) (need what.Context o >>= (λ given. refuse_if (is_full (t.contexts id)) (refusal.Full place) (Ok (attach_effect hl given))))
       by_slot None ready = refl
-      by_slot (Some given) ready = if_agrees (is_full (t.contexts id)) (refusal.Full place) (Ok (attach_effect he (context_by f.new given))) (Ok (attach_effect hl given)) ready (λ go. attaches_agree given)
+      by_slot (Some given) ready = if_agrees (is_full (t.contexts id)) (refusal.Full place) (Ok (attach_effect he (renamed_context f.new given))) (Ok (attach_effect hl given)) ready (λ go. attaches_agree given)
   call_agrees (call.Detach guard) far ready =
       named_agrees what.Guard (slot_at t.attaches guard)
       (λ mine. refuse_if (not (mine == place)) (refusal.WrongLane mine) (Ok (detach_effect hl guard))) (λ mine. refuse_if (not (mine == place)) (refusal.WrongLane mine) (Ok (detach_effect hl guard))) ready
@@ -430,10 +430,10 @@ module _ (f : Ids) (setup : Setup) (eager : setup.layer.eager ≡ true) (t : Tab
       (λ scope. need what.Context (slice_get t.named_contexts context) >>= (λ given. Ok (ops_effect hl (reply.Set (set_parent_result t.recording scope)) (op_on scope (ops.SetParent given))))) ready
       (λ scope more. subst (λ (o : Option Context). A (need what.Context o >>= (λ given. Ok (ops_effect he (reply.Set (set_parent_result r scope)) (op_on scope (ops.SetParent given)))))
       (need what.Context (slice_get t.named_contexts context) >>= (λ given. Ok (ops_effect hl (reply.Set (set_parent_result t.recording scope)) (op_on scope (ops.SetParent given))))))
-      (sym (slice_get-map (context_by f.new) t.named_contexts context)) (by_slot scope (slice_get t.named_contexts context) more))
+      (sym (slice_get-map (renamed_context f.new) t.named_contexts context)) (by_slot scope (slice_get t.named_contexts context) more))
     where
       by_slot : (scope : Scope) (o : Option Context) → P (need what.Context o >>= (λ given. Ok (ops_effect hl (reply.Set (set_parent_result t.recording scope)) (op_on scope (ops.SetParent given)))))
-          → A (need what.Context (option_map (context_by f.new) o) >>= (λ given. Ok (ops_effect he (reply.Set (set_parent_result r scope)) (op_on scope (ops.SetParent given)))))
+          → A (need what.Context (option_map (renamed_context f.new) o) >>= (λ given. Ok (ops_effect he (reply.Set (set_parent_result r scope)) (op_on scope (ops.SetParent given)))))
           (need what.Context o >>= (λ given. Ok (ops_effect hl (reply.Set (set_parent_result t.recording scope)) (op_on scope (ops.SetParent given)))))
       by_slot scope None ready = refl
       by_slot scope (Some given) ready = sets_agree scope given ready
@@ -443,10 +443,10 @@ module _ (f : Ids) (setup : Setup) (eager : setup.layer.eager ≡ true) (t : Tab
       (λ scope. need what.Context (slice_get t.named_contexts context) >>= (λ given. Ok (ops_effect hl reply.Done (link_ops scope (ids_of given) attributes)))) ready
       (λ scope more. subst (λ (o : Option Context). A (need what.Context o >>= (λ given. Ok (ops_effect hl reply.Done (link_ops scope (ids_of given) attributes))))
       (need what.Context (slice_get t.named_contexts context) >>= (λ given. Ok (ops_effect hl reply.Done (link_ops scope (ids_of given) attributes)))))
-      (sym (slice_get-map (context_by f.new) t.named_contexts context)) (by_slot scope (slice_get t.named_contexts context)))
+      (sym (slice_get-map (renamed_context f.new) t.named_contexts context)) (by_slot scope (slice_get t.named_contexts context)))
     where
       by_slot : (scope : Scope) (o : Option Context)
-          → A (need what.Context (option_map (context_by f.new) o) >>= (λ given. Ok (ops_effect hl reply.Done (link_ops scope (ids_of given) attributes)))) (need what.Context o >>= (λ given. Ok (ops_effect hl reply.Done (link_ops scope (ids_of given) attributes))))
+          → A (need what.Context (option_map (renamed_context f.new) o) >>= (λ given. Ok (ops_effect hl reply.Done (link_ops scope (ids_of given) attributes)))) (need what.Context o >>= (λ given. Ok (ops_effect hl reply.Done (link_ops scope (ids_of given) attributes))))
       by_slot scope None = refl
       by_slot scope (Some given) =
           subst₂ (λ (ids : SpanContext) (b : Bool). A (Ok (ops_effect hl reply.Done (if b then op_on scope (link_of ids attributes) else []))) (Ok (ops_effect hl reply.Done (link_ops scope (ids_of given) attributes))))
@@ -461,8 +461,8 @@ module _ (f : Ids) (setup : Setup) (eager : setup.layer.eager ≡ true) (t : Tab
       (λ scope given. tells_agree scope (ops.SetStatus status) refl reply.Done refl)
   call_agrees (call.AddEvent handle name attributes time) far ready =
       named_agrees what.Handle (slot_at t.handles handle)
-      (λ scope. Ok (ops_effect hl reply.Done (op_on scope (event_at name (happens_at at time) attributes)))) (λ scope. Ok (ops_effect hl reply.Done (op_on scope (event_at name (happens_at at time) attributes)))) ready
-      (λ scope given. tells_agree scope (event_at name (happens_at at time) attributes) refl reply.Done refl)
+      (λ scope. Ok (ops_effect hl reply.Done (op_on scope (event_at name (event_time at time) attributes)))) (λ scope. Ok (ops_effect hl reply.Done (op_on scope (event_at name (event_time at time) attributes)))) ready
+      (λ scope given. tells_agree scope (event_at name (event_time at time) attributes) refl reply.Done refl)
   call_agrees (call.Enabled site) far ready =
       named_agrees what.Site (slice_get setup.sites site) (λ c. Ok (enabled_effect he c)) (λ c. Ok (enabled_effect hl c)) ready (λ c given. (refl, record { at_is = refl; begins = refl; made = tt; starts_none = tt }))
   call_agrees (call.Reload text) far ready = by_read (text_read text)
@@ -473,7 +473,7 @@ module _ (f : Ids) (setup : Setup) (eager : setup.layer.eager ≡ true) (t : Tab
 
 -- ---- all requests
 
-pub request_agrees : (f : Ids) (setup : Setup) → setup.layer.eager ≡ true → (t : Tables) (r : Recording) (request : Request) → gives_far f.many request.call ≡ true
+pub request_agrees : (f : Ids) (setup : Setup) → setup.layer.eager ≡ true → (t : Tables) (r : Recording) (request : Request) → gives_no_span_id f.many request.call ≡ true
     → IsReady f setup.layer (length t.spans) request.at r t.recording (effect_of (lazy_setup setup) t request)
     → Agrees f.new (length t.spans) request.at (effect_of setup (tables_by f.new r t) request) (effect_of (lazy_setup setup) t request)
 request_agrees f setup eager t r request far ready =

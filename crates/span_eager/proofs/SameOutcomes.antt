@@ -1,6 +1,6 @@
 -- An early start changes ids alone.
 use Rattle.std.proofs.Common.{◌≡◌, ℕ, zero, suc, ◌+◌, ◌≤◌, List, [], ◌∷◌, ◌++◌, length, map, true, Option, Some, None, refl, ap, ◌∙◌, arith, slice_get, count_by}
-use Rattle.span_eager.proofs.Common.{option_map_or, range_with_len, nat_tests, length-map, slice_get_past, Reply, Request, Setup, Effect, History, Tables, no_tables, nothing_recorded, tables, after_effect, is_open, open_spans, history_of, outcome_of, none, starting_order, lazy_setup, eager_id, answers, is_far, MayStartEarly, new_id, reply_by, answer_by, outcome_with}
+use Rattle.span_eager.proofs.Common.{option_map_or, range_with_len, nat_tests, length-map, slice_get_past, Reply, Request, Setup, Effect, History, Tables, no_tables, nothing_recorded, tables, after_effect, is_open, open_spans, history_of, outcome_of, none, starting_order, lazy_setup, eager_id, answers, is_no_span_id, MayStartEarly, new_id, renamed_reply, renamed_answer, renamed_outcome}
 use Rattle.span_laws.proofs.spans.AllSpansLemmas.{started_few}
 use Rattle.span_laws.proofs.steps.LegalLemmas.{scripts_are_legal}
 use Rattle.span_eager.proofs.SameSpan.{Ids}
@@ -26,7 +26,7 @@ ids_placed order front rest s is =
     let next : length front + 1 ≡ suc (length front) = omega arith in
     ap (new_id order) next ∙ ap (λ (o : Option ℕ). option_map_or suc o (suc (length front))) (ap (λ (xs : List ℕ). slice_get xs (length front)) is ∙ slot_behind front rest s)
 
-ids_far : (order : List ℕ) (many : ℕ) → length order ≤ many → (id : ℕ) → is_far many id ≡ true → new_id order id ≡ id
+ids_far : (order : List ℕ) (many : ℕ) → length order ≤ many → (id : ℕ) → is_no_span_id many id ≡ true → new_id order id ≡ id
 ids_far order many few zero far = refl
 ids_far order many few (suc k) far =
     let past : length order ≤ k = grind (arith, nat_tests, far, few) in
@@ -34,9 +34,9 @@ ids_far order many few (suc k) far =
 
 -- ---- the outcome
 
-replies_by : (f : ℕ → ℕ) (t : Tables) (h : History) → map (λ (e : Effect). e.reply) (history_by f t h) ≡ map (reply_by f) (map (λ (e : Effect). e.reply) h)
+replies_by : (f : ℕ → ℕ) (t : Tables) (h : History) → map (λ (e : Effect). e.reply) (history_by f t h) ≡ map (renamed_reply f) (map (λ (e : Effect). e.reply) h)
 replies_by f t [] = refl
-replies_by f t (e ∷ h) = ap (λ (rs : List Reply). reply_by f e.reply ∷ rs) (replies_by f (after_effect t e) h)
+replies_by f t (e ∷ h) = ap (λ (rs : List Reply). renamed_reply f e.reply ∷ rs) (replies_by f (after_effect t e) h)
 
 as_many : (f : ℕ → ℕ) (t : Tables) (h : History) → length (history_by f t h) ≡ length h
 as_many f t [] = refl
@@ -65,11 +65,11 @@ beside setup requests eager may =
     may.settled on.0
 
 pub each_early_is_late : (setup : Setup) (requests : List Request) → setup.layer.eager ≡ true → MayStartEarly (lazy_setup setup) requests
-    → answers setup requests ≡ map (answer_by (eager_id (lazy_setup setup) requests)) (answers (lazy_setup setup) requests)
+    → answers setup requests ≡ map (renamed_answer (eager_id (lazy_setup setup) requests)) (answers (lazy_setup setup) requests)
 each_early_is_late setup requests eager may = (beside setup requests eager may).answers
 
 pub early_is_late : (setup : Setup) (requests : List Request) → setup.layer.eager ≡ true → MayStartEarly (lazy_setup setup) requests
-    → outcome_of setup requests ≡ outcome_with (eager_id (lazy_setup setup) requests) (outcome_of (lazy_setup setup) requests)
+    → outcome_of setup requests ≡ renamed_outcome (eager_id (lazy_setup setup) requests) (outcome_of (lazy_setup setup) requests)
 early_is_late setup requests eager may =
     let t = no_tables (lazy_setup setup) in
     let f = eager_id (lazy_setup setup) requests in

@@ -1,6 +1,6 @@
 -- The same of all that is recorded: what a start, a making, an op and a close make of it.
 use Rattle.std.proofs.Common.{◌≡◌, ℕ, suc, ◌+◌, ◌≤◌, ◌==◌, ◌&&◌, ◌||◌, List, [], ◌∷◌, ◌++◌, length, map, fold, Bool, true, false, Option, Some, None, refl, sym, ap, ap₂, subst, ◌∙◌, arith, inl, inr, append_assoc, is_some, option_map}
-use Rattle.span_eager.proofs.Common.{AllByRecursion, cases_Bool, map-append, Context, SpanContext, Record, ids_of, recorder_ids, is_in, Op, LayerSettings, GREATEST, Deed, deed, SpanData, first_start, after_op, record_of, Recording, with_applied, with_start_under, with_start, without_closed, closed_started, with_close, data_at, update, with_op, start_context, context_unless_started, SpanOp, if_waiting, starting, starts_from, closes_from, settles, IsSettled, record_by}
+use Rattle.span_eager.proofs.Common.{AllByRecursion, cases_Bool, map-append, Context, SpanContext, Record, ids_of, recorder_ids, is_in, Op, LayerSettings, GREATEST, Deed, deed, SpanData, first_start, after_op, record_of, Recording, with_applied, with_start_under, with_start, without_closed, closed_started, with_close, data_at, update, with_op, start_context, context_unless_started, SpanOp, if_waiting, starting, starts_from, closes_from, writes_start_data, LeavesStartData, renamed_record}
 use Rattle.std.proofs.lemmas.Bool.{eq-eqb, eqb-true, true≢false}
 use Rattle.std.proofs.lemmas.List.{length-append}
 use Rattle.otel_base.specs.declared.record.SpanKind.{SpanKind}
@@ -18,7 +18,7 @@ pub record SameRecording (f : Ids) (layer : LayerSettings) (n at : ℕ) (pending
   pub front : List ℕ
   pub order_is : f.order ≡ front ++ pending
   pub count : l.started ≡ length front
-  pub finished : e.finished ≡ map (record_by f.new) l.finished
+  pub finished : e.finished ≡ map (renamed_record f.new) l.finished
   pub e_settings : e.settings ≡ layer
   pub l_settings : l.settings ≡ record layer { eager = false }
   pub counting : e.counting ≡ l.counting
@@ -150,7 +150,7 @@ module _ (f : Ids) (layer : LayerSettings) where
 
   -- ---- ops
 
-  none_settled : (d : Deed) → settles d ≡ false → (d.name ≡ None) × (d.kind ≡ None) × (d.parent ≡ None)
+  none_settled : (d : Deed) → writes_start_data d ≡ false → (d.name ≡ None) × (d.kind ≡ None) × (d.parent ≡ None)
   none_settled d isnt = by_parts d.name d.kind d.parent isnt
     where
       by_parts : (name : Option (List ℕ)) (kind : Option SpanKind) (parent : Option Context) → (is_some name || is_some kind || is_some parent) ≡ false → (name ≡ None) × (kind ≡ None) × (parent ≡ None)
@@ -163,12 +163,12 @@ module _ (f : Ids) (layer : LayerSettings) where
   and_true true b so isnt = absurd (cc (sym so ∙ isnt))
   and_true false b so isnt = refl
 
-  quiet_by : (r : Recording) (d : SpanOp) (m : SpanData) → data_at d.span r.spans ≡ Some m → IsSettled r d → Quiet m.own (deed d.op)
+  quiet_by : (r : Recording) (d : SpanOp) (m : SpanData) → data_at d.span r.spans ≡ Some m → LeavesStartData r d → Quiet m.own (deed d.op)
   quiet_by r d m found settled waits_now =
-      none_settled (deed d.op) (and_true (settles (deed d.op)) (is_some (start_context (data_at d.span r.spans)))
+      none_settled (deed d.op) (and_true (writes_start_data (deed d.op)) (is_some (start_context (data_at d.span r.spans)))
       (ap (λ (o : Option SpanData). is_some (start_context o)) found ∙ ap (λ (o : Option SpanContext). is_some (context_unless_started o m.parent)) waits_now) settled)
 
-  pub op_same : (n at : ℕ) (pending : List ℕ) (e l : Recording) (d : SpanOp) → at ≤ GREATEST → (deed d.op).own ≡ None → IsSettled l d → Same n at pending e l
+  pub op_same : (n at : ℕ) (pending : List ℕ) (e l : Recording) (d : SpanOp) → at ≤ GREATEST → (deed d.op).own ≡ None → LeavesStartData l d → Same n at pending e l
       → Same n at pending (with_applied d.span at (op_by f.new d.op) e) (with_applied d.span at d.op l)
   op_same n at pending e l d within isnt settled same = record {
     spans = same_update f.new at e.spans l.spans d.span (λ (t : SpanData). after_op t at (op_by f.new d.op)) (λ (t : SpanData). after_op t at d.op) same.spans
@@ -205,14 +205,14 @@ module _ (f : Ids) (layer : LayerSettings) where
       by_told None = refl
       by_told (Some t) = ap (λ (o : Option SpanContext). is_some (context_unless_started o (after_op t at op).parent)) (ap (first_start t.own) isnt) ∙ some_by t.own (after_op t at op).parent t.parent
 
-  still_settled : (at : ℕ) (l : Recording) (d x : SpanOp) → (deed d.op).own ≡ None → IsSettled l x → IsSettled (with_applied d.span at d.op l) x
-  still_settled at l d x isnt settled = ap (λ (b : Bool). settles (deed x.op) && b) (stays_waiting x.span d.span at d.op l.spans isnt) ∙ settled
+  still_settled : (at : ℕ) (l : Recording) (d x : SpanOp) → (deed d.op).own ≡ None → LeavesStartData l x → LeavesStartData (with_applied d.span at d.op l) x
+  still_settled at l d x isnt settled = ap (λ (b : Bool). writes_start_data (deed x.op) && b) (stays_waiting x.span d.span at d.op l.spans isnt) ∙ settled
 
-  all_settled : (at : ℕ) (l : Recording) (d : SpanOp) (ds : List SpanOp) → (deed d.op).own ≡ None → AllByRecursion (IsSettled l) ds → AllByRecursion (IsSettled (with_applied d.span at d.op l)) ds
+  all_settled : (at : ℕ) (l : Recording) (d : SpanOp) (ds : List SpanOp) → (deed d.op).own ≡ None → AllByRecursion (LeavesStartData l) ds → AllByRecursion (LeavesStartData (with_applied d.span at d.op l)) ds
   all_settled at l d [] isnt all = tt
   all_settled at l d (x ∷ ds) isnt all = (still_settled at l d x isnt all.0, all_settled at l d ds isnt all.1)
 
-  pub ops_same : (n at : ℕ) (pending : List ℕ) (ds : List SpanOp) (e l : Recording) → at ≤ GREATEST → AllByRecursion (λ (d : SpanOp). (deed d.op).own ≡ None) ds → AllByRecursion (IsSettled l) ds → Same n at pending e l
+  pub ops_same : (n at : ℕ) (pending : List ℕ) (ds : List SpanOp) (e l : Recording) → at ≤ GREATEST → AllByRecursion (λ (d : SpanOp). (deed d.op).own ≡ None) ds → AllByRecursion (LeavesStartData l) ds → Same n at pending e l
       → Same n at pending (fold (λ r d. with_applied d.span at d.op r) e (map (done_with f.new) ds)) (fold (λ r d. with_applied d.span at d.op r) l ds)
   ops_same n at pending [] e l within isnt settled same = same
   ops_same n at pending (d ∷ ds) e l within isnt settled same =
@@ -265,7 +265,7 @@ module _ (f : Ids) (layer : LayerSettings) where
         front = same.front;
         order_is = same.order_is;
         count = same.count;
-        finished = ap₂ (λ (xs : List Record) (x : Record). xs ++ x ∷ []) same.finished (record_alike f s at d m r.0.0 r.0.1 r.1 alike) ∙ sym (map-append (record_by f.new) l.finished (record_of m at ∷ []));
+        finished = ap₂ (λ (xs : List Record) (x : Record). xs ++ x ∷ []) same.finished (record_alike f s at d m r.0.0 r.0.1 r.1 alike) ∙ sym (map-append (renamed_record f.new) l.finished (record_of m at ∷ []));
         e_settings = same.e_settings;
         l_settings = same.l_settings;
         counting = same.counting;

@@ -1,6 +1,6 @@
 -- A script whose spans start at their making, beside the same one without that.
 use Rattle.std.proofs.Common.{◌≡◌, ℕ, ◌≤◌, ◌||◌, List, [], ◌∷◌, ◌++◌, length, map, fold, Bool, true, false, Option, Ok, Err, refl, sym, ap, ap₂, subst, subst₂, ◌∙◌, arith, append_assoc, if◌then◌else◌, slice_get, option_and_then, nat_lt}
-use Rattle.span_eager.proofs.Common.{nat_tests, map-append, length-map, Record, LayerSettings, GREATEST, Recording, with_start, Reply, Refusal, Request, Setup, Effect, History, Tables, done_by, recorded_by, open_part, records_of, after_effect, Resolved, ◌>>=◌, need, effect_of, effect_of_call, is_bad_moment, followed_by, history_from, records_from, refusal_at, starts_from, closes_from, lazy_setup, answers_from, AreSettled, AreFar, record_by, reply_by, answer_by}
+use Rattle.span_eager.proofs.Common.{nat_tests, map-append, length-map, Record, LayerSettings, GREATEST, Recording, with_start, Reply, Refusal, Request, Setup, Effect, History, Tables, with_ops_of, recording_after, open_part, records_of, after_effect, Resolved, ◌>>=◌, need, effect_of, effect_of_call, is_bad_moment, with_effects_behind, history_from, records_from, refusal_at, starts_from, closes_from, lazy_setup, answers_from, LeaveStartData, GiveNoSpanIds, renamed_record, renamed_reply, renamed_answer}
 use Rattle.span_script.specs.declared.reply.Refusal.TheVariants as refusal
 use Rattle.span_script.specs.declared.reply.What.TheVariants as what
 use Rattle.span_eager.proofs.SameSpan.{Ids}
@@ -21,8 +21,8 @@ refused_from setup t place requests h = option_and_then (λ (request : Request).
 -- what both come to from some tables on
 pub record Beside (f : ℕ → ℕ) (setup : Setup) (u t : Tables) (requests : List Request) (early late : History) : Type 0 where
   pub history : early ≡ history_by f t late
-  pub records : records_from u early ≡ map (record_by f) (records_from t late)
-  pub answers : answers_from u early ≡ map (answer_by f) (answers_from t late)
+  pub records : records_from u early ≡ map (renamed_record f) (records_from t late)
+  pub answers : answers_from u early ≡ map (renamed_answer f) (answers_from t late)
   pub last : Recording
   pub final : fold after_effect u early ≡ tables_by f last (fold after_effect t late)
   pub refused : (place : ℕ) → refused_from setup u place requests early ≡ refused_from (lazy_setup setup) t place requests late
@@ -67,14 +67,14 @@ module _ (f : Ids) (setup : Setup) (eager : setup.layer.eager ≡ true) where
 
   -- a request that gives an effect is ready for the calls' lemmas
   ready_by : (t : Tables) (r : Recording) (request : Request) (behind : Effect → History) (res : Resolved) → effect_of (lazy_setup setup) t request ≡ res
-      → Same (length t.spans) t.moment (order_from t (followed_by res behind)) r t.recording → AreSettled t (followed_by res behind)
+      → Same (length t.spans) t.moment (order_from t (with_effects_behind res behind)) r t.recording → LeaveStartData t (with_effects_behind res behind)
       → IsReady f setup.layer (length t.spans) request.at r t.recording res
   ready_by t r request behind (Err why) is same settled = tt
   ready_by t r request behind (Ok e) is same settled = λ at_is.
       let n = length t.spans in
       let good = good_moment (lazy_setup setup) t request e is in
       let rest = order_from (after_effect t e) (behind e) in
-      let closing = closes_from e.at (done_by n e t.recording) e.closes in
+      let closing = closes_from e.at (with_ops_of n e t.recording) e.closes in
       let order_is : order_from t (e ∷ behind e) ≡ starts_from request.at t.recording e.starts ++ (closing ++ rest) =
       append_assoc (starts_from e.at t.recording e.starts) closing rest ∙ ap (λ (m : ℕ). starts_from m t.recording e.starts ++ (closing ++ rest)) at_is in
       let now = later_same f setup.layer n t.moment request.at (order_from t (e ∷ behind e)) r t.recording good.0 same in
@@ -88,8 +88,8 @@ module _ (f : Ids) (setup : Setup) (eager : setup.layer.eager ≡ true) where
 
   -- one effect more
   next_same : (t : Tables) (r : Recording) (request : Request) (e : Effect) (h : History) → effect_of (lazy_setup setup) t request ≡ Ok e → IsPlain request.at e
-      → Same (length t.spans) t.moment (order_from t (e ∷ h)) r t.recording → AreSettled t (e ∷ h) → AreShut t (e ∷ h)
-      → Same (count_made (length t.spans) e.new_span) e.at (order_from (after_effect t e) h) (recorded_by (length t.spans) (effect_by f.new (length t.spans) e) r) (recorded_by (length t.spans) e t.recording)
+      → Same (length t.spans) t.moment (order_from t (e ∷ h)) r t.recording → LeaveStartData t (e ∷ h) → AreShut t (e ∷ h)
+      → Same (count_made (length t.spans) e.new_span) e.at (order_from (after_effect t e) h) (recording_after (length t.spans) (effect_by f.new (length t.spans) e) r) (recording_after (length t.spans) e t.recording)
   next_same t r request e h is plain same settled shut =
       let good = good_moment (lazy_setup setup) t request e is in
       let past = good.0 in
@@ -100,13 +100,13 @@ module _ (f : Ids) (setup : Setup) (eager : setup.layer.eager ≡ true) where
 
   by_both : (t : Tables) (r : Recording) (request : Request) (requests : List Request)
       → ((s : Tables) (q : Recording) → Same (length s.spans) s.moment (order_from s (history_from (lazy_setup setup) s requests)) q s.recording
-      → AreSettled s (history_from (lazy_setup setup) s requests) → AreShut s (history_from (lazy_setup setup) s requests)
+      → LeaveStartData s (history_from (lazy_setup setup) s requests) → AreShut s (history_from (lazy_setup setup) s requests)
       → Beside f.new setup (tables_by f.new q s) s requests (history_from setup (tables_by f.new q s) requests) (history_from (lazy_setup setup) s requests))
       → (re : Resolved) → effect_of setup (tables_by f.new r t) request ≡ re → (rl : Resolved) → effect_of (lazy_setup setup) t request ≡ rl → Agrees f.new (length t.spans) request.at re rl
-      → Same (length t.spans) t.moment (order_from t (followed_by rl (λ e. history_from (lazy_setup setup) (after_effect t e) requests))) r t.recording
-      → AreSettled t (followed_by rl (λ e. history_from (lazy_setup setup) (after_effect t e) requests)) → AreShut t (followed_by rl (λ e. history_from (lazy_setup setup) (after_effect t e) requests))
+      → Same (length t.spans) t.moment (order_from t (with_effects_behind rl (λ e. history_from (lazy_setup setup) (after_effect t e) requests))) r t.recording
+      → LeaveStartData t (with_effects_behind rl (λ e. history_from (lazy_setup setup) (after_effect t e) requests)) → AreShut t (with_effects_behind rl (λ e. history_from (lazy_setup setup) (after_effect t e) requests))
       → Beside f.new setup (tables_by f.new r t) t (request ∷ requests)
-      (followed_by re (λ e. history_from setup (after_effect (tables_by f.new r t) e) requests)) (followed_by rl (λ e. history_from (lazy_setup setup) (after_effect t e) requests))
+      (with_effects_behind re (λ e. history_from setup (after_effect (tables_by f.new r t) e) requests)) (with_effects_behind rl (λ e. history_from (lazy_setup setup) (after_effect t e) requests))
   by_both t r request requests rest (Err a) is_e (Err b) is_l agrees same settled shut = record {
     history = refl;
     records = refl;
@@ -123,27 +123,27 @@ module _ (f : Ids) (setup : Setup) (eager : setup.layer.eager ≡ true) where
       let ee = effect_by f.new n l in
       let s = after_effect t l in
       let k : length (map (made_by f.new) t.spans) ≡ n = length-map t.spans (made_by f.new) in
-      let q = open_part (recorded_by (length (map (made_by f.new) t.spans)) ee r) in
+      let q = open_part (recording_after (length (map (made_by f.new) t.spans)) ee r) in
       let is : after_effect u ee ≡ tables_by f.new q s = after_by f.new n r t l in
       let hl = history_from (lazy_setup setup) s requests in
       let next = next_same t r request l hl is_l agrees.1 same settled shut in
-      let opened = open_same f setup.layer (count_made n l.new_span) l.at (order_from s hl) (recorded_by n ee r) (recorded_by n l t.recording) next in
+      let opened = open_same f setup.layer (count_made n l.new_span) l.at (order_from s hl) (recording_after n ee r) (recording_after n l t.recording) next in
       let ready : Same (length s.spans) s.moment (order_from s hl) q s.recording =
-      subst₂ (λ (c m : ℕ). Same c l.at (order_from s hl) (open_part (recorded_by m ee r)) s.recording) (sym (made_count t.spans l.new_span)) (sym k) opened in
+      subst₂ (λ (c m : ℕ). Same c l.at (order_from s hl) (open_part (recording_after m ee r)) s.recording) (sym (made_count t.spans l.new_span)) (sym k) opened in
       let behind = subst (λ (x : Tables). Beside f.new setup x s requests (history_from setup x requests) hl) (sym is) (rest s q ready settled.1 shut.1) in
-      let mine : records_of u ee ≡ map (record_by f.new) (records_of t l) = ap (λ (m : ℕ). (recorded_by m ee r).finished) k ∙ next.finished in
+      let mine : records_of u ee ≡ map (renamed_record f.new) (records_of t l) = ap (λ (m : ℕ). (recording_after m ee r).finished) k ∙ next.finished in
       subst (λ (x : Effect). Beside f.new setup u t (request ∷ requests) (x ∷ history_from setup (after_effect u x) requests) (l ∷ hl)) (sym agrees.0) (record {
         history = ap (λ (h : History). ee ∷ h) behind.history;
-        records = ap₂ (λ (xs ys : List Record). xs ++ ys) mine behind.records ∙ sym (map-append (record_by f.new) (records_of t l) (records_from s hl));
-        answers = ap₂ (λ (xs : List Record) (rest : List (Reply × List Record)). (reply_by f.new l.reply, xs) ∷ rest) mine behind.answers;
+        records = ap₂ (λ (xs ys : List Record). xs ++ ys) mine behind.records ∙ sym (map-append (renamed_record f.new) (records_of t l) (records_from s hl));
+        answers = ap₂ (λ (xs : List Record) (rest : List (Reply × List Record)). (renamed_reply f.new l.reply, xs) ∷ rest) mine behind.answers;
         last = behind.last;
         final = behind.final;
         refused = behind.refused;
       })
 
-  pub along : (requests : List Request) (t : Tables) (r : Recording) → AreFar f.many requests
+  pub along : (requests : List Request) (t : Tables) (r : Recording) → GiveNoSpanIds f.many requests
       → Same (length t.spans) t.moment (order_from t (history_from (lazy_setup setup) t requests)) r t.recording
-      → AreSettled t (history_from (lazy_setup setup) t requests) → AreShut t (history_from (lazy_setup setup) t requests)
+      → LeaveStartData t (history_from (lazy_setup setup) t requests) → AreShut t (history_from (lazy_setup setup) t requests)
       → Beside f.new setup (tables_by f.new r t) t requests (history_from setup (tables_by f.new r t) requests) (history_from (lazy_setup setup) t requests)
   along [] t r far same settled shut = record { history = refl; records = refl; answers = refl; last = r; final = refl; refused = λ place. refl }
   along (request ∷ requests) t r far same settled shut =

@@ -11,7 +11,7 @@ use Rattle.span_script.specs.declared.request.Call.TheVariants as call
 use Rattle.span_script.specs.declared.request.Request.{Request}
 use Rattle.span_script.specs.Outcomes.{history_of}
 use Rattle.span_script.specs.Setups.{Setup}
-use Rattle.span_script.specs.Tables.{SpanOp, History, Tables, no_tables, tables, after_effect, begun_by, records_of}
+use Rattle.span_script.specs.Tables.{SpanOp, History, Tables, no_tables, tables, after_effect, with_starts_of, records_of}
 use Rattle.span_laws.specs.Starts.{starting_order}
 use Rattle.span_eager.specs.Renaming.{new_id}
 
@@ -34,31 +34,31 @@ answers setup requests = answers_from (no_tables setup) (history_of setup reques
 -- ---- scripts in which an early start changes ids alone
 
 -- an op that writes a name, a kind or a parent
-abbrev pub settles : Deed → Bool
-settles d = is_some d.name || is_some d.kind || is_some d.parent
+abbrev pub writes_start_data : Deed → Bool
+writes_start_data d = is_some d.name || is_some d.kind || is_some d.parent
 
 -- an op that does isn't done to a span that hasn't started
-abbrev pub IsSettled : Recording → SpanOp → Type 0
-IsSettled r d = (settles (deed d.op) && is_some (start_context (data_at d.span r.spans))) ≡ false
+abbrev pub LeavesStartData : Recording → SpanOp → Type 0
+LeavesStartData r d = (writes_start_data (deed d.op) && is_some (start_context (data_at d.span r.spans))) ≡ false
 
 -- no op of an effect is, the making's own left aside
-abbrev pub AreSettled : Tables → History → Type 0
-AreSettled t [] = Unit {0}
-AreSettled t (e ∷ h) = AllByRecursion (IsSettled (begun_by (length t.spans) e t.recording)) e.ops × AreSettled (after_effect t e) h
+abbrev pub LeaveStartData : Tables → History → Type 0
+LeaveStartData t [] = Unit {0}
+LeaveStartData t (e ∷ h) = AllByRecursion (LeavesStartData (with_starts_of (length t.spans) e t.recording)) e.ops × LeaveStartData (after_effect t e) h
 
 -- ids from elsewhere are no ids of spans: each is 0 or greater than a number
-abbrev pub is_far : ℕ → ℕ → Bool
-is_far many id = id == 0 || nat_lt many id
+abbrev pub is_no_span_id : ℕ → ℕ → Bool
+is_no_span_id many id = id == 0 || nat_lt many id
 
-abbrev pub gives_far : ℕ → Call → Bool
-gives_far many (call.Remote ids) = is_far many ids.trace && is_far many ids.span
-gives_far many _ = true
+abbrev pub gives_no_span_id : ℕ → Call → Bool
+gives_no_span_id many (call.Remote ids) = is_no_span_id many ids.trace && is_no_span_id many ids.span
+gives_no_span_id many _ = true
 
-abbrev pub AreFar : ℕ → List Request → Type 0
-AreFar many requests = AllByRecursion (λ (request : Request). gives_far many request.call ≡ true) requests
+abbrev pub GiveNoSpanIds : ℕ → List Request → Type 0
+GiveNoSpanIds many requests = AllByRecursion (λ (request : Request). gives_no_span_id many request.call ≡ true) requests
 
 -- No name, kind or parent is written between the making of a span and its start, or the end of the script where it doesn't start,
 -- and contexts from elsewhere have no ids up to the number of spans made.
 pub record MayStartEarly (setup : Setup) (requests : List Request) : Type 0 where
-  pub settled : AreSettled (no_tables setup) (history_of setup requests)
-  pub far : AreFar (length (tables setup (history_of setup requests)).spans) requests
+  pub settled : LeaveStartData (no_tables setup) (history_of setup requests)
+  pub far : GiveNoSpanIds (length (tables setup (history_of setup requests)).spans) requests

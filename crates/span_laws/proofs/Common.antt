@@ -43,25 +43,25 @@ pub use Rattle.span_script.proofs.runs.RunLemmas.{goes_on_with, records_push, st
 pub use Rattle.span_script.proofs.spans.OpenCountLemmas.{range_more}
 pub use Rattle.span_script.proofs.spans.OpenSpansLemmas.{any_counted, pick, slot_open}
 pub use Rattle.span_script.proofs.steps.SlotsLemmas.{named_push, named_set, named_within, some_is}
-pub use Rattle.span_script.specs.Admission.{TextRead, filter_if, text_filter, text_read}
+pub use Rattle.span_script.specs.Admission.{TextRead, filter_of_read, text_filter, text_read}
 pub use Rattle.span_script.specs.Effects.{effect_of, effect_of_call, is_bad_moment}
 pub use Rattle.span_script.specs.Fields.{Fields, all_values, values_of}
 pub use Rattle.span_script.specs.Setups.{Setup, event_site, id_at, span_site}
-pub use Rattle.span_script.specs.Tables.{Effect, FilterHook, History, HookClose, HookEnter, HookExit, HookNew, HookRecord, MadeSpan, Scope, ScopeGuard, SpanOp, Tables, after_effect, done_by, either_after, hooks_since, lanes_with_entry, lanes_with_exit, made_of, newer_text, no_made_span, no_tables, open_part, own_span, recorded_by, records_of, scope_of, slot_at, spend, tables, with_item, with_span_made}
-pub use Rattle.span_script.specs.calls.Contexts.{attach_effect, context_effect, detach_effect, own_context}
+pub use Rattle.span_script.specs.Tables.{Effect, FilterHook, History, HookClose, HookEnter, HookExit, HookNew, HookRecord, MadeSpan, Scope, ScopeGuard, SpanOp, Tables, after_effect, with_ops_of, either_after, hooks_since, with_entry_on, with_exit_on, made_span_at, newer_text, no_made_span, no_tables, open_part, span_of_scope, recording_after, records_of, scope_of, slot_at, spend, tables, with_item, with_span_made}
+pub use Rattle.span_script.specs.calls.Contexts.{attach_effect, context_effect, detach_effect, context_of_scope}
 pub use Rattle.span_script.specs.calls.Entries.{activated_span, enter_effect, entry_call, exit_effect, is_full, is_shared, meets_full}
 pub use Rattle.span_script.specs.calls.Events.{event_ops, if_enabled}
 pub use Rattle.span_script.specs.calls.Fields.{callsite_of, hooks_of_values, update_ops}
-pub use Rattle.span_script.specs.calls.Filter.{admits_at, after_filter_hook, filter_at, hook_of, hooks_of_span, in_force, reload_by, reload_effect}
+pub use Rattle.span_script.specs.calls.Filter.{admits_on, after_filter_hook, filter_in_force, hook_of, hooks_of_span, text_in_force, reload_by, reload_effect}
 pub use Rattle.span_script.specs.calls.Here.{Here, Resolved, here_at, need, op_on, ops_effect, ops_on, refuse_if, ◌>>=◌}
-pub use Rattle.span_script.specs.calls.Links.{follow_effect, happens_at}
-pub use Rattle.span_script.specs.calls.Spans.{borrows, clone_effect, closed_of, context_around, current_scope, disabled_effect, drop_effect, exchange_effect, holds, is_borrowed, is_open, lane_in, new_span_data_at, open_spans, parent_at, scope_at, scope_or_current, span_effect}
+pub use Rattle.span_script.specs.calls.Links.{follow_effect, event_time}
+pub use Rattle.span_script.specs.calls.Spans.{borrows, clone_effect, closed_of, context_around, current_scope, disabled_effect, drop_effect, exchange_effect, holds, is_borrowed, is_open, lane_in, new_span_data_at, open_spans, parent_under, scope_at, scope_or_current, span_effect}
 pub use Rattle.span_script.specs.declared.request.Call.{Call}
 pub use Rattle.span_script.specs.declared.request.RequestParent.{RequestParent}
 pub use Rattle.span_script.specs.declared.request.Request.{Request}
 pub use Rattle.span_laws.specs.Closes.{BeginsWith, is_drop}
-pub use Rattle.span_laws.specs.Laws.{IsHistory, more, none, occurrences}
-pub use Rattle.span_laws.specs.Makings.{HasContextOf, IsMadeBy, IsRecordOf, SeesOwn, asks_admitted, context_of_lane, context_span, is_making, parent_context}
+pub use Rattle.span_laws.specs.LegalHistories.{IsHistory, more, none, occurrences}
+pub use Rattle.span_laws.specs.Makings.{HasContextOf, IsMadeBy, IsRecordOf, SeesContextOf, asks_admitted, context_of_lane, context_span, is_making, parent_context}
 pub use Rattle.span_laws.specs.Records.{IsMadeWith, EachRecord, IsRecord, all_ops, closed_at, ops_from, ops_in, ops_of, records_of_history, start_in}
-pub use Rattle.span_laws.specs.Starts.{at_making, place_from, place_in, starting_order, starts_of, with_started}
+pub use Rattle.span_laws.specs.Starts.{starts_at_making, place_from, place_in, starting_order, starts_of, with_started}
 pub use Rattle.span_laws.specs.Telling.{TellsAttributes, TellsSpan, id_in_data, id_of}

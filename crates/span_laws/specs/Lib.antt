@@ -1,4 +1,4 @@
-pub mod Laws
+pub mod LegalHistories
 pub mod Closes
 pub mod Hearing
 pub mod Starts

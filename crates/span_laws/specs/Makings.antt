@@ -19,18 +19,18 @@ use Rattle.span_script.specs.declared.request.RequestParent.TheVariants as reque
 use Rattle.span_script.specs.declared.request.Request.{Request}
 use Rattle.span_script.specs.calls.Here.{here_at}
 use Rattle.span_script.specs.Effects.{effect_of}
-use Rattle.span_script.specs.calls.Contexts.{own_context}
-use Rattle.span_script.specs.calls.Filter.{admits_at}
+use Rattle.span_script.specs.calls.Contexts.{context_of_scope}
+use Rattle.span_script.specs.calls.Filter.{admits_on}
 use Rattle.span_script.specs.calls.Spans.{lane_in, last_attached, scope_at}
 use Rattle.span_script.specs.Fields.{Fields, all_values}
 use Rattle.span_script.specs.Setups.{Setup, span_site}
-use Rattle.span_script.specs.Tables.{Effect, History, MadeSpan, Scope, Tables, own_span, tables}
+use Rattle.span_script.specs.Tables.{Effect, History, MadeSpan, Scope, Tables, span_of_scope, tables}
 use Rattle.span_laws.specs.Records.{IsMadeWith, IsRecord, closed_at, ops_of}
 use Rattle.span_laws.specs.Starts.{place_in, starting_order}
 
 -- a call asks for a span of a callsite that the directives in force admit, on the lane of an id
 abbrev pub asks_admitted : Setup → Tables → ℕ → Call → Bool
-asks_admitted setup t id (call.New site under fields) = option_map_or (admits_at setup t id) (span_site setup.sites site) false
+asks_admitted setup t id (call.New site under fields) = option_map_or (admits_on setup t id) (span_site setup.sites site) false
 asks_admitted setup t id _ = false
 
 -- so does a request
@@ -46,7 +46,7 @@ context_of_lane t at id (Some s) = own_context_or (last_attached empty_context (
 -- of the lane: with activation the one that was attached last, without it that of the current span.
 abbrev pub parent_context : Setup → Tables → ℕ → ℕ → RequestParent → Scope → Context
 parent_context setup t at id request_parent.Root up = empty_context
-parent_context setup t at id (request_parent.Under handle) up = own_context t.recording at up
+parent_context setup t at id (request_parent.Under handle) up = context_of_scope t.recording at up
 parent_context setup t at id request_parent.Contextual up = context_of_lane t at id (if setup.layer.activation then None else current_of (t.entries id))
 
 -- A span was made as a request says: of its callsite, under its place, at its moment, with the values of its fields.
@@ -89,7 +89,7 @@ pub record IsRecordOf (setup : Setup) (h : History) (s : ℕ) (r : Record) : Typ
 -- the span whose own context a new span is put under: an explicit parent, or without activation the current span
 abbrev pub context_span : Bool → RequestParent → Scope → Option ℕ → Option ℕ
 context_span activation request_parent.Root up current = None
-context_span activation (request_parent.Under handle) up current = own_span up
+context_span activation (request_parent.Under handle) up current = span_of_scope up
 context_span activation request_parent.Contextual up current = if activation then None else current
 
 -- what is put under a span is put under the context of the span's record
@@ -99,6 +99,6 @@ HasContextOf setup h p r = (s : ℕ) (fore : History) (request : Request) (made 
     → made.by.making.parent ≡ record { span = Some r.context }
 
 -- and so what any request sees of a span's own context that starts the span, or finds it started
-abbrev pub SeesOwn : Setup → History → ℕ → Record → Type 0
-SeesOwn setup h p r = (fore rest : History) (e : Effect) (up : Scope) → h ≡ fore ++ e ∷ rest → e.starts ≡ p ∷ []
-    → own_context (tables setup fore).recording e.at (p ∷ up) ≡ record { span = Some r.context }
+abbrev pub SeesContextOf : Setup → History → ℕ → Record → Type 0
+SeesContextOf setup h p r = (fore rest : History) (e : Effect) (up : Scope) → h ≡ fore ++ e ∷ rest → e.starts ≡ p ∷ []
+    → context_of_scope (tables setup fore).recording e.at (p ∷ up) ≡ record { span = Some r.context }

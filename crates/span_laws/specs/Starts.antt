@@ -10,9 +10,9 @@ abbrev pub with_started : List ℕ → ℕ → List ℕ
 with_started order s = if is_in s order then order else order ++ s ∷ []
 
 -- the span that starts as it is made, by its number, where spans start early
-abbrev pub at_making : Bool → ℕ → Option MadeSpan → Option ℕ
-at_making eager n None = None
-at_making eager n (Some m) = source_of eager n
+abbrev pub starts_at_making : Bool → ℕ → Option MadeSpan → Option ℕ
+starts_at_making eager n None = None
+starts_at_making eager n (Some m) = source_of eager n
 
 -- the spans that an effect starts, unless they have started: those that it says, the one that it starts at its making, and those that it closes
 abbrev pub starts_of : Effect → List ℕ

@@ -4,7 +4,7 @@ ghost use Rattle.span_script.specs.declared.request.Request.{Request};
 ghost use Rattle.span_script.specs.Effects.{effect_of};
 ghost use Rattle.span_script.specs.Setups.{Setup};
 ghost use Rattle.span_script.specs.Tables.{Effect, History, records_of, tables};
-ghost use Rattle.span_laws.specs.Laws.{IsHistory};
+ghost use Rattle.span_laws.specs.LegalHistories.{IsHistory};
 ghost use Rattle.span_laws.specs.Makings.{IsRecordOf};
 ghost use Rattle.span_laws.specs.Records.{EachRecord, records_of_history};
 

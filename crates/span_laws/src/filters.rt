@@ -9,19 +9,19 @@ ghost use Rattle.env_filter.specs.spans.Histories.{NeverFalls, level_by_calls, l
 ghost use Rattle.span_script.specs.Admission.{text_filter};
 ghost use Rattle.span_script.specs.calls.Here.{Here, answer_effect};
 ghost use Rattle.span_script.specs.calls.Events.{event_effect};
-ghost use Rattle.span_script.specs.calls.Filter.{admits_at, filter_at, hook_of, reload_effect};
+ghost use Rattle.span_script.specs.calls.Filter.{admits_on, filter_in_force, hook_of, reload_effect};
 ghost use Rattle.span_script.specs.Setups.{Setup};
 ghost use Rattle.span_script.specs.Tables.{FilterHook, History, Scope, Tables, after_effect, tables};
 ghost use Rattle.span_script.specs.declared.reply.Reply.TheVariants as reply;
 ghost use Rattle.span_laws.specs.Hearing.{filter_hook_of, after_filter_hook_if};
-ghost use Rattle.span_laws.specs.Laws.{IsHistory};
+ghost use Rattle.span_laws.specs.LegalHistories.{IsHistory};
 ghost use Rattle.span_laws.specs.Levels.{HasNoReload, directives_in, hooks_in, level_in};
 
 /// After a reload the gate speaks of the new text alone, whatever came before. All else is as it was: spans that were made
 /// stay, whatever the new text says of them.
 pub fn reloads()
     ensures gate { (setup : Setup) (t : Tables) (here : Here) (lane : ℕ) (text : List ℕ) (c : Callsite)
-        → admits_at setup (after_effect t (reload_effect here text)) lane c ≡ is_admitted (text_filter text) lane c }
+        → admits_on setup (after_effect t (reload_effect here text)) lane c ≡ is_admitted (text_filter text) lane c }
     ensures others { (setup : Setup) (h : History) (here : Here) (text : List ℕ) → IsHistory setup h
         → after_effect (tables setup h) (reload_effect here text)
         ≡ record (tables setup h) { filter = Some text; hooks = []; moment = here.at } }
@@ -30,7 +30,7 @@ pub fn reloads()
 /// An event that isn't let through leaves nothing but its answer.
 pub fn refused_events()
     ensures { (here : Here) (c : Callsite) (values : ValueSet) (reached : Scope)
-        → admits_at here.setup here.script here.lane c ≡ false
+        → admits_on here.setup here.script here.lane c ≡ false
         → event_effect here c values reached ≡ answer_effect here (reply.Enabled false) }
 {}
 
@@ -46,7 +46,7 @@ pub fn levels()
     ensures span { (setup : Setup) (h : History) (s : ℕ) → IsHistory setup h
         → level_in setup h s ≡ level_by_calls (directives_in setup h) s (hooks_in setup h) }
     ensures lane { (setup : Setup) (h : History) (lane : ℕ) → IsHistory setup h
-        → (filter_at setup (tables setup h)).lanes lane
+        → (filter_in_force setup (tables setup h)).lanes lane
         ≡ levels_by_calls (directives_in setup h) lane (hooks_in setup h) }
 {}
 

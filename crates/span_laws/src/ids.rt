@@ -5,7 +5,7 @@ ghost use Rattle.otel_layer.specs.Table.{data_at};
 ghost use Rattle.span_script.specs.calls.Spans.{is_open};
 ghost use Rattle.span_script.specs.Setups.{Setup};
 ghost use Rattle.span_script.specs.Tables.{History, tables};
-ghost use Rattle.span_laws.specs.Laws.{IsHistory, occurrences};
+ghost use Rattle.span_laws.specs.LegalHistories.{IsHistory, occurrences};
 ghost use Rattle.span_laws.specs.Records.{records_of_history};
 ghost use Rattle.span_laws.specs.Starts.{place_in, starting_order};
 ghost use Rattle.span_laws.specs.Telling.{id_of, id_in_data};

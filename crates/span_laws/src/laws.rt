@@ -4,7 +4,7 @@ ghost use Rattle.trace_base.specs.Spans.{is_in};
 ghost use Rattle.span_script.specs.Setups.{Setup};
 ghost use Rattle.span_script.specs.Tables.{History, tables};
 ghost use Rattle.span_script.specs.calls.Spans.{is_open, open_spans};
-ghost use Rattle.span_laws.specs.Laws.{IsHistory, occurrences};
+ghost use Rattle.span_laws.specs.LegalHistories.{IsHistory, occurrences};
 
 /// A span is recorded at most once, and that when no unspent handle holds it any more.
 pub fn records()

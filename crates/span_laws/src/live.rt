@@ -21,9 +21,9 @@ use trace_base::subscriber::Subscriber;
 /// are taken.
 pub fn keeps<S: Subscriber>()
     ensures begins { (settings : LayerSettings) (counting : Bool) → KeepsLive no_spans (new_recording settings counting) }
-    ensures call { (old new : WorldValue S) (dispatch : ℕ) (call : SubscriberCall) (counter : Option FilterState)
+    ensures call { (old new : WorldValue S) (dispatch : ℕ) (call : SubscriberCall) (counting_filter : Option FilterState)
         (r t : Recording) → Replaced (λ s t. S.does s call t) old new dispatch
-        → RecordsCallBy counter (spans_in S.spans old dispatch) r call t
+        → RecordsCallBy counting_filter (spans_in S.spans old dispatch) r call t
         → KeepsLive (spans_in S.spans old dispatch) r → KeepsLive (spans_in S.spans new dispatch) t }
     ensures layer_call { (old new : WorldValue S) (dispatch : ℕ) (call : SubscriberCall) (r t : Recording)
         → Replaced (λ s t. S.does s call t) old new dispatch → RecordsCall (spans_in S.spans old dispatch) r call t

@@ -4,8 +4,8 @@ ghost use Rattle.span_script.specs.declared.request.Request.{Request};
 ghost use Rattle.span_script.specs.Effects.{effect_of};
 ghost use Rattle.span_script.specs.Setups.{Setup};
 ghost use Rattle.span_script.specs.Tables.{Effect, History, MadeSpan, tables};
-ghost use Rattle.span_laws.specs.Laws.{IsHistory};
-ghost use Rattle.span_laws.specs.Makings.{IsMadeBy, HasContextOf, SeesOwn, is_making};
+ghost use Rattle.span_laws.specs.LegalHistories.{IsHistory};
+ghost use Rattle.span_laws.specs.Makings.{IsMadeBy, HasContextOf, SeesContextOf, is_making};
 ghost use Rattle.span_laws.specs.Records.{EachRecord, records_of_history};
 
 /// A request makes a span exactly where it asks for one of a callsite that the directives in force admit. What the span is
@@ -25,5 +25,5 @@ pub fn contexts()
     ensures under { (setup : Setup) (h : History) → IsHistory setup h
         → EachRecord (HasContextOf setup h) (tables setup h).closed (records_of_history setup h) }
     ensures seen { (setup : Setup) (h : History) → IsHistory setup h
-        → EachRecord (SeesOwn setup h) (tables setup h).closed (records_of_history setup h) }
+        → EachRecord (SeesContextOf setup h) (tables setup h).closed (records_of_history setup h) }
 {}

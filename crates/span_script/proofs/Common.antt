@@ -46,27 +46,27 @@ pub use Rattle.otel_layer.specs.Table.{data_at, ids_at, knows_span, own_context_
 pub use Rattle.otel_layer.specs.declared.layer.tokens.Token.{Token}
 pub use Rattle.otel_metrics.specs.declared.measure.Measure.{Measure}
 pub use Rattle.span_stack.specs.Counting.{RecordsCallBy, with_counted, with_event_by}
-pub use Rattle.span_stack.specs.Filtered.{FiltersChain, filter_after, without_span}
-pub use Rattle.span_stack.specs.Measured.{measured_by}
-pub use Rattle.span_stack.specs.Reading.{StackWorlds, Stacks, counter_in, filter_in_place, measures_in, new_recording, stack_interest}
-pub use Rattle.span_script.specs.Admission.{IsCounter, IsTextFilter, IsUnread, TextRead, fault_in, filter_if, pieces_read, text_filter, text_read, unread_by, with_piece, with_piece_read}
-pub use Rattle.span_script.specs.Balance.{Balanced, OpenGuard, guards_span, named_by, names_span, opened_by, opened_on}
+pub use Rattle.span_stack.specs.FilterInPlace.{FiltersChain, filter_after, without_span}
+pub use Rattle.span_stack.specs.Measured.{measures_of_call}
+pub use Rattle.span_stack.specs.Reading.{StackWorlds, Stacks, counting_filter_in, filter_in_place, measures_in, new_recording, stack_interest}
+pub use Rattle.span_script.specs.Admission.{IsCountingFilter, IsTextFilter, IsOpenError, TextRead, fault_in, filter_of_read, pieces_read, text_filter, text_read, open_error_by, with_piece, with_piece_read}
+pub use Rattle.span_script.specs.Balance.{Balanced, OpenGuard, guards_span, named_span, names_span, open_guard_by, open_guard_on}
 pub use Rattle.span_script.specs.Effects.{effect_of, effect_of_call, is_bad_moment}
 pub use Rattle.span_script.specs.Fields.{Fields, all_values, declared_by, declared_value, declares, values_by, values_of}
-pub use Rattle.span_script.specs.Fits.{AllContextsFit, ContextSlots, ContextsFit, FilteringFits, HaveOwnNumbers, IsKept, IsLaterThanParent, IsRefusal, IsScope, LaneValue, LanesFit, MadeFit, Parts, RecordingFits, Served, ServedByHistory, Serves, ServesResolved, ShownFilter, StandsFor, State, Views, counter_by, first_of, guard_of, held_by, held_of, is_for_memory, kept_on, lane_at, lane_of, lane_value, no_lane_value, numbers_by, numbers_of, parent_in, shown_of, site_by, stack_views, state_of, tokens_of}
-pub use Rattle.span_script.specs.Setups.{HasOwnIds, Setup, event_site, id_at, if_event, if_span, name_at, span_site}
-pub use Rattle.span_script.specs.Slots.{AreNamed, LetsThrough, MakesNamed, MakesOnly, TellsNamed, TellsOnly, is_named, is_shared_by, named_values, names_handle, parent_for}
+pub use Rattle.span_script.specs.Fits.{AllContextsFit, ContextSlots, ContextsFit, FilteringFits, HaveDistinctNumbers, PipelineInvariant, IsLaterThanParent, IsRefusal, IsScope, LaneValue, LanesFit, SpansFit, Parts, RecordingFits, IsServed, IsServedByHistory, Serves, ServesResolved, ShownFilter, StandsFor, PipelineState, Views, counting_filter_by, first_of, guard_of, held_by, held_of, is_for_memory, attach_numbers_on, lane_at, lane_place_of, lane_value, no_lane_value, owner_numbers, live_numbers_of, parent_in, shown_of, site_by, stack_views, state_of, token_numbers_of}
+pub use Rattle.span_script.specs.Setups.{HaveDistinctIds, Setup, event_site, id_at, if_event, if_span, name_at, span_site}
+pub use Rattle.span_script.specs.Slots.{AreNamed, LetsThrough, MakesNamed, MakesSpanOrNothing, TellsNamed, TellsEventOrNothing, is_named_by_guard, is_shared_by, named_values, names_handle, parent_for}
 pub use Rattle.span_script.specs.SubscriberLaws.{AddsMeasures, Aside, AsksLaw, CallsLaw, ChainsLaw, SameLaw, aside_in}
-pub use Rattle.span_script.specs.Tables.{Attached, Effect, EntryOf, FilterHook, GuardOf, History, HookClose, HookEnter, HookExit, HookNew, HookRecord, MadeSpan, Owner, Scope, ScopeGuard, SpanOp, Tables, after_effect, either_after, hooks_since, is_attached_by, is_owner, lanes_with, lanes_with_entry, lanes_with_exit, made_of, newer_text, no_made_span, no_tables, nothing_recorded, open_part, own_span, quiet_effect, recorded_by, records_of, scope_of, site_of, slot_at, slots_after, spend, tables, with_attached, with_detached, with_either, with_item, with_span_made}
-pub use Rattle.span_script.specs.calls.Contexts.{attach_effect, context_effect, detach_effect, own_context}
-pub use Rattle.span_script.specs.calls.Entries.{activated_span, attached_by, enter_effect, entry_call, exit_effect, is_full, is_shared, meets_full}
+pub use Rattle.span_script.specs.Tables.{Attached, Effect, EntryOf, FilterHook, GuardOf, History, HookClose, HookEnter, HookExit, HookNew, HookRecord, MadeSpan, Owner, Scope, ScopeGuard, SpanOp, Tables, after_effect, either_after, hooks_since, is_attached_by, is_owner, with_lane_entries, with_entry_on, with_exit_on, made_span_at, newer_text, no_made_span, no_tables, nothing_recorded, open_part, span_of_scope, quiet_effect, recording_after, records_of, scope_of, site_of, slot_at, slots_after, spend, tables, with_attached, with_detached, with_either, with_item, with_span_made}
+pub use Rattle.span_script.specs.calls.Contexts.{attach_effect, context_effect, detach_effect, context_of_scope}
+pub use Rattle.span_script.specs.calls.Entries.{activated_span, entry_context, enter_effect, entry_call, exit_effect, is_full, is_shared, meets_full}
 pub use Rattle.span_script.specs.calls.Events.{event_ops, event_effect, if_enabled}
-pub use Rattle.span_script.specs.calls.Filter.{admits_at, after_filter_hook, enabled_effect, filter_at, hooks_of_span, in_force, reload_by, reload_effect}
+pub use Rattle.span_script.specs.calls.Filter.{admits_on, after_filter_hook, enabled_effect, filter_in_force, hooks_of_span, text_in_force, reload_by, reload_effect}
 pub use Rattle.span_script.specs.calls.Here.{Here, Resolved, here_at, need, op_on, ops_effect, ops_on, refuse_if, ◌>>=◌}
-pub use Rattle.span_script.specs.calls.Links.{follow_effect, happens_at, set_parent_result, link_ops, set_result}
+pub use Rattle.span_script.specs.calls.Links.{follow_effect, event_time, set_parent_result, link_ops, set_result}
 pub use Rattle.span_script.specs.calls.Refusals.{refused_entry}
-pub use Rattle.span_script.specs.calls.Spans.{borrows, clone_effect, closed_of, context_around, current_scope, disabled_effect, drop_effect, exchange_effect, holds, is_borrowed, is_open, lane_in, last_attached, new_effect, new_span_data_at, open_spans, parent_at, scope_at, scope_or_current, span_effect}
-pub use Rattle.span_script.specs.declared.contexts.Attach.{Attach}
+pub use Rattle.span_script.specs.calls.Spans.{borrows, clone_effect, closed_of, context_around, current_scope, disabled_effect, drop_effect, exchange_effect, holds, is_borrowed, is_open, lane_in, last_attached, new_effect, new_span_data_at, open_spans, parent_under, scope_at, scope_or_current, span_effect}
+pub use Rattle.span_script.specs.declared.contexts.AttachGuard.{AttachGuard}
 pub use Rattle.span_script.specs.declared.reply.Refusal.{Refusal}
 pub use Rattle.span_script.specs.declared.reply.Reply.{Reply}
 pub use Rattle.span_script.specs.declared.request.RequestParent.{RequestParent}

@@ -41,12 +41,12 @@ abbrev pub new_filter_of : List Directive → FilterState
 new_filter_of ds = with_tables false (statics_of ds) (dynamics_of ds)
 
 -- the filter of a text, none but where all its pieces are directives
-abbrev pub filter_if : TextRead → FilterState
-filter_if (Ok ds) = new_filter_of ds
-filter_if (Err number) = with_tables false empty_table empty_table
+abbrev pub filter_of_read : TextRead → FilterState
+filter_of_read (Ok ds) = new_filter_of ds
+filter_of_read (Err number) = with_tables false empty_table empty_table
 
 abbrev pub text_filter : List ℕ → FilterState
-text_filter text = filter_if (text_read text)
+text_filter text = filter_of_read (text_read text)
 
 -- nothing where the pieces of an opening's texts are directives, else whether it is the text for counting that has a piece
 -- which is none, and the number of that piece
@@ -71,13 +71,13 @@ abbrev pub opening_read : List ℕ → Option (List ℕ) → OpeningRead
 opening_read filter counting = first_fault (fault_in false (text_read filter)) (counting_read counting)
 
 -- why a pipeline isn't opened
-abbrev pub IsUnread : OpeningRead → OpenError → Type 0
-IsUnread read errors.Memory = Unit {0}
-IsUnread read (errors.Directive counting piece) = read ≡ Err (counting, piece)
+abbrev pub IsOpenError : OpeningRead → OpenError → Type 0
+IsOpenError read errors.Memory = Unit {0}
+IsOpenError read (errors.Directive counting piece) = read ≡ Err (counting, piece)
 
 -- want of memory, or the number of a piece with a fault
-abbrev pub unread_by : Bool → ℕ → ParseError → OpenError
-unread_by counting piece fault = if is_memory fault then errors.Memory else errors.Directive counting piece
+abbrev pub open_error_by : Bool → ℕ → ParseError → OpenError
+open_error_by counting piece fault = if is_memory fault then errors.Memory else errors.Directive counting piece
 
 -- a filter is that of a text, whose pieces are all directives
 pub record IsTextFilter (text : List ℕ) (f : FilterState) : Type 0 where
@@ -86,7 +86,7 @@ pub record IsTextFilter (text : List ℕ) (f : FilterState) : Type 0 where
   pub is : f ≡ new_filter_of directives
 
 -- what events are counted by is a new filter of the text for that, whose pieces are all directives
-pub record IsCounter (text : Option (List ℕ)) (f : Option FilterState) : Type 0 where
+pub record IsCountingFilter (text : Option (List ℕ)) (f : Option FilterState) : Type 0 where
   pub read : counting_read text ≡ Ok tt
   pub is : f ≡ option_map text_filter text
   pub new : IfSome f IsNewFilter

@@ -1,7 +1,7 @@
 -- The holds and entries of spans, by what the history says of handles and guards.
 use Rattle.std.specs.Prelude.{◌≡◌, ℕ, ◌+◌, ◌==◌, ◌&&◌, Bool, false, List, [], ◌∷◌, Option, Some, None, count_by}
 use Rattle.trace_base.specs.Spans.{Spans, span_at, entries_on, times_in, entered_lane_count, open_child_count}
-use Rattle.span_script.specs.Tables.{Scope, ScopeGuard, slot_at, own_span}
+use Rattle.span_script.specs.Tables.{Scope, ScopeGuard, slot_at, span_of_scope}
 use Rattle.span_script.specs.Setups.{id_at}
 
 -- what an open guard stands for: its handle, the span that was entered, and the id of the lane
@@ -29,14 +29,14 @@ pub record Balanced (spans : Spans) (hs : List (Option ℕ)) (gs : List (Option 
   pub borrowed : (n : ℕ) (g : OpenGuard) → slot_at gs n ≡ Some g → slot_at hs g.handle ≡ Some g.span
 
 -- the span that an unspent handle names, and what an open guard of an enabled one stands for
-abbrev pub named_by : Option Scope → Option ℕ
-named_by None = None
-named_by (Some scope) = own_span scope
+abbrev pub named_span : Option Scope → Option ℕ
+named_span None = None
+named_span (Some scope) = span_of_scope scope
 
-abbrev pub opened_on : ℕ → ℕ → Scope → Option OpenGuard
-opened_on handle lane [] = None
-opened_on handle lane (s ∷ up) = Some (record { handle = handle; span = s; lane = lane })
+abbrev pub open_guard_on : ℕ → ℕ → Scope → Option OpenGuard
+open_guard_on handle lane [] = None
+open_guard_on handle lane (s ∷ up) = Some (record { handle = handle; span = s; lane = lane })
 
-abbrev pub opened_by : List ℕ → Option ScopeGuard → Option OpenGuard
-opened_by ids None = None
-opened_by ids (Some g) = opened_on g.handle (id_at ids g.place) g.scope
+abbrev pub open_guard_by : List ℕ → Option ScopeGuard → Option OpenGuard
+open_guard_by ids None = None
+open_guard_by ids (Some g) = open_guard_on g.handle (id_at ids g.place) g.scope

@@ -10,18 +10,18 @@ use Rattle.span_script.specs.Tables.{Effect, History, Tables, no_tables, tables,
 use Rattle.span_script.specs.calls.Here.{Resolved}
 use Rattle.span_script.specs.Effects.{effect_of}
 use Rattle.span_script.specs.calls.Spans.{open_spans}
-use Rattle.span_script.specs.Fits.{State, StandsFor}
+use Rattle.span_script.specs.Fits.{PipelineState, StandsFor}
 
 -- an effect, and those of the requests behind it; none from a refused request on
-abbrev pub followed_by : Resolved → (Effect → History) → History
-followed_by (Ok effect) behind = effect ∷ behind effect
-followed_by (Err refusal) behind = []
+abbrev pub with_effects_behind : Resolved → (Effect → History) → History
+with_effects_behind (Ok effect) behind = effect ∷ behind effect
+with_effects_behind (Err refusal) behind = []
 
 -- the history that requests make from some tables on, up to the first that is refused
 abbrev pub history_from : Setup → Tables → List Request → History
 history_from setup t [] = []
 history_from setup t (request ∷ requests) =
-    followed_by (effect_of setup t request) (λ effect. history_from setup (after_effect t effect) requests)
+    with_effects_behind (effect_of setup t request) (λ effect. history_from setup (after_effect t effect) requests)
 
 abbrev pub history_of : Setup → List Request → History
 history_of setup requests = history_from setup (no_tables setup) requests
@@ -40,8 +40,8 @@ refusal_at place (Ok effect) = None
 refusal_at place (Err refusal) = Some (place, refusal)
 
 -- the request behind a history that requests made: it is the first that is refused
-abbrev pub refused_behind : Setup → List Request → History → Option (ℕ × Refusal)
-refused_behind setup requests h =
+abbrev pub refusal_behind : Setup → List Request → History → Option (ℕ × Refusal)
+refusal_behind setup requests h =
     option_and_then (λ request. refusal_at (length h) (effect_of setup (tables setup h) request)) (slice_get requests (length h))
 
 -- the outcome by that history: its replies and records, the refused request, and how many spans are open at its end
@@ -49,7 +49,7 @@ abbrev pub outcome_by : Setup → List Request → History → Outcome
 outcome_by setup requests h = record {
   replies = map (λ effect. effect.reply) h;
   records = records_of_history setup h;
-  refused = refused_behind setup requests h;
+  refused = refusal_behind setup requests h;
   left_open = open_spans (tables setup h);
 }
 
@@ -63,9 +63,9 @@ HasReplies requests outcome =
 
 -- A pipeline that ran requests, with the replies that it gave and the first refused request: it stands for their history.
 -- An inner definition.
-pub record Ran (setup : Setup) (requests : List Request) (new : State) (replies : List Reply) (refused : Option (ℕ × Refusal)) : Type 0 where
+pub record HasRun (setup : Setup) (requests : List Request) (new : PipelineState) (replies : List Reply) (refused : Option (ℕ × Refusal)) : Type 0 where
   pub setup_is : new.setup ≡ setup
   pub stands : StandsFor new (tables setup (history_of setup requests))
   pub replies_are : replies ≡ map (λ effect. effect.reply) (history_of setup requests)
   pub records_are : new.recording.finished ≡ records_of_history setup (history_of setup requests)
-  pub refused_is : refused ≡ refused_behind setup requests (history_of setup requests)
+  pub refused_is : refused ≡ refusal_behind setup requests (history_of setup requests)

@@ -35,8 +35,8 @@ names_handle handle (Some guard) = guard.handle == handle
 abbrev pub is_shared_by : List (Option Guard) → Guard → Bool
 is_shared_by guards guard = guard.owns && nat_lt 1 (count_by (names_handle guard.handle) guards)
 
-abbrev pub is_named : List (Option Guard) → ℕ → Bool
-is_named guards handle = list_any (names_handle handle) guards
+abbrev pub is_named_by_guard : List (Option Guard) → ℕ → Bool
+is_named_by_guard guards handle = list_any (names_handle handle) guards
 
 -- what a request for a new span or an event names is there: its callsite, under what it is put, and the values of all its
 -- fields
@@ -56,24 +56,24 @@ named_values callsite parent fields = do
   need what.Field (all_values given fields)
 
 -- a span was made by one call and a handle of it, or nothing and a disabled handle
-abbrev pub MakesOnly : {S : Type 0} → (S → Spans) → (S → SubscriberCall → S → Type 0) → Bool → WorldValue S → WorldValue S → Lane → ℕ → Parent → ℕ → ValueSet → ℕ → Handle → Type 0
-MakesOnly spans does true old new lane at parent site values dispatch handle = Makes spans does old new lane at parent site values dispatch handle
-MakesOnly spans does false old new lane at parent site values dispatch handle = (handle ≡ no_handle) × (new ≡ old)
+abbrev pub MakesSpanOrNothing : {S : Type 0} → (S → Spans) → (S → SubscriberCall → S → Type 0) → Bool → WorldValue S → WorldValue S → Lane → ℕ → Parent → ℕ → ValueSet → ℕ → Handle → Type 0
+MakesSpanOrNothing spans does true old new lane at parent site values dispatch handle = Makes spans does old new lane at parent site values dispatch handle
+MakesSpanOrNothing spans does false old new lane at parent site values dispatch handle = (handle ≡ no_handle) × (new ≡ old)
 
 -- the same, as a request names it
 pub record MakesNamed {S : Type 0} (spans : S → Spans) (does : S → SubscriberCall → S → Type 0) (old new : WorldValue S) (lane : Lane) (at : ℕ) (parent : Option Parent) (site : ℕ) (fields : Fields) (dispatch : ℕ) (made : Handle × Bool) : Type 0 where
   pub named : AreNamed (span_site old.sites site) parent fields
-  pub did : MakesOnly spans does made.1 old new lane at named.under site named.values dispatch made.0
+  pub did : MakesSpanOrNothing spans does made.1 old new lane at named.under site named.values dispatch made.0
 
 -- an event was told by one call, or nothing happened
-abbrev pub TellsOnly : {S : Type 0} → (S → SubscriberCall → S → Type 0) → Bool → WorldValue S → WorldValue S → Lane → ℕ → Parent → ℕ → ValueSet → ℕ → Type 0
-TellsOnly does true old new lane at parent site values dispatch = TellsEvent does old new lane at parent site values dispatch
-TellsOnly does false old new lane at parent site values dispatch = new ≡ old
+abbrev pub TellsEventOrNothing : {S : Type 0} → (S → SubscriberCall → S → Type 0) → Bool → WorldValue S → WorldValue S → Lane → ℕ → Parent → ℕ → ValueSet → ℕ → Type 0
+TellsEventOrNothing does true old new lane at parent site values dispatch = TellsEvent does old new lane at parent site values dispatch
+TellsEventOrNothing does false old new lane at parent site values dispatch = new ≡ old
 
 -- the same, as a request names it
 pub record TellsNamed {S : Type 0} (does : S → SubscriberCall → S → Type 0) (old new : WorldValue S) (lane : Lane) (at : ℕ) (parent : Option Parent) (site : ℕ) (fields : Fields) (dispatch : ℕ) (enabled : Bool) : Type 0 where
   pub named : AreNamed (event_site old.sites site) parent fields
-  pub did : TellsOnly does enabled old new lane at named.under site named.values dispatch
+  pub did : TellsEventOrNothing does enabled old new lane at named.under site named.values dispatch
 
 -- the gate's answer for a callsite on a lane, by the filter in place
 abbrev pub LetsThrough : Option FilterState → List Callsite → ℕ → ℕ → Bool → Type 0

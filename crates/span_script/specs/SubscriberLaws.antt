@@ -10,8 +10,8 @@ use Rattle.otel_layer.specs.Recording.{no_recording, RecordsChain, RecordsPart}
 use Rattle.env_filter.specs.Filtering.{FilterState}
 use Rattle.otel_metrics.specs.declared.measure.Measure.{Measure}
 use Rattle.span_stack.specs.Counting.{RecordsCallBy}
-use Rattle.span_stack.specs.Filtered.{filter_after, FiltersChain}
-use Rattle.span_stack.specs.Measured.{measured_by}
+use Rattle.span_stack.specs.FilterInPlace.{filter_after, FiltersChain}
+use Rattle.span_stack.specs.Measured.{measures_of_call}
 use Rattle.span_script.specs.Fits.{Views}
 
 -- what stands beside the filter in place: the filter that counts, and the measures that wait
@@ -19,11 +19,11 @@ abbrev pub Aside : Type 0
 Aside = Option FilterState × List Measure
 
 abbrev pub aside_in : {S : Type 0} → Views S → WorldValue S → ℕ → Aside
-aside_in views world dispatch = (read_subscriber views.counter None world dispatch, read_subscriber views.measured [] world dispatch)
+aside_in views world dispatch = (read_subscriber views.counting_filter None world dispatch, read_subscriber views.measured [] world dispatch)
 
 -- what counts stays, and some measures wait behind the others
 pub record AddsMeasures (before later : Aside) (added : List Measure) : Type 0 where
-  pub counter : later.0 ≡ before.0
+  pub counting_filter : later.0 ≡ before.0
   pub measures : later.1 ≡ before.1 ++ added
 
 -- what calls from both sides, spare room and chains of closes are for the plain data
@@ -44,11 +44,11 @@ pub record CallsLaw {S : Type 0} (spans : S → Spans) (views : Views S) (attach
   pub shown : (old new : WorldValue S) (dispatch : ℕ) (call : SubscriberCall) → Replaced (λ s t. does s call t) old new dispatch
       → ChangesPlainData spans attaches kept is_whole old new dispatch call
   pub viewed : (old new : WorldValue S) (dispatch : ℕ) (call : SubscriberCall) → Replaced (λ s t. does s call t) old new dispatch
-      → RecordsCallBy (read_subscriber views.counter None old dispatch) (spans_in spans old dispatch)
+      → RecordsCallBy (read_subscriber views.counting_filter None old dispatch) (spans_in spans old dispatch)
       (read_subscriber views.recorded no_recording old dispatch) call (read_subscriber views.recorded no_recording new dispatch)
       × (read_subscriber views.filtered None new dispatch
       ≡ option_map (filter_after (spans_in spans old dispatch) call) (read_subscriber views.filtered None old dispatch))
-      × AddsMeasures (aside_in views old dispatch) (aside_in views new dispatch) (measured_by call)
+      × AddsMeasures (aside_in views old dispatch) (aside_in views new dispatch) (measures_of_call call)
 
 -- spare room is nothing that is kept
 pub record SameLaw {S : Type 0} (spans : S → Spans) (views : Views S) (attaches : S → Bool) (kept : S → ℕ → ℕ → ℕ)

@@ -205,16 +205,16 @@ abbrev pub slot_at : {A : Type 0} → List (Option A) → ℕ → Option A
 slot_at slots n = slice_index_or slots n None
 
 -- the entries of all lanes with those of one of them changed
-abbrev pub lanes_with : (ℕ → List ℕ) → ℕ → List ℕ → ℕ → List ℕ
-lanes_with es lane ids = λ l. if lane == l then ids else es l
+abbrev pub with_lane_entries : (ℕ → List ℕ) → ℕ → List ℕ → ℕ → List ℕ
+with_lane_entries es lane ids = λ l. if lane == l then ids else es l
 
-abbrev pub lanes_with_entry : (ℕ → List ℕ) → ℕ → Option ℕ → ℕ → List ℕ
-lanes_with_entry es lane None = es
-lanes_with_entry es lane (Some s) = lanes_with es lane (es lane ++ s ∷ [])
+abbrev pub with_entry_on : (ℕ → List ℕ) → ℕ → Option ℕ → ℕ → List ℕ
+with_entry_on es lane None = es
+with_entry_on es lane (Some s) = with_lane_entries es lane (es lane ++ s ∷ [])
 
-abbrev pub lanes_with_exit : (ℕ → List ℕ) → ℕ → Option ℕ → ℕ → List ℕ
-lanes_with_exit es lane None = es
-lanes_with_exit es lane (Some s) = lanes_with es lane (without_last (λ x. x == s) (es lane))
+abbrev pub with_exit_on : (ℕ → List ℕ) → ℕ → Option ℕ → ℕ → List ℕ
+with_exit_on es lane None = es
+with_exit_on es lane (Some s) = with_lane_entries es lane (without_last (λ x. x == s) (es lane))
 
 -- the contexts of all lanes with one more on one of them, and without the last one of an owner
 abbrev pub with_attached : (ℕ → List Attached) → ℕ → Option Attached → ℕ → List Attached
@@ -230,14 +230,14 @@ abbrev pub with_span_made : ℕ → Option MadeSpan → Recording → Recording
 with_span_made s None r = r
 with_span_made s (Some m) r = record r { spans = with_span_data s m.made_with r.spans }
 
-abbrev pub begun_by : ℕ → Effect → Recording → Recording
-begun_by s e r = with_starts e.begins e.at (with_span_made s e.new_span (fold (λ r s. with_start s e.at r) r e.starts))
+abbrev pub with_starts_of : ℕ → Effect → Recording → Recording
+with_starts_of s e r = with_starts e.begins e.at (with_span_made s e.new_span (fold (λ r s. with_start s e.at r) r e.starts))
 
-abbrev pub done_by : ℕ → Effect → Recording → Recording
-done_by s e r = fold (λ r d. with_applied d.span e.at d.op r) (begun_by s e r) e.ops
+abbrev pub with_ops_of : ℕ → Effect → Recording → Recording
+with_ops_of s e r = fold (λ r d. with_applied d.span e.at d.op r) (with_starts_of s e r) e.ops
 
-abbrev pub recorded_by : ℕ → Effect → Recording → Recording
-recorded_by s e r = fold (λ r s. with_close s e.at r) (done_by s e r) e.closes
+abbrev pub recording_after : ℕ → Effect → Recording → Recording
+recording_after s e r = fold (λ r s. with_close s e.at r) (with_ops_of s e r) e.closes
 
 -- what is recorded but open entries and records
 abbrev pub open_part : Recording → Recording
@@ -245,7 +245,7 @@ open_part r = record r { tokens = []; finished = [] }
 
 -- the records of the spans that an effect closes, in order
 abbrev pub records_of : Tables → Effect → List Record
-records_of t e = (recorded_by (length t.spans) e t.recording).finished
+records_of t e = (recording_after (length t.spans) e t.recording).finished
 
 -- the newer of two texts, and what was heard since
 abbrev pub newer_text : Option (List ℕ) → Option (List ℕ) → Option (List ℕ)
@@ -265,9 +265,9 @@ after_effect t e = record {
   named_contexts = with_item t.named_contexts e.new_context;
   spans = with_item t.spans e.new_span;
   closed = t.closed ++ e.closes;
-  entries = lanes_with_exit (lanes_with_entry t.entries e.lane e.entry) e.lane e.exit;
+  entries = with_exit_on (with_entry_on t.entries e.lane e.entry) e.lane e.exit;
   contexts = with_detached (with_attached t.contexts e.lane e.attach) e.lane e.detach;
-  recording = open_part (recorded_by (length t.spans) e t.recording);
+  recording = open_part (recording_after (length t.spans) e t.recording);
   filter = newer_text t.filter e.filter;
   hooks = hooks_since t.hooks e.filter ++ e.hooks;
   moment = e.at;
@@ -277,19 +277,19 @@ abbrev pub tables : Setup → History → Tables
 tables setup h = fold after_effect (no_tables setup) h
 
 -- a scope's own span, if it has one
-abbrev pub own_span : Scope → Option ℕ
-own_span [] = None
-own_span (s ∷ up) = Some s
+abbrev pub span_of_scope : Scope → Option ℕ
+span_of_scope [] = None
+span_of_scope (s ∷ up) = Some s
 
-abbrev pub made_of : List MadeSpan → ℕ → MadeSpan
-made_of makings s = slice_index_or makings s no_made_span
+abbrev pub made_span_at : List MadeSpan → ℕ → MadeSpan
+made_span_at makings s = slice_index_or makings s no_made_span
 
 -- the place of the callsite of a scope's own span, if it has one
 abbrev pub site_of : List MadeSpan → Scope → Option ℕ
 site_of makings [] = None
-site_of makings (s ∷ up) = Some (made_of makings s).site
+site_of makings (s ∷ up) = Some (made_span_at makings s).site
 
 -- the scope of a span, if there is one
 abbrev pub scope_of : List MadeSpan → Option ℕ → Scope
 scope_of makings None = []
-scope_of makings (Some s) = (made_of makings s).scope
+scope_of makings (Some s) = (made_span_at makings s).scope

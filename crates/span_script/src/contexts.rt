@@ -3,7 +3,7 @@ use otel_base::stack::ContextGuard;
 use trace_base::discard::Discard;
 
 /// What the guard of an attach keeps.
-pub struct Attach {
+pub struct AttachGuard {
     /// The place of its lane.
     pub place: u64,
     /// What was attached there.
@@ -11,9 +11,9 @@ pub struct Attach {
 }
 
 /// Its context stays attached for good.
-impl Discard for Attach {
+impl Discard for AttachGuard {
     fn discard(self) {
-        let Attach { place: _, attached } = self;
+        let AttachGuard { place: _, attached } = self;
         attached.discard();
     }
 }

@@ -22,7 +22,7 @@ pub struct Settings {
 
 /// The texts of filters that settings give.
 #[derive(Drop)]
-pub struct Texts {
+pub struct FilterTexts {
     /// That of the filter at first.
     pub filter: Text,
     /// That of the filter for counted events, if events are counted.

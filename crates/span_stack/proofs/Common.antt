@@ -34,6 +34,6 @@ pub use Rattle.otel_layer.specs.declared.counting.FilteredOpenTelemetryLayer.{Fi
 pub use Rattle.otel_metrics.specs.Waiting.{MeasuresWithRoom}
 pub use Rattle.otel_metrics.specs.declared.measure.Measure.{Measure}
 pub use Rattle.span_stack.specs.Counting.{RecordsCallBy, with_counted, with_event_by}
-pub use Rattle.span_stack.specs.Measured.{measured_by, waiting_measures}
-pub use Rattle.span_stack.specs.Reading.{HasCurrentInterests, StackWorlds, Stacks, counting_filter, filter_in_place, interest_over, stack_interest, stack_measures, stack_recording, without_first, without_record}
+pub use Rattle.span_stack.specs.Measured.{measures_of_call, waiting_measures}
+pub use Rattle.span_stack.specs.Reading.{HasCurrentInterests, StackWorlds, Stacks, stack_counting_filter, filter_in_place, interest_over, stack_interest, stack_measures, stack_recording, without_first, without_record}
 pub use Rattle.span_stack.specs.Through.{inner_worlds, inner_of}

@@ -22,12 +22,12 @@ with_event_by (Some f) (Some id) lane at callsite values r = with_counted (enabl
 
 -- each call but an event is as it is where none is counted
 abbrev pub RecordsCallBy : Option FilterState → Spans → Recording → SubscriberCall → Recording → Type 0
-RecordsCallBy counter spans r (Event lane at parent site callsite values) t =
-    t ≡ with_event_by counter (parent_on (entries_on lane.id spans.lanes) parent) lane.id at callsite values r
-RecordsCallBy counter spans r (NewSpan lane at parent site callsite values) t = RecordsCall spans r (NewSpan lane at parent site callsite values) t
-RecordsCallBy counter spans r (Records id at callsite values) t = RecordsCall spans r (Records id at callsite values) t
-RecordsCallBy counter spans r (Follows id from at) t = RecordsCall spans r (Follows id from at) t
-RecordsCallBy counter spans r (Enter id at before later) t = RecordsCall spans r (Enter id at before later) t
-RecordsCallBy counter spans r (Exit id at before later) t = RecordsCall spans r (Exit id at before later) t
-RecordsCallBy counter spans r (CloneSpan id) t = RecordsCall spans r (CloneSpan id) t
-RecordsCallBy counter spans r (TryClose id at) t = RecordsCall spans r (TryClose id at) t
+RecordsCallBy counting_filter spans r (Event lane at parent site callsite values) t =
+    t ≡ with_event_by counting_filter (parent_on (entries_on lane.id spans.lanes) parent) lane.id at callsite values r
+RecordsCallBy counting_filter spans r (NewSpan lane at parent site callsite values) t = RecordsCall spans r (NewSpan lane at parent site callsite values) t
+RecordsCallBy counting_filter spans r (Records id at callsite values) t = RecordsCall spans r (Records id at callsite values) t
+RecordsCallBy counting_filter spans r (Follows id from at) t = RecordsCall spans r (Follows id from at) t
+RecordsCallBy counting_filter spans r (Enter id at before later) t = RecordsCall spans r (Enter id at before later) t
+RecordsCallBy counting_filter spans r (Exit id at before later) t = RecordsCall spans r (Exit id at before later) t
+RecordsCallBy counting_filter spans r (CloneSpan id) t = RecordsCall spans r (CloneSpan id) t
+RecordsCallBy counting_filter spans r (TryClose id at) t = RecordsCall spans r (TryClose id at) t

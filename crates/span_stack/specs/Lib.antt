@@ -1,5 +1,5 @@
 pub mod Counting
-pub mod Filtered
+pub mod FilterInPlace
 pub mod Measured
 pub mod Over
 pub mod Reading

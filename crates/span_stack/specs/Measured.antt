@@ -15,6 +15,6 @@ abbrev pub measures_over : {S : Type 0} → WorldValue (Layered MeasuresWithRoom
 measures_over world dispatch = read_subscriber waiting_measures [] world dispatch
 
 -- what a call adds
-abbrev pub measured_by : SubscriberCall → List Measure
-measured_by (Event lane at parent site callsite values) = measures callsite values
-measured_by _ = []
+abbrev pub measures_of_call : SubscriberCall → List Measure
+measures_of_call (Event lane at parent site callsite values) = measures callsite values
+measures_of_call _ = []

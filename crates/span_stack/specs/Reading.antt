@@ -56,11 +56,11 @@ abbrev pub HasCurrentInterests : StackWorlds → Type 0
 HasCurrentInterests world = IsFresh stack_interest world
 
 -- the filter that counts events, if they are counted
-abbrev pub counting_filter : Stacks → Option FilterState
-counting_filter s = option_map plain_filter s.inner.inner.layer.filter
+abbrev pub stack_counting_filter : Stacks → Option FilterState
+stack_counting_filter s = option_map plain_filter s.inner.inner.layer.filter
 
-abbrev pub counter_in : StackWorlds → ℕ → Option FilterState
-counter_in world dispatch = read_subscriber counting_filter None world dispatch
+abbrev pub counting_filter_in : StackWorlds → ℕ → Option FilterState
+counting_filter_in world dispatch = read_subscriber stack_counting_filter None world dispatch
 
 -- the measures that weren't taken
 abbrev pub stack_measures : Stacks → List Measure

@@ -7,7 +7,7 @@ ghost use Rattle.span_handles.specs.Worlds.{Replaced, KeepsPlainData};
 ghost use Rattle.otel_layer.specs.Parts.{StaysStack};
 ghost use Rattle.env_filter.specs.Filtering.{FilterState, plain_filter, is_admitted, IsNewFilter};
 ghost use Rattle.env_filter.specs.Reloading.{Swaps};
-ghost use Rattle.span_stack.specs.Reading.{recording_in, filter_in, counter_in, measures_in, HasCurrentInterests};
+ghost use Rattle.span_stack.specs.Reading.{recording_in, filter_in, counting_filter_in, measures_in, HasCurrentInterests};
 
 use crate::stack::Stack;
 use env_filter::filter::EnvFilter;
@@ -22,7 +22,7 @@ use trace_base::world::World;
 /// ask. No where no stack serves the lane.
 pub fn admits(world: &World<Stack>, lane: &Lane, site: SiteId) -> bool
     requires site { site < length world.now.sites }
-    requires own { IsInWorld world.now lane.now.default }
+    requires in_world { IsInWorld world.now lane.now.default }
     requires whole { HasIf ⟦<Stack as Subscriber>⟧.is_whole world.now
         (dispatch_on lane.now.default world.now.global) }
     requires current { HasCurrentInterests world.now }
@@ -35,7 +35,7 @@ pub fn admits(world: &World<Stack>, lane: &Lane, site: SiteId) -> bool
 }
 
 // Room leaves the plain data as they are.
-fn room<S: Subscriber>()
+fn room_leaves_spans<S: Subscriber>()
     ensures { (s t : S) → S.same_but_room s t → StaysStack S.spans S.kept S.attaches S.is_whole s t }
 {}
 
@@ -62,7 +62,7 @@ pub fn put_in_force(
     ensures filter { OnOk result (filter_in world.new dispatch ≡ Some (plain_filter filter)) }
     ensures recording { recording_in world.new dispatch ≡ recording_in world.old dispatch }
     ensures measures { measures_in world.new dispatch ≡ measures_in world.old dispatch }
-    ensures counter { counter_in world.new dispatch ≡ counter_in world.old dispatch }
+    ensures counting_filter { counting_filter_in world.new dispatch ≡ counting_filter_in world.old dispatch }
 
     ensures others { KeepsPlainData ⟦<Stack as Subscriber>⟧.spans ⟦<Stack as Subscriber>⟧.attaches
         ⟦<Stack as Subscriber>⟧.kept ⟦<Stack as Subscriber>⟧.is_whole world.old world.new dispatch }
@@ -71,7 +71,7 @@ pub fn put_in_force(
     ensures global { world.new.global ≡ world.old.global }
 
     // What the other subscribers keep is the same but for room.
-    ensures rest { OnOk result ((other : ℕ) (s t : _) → other ≢ dispatch
+    ensures other_subscribers { OnOk result ((other : ℕ) (s t : _) → other ≢ dispatch
         → slice_get world.old.subscribers other ≡ Some s → slice_get world.new.subscribers other ≡ Some t
         → ⟦<Stack as Subscriber>⟧.same_but_room s t) }
 
@@ -82,7 +82,7 @@ pub fn put_in_force(
     ensures memory_cached { OnErr result (world.new.cached ≡ world.old.cached) }
     ensures memory_current { OnErr result (HasCurrentInterests world.old → HasCurrentInterests world.new) }
 {
-    room::<Stack>();
+    room_leaves_spans::<Stack>();
     let mut other = filter;
     exchange(world, dispatch, &mut other);
     match world.rebuild_interest() {

@@ -12,10 +12,10 @@ ghost use Rattle.otel_layer.specs.Recording.{RecordsChain, RecordsPart};
 ghost use Rattle.env_directives.specs.orders.Choice.{admits};
 ghost use Rattle.env_filter.specs.Filtering.{FilterState, IsNewFilter, enables_in, is_admitted};
 ghost use Rattle.span_stack.specs.Counting.{RecordsCallBy};
-ghost use Rattle.span_stack.specs.Filtered.{filter_after, FiltersChain};
-ghost use Rattle.span_stack.specs.Measured.{measured_by};
+ghost use Rattle.span_stack.specs.FilterInPlace.{filter_after, FiltersChain};
+ghost use Rattle.span_stack.specs.Measured.{measures_of_call};
 ghost use Rattle.span_stack.specs.Over.{StepsWithOuter, AsksOuter};
-ghost use Rattle.span_stack.specs.Reading.{StackWorlds, recording_in, filter_in, counter_in, measures_in, HasCurrentInterests, without_first, WithoutMeasure};
+ghost use Rattle.span_stack.specs.Reading.{StackWorlds, recording_in, filter_in, counting_filter_in, measures_in, HasCurrentInterests, without_first, WithoutMeasure};
 
 use crate::over;
 use crate::stack::{RecordedStack, Stack};
@@ -28,7 +28,7 @@ fn of_stack()
         → Replaced (λ s t. ⟦<Stack as Subscriber>⟧.does s call t) old new dispatch
         → StepsWithOuter (λ s t. ⟦<RecordedStack as Subscriber>⟧.does s call t)
         (λ f g. g ≡ option_map (filter_after (spans_in ⟦<Stack as Subscriber>⟧.spans old dispatch) call) f)
-        (λ ms. ms ++ measured_by call) ⟦<Stack as Subscriber>⟧.interest old new dispatch }
+        (λ ms. ms ++ measures_of_call call) ⟦<Stack as Subscriber>⟧.interest old new dispatch }
     ensures same { (old new : StackWorlds) (dispatch : ℕ)
         → Replaced ⟦<Stack as Subscriber>⟧.same_but_room old new dispatch
         → StepsWithOuter ⟦<RecordedStack as Subscriber>⟧.same_but_room (λ f g. g ≡ f) (λ ms. ms)
@@ -53,18 +53,18 @@ fn of_stack()
 pub fn calls()
     ensures recording { (old new : StackWorlds) (dispatch : ℕ) (call : SubscriberCall)
         → Replaced (λ s t. ⟦<Stack as Subscriber>⟧.does s call t) old new dispatch
-        → RecordsCallBy (counter_in old dispatch) (spans_in ⟦<Stack as Subscriber>⟧.spans old dispatch)
+        → RecordsCallBy (counting_filter_in old dispatch) (spans_in ⟦<Stack as Subscriber>⟧.spans old dispatch)
         (recording_in old dispatch) call (recording_in new dispatch) }
     ensures filter { (old new : StackWorlds) (dispatch : ℕ) (call : SubscriberCall)
         → Replaced (λ s t. ⟦<Stack as Subscriber>⟧.does s call t) old new dispatch
         → filter_in new dispatch ≡ option_map
         (filter_after (spans_in ⟦<Stack as Subscriber>⟧.spans old dispatch) call) (filter_in old dispatch) }
-    ensures counter { (old new : StackWorlds) (dispatch : ℕ) (call : SubscriberCall)
+    ensures counting_filter { (old new : StackWorlds) (dispatch : ℕ) (call : SubscriberCall)
         → Replaced (λ s t. ⟦<Stack as Subscriber>⟧.does s call t) old new dispatch
-        → counter_in new dispatch ≡ counter_in old dispatch }
+        → counting_filter_in new dispatch ≡ counting_filter_in old dispatch }
     ensures measures { (old new : StackWorlds) (dispatch : ℕ) (call : SubscriberCall)
         → Replaced (λ s t. ⟦<Stack as Subscriber>⟧.does s call t) old new dispatch
-        → measures_in new dispatch ≡ measures_in old dispatch ++ measured_by call }
+        → measures_in new dispatch ≡ measures_in old dispatch ++ measures_of_call call }
     ensures current { (old new : StackWorlds) (dispatch : ℕ) (call : SubscriberCall)
         → Replaced (λ s t. ⟦<Stack as Subscriber>⟧.does s call t) old new dispatch
         → HasCurrentInterests old → HasCurrentInterests new }
@@ -80,9 +80,9 @@ pub fn same()
     ensures filter { (old new : StackWorlds) (dispatch : ℕ)
         → Replaced ⟦<Stack as Subscriber>⟧.same_but_room old new dispatch
         → filter_in new dispatch ≡ filter_in old dispatch }
-    ensures counter { (old new : StackWorlds) (dispatch : ℕ)
+    ensures counting_filter { (old new : StackWorlds) (dispatch : ℕ)
         → Replaced ⟦<Stack as Subscriber>⟧.same_but_room old new dispatch
-        → counter_in new dispatch ≡ counter_in old dispatch }
+        → counting_filter_in new dispatch ≡ counting_filter_in old dispatch }
     ensures measures { (old new : StackWorlds) (dispatch : ℕ)
         → Replaced ⟦<Stack as Subscriber>⟧.same_but_room old new dispatch
         → measures_in new dispatch ≡ measures_in old dispatch }
@@ -105,10 +105,10 @@ pub fn chains()
         old new dispatch
         → FiltersChain (Some id) (spans_in ⟦<Stack as Subscriber>⟧.spans old dispatch)
         (spans_in ⟦<Stack as Subscriber>⟧.spans new dispatch) (filter_in old dispatch) (filter_in new dispatch) }
-    ensures counter { (old new : StackWorlds) (dispatch at id : ℕ)
+    ensures counting_filter { (old new : StackWorlds) (dispatch at id : ℕ)
         → Replaced (λ s t. Chain ⟦<Stack as Subscriber>⟧.spans ⟦<Stack as Subscriber>⟧.does at (Some id) s t)
         old new dispatch
-        → counter_in new dispatch ≡ counter_in old dispatch }
+        → counting_filter_in new dispatch ≡ counting_filter_in old dispatch }
     ensures measures { (old new : StackWorlds) (dispatch at id : ℕ)
         → Replaced (λ s t. Chain ⟦<Stack as Subscriber>⟧.spans ⟦<Stack as Subscriber>⟧.does at (Some id) s t)
         old new dispatch
@@ -129,9 +129,9 @@ pub fn asks()
     ensures filter { (old new : StackWorlds) (dispatch : ℕ) (call : PartCall)
         → Replaced (λ s t. ⟦<Stack as OtelPart>⟧.touches s call t) old new dispatch
         → filter_in new dispatch ≡ filter_in old dispatch }
-    ensures counter { (old new : StackWorlds) (dispatch : ℕ) (call : PartCall)
+    ensures counting_filter { (old new : StackWorlds) (dispatch : ℕ) (call : PartCall)
         → Replaced (λ s t. ⟦<Stack as OtelPart>⟧.touches s call t) old new dispatch
-        → counter_in new dispatch ≡ counter_in old dispatch }
+        → counting_filter_in new dispatch ≡ counting_filter_in old dispatch }
     ensures measures { (old new : StackWorlds) (dispatch : ℕ) (call : PartCall)
         → Replaced (λ s t. ⟦<Stack as OtelPart>⟧.touches s call t) old new dispatch
         → measures_in new dispatch ≡ measures_in old dispatch }
@@ -143,7 +143,7 @@ pub fn asks()
 }
 
 /// No span is known yet under the id of the next one.
-pub fn next()
+pub fn next_is_unknown()
     ensures { (world : StackWorlds) (dispatch : ℕ) (s : _)
         → slice_get world.subscribers dispatch ≡ Some s → ⟦<Stack as Subscriber>⟧.is_whole s
         → data_at (length (spans_in ⟦<Stack as Subscriber>⟧.spans world dispatch).made)
@@ -151,14 +151,14 @@ pub fn next()
 {}
 
 /// What the taking of a record leaves.
-pub fn takes()
+pub fn takes_record()
     ensures recording { (old new : StackWorlds) (dispatch : ℕ) → Replaced (λ s t. t ≡ without_first s) old new dispatch
         → recording_in new dispatch ≡ record (recording_in old dispatch)
         { finished = drop 1 (recording_in old dispatch).finished } }
     ensures filter { (old new : StackWorlds) (dispatch : ℕ) → Replaced (λ s t. t ≡ without_first s) old new dispatch
         → filter_in new dispatch ≡ filter_in old dispatch }
-    ensures counter { (old new : StackWorlds) (dispatch : ℕ) → Replaced (λ s t. t ≡ without_first s) old new dispatch
-        → counter_in new dispatch ≡ counter_in old dispatch }
+    ensures counting_filter { (old new : StackWorlds) (dispatch : ℕ) → Replaced (λ s t. t ≡ without_first s) old new dispatch
+        → counting_filter_in new dispatch ≡ counting_filter_in old dispatch }
     ensures measures { (old new : StackWorlds) (dispatch : ℕ) → Replaced (λ s t. t ≡ without_first s) old new dispatch
         → measures_in new dispatch ≡ measures_in old dispatch }
     ensures current { (old new : StackWorlds) (dispatch : ℕ) → Replaced (λ s t. t ≡ without_first s) old new dispatch
@@ -176,8 +176,8 @@ pub fn takes_measure()
         → recording_in new dispatch ≡ recording_in old dispatch }
     ensures filter { (old new : StackWorlds) (dispatch : ℕ) → Replaced WithoutMeasure old new dispatch
         → filter_in new dispatch ≡ filter_in old dispatch }
-    ensures counter { (old new : StackWorlds) (dispatch : ℕ) → Replaced WithoutMeasure old new dispatch
-        → counter_in new dispatch ≡ counter_in old dispatch }
+    ensures counting_filter { (old new : StackWorlds) (dispatch : ℕ) → Replaced WithoutMeasure old new dispatch
+        → counting_filter_in new dispatch ≡ counting_filter_in old dispatch }
     ensures current { (old new : StackWorlds) (dispatch : ℕ) → Replaced WithoutMeasure old new dispatch
         → HasCurrentInterests old → HasCurrentInterests new }
     ensures others { (old new : StackWorlds) (dispatch : ℕ) → Replaced WithoutMeasure old new dispatch

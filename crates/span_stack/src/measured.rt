@@ -5,7 +5,7 @@ ghost use Rattle.trace_base.specs.Calls.{SubscriberCall};
 ghost use Rattle.span_registry.specs.declared.layered.Layered.{Layered};
 ghost use Rattle.span_handles.specs.Worlds.{Replaced, Chain};
 ghost use Rattle.otel_metrics.specs.Waiting.{MeasuresWithRoom};
-ghost use Rattle.span_stack.specs.Measured.{measured_by, measures_over};
+ghost use Rattle.span_stack.specs.Measured.{measures_of_call, measures_over};
 
 use otel_metrics::layer::MetricsLayer;
 use span_registry::layered::Layered;
@@ -15,7 +15,7 @@ use trace_base::subscriber::Subscriber;
 pub fn calls<S: Subscriber>()
     ensures call { (old new : WorldValue (Layered MeasuresWithRoom S)) (dispatch : ℕ) (call : SubscriberCall)
         → Replaced (λ s t. ⟦<Layered<MetricsLayer, S> as Subscriber>⟧.does s call t) old new dispatch
-        → measures_over new dispatch ≡ measures_over old dispatch ++ measured_by call }
+        → measures_over new dispatch ≡ measures_over old dispatch ++ measures_of_call call }
     ensures same { (old new : WorldValue (Layered MeasuresWithRoom S)) (dispatch : ℕ)
         → Replaced ⟦<Layered<MetricsLayer, S> as Subscriber>⟧.same_but_room old new dispatch
         → measures_over new dispatch ≡ measures_over old dispatch }

@@ -5,7 +5,7 @@ ghost use Rattle.span_registry.specs.Registering.{no_spans};
 ghost use Rattle.otel_layer.specs.Core.{new_core};
 ghost use Rattle.env_filter.specs.Filtering.{plain_filter, IsNewFilter};
 ghost use Rattle.span_handles.specs.Worlds.{Replaced, spans_in};
-ghost use Rattle.span_stack.specs.Reading.{stack_recording, counting_filter, stack_measures, filter_in_place, recording_in, measures_in, new_recording, without_first, WithoutMeasure};
+ghost use Rattle.span_stack.specs.Reading.{stack_recording, stack_counting_filter, stack_measures, filter_in_place, recording_in, measures_in, new_recording, without_first, WithoutMeasure};
 
 use env_filter::filter::EnvFilter;
 use env_filter::reload;
@@ -65,7 +65,7 @@ pub fn new_stack(
     ensures spans { ⟦<Stack as Subscriber>⟧.spans result ≡ no_spans }
     ensures kept { (lane number : ℕ) → ⟦<Stack as Subscriber>⟧.kept result lane number ≡ 0 }
     ensures recording { stack_recording result ≡ new_recording settings (is_some counting) }
-    ensures counter { counting_filter result ≡ option_map plain_filter counting }
+    ensures counting_filter { stack_counting_filter result ≡ option_map plain_filter counting }
     ensures measures { stack_measures result ≡ [] }
     ensures filter { filter_in_place result ≡ Some (plain_filter filter) }
     ensures whole { ⟦<Stack as Subscriber>⟧.is_whole result }

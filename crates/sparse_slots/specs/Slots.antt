@@ -5,7 +5,7 @@ use Rattle.std.specs.Prelude.{◌≡◌, ℕ, ◌+◌, ◌-◌, ◌<◌, ◌==�
 pub record SlotsValue (X : Type 0) : Type 0 where
   pub items : List (Option X)
   pub room : ℕ
-  pub space : ℕ
+  pub value_room : ℕ
 
 -- what stands at a place, which is counted from 1
 abbrev pub value_at : {X : Type 0} → List (ℕ × X) → ℕ → Option X

@@ -33,7 +33,7 @@ impl<T> Model for Slots<T> {
     ghost view = { λ s. record {
       items = map (value_at s.live.items) s.places.items;
       room = vec_capacity s.places - length s.places.items;
-      space = min MAX_LIVE (vec_capacity s.live) - length s.live.items;
+      value_room = min MAX_LIVE (vec_capacity s.live) - length s.live.items;
     } };
 
     ghost invariant = { λ s. AreLinked s.places.items s.live.items };
@@ -78,7 +78,7 @@ impl<T> Slots<T> {
     pub fn reserve(&mut self) -> Result<(), Memory>
         ensures items { self.new.items ≡ self.old.items }
         ensures room { OnOk result (0 < self.new.room) }
-        ensures space { OnOk result (0 < self.new.space) }
+        ensures value_room { OnOk result (0 < self.new.value_room) }
     {
         if self.live.len() >= MAX_LIVE {
             return Err(Memory);
@@ -89,9 +89,9 @@ impl<T> Slots<T> {
     }
 
     /// Gives the next number to a value, in the room that there is.
-    pub fn keep(&mut self, value: T)
+    pub fn push_reserved(&mut self, value: T)
         requires room { 0 < self.old.room }
-        requires space { 0 < self.old.space }
+        requires value_room { 0 < self.old.value_room }
         ensures { self.new.items ≡ self.old.items ++ Some value ∷ [] }
     {
         self.live.push_reserved((self.places.len() as u64, value));
@@ -111,7 +111,7 @@ impl<T> Slots<T> {
         ensures value { result ≡ slice_index_or self.old.items number None }
         ensures spent { self.new.items ≡ slice_set self.old.items number None }
         ensures room { self.new.room ≡ self.old.room }
-        ensures space { self.old.space ≤ self.new.space }
+        ensures value_room { self.old.value_room ≤ self.new.value_room }
     {
         let place = *self.places.get(number as usize)?;
         if place == 0 {
@@ -168,7 +168,7 @@ fn take_at<T>(places: &mut Vec<u32>, live: &mut Vec<(u64, T)>, number: u64, plac
     ensures places { length places.new.items ≡ length places.old.items }
     ensures live { length live.new.items ≤ length live.old.items }
     ensures room { vec_capacity places.new ≡ vec_capacity places.old }
-    ensures space { vec_capacity live.new ≡ vec_capacity live.old }
+    ensures value_room { vec_capacity live.new ≡ vec_capacity live.old }
 {
     places[number as usize] = 0;
     let index = place as usize - 1;

@@ -15,8 +15,8 @@ use otel_base::text::Text;
 use otel_base::value::OtelValue;
 use std::alloc::Global;
 use trace_base::field::Value as FieldValue;
-use trace_lines::read::syntax::scan::{DEEPEST, number, text, value, word};
-use trace_lines::read::{closes, is_utf8, leading_fields};
+use trace_lines::read::syntax::scan::{MAX_DEPTH, number, text, value, word};
+use trace_lines::read::{expect_bracket, is_utf8, leading_fields};
 use trace_lines::{Value, otel_value_of};
 use trace_tasks::script::{Step, Task};
 
@@ -50,7 +50,7 @@ fn without_spare_room<T: Drop>(alloc: Global, items: Vec<T>) -> Option<Items<T>>
 // The fields that an array in front of a text spells, and what stands behind it.
 fn fields_in_front(alloc: Global, bytes: &[u8]) -> Option<(Items<(Text, FieldValue)>, &[u8])>
     ensures { IfSome result (λ r.
-        (d : Data) × BeginsWithValue (DEEPEST + 2) bytes.now d r.1.now × (fields_of d ≡ Some r.0)) }
+        (d : Data) × BeginsWithValue (MAX_DEPTH + 2) bytes.now d r.1.now × (fields_of d ≡ Some r.0)) }
 {
     let size = fields_size(bytes);
     let (listed, tail) = leading_fields(alloc, &bytes[..size])?;
@@ -197,7 +197,7 @@ fn site_and_steps(alloc: Global, bytes: &[u8], front: &[u8]) -> Option<(u64, Ite
     let (site, tail) = number(digits)?;
     let list = word(tail, b",\"task\":")?;
     let (steps, end) = leading_steps(alloc, list)?;
-    closes(end, b'}')?;
+    expect_bracket(end, b'}')?;
     Some((site, steps))
 }
 

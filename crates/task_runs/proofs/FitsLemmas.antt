@@ -14,10 +14,10 @@ use Rattle.trace_tasks.specs.declared.script.Step.{Step}
 use Rattle.trace_tasks.specs.declared.script.Step.TheVariants as step
 use Rattle.trace_tasks.specs.declared.script.Task.{Task}
 use Rattle.trace_tasks.specs.declared.script.TaskScript.{TaskScript}
-use Rattle.trace_tasks.specs.Begun.{AllSited}
+use Rattle.trace_tasks.specs.Begun.{AllHaveCallsites}
 use Rattle.trace_tasks.specs.FieldNames.{declares_all, declares_by}
 use Rattle.trace_tasks.specs.Flat.{all_polls, tasks_at_first, yield_count}
-use Rattle.trace_tasks.specs.Spelled.{IsDeclared, IsTested, AreTested}
+use Rattle.trace_tasks.specs.Spelled.{IsDeclared, StepsAreDeclared, TasksAreDeclared}
 use Rattle.trace_tasks.proofs.queues.BegunTasksLemmas.{answer_is}
 use Rattle.task_lines.specs.Fit.{has_lane, has_sites, has_fields, tells_fields, missing_name}
 use Rattle.task_runs.specs.Reading.{IsFit}
@@ -44,7 +44,7 @@ declared : (o : Option Callsite) (fields : Fields) → option_map_or (λ c. decl
 declared None fields is = absurd (true≢false (sym is))
 declared (Some c) fields is = is
 
-tested : (sites : List Callsite) (steps : List Step) → list_all (λ s. tells_fields sites s) steps ≡ true → IsTested sites steps
+tested : (sites : List Callsite) (steps : List Step) → list_all (λ s. tells_fields sites s) steps ≡ true → StepsAreDeclared sites steps
 tested sites [] is = tt
 tested sites (step.Event site fields ∷ steps) is =
     let b = both (declares_by sites site fields) (list_all (λ s. tells_fields sites s) steps) is in
@@ -54,18 +54,18 @@ tested sites (step.SetAttribute key value ∷ steps) is = tested sites steps (bo
 tested sites (step.Yield ∷ steps) is = tested sites steps (both true (list_all (λ s. tells_fields sites s) steps) is).1
 
 -- one task
-one_fits : (settings : Settings) (task : Task) → missing_name settings task ≡ None → (task.site < length settings.callsites) × IsDeclared (slice_get settings.callsites task.site) task.fields × IsTested settings.callsites task.steps
+one_fits : (settings : Settings) (task : Task) → missing_name settings task ≡ None → (task.site < length settings.callsites) × IsDeclared (slice_get settings.callsites task.site) task.fields × StepsAreDeclared settings.callsites task.steps
 one_fits settings task none =
     let all = none_missing (has_lane settings.lanes) (has_sites settings.callsites task) (has_fields settings.callsites task) none in
     let sites = both _ _ all.0 in
     let fields = both _ _ all.1 in
     (within _ settings.callsites task.site sites.0, declared (slice_get settings.callsites task.site) task.fields fields.0, tested settings.callsites task.steps fields.1)
 
-all_sited : (settings : Settings) (tasks : List Task) → All (λ task. missing_name settings task ≡ None) tasks → AllSited (length settings.callsites) tasks
+all_sited : (settings : Settings) (tasks : List Task) → All (λ task. missing_name settings task ≡ None) tasks → AllHaveCallsites (length settings.callsites) tasks
 all_sited settings [] all = tt
 all_sited settings (t ∷ tasks) all = ((one_fits settings t (all 0 t (omega arith))).0, all_sited settings tasks (λ k d less. all (suc k) d (omega (arith, less))))
 
-are_tested : (settings : Settings) (tasks : List Task) → All (λ task. missing_name settings task ≡ None) tasks → AreTested settings.callsites tasks
+are_tested : (settings : Settings) (tasks : List Task) → All (λ task. missing_name settings task ≡ None) tasks → TasksAreDeclared settings.callsites tasks
 are_tested settings [] all = tt
 are_tested settings (t ∷ tasks) all =
     let one = one_fits settings t (all 0 t (omega arith)) in

@@ -11,8 +11,8 @@ use Rattle.span_script.specs.Setups.{Setup}
 use Rattle.span_script.specs.Tables.{History, Tables, no_tables, tables, records_of}
 use Rattle.span_script.specs.Effects.{effect_of}
 use Rattle.span_script.specs.calls.Spans.{open_spans}
-use Rattle.span_script.specs.Fits.{State, StandsFor, ServedByHistory}
-use Rattle.span_script.specs.Outcomes.{history_from, history_of, records_of_history, refusal_at, refused_behind, outcome_of}
+use Rattle.span_script.specs.Fits.{PipelineState, StandsFor, IsServedByHistory}
+use Rattle.span_script.specs.Outcomes.{history_from, history_of, records_of_history, refusal_at, refusal_behind, outcome_of}
 use Rattle.span_script.proofs.runs.RunLemmas.{records_push, goes_on_with}
 use Rattle.trace_lines.specs.Report.{record_lines}
 use Rattle.trace_lines.specs.text.Texts.{record_text, end_text}
@@ -31,7 +31,7 @@ lines_append n (r ∷ rs) ss =
     ∙ sym (append_assoc (record_text n r) (record_lines (n + 1) rs) (record_lines ((n + 1) + length rs) ss))
     ∙ ap (λ (k : ℕ). (record_text n r ++ record_lines (n + 1) rs) ++ record_lines k ss) {x = (n + 1) + length rs} {y = n + length (r ∷ rs)} (omega arith)
 
-pub written_first : (requests : List Request) (now : State) (lines : RecordLines) → StandsFor now (tables now.setup []) → now.recording.finished ≡ [] → lines.text.items ≡ [] → lines.count ≡ 0
+pub written_first : (requests : List Request) (now : PipelineState) (lines : RecordLines) → StandsFor now (tables now.setup []) → now.recording.finished ≡ [] → lines.text.items ≡ [] → lines.count ≡ 0
     → WrittenSoFar now.setup requests requests now lines
 written_first requests now lines stands taken text count = record {
   history = [];
@@ -61,13 +61,13 @@ count_more : (rs ss finished : List Record) (count after : ℕ) → after ≡ co
 count_more rs ss finished count after is counted same =
     is ∙ ap (λ (fs : List Record). count + length fs) same ∙ ap (λ (n : ℕ). n + length ss) counted ∙ sym (length-append rs ss)
 
-written_own : (requests left : List Request) (request : Request) (old mid new : State) (before after : RecordLines) (answer : Reply)
-    → (w : WrittenSoFar old.setup requests (request ∷ left) old before) → ServedByHistory (effect_of old.setup (tables old.setup w.history) request) w.history old mid answer
+written_own : (requests left : List Request) (request : Request) (old mid new : PipelineState) (before after : RecordLines) (answer : Reply)
+    → (w : WrittenSoFar old.setup requests (request ∷ left) old before) → IsServedByHistory (effect_of old.setup (tables old.setup w.history) request) w.history old mid answer
     → after.text.items ≡ before.text.items ++ record_lines (before.count + 1) mid.recording.finished → after.count ≡ before.count + length mid.recording.finished
     → new.recording.finished ≡ [] → without_taken new ≡ without_taken mid → WrittenSoFar old.setup requests left new after
 written_own requests left request old mid new before after answer w did text count taken state = record {
   history = w.history ++ did.effect ∷ [];
-  setup_is = ap (λ (k : State). k.setup) state ∙ did.setup;
+  setup_is = ap (λ (k : PipelineState). k.setup) state ∙ did.setup;
   stands = stands_beside mid new (tables old.setup (w.history ++ did.effect ∷ [])) state did.stands;
   taken = taken;
   text_is = text_more so_far more mid.recording.finished before.count before.text.items after.text.items text w.text_is w.count_is finished ∙ ap (record_lines 1) (sym push);
@@ -91,9 +91,9 @@ written_own requests left request old mid new before after answer w did text cou
     place : (n : ℕ) → length (w.history ++ did.effect ∷ []) + n ≡ length w.history + (n + 1)
     place n = let e = length_push w.history did.effect in omega (arith, e)
 
-pub written_next : (setup : Setup) (requests left rest : List Request) (request : Request) (old mid new : State) (before after : RecordLines) (answer : Reply)
+pub written_next : (setup : Setup) (requests left rest : List Request) (request : Request) (old mid new : PipelineState) (before after : RecordLines) (answer : Reply)
     → rest ≡ request ∷ left
-    → ((h : History) → StandsFor old (tables old.setup h) → ServedByHistory (effect_of old.setup (tables old.setup h) request) h old mid answer)
+    → ((h : History) → StandsFor old (tables old.setup h) → IsServedByHistory (effect_of old.setup (tables old.setup h) request) h old mid answer)
     → after.text.items ≡ before.text.items ++ record_lines (before.count + 1) mid.recording.finished → after.count ≡ before.count + length mid.recording.finished
     → new.recording.finished ≡ [] → without_taken new ≡ without_taken mid
     → WrittenSoFar setup requests rest old before → WrittenSoFar setup requests left new after
@@ -104,8 +104,8 @@ written_next setup requests left rest request old mid new before after answer re
     (written_own requests left request old mid new before after answer w (steps w.history w.stands) text count taken state)
 
 -- whatever requests came before and come behind, if memory was to be had
-pub runs : (request : Request) (old mid new : State) (before after : RecordLines) (answer : Reply) (result : Result (Unit {0}) Memory)
-    → ((h : History) → StandsFor old (tables old.setup h) → ServedByHistory (effect_of old.setup (tables old.setup h) request) h old mid answer)
+pub runs : (request : Request) (old mid new : PipelineState) (before after : RecordLines) (answer : Reply) (result : Result (Unit {0}) Memory)
+    → ((h : History) → StandsFor old (tables old.setup h) → IsServedByHistory (effect_of old.setup (tables old.setup h) request) h old mid answer)
     → OnOk result (after.text.items ≡ before.text.items ++ record_lines (before.count + 1) mid.recording.finished) → OnOk result (after.count ≡ before.count + length mid.recording.finished)
     → OnOk result (new.recording.finished ≡ []) → without_taken new ≡ without_taken mid
     → OnOk result ((setup : Setup) (requests left : List Request) → WrittenSoFar setup requests (request ∷ left) old before → WrittenSoFar setup requests left new after)
@@ -122,26 +122,26 @@ runs_these setup requests old new all so_far = runs_all setup requests requests 
 -- ---- all requests
 
 -- None of them was refused, the pipeline stands for their history, and the lines are those of all records.
-pub record AreWritten (setup : Setup) (requests : List Request) (new : State) (lines : RecordLines) : Type 0 where
+pub record AreWritten (setup : Setup) (requests : List Request) (new : PipelineState) (lines : RecordLines) : Type 0 where
   pub stands : StandsFor new (tables setup (history_of setup requests))
   pub served : (outcome_of setup requests).refused ≡ None
   pub text_is : lines.text.items ≡ record_lines 1 (outcome_of setup requests).records
   pub count_is : lines.count ≡ length (outcome_of setup requests).records
 
-pub all_written : (setup : Setup) (requests rest : List Request) (now : State) (lines : RecordLines) → rest ≡ [] → WrittenSoFar setup requests rest now lines → AreWritten setup requests now lines
+pub all_written : (setup : Setup) (requests rest : List Request) (now : PipelineState) (lines : RecordLines) → rest ≡ [] → WrittenSoFar setup requests rest now lines → AreWritten setup requests now lines
 all_written setup requests rest now lines none so_far =
     let w : WrittenSoFar setup requests [] now lines = subst (λ (rs : List Request). WrittenSoFar setup requests rs now lines) none so_far in
     let is : history_of setup requests ≡ w.history = w.goes_on ∙ append-nil w.history in
     let past : slice_get requests (length w.history) ≡ None = ap (slice_get requests) (sym (add-zero (length w.history))) ∙ w.places 0 in
     record {
       stands = subst (λ (h : History). StandsFor now (tables setup h)) (sym is) w.stands;
-      served = ap (refused_behind setup requests) is
+      served = ap (refusal_behind setup requests) is
           ∙ ap (option_and_then (λ (request : Request). refusal_at (length w.history) (effect_of setup (tables setup w.history) request))) past;
       text_is = w.text_is ∙ ap (λ (h : History). record_lines 1 (records_of_history setup h)) (sym is);
       count_is = w.count_is ∙ ap (λ (h : History). length (records_of_history setup h)) (sym is);
     }
 
-pub tells_all : (setup : Setup) (requests : List Request) (now : State) (lines : RecordLines) (text : List ℕ) (left : ℕ) → AreWritten setup requests now lines
+pub tells_all : (setup : Setup) (requests : List Request) (now : PipelineState) (lines : RecordLines) (text : List ℕ) (left : ℕ) → AreWritten setup requests now lines
     → ((t : Tables) → StandsFor now t → left ≡ open_spans t) → text ≡ lines.text.items ++ end_text left lines.count → TellsOutcome (outcome_of setup requests) text
 tells_all setup requests now lines text left w counts is =
     (w.served, is ∙ rw (w.text_is, w.count_is, counts (tables setup (history_of setup requests)) w.stands) refl)

@@ -3,7 +3,7 @@ use Rattle.std.specs.Prelude.{◌≡◌, ℕ, List, [], ◌++◌, ◌⊎◌, Boo
 use Rattle.std.specs.List.{All}
 use Rattle.span_script.specs.declared.settings.Settings.{Settings}
 use Rattle.span_script.specs.Admission.{opening_read}
-use Rattle.span_script.specs.Setups.{HasOwnIds}
+use Rattle.span_script.specs.Setups.{HaveDistinctIds}
 use Rattle.trace_lines.specs.declared.told.Told.{Told}
 use Rattle.input_lines.specs.declared.refused_line.RefusedLine.{RefusedLine}
 use Rattle.input_lines.specs.Refusals.{IsTold, are_blank}
@@ -17,7 +17,7 @@ use Rattle.task_runs.specs.Scripts.{Lines, settings_on, task_on, tasks_on, tasks
 
 -- settings that can be run: lanes have ids of their own, and the texts of directives are read
 pub record CanOpen (settings : Settings) : Type 0 where
-  pub ids : HasOwnIds (map (λ l. l.0) settings.lanes)
+  pub ids : HaveDistinctIds (map (λ l. l.0) settings.lanes)
   pub read : opening_read settings.filter settings.counting ≡ Ok tt
 
 -- all tasks of a script fit its settings, which can be run

@@ -3,15 +3,15 @@ use Rattle.std.specs.Prelude.{ℕ, ◌<◌, ◌^◌, List, length, Option, Some,
 use Rattle.trace_base.specs.declared.callsite.Callsite.{Callsite}
 use Rattle.trace_tasks.specs.declared.script.Task.{Task}
 use Rattle.trace_tasks.specs.declared.script.TaskScript.{TaskScript}
-use Rattle.trace_tasks.specs.Begun.{AllSited}
+use Rattle.trace_tasks.specs.Begun.{AllHaveCallsites}
 use Rattle.trace_tasks.specs.Flat.{all_polls, tasks_at_first}
-use Rattle.trace_tasks.specs.Spelled.{AreTested}
+use Rattle.trace_tasks.specs.Spelled.{TasksAreDeclared}
 use Rattle.task_runs.specs.Reading.{IsFit}
 
 -- the callsites are there and declare what tasks give, and the tasks and their polls aren't too many
 pub record CanSpell (sites : List Callsite) (tasks : List Task) : Type 0 where
-  pub sited : AllSited (length sites) tasks
-  pub tested : AreTested sites tasks
+  pub sited : AllHaveCallsites (length sites) tasks
+  pub tested : TasksAreDeclared sites tasks
   pub few : length tasks < 2 ^ 63
   pub few_polls : all_polls (tasks_at_first 0 tasks) < 2 ^ 60
 

@@ -3,14 +3,14 @@ use Rattle.std.specs.Prelude.{◌≡◌, ◌+◌, ◌++◌, ℕ, List, [], ◌�
 use Rattle.span_script.specs.declared.request.Request.{Request}
 use Rattle.span_script.specs.Setups.{Setup}
 use Rattle.span_script.specs.Tables.{History, tables}
-use Rattle.span_script.specs.Fits.{State, StandsFor}
+use Rattle.span_script.specs.Fits.{PipelineState, StandsFor}
 use Rattle.span_script.specs.Outcomes.{history_from, history_of, records_of_history}
 use Rattle.trace_lines.specs.Report.{record_lines}
 use Rattle.task_runs.specs.declared.runner.Runner.{Runner}
 use Rattle.task_runs.specs.declared.text.RecordLines.{RecordLines}
 
 -- where requests stand of which some are left, and the records so far are written
-pub record WrittenSoFar (setup : Setup) (requests left : List Request) (now : State) (lines : RecordLines) : Type 0 where
+pub record WrittenSoFar (setup : Setup) (requests left : List Request) (now : PipelineState) (lines : RecordLines) : Type 0 where
   pub history : History
   pub setup_is : now.setup ≡ setup
   pub stands : StandsFor now (tables setup history)

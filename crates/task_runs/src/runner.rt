@@ -1,7 +1,7 @@
 //! A pipeline that runs requests as they come, and the lines of its records.
 ghost use Rattle.std.specs.Prelude.{List, map, [], IfOk};
 ghost use Rattle.span_script.specs.Outcomes.{outcome_of};
-ghost use Rattle.span_script.specs.Setups.{Setup, HasOwnIds, setup_by};
+ghost use Rattle.span_script.specs.Setups.{Setup, HaveDistinctIds, setup_by};
 ghost use Rattle.span_script.specs.declared.request.Request.{Request};
 ghost use Rattle.task_runs.specs.Texts.{TellsOutcome};
 ghost use Rattle.task_runs.specs.Writing.{WrittenSoFar, RunsRequest};
@@ -24,7 +24,7 @@ pub(crate) struct Runner {
 impl Runner {
     // A new pipeline. `Memory` also where a text of directives isn't read.
     pub(crate) fn open(alloc: Global, settings: Settings) -> Result<Runner, Memory>
-        requires { HasOwnIds (map (λ l. l.0) settings.lanes) }
+        requires { HaveDistinctIds (map (λ l. l.0) settings.lanes) }
         ensures { IfOk result (λ runner. (requests : List Request)
             → WrittenSoFar (setup_by settings) requests requests runner.pipeline runner.lines) }
     {

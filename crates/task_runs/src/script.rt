@@ -11,7 +11,7 @@ use span_script::settings::Settings;
 use std::alloc::Global;
 use task_lines::{missing_name, read_task};
 use trace_lines::{LineError, Told, read_settings};
-use trace_pipeline::read_texts;
+use trace_pipeline::read_filters;
 use trace_tasks::script::{Task, TaskScript};
 
 /// Where a reader stands between two lines.
@@ -131,7 +131,7 @@ fn settings_on(alloc: Global, line: &[u8]) -> Result<Result<Settings, Told>, Mem
         Err(LineError::BadLine) => return Ok(Err(Told::BadLine)),
         Err(LineError::Memory) => return Err(Memory),
     };
-    match read_texts(alloc, &settings.filter, &settings.counting) {
+    match read_filters(alloc, &settings.filter, &settings.counting) {
         Ok(filters) => {
             drop(filters);
             Ok(Ok(settings))

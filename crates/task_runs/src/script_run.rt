@@ -20,7 +20,7 @@ use std::random::RandomSource;
 use trace_base::callsite::Callsite;
 use trace_base::discard::Discard;
 use trace_base::lane::Lane;
-use trace_pipeline::world_of;
+use trace_pipeline::new_world;
 use trace_tape::tape::Tape;
 use trace_tasks::script::{Task, TaskScript};
 use trace_tasks::taped::run_on_tape;
@@ -37,7 +37,7 @@ fn run_polls(
     ensures ran { OnOk result (TakesAll RunsRequest (flat_list callsites.items tasks) runner.old runner.new) }
     ensures context { Keeps cx.old cx.new }
 {
-    let (mut world, dispatch) = world_of(alloc, callsites, Tape::new(alloc))?;
+    let (mut world, dispatch) = new_world(alloc, callsites, Tape::new(alloc))?;
     let mut lane = Lane {
         id: 0,
         name: None,

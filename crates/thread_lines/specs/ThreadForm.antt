@@ -5,7 +5,7 @@ use Rattle.serde_json.specs.Find.{as_array, as_str}
 use Rattle.otel_base.specs.declared.context.SpanContext.{SpanContext}
 use Rattle.otel_state.specs.declared.op.Op.{Op}
 use Rattle.otel_state.specs.declared.op.Op.TheVariants as op
-use Rattle.span_script.specs.calls.Links.{happens_at}
+use Rattle.span_script.specs.calls.Links.{event_time}
 use Rattle.thread_lines.specs.declared.line.ThreadCall.{ThreadCall}
 use Rattle.thread_lines.specs.declared.line.ThreadCall.TheVariants as calls
 use Rattle.thread_lines.specs.declared.line.ThreadOp.{ThreadOp}
@@ -51,7 +51,7 @@ added_event_form at = do
   name ← text (codes "name")
   attributes ← attributes_form
   time ← time_form
-  give (op.AddEvent (record { name = name; time = happens_at at time; attributes = attributes }))
+  give (op.AddEvent (record { name = name; time = event_time at time; attributes = attributes }))
 
 -- ids of which neither is 0
 abbrev pub valid_context : ℕ → ℕ → Option SpanContext

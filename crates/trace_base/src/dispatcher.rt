@@ -144,7 +144,10 @@ pub fn set_global_default<S: Subscriber>(
 }
 
 // A lane's own subscriber, else the global one.
-pub(crate) fn default_or_global(own: &Option<Dispatch>, global: &Option<Dispatch>) -> Option<Dispatch>
+pub(crate) fn default_or_global(
+    own: &Option<Dispatch>,
+    global: &Option<Dispatch>,
+) -> Option<Dispatch>
     ensures { result ≡ dispatch_on own.now global.now }
 {
     match own {

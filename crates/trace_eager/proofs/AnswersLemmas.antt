@@ -6,14 +6,14 @@ use Rattle.span_script.specs.declared.request.Request.{Request}
 use Rattle.span_script.specs.calls.Here.{Resolved}
 use Rattle.span_script.specs.Effects.{effect_of}
 use Rattle.span_script.specs.calls.Spans.{open_spans}
-use Rattle.span_script.specs.Outcomes.{followed_by, history_from, outcome_of}
+use Rattle.span_script.specs.Outcomes.{with_effects_behind, history_from, outcome_of}
 use Rattle.span_script.specs.Setups.{Setup}
 use Rattle.span_script.specs.Tables.{Effect, History, Tables, after_effect, no_tables, records_of, tables}
 use Rattle.span_eager.specs.Early.{answers, answers_from}
 use Rattle.trace_lines.specs.declared.signal.Signal.TheVariants as signal
 use Rattle.trace_lines.specs.declared.told.Told.{Told}
 use Rattle.trace_lines.specs.Lines.{is_blank}
-use Rattle.trace_lines.specs.Report.{Report, with_text_before, told_step, effect_of_line, effect_of_request, report_on_effect, report_on, answer_text, answer_count}
+use Rattle.trace_lines.specs.Report.{Report, with_text_before, step_or_refusal, effect_of_line, effect_of_request, report_on_effect, report_on, answer_text, answer_count}
 use Rattle.trace_lines.specs.reading.Spelled.{request_spelled}
 use Rattle.trace_eager.specs.Written.{answers_text, in_front, numbers_of, requests_of}
 
@@ -35,8 +35,8 @@ module _ (setup : Setup) where
     abbrev go : Effect → Report
     go e = with_text_before (answer_text signal.Traces (n + 1) count e.reply (records_of t e) e.measures) (report (h ++ e ∷ []) (n + 1) (count + answer_count signal.Traces (records_of t e) e.measures) lines)
 
-    by_effect : (r : Resolved) → (report_on_effect (told_step r) go (n + 1)).accepted ≡ true
-        → (report_on_effect (told_step r) go (n + 1)).written ≡ text_on t count ((n + 1) ∷ numbers_of (n + 1) lines) (followed_by r (λ e. history_from setup (after_effect t e) (requests_of lines)))
+    by_effect : (r : Resolved) → (report_on_effect (step_or_refusal r) go (n + 1)).accepted ≡ true
+        → (report_on_effect (step_or_refusal r) go (n + 1)).written ≡ text_on t count ((n + 1) ∷ numbers_of (n + 1) lines) (with_effects_behind r (λ e. history_from setup (after_effect t e) (requests_of lines)))
     by_effect (Err refusal) accepted = absurd (cc accepted)
     by_effect (Ok e) accepted =
         let more = count + length (records_of t e) in

@@ -1,7 +1,7 @@
 -- What is written for request lines are the lines of their answers, and the last line is that of the outcome.
 use Rattle.std.proofs.Common.{◌≡◌, ℕ, suc, ◌+◌, List, [], ◌∷◌, ◌++◌, length, fold, Bool, true, false, Option, Some, None, Result, Ok, Err, refl, sym, ap, ◌∙◌, arith, append_assoc, if◌then◌else◌, slice_get, option_and_then}
 use Rattle.std.proofs.lemmas.List.{length-append}
-use Rattle.trace_laws.proofs.Common.{fold_push, Refusal, Request, Resolved, effect_of, open_spans, followed_by, history_from, records_from, refusal_at, Setup, Effect, History, Tables, after_effect, no_tables, records_of, tables, answers_from, in_front, numbers_of, requests_of, Told, is_blank, Report, with_text_before, told_step, effect_of_line, effect_of_request, report_on_effect, report_on, answer_text, answer_count, request_spelled, answer_lines, last_line, unread_from, unread_or}
+use Rattle.trace_laws.proofs.Common.{fold_push, Refusal, Request, Resolved, effect_of, open_spans, with_effects_behind, history_from, records_from, refusal_at, Setup, Effect, History, Tables, after_effect, no_tables, records_of, tables, answers_from, in_front, numbers_of, requests_of, Told, is_blank, Report, with_text_before, step_or_refusal, effect_of_line, effect_of_request, report_on_effect, report_on, answer_text, answer_count, request_spelled, answer_lines, last_line, unread_from, unread_or}
 use Rattle.trace_lines.specs.declared.signal.Signal.TheVariants as signal
 
 module _ (setup : Setup) where
@@ -63,8 +63,8 @@ module _ (setup : Setup) where
         ∙ sym (append_assoc first (answer_lines more numbers (answers_from (after_effect t e) (later e))) (last_line ((n + 1) ∷ numbers) (refused_of t (request ∷ requests_of lines) (e ∷ later e)) unread left (count + length (records_of t e ++ records_from (after_effect t e) (later e)))))
 
     by_effect : (request : Request) (r : Resolved) → effect_of setup t request ≡ r
-        → (report_on_effect (told_step r) go (n + 1)).written
-        ≡ text_by t count ((n + 1) ∷ numbers_of (n + 1) lines) (unread_from (n + 1) lines) (request ∷ requests_of lines) (followed_by r later)
+        → (report_on_effect (step_or_refusal r) go (n + 1)).written
+        ≡ text_by t count ((n + 1) ∷ numbers_of (n + 1) lines) (unread_from (n + 1) lines) (request ∷ requests_of lines) (with_effects_behind r later)
     by_effect request (Err why) is =
         ap (λ (x : Resolved). last_line ((n + 1) ∷ numbers_of (n + 1) lines) (refusal_at 0 x) (unread_from (n + 1) lines) (open_spans t) (count + 0)) (sym is)
     by_effect request (Ok e) is =

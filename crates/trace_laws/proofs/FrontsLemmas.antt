@@ -1,6 +1,6 @@
 -- Fronts of a history are legal, and answers are parted as the spans that requests closed.
 use Rattle.std.proofs.Common.{◌≡◌, ℕ, List, [], ◌∷◌, ◌++◌, length, map, flat_map, fold, Some, Ok, Err, refl, sym, ap, subst, ◌∙◌, arith, append_assoc, append-nil, slice_get, IsErr}
-use Rattle.trace_laws.proofs.Common.{fold_push, Record, Reply, Request, Resolved, effect_of, followed_by, history_from, records_from, Setup, Effect, History, Tables, after_effect, no_tables, records_of, tables, answers_from, IsHistory, more, EachRecord, AnswersEach, closed_by}
+use Rattle.trace_laws.proofs.Common.{fold_push, Record, Reply, Request, Resolved, effect_of, with_effects_behind, history_from, records_from, Setup, Effect, History, Tables, after_effect, no_tables, records_of, tables, answers_from, IsHistory, more, EachRecord, AnswersEach, closed_by}
 use Rattle.span_laws.proofs.records.RecordsLemmas.{as_many_as_close}
 
 -- the closed spans of the tables behind a history
@@ -41,8 +41,8 @@ module _ (setup : Setup) where
       by_effect : (r : Resolved) → effect_of setup t request ≡ r
           → ((e : Effect) → IsHistory setup (h ++ e ∷ []) → EachRecord P (closed_by (history_from setup (after_effect t e) requests)) (records_from (after_effect t e) (history_from setup (after_effect t e) requests))
           → AnswersEach P (history_from setup (after_effect t e) requests) (answers_from (after_effect t e) (history_from setup (after_effect t e) requests)))
-          → EachRecord P (closed_by (followed_by r (λ e. history_from setup (after_effect t e) requests))) (records_from t (followed_by r (λ e. history_from setup (after_effect t e) requests)))
-          → AnswersEach P (followed_by r (λ e. history_from setup (after_effect t e) requests)) (answers_from t (followed_by r (λ e. history_from setup (after_effect t e) requests)))
+          → EachRecord P (closed_by (with_effects_behind r (λ e. history_from setup (after_effect t e) requests))) (records_from t (with_effects_behind r (λ e. history_from setup (after_effect t e) requests)))
+          → AnswersEach P (with_effects_behind r (λ e. history_from setup (after_effect t e) requests)) (answers_from t (with_effects_behind r (λ e. history_from setup (after_effect t e) requests)))
       by_effect (Err why) is behind each = tt
       by_effect (Ok e) is behind each =
           let here = ap (λ (u : Tables). effect_of setup u request) now ∙ is in
@@ -63,7 +63,7 @@ module _ (setup : Setup) where
     where
       by_effect : (r : Resolved) → effect_of setup t request ≡ r
           → ((e : Effect) → IsHistory setup (h ++ e ∷ []) → history_from setup (after_effect t e) requests ≡ fore ++ rest → IsHistory setup ((h ++ e ∷ []) ++ fore))
-          → followed_by r (λ e. history_from setup (after_effect t e) requests) ≡ x ∷ (fore ++ rest) → IsHistory setup (h ++ x ∷ fore)
+          → with_effects_behind r (λ e. history_from setup (after_effect t e) requests) ≡ x ∷ (fore ++ rest) → IsHistory setup (h ++ x ∷ fore)
       by_effect (Err why) is behind same = absurd (cc same)
       by_effect (Ok e) is behind same =
           let parts = heads e x (history_from setup (after_effect t e) requests) (fore ++ rest) same in
@@ -80,7 +80,7 @@ module _ (setup : Setup) where
       by_effect : (r : Resolved) → effect_of setup t request ≡ r
           → ((made : Effect) (more : History) → history_from setup (after_effect t made) requests ≡ more ++ e ∷ rest
           → (found : Request) × (slice_get requests (length more) ≡ Some found) × (effect_of setup (fold after_effect (after_effect t made) more) found ≡ Ok e))
-          → (fore : History) → followed_by r (λ e. history_from setup (after_effect t e) requests) ≡ fore ++ e ∷ rest
+          → (fore : History) → with_effects_behind r (λ e. history_from setup (after_effect t e) requests) ≡ fore ++ e ∷ rest
           → (found : Request) × (slice_get (request ∷ requests) (length fore) ≡ Some found) × (effect_of setup (fold after_effect t fore) found ≡ Ok e)
       by_effect (Err why) here behind [] same = absurd (cc same)
       by_effect (Err why) here behind (x ∷ fore) same = absurd (cc same)
@@ -99,8 +99,8 @@ module _ (setup : Setup) where
       by_effect : (r : Resolved) → effect_of setup t first ≡ r
           → ((e : Effect) → slice_get requests (length (history_from setup (after_effect t e) requests)) ≡ Some request
           → IsErr (effect_of setup (fold after_effect (after_effect t e) (history_from setup (after_effect t e) requests)) request))
-          → slice_get (first ∷ requests) (length (followed_by r (λ e. history_from setup (after_effect t e) requests))) ≡ Some request
-          → IsErr (effect_of setup (fold after_effect t (followed_by r (λ e. history_from setup (after_effect t e) requests))) request)
+          → slice_get (first ∷ requests) (length (with_effects_behind r (λ e. history_from setup (after_effect t e) requests))) ≡ Some request
+          → IsErr (effect_of setup (fold after_effect t (with_effects_behind r (λ e. history_from setup (after_effect t e) requests))) request)
       by_effect (Err why) is behind there =
           let same : first ≡ request = cc there in
           subst (λ (q : Request). IsErr (effect_of setup t q)) same (subst (λ (r : Resolved). IsErr r) (sym is) refl)

@@ -1,6 +1,6 @@
 -- The summary of a made script counts what is written of it.
 use Rattle.std.proofs.Common.{◌≡◌, ℕ, ◌+◌, ◌≤◌, List, [], ◌∷◌, ◌++◌, length, map, Bool, true, Option, Some, None, Ok, Err, refl, sym, ap, ap₂, subst, ◌∙◌, arith, append-nil, option_and_then, if◌then◌else◌}
-use Rattle.trace_laws.proofs.Common.{range_with_len, Record, Refusal, Reply, Request, OpeningRead, opening_read, Resolved, effect_of, open_spans, history_from, history_of, outcome_of, records_of_history, refusal_at, refused_behind, Setup, Effect, History, Tables, after_effect, no_tables, tables, answers, answers_from, Script, script_from, numbers_of, requests_of, Told, lines_of, IsValid, Report, accepts, report_on_opening, output, report_on, end_text, Counts, records_in, IsOutput, first_line, answer_lines, last_line, opened_text, outcome_text, unread_from}
+use Rattle.trace_laws.proofs.Common.{range_with_len, Record, Refusal, Reply, Request, OpeningRead, opening_read, Resolved, effect_of, open_spans, history_from, history_of, outcome_of, records_of_history, refusal_at, refusal_behind, Setup, Effect, History, Tables, after_effect, no_tables, tables, answers, answers_from, Script, script_from, numbers_of, requests_of, Told, lines_of, IsValid, Report, accepts, report_on_opening, output, report_on, end_text, Counts, records_in, IsOutput, first_line, answer_lines, last_line, opened_text, outcome_text, unread_from}
 use Rattle.std.specs.List.{sum_by}
 use Rattle.std.proofs.lemmas.List.{length-append}
 use Rattle.std.proofs.lemmas.List.FromFn.{length-range_with_len}
@@ -54,7 +54,7 @@ module _ (setup : Setup) where
       let one = length-append h (on.0 ∷ []) in
       omega (arith, rest, one)
 
-  none_refused : (requests : List Request) (h : History) → length requests ≤ length h → refused_behind setup requests h ≡ None
+  none_refused : (requests : List Request) (h : History) → length requests ≤ length h → refusal_behind setup requests h ≡ None
   none_refused requests h all = ap (option_and_then (λ request. refusal_at (length h) (effect_of setup (tables setup h) request))) (slice_get_past requests (length h) all)
 
 answers_many : (setup : Setup) (requests : List Request) → length (answers setup requests) ≡ length (history_of setup requests)

@@ -7,9 +7,9 @@ use Rattle.span_script.specs.Effects.{effect_of}
 use Rattle.span_script.specs.calls.Spans.{is_open}
 use Rattle.span_script.specs.Outcomes.{history_of, outcome_of}
 use Rattle.span_script.specs.Setups.{Setup, setup_by}
-use Rattle.span_script.specs.Tables.{Effect, History, made_of, tables}
+use Rattle.span_script.specs.Tables.{Effect, History, made_span_at, tables}
 use Rattle.span_eager.specs.Early.{answers}
-use Rattle.span_laws.specs.Laws.{IsHistory, occurrences}
+use Rattle.span_laws.specs.LegalHistories.{IsHistory, occurrences}
 use Rattle.span_laws.specs.Makings.{IsRecordOf, HasContextOf, is_making}
 use Rattle.span_laws.specs.Records.{EachRecord}
 use Rattle.trace_base.specs.Spans.{is_in}
@@ -52,7 +52,7 @@ pub record TellsSpans (setup : Setup) (requests : List Request) (h : History) (a
   -- so far those are closed that were made and that no unspent handle holds, theirs or a descendant's
   pub when_ended : (fore rest : History) (s : ℕ) → h ≡ fore ++ rest
       → is_in s (closed_by fore) ≡ (nat_lt s (length (tables setup fore).spans) && not (is_open (tables setup fore).handles s))
-  pub child_first : (s p : ℕ) (up fore rest : List ℕ) → (made_of (tables setup h).spans s).scope ≡ s ∷ p ∷ up
+  pub child_first : (s p : ℕ) (up fore rest : List ℕ) → (made_span_at (tables setup h).spans s).scope ≡ s ∷ p ∷ up
       → closed_by h ≡ fore ++ p ∷ rest → is_in s fore ≡ true
 
 -- the answers are those of the outcome, parted by requests

@@ -11,7 +11,7 @@ ghost use Rattle.trace_lines.specs.Lines.{lines_of};
 ghost use Rattle.trace_lines.specs.Generated.{generated_requests, generated_script, generated_setup};
 ghost use Rattle.trace_lines.specs.Replay.{history_after, summary_of};
 ghost use Rattle.trace_lines.specs.Report.{output, IsValid};
-ghost use Rattle.trace_lines.specs.declared.generated.TheConstants.{MOST_ROUNDS};
+ghost use Rattle.trace_lines.specs.declared.generated.TheConstants.{MAX_ROUNDS};
 ghost use Rattle.trace_lines.specs.declared.signal.Signal.TheVariants as signal;
 
 /// What is written for some bytes: where their settings are read, the lines of the outcome of their requests, and behind
@@ -31,7 +31,7 @@ pub fn headline()
 /// The line of `make` counts what the script that it makes writes, the answers to its requests and the end line: the lines,
 /// the requests and the records, with their events and busy times; the open spans are those that the end line tells.
 pub fn sums()
-    ensures { (rounds : ℕ) (h : History) → rounds ≤ MOST_ROUNDS → IsValid (generated_script rounds)
+    ensures { (rounds : ℕ) (h : History) → rounds ≤ MAX_ROUNDS → IsValid (generated_script rounds)
         → history_after generated_setup [] (generated_requests rounds) ≡ Some h
         → Counts (output signal.Traces (generated_script rounds)) (answers generated_setup (generated_requests rounds)) (summary_of generated_setup h) }
 {}

@@ -35,19 +35,19 @@ pub use Rattle.otel_base.specs.declared.record.Record.{Record}
 pub use Rattle.trace_base.specs.declared.field.Value.{Value}
 pub use Rattle.span_script.specs.Admission.{OpeningRead, opening_read}
 pub use Rattle.span_script.specs.Effects.{effect_of, effect_of_call, is_bad_moment}
-pub use Rattle.span_script.specs.Setups.{HasOwnIds, Setup, id_at, setup_by}
+pub use Rattle.span_script.specs.Setups.{HaveDistinctIds, Setup, id_at, setup_by}
 pub use Rattle.span_script.specs.Tables.{Attached, Effect, EntryOf, History, Scope, ScopeGuard, Tables, after_effect, is_attached_by, records_of, scope_of, slot_at, tables, with_attached, with_detached}
 pub use Rattle.span_script.specs.calls.Here.{Resolved, here_at}
 pub use Rattle.span_script.specs.declared.request.Call.{Call}
 pub use Rattle.span_script.specs.declared.request.Request.{Request}
 pub use Rattle.span_script.specs.declared.request.TheConstants.{LAST_MOMENT}
-pub use Rattle.trace_lines.specs.Generated.{generated_lines, generated_requests, generated_script, generated_settings, generated_setup, generated_site, request_line, request_members, root_fields, round, rounds, row_fields, settings_line}
+pub use Rattle.trace_lines.specs.Generated.{generated_lines, generated_requests, generated_script, generated_settings, generated_setup, generated_site, request_line, request_members, root_fields, requests_of_round, requests_of_rounds, row_fields, settings_line}
 pub use Rattle.trace_lines.specs.Lines.{is_blank, lines_of}
 pub use Rattle.trace_lines.specs.Replay.{history_after, history_unless_refused}
 unfoldable pub use Rattle.trace_lines.specs.Replay.{summary_text}
-pub use Rattle.trace_lines.specs.Report.{IsValid, Report, accepts, answer_count, answer_text, effect_of_request, report_from, report_on, report_on_effect, report_on_opening, report_on_settings, told_step, with_text_before}
+pub use Rattle.trace_lines.specs.Report.{IsValid, Report, accepts, answer_count, answer_text, effect_of_request, report_from, report_on, report_on_effect, report_on_opening, report_on_settings, step_or_refusal, with_text_before}
 unfoldable pub use Rattle.trace_lines.specs.Report.{effect_of_line}
-pub use Rattle.trace_lines.specs.declared.read.syntax.scan.TheConstants.{DEEPEST}
+pub use Rattle.trace_lines.specs.declared.read.syntax.scan.TheConstants.{MAX_DEPTH}
 pub use Rattle.trace_lines.specs.declared.told.Told.TheVariants.{BadLine}
 pub use Rattle.trace_lines.specs.forms.AttributeForm.{attribute_spelled, key_value, list_of, otel_value_of, status_spelled}
 unfoldable pub use Rattle.trace_lines.specs.forms.AttributeForm.{error_status_form}

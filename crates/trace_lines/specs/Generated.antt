@@ -17,7 +17,7 @@ use Rattle.span_script.specs.declared.request.Request.{Request}
 use Rattle.span_script.specs.declared.settings.Settings.{Settings}
 use Rattle.span_script.specs.Setups.{Setup, setup_by}
 use Rattle.trace_lines.specs.reading.Object.{by_name, whole_number}
-use Rattle.trace_lines.specs.values.RequestData.{number_member, parent_member, word_of, number_members_of}
+use Rattle.trace_lines.specs.values.RequestData.{number_member, parent_member, word_of, members_of_call}
 
 -- ---- the settings
 
@@ -62,8 +62,8 @@ generated_setup = setup_by generated_settings
 -- ---- the requests
 
 -- a call so many nanoseconds after the beginning of a round, on the lanes in turn
-abbrev pub in_round : ℕ → ℕ → Call → Request
-in_round i later said = record { at = 1000 * i + later; lane_place = i % 2; call = said }
+abbrev pub request_in_round : ℕ → ℕ → Call → Request
+request_in_round i later said = record { at = 1000 * i + later; lane_place = i % 2; call = said }
 
 abbrev pub root_fields : ℕ → List (List ℕ × Value)
 root_fields i = (codes "otel.kind", Str (codes "server")) ∷ (codes "id", I64 (pos i)) ∷ []
@@ -75,32 +75,32 @@ row_fields = (codes "message", Str (codes "row")) ∷ []
 -- drops both.
 abbrev pub round_with : ℕ → List (List ℕ × Value) → List (List ℕ × Value) → List (List ℕ × Value) → List Request
 round_with i root below row =
-    in_round i 0 (call.New 0 request_parent.Root root)
-    ∷ in_round i 10 (call.Enter (2 * i))
-    ∷ in_round i 20 (call.New 1 request_parent.Contextual below)
-    ∷ in_round i 30 (call.Enter (2 * i + 1))
-    ∷ in_round i 40 (call.Event 2 request_parent.Contextual row)
-    ∷ in_round i 50 (call.Exit (2 * i + 1))
-    ∷ in_round i 60 (call.Drop (2 * i + 1))
-    ∷ in_round i 70 (call.Exit (2 * i))
-    ∷ in_round i 80 (call.Drop (2 * i)) ∷ []
+    request_in_round i 0 (call.New 0 request_parent.Root root)
+    ∷ request_in_round i 10 (call.Enter (2 * i))
+    ∷ request_in_round i 20 (call.New 1 request_parent.Contextual below)
+    ∷ request_in_round i 30 (call.Enter (2 * i + 1))
+    ∷ request_in_round i 40 (call.Event 2 request_parent.Contextual row)
+    ∷ request_in_round i 50 (call.Exit (2 * i + 1))
+    ∷ request_in_round i 60 (call.Drop (2 * i + 1))
+    ∷ request_in_round i 70 (call.Exit (2 * i))
+    ∷ request_in_round i 80 (call.Drop (2 * i)) ∷ []
 
-abbrev pub round : ℕ → List Request
-round i = round_with i (root_fields i) [] row_fields
+abbrev pub requests_of_round : ℕ → List Request
+requests_of_round i = round_with i (root_fields i) [] row_fields
 
 -- the requests of so many rounds from one on
-abbrev pub rounds : ℕ → ℕ → List Request
-rounds first n = flat_map round (range_with_len first n)
+abbrev pub requests_of_rounds : ℕ → ℕ → List Request
+requests_of_rounds first n = flat_map requests_of_round (range_with_len first n)
 
 abbrev pub generated_requests : ℕ → List Request
-generated_requests n = rounds 0 n
+generated_requests n = requests_of_rounds 0 n
 
 -- ---- the lines
 
 -- what a line says of a call: no fields where there are none
 abbrev pub call_members : Call → List (List ℕ × Data)
 call_members (call.New site put []) = number_member (codes "site") site ++ parent_member put
-call_members other = number_members_of other
+call_members other = members_of_call other
 
 -- the line of a request: an object's compact text
 abbrev pub request_members : Request → Members

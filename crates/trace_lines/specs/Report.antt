@@ -59,12 +59,12 @@ last_text signal.Traces spans count = end_text spans count
 last_text signal.Metrics spans count = measures_end_text count
 
 -- why the step is refused, as the line's refusal
-abbrev pub told_step : Resolved → Result Effect Told
-told_step (Ok effect) = Ok effect
-told_step (Err refusal) = Err (told.Step refusal)
+abbrev pub step_or_refusal : Resolved → Result Effect Told
+step_or_refusal (Ok effect) = Ok effect
+step_or_refusal (Err refusal) = Err (told.Step refusal)
 
 abbrev pub effect_of_request : Setup → Tables → Result Request Told → Result Effect Told
-effect_of_request setup t (Ok request) = told_step (effect_of setup t request)
+effect_of_request setup t (Ok request) = step_or_refusal (effect_of setup t request)
 effect_of_request setup t (Err why) = Err why
 
 -- the effect of the request that a line spells, or why the line is refused

@@ -1,6 +1,6 @@
 //! The script that is made for a number of rounds, as settings and requests.
 ghost use Rattle.std.specs.Prelude.{◌≡◌, ◌+◌, ◌<◌, IfOk};
-ghost use Rattle.trace_lines.specs.Generated.{generated_site, web_request_site, row_site, generated_settings, in_round, root_fields, row_fields, round_with, round};
+ghost use Rattle.trace_lines.specs.Generated.{generated_site, web_request_site, row_site, generated_settings, request_in_round, root_fields, row_fields, round_with, requests_of_round};
 
 pub mod laws;
 
@@ -16,7 +16,7 @@ use trace_base::field::Value;
 use trace_base::level::Level;
 
 /// The most rounds that a script is made of.
-pub const MOST_ROUNDS: u64 = 50_000;
+pub const MAX_ROUNDS: u64 = 50_000;
 
 fn text(alloc: Global, word: &str) -> Result<Text, Memory>
     ensures { IfOk result (λ text. text ≡ word.now) }
@@ -96,10 +96,10 @@ pub fn generated_settings(alloc: Global) -> Result<Settings, Memory>
     })
 }
 
-fn in_round(i: u64, later: u64, call: Call) -> Request
-    requires few { i < MOST_ROUNDS }
+fn request_in_round(i: u64, later: u64, call: Call) -> Request
+    requires few { i < MAX_ROUNDS }
     requires soon { later < 1000 }
-    ensures { result ≡ in_round i later call }
+    ensures { result ≡ request_in_round i later call }
 {
     Request {
         at: 1000 * i + later,
@@ -110,7 +110,7 @@ fn in_round(i: u64, later: u64, call: Call) -> Request
 
 // The fields of a request's span.
 fn root_fields(alloc: Global, i: u64) -> Result<Items<(Text, Value)>, Memory>
-    requires { i < MOST_ROUNDS }
+    requires { i < MAX_ROUNDS }
     ensures { IfOk result (λ fields. fields ≡ root_fields i) }
 {
     let mut fields = Items::new(alloc);
@@ -133,9 +133,9 @@ fn row_fields(alloc: Global) -> Result<Items<(Text, Value)>, Memory>
 
 /// The requests of a round: a span is made and entered, and one below it, an event is recorded, and both are exited
 /// and dropped. `Memory` freely.
-pub fn round(alloc: Global, i: u64) -> Result<Vec<Request>, Memory>
-    requires { i < MOST_ROUNDS }
-    ensures { IfOk result (λ requests. requests.items ≡ round i) }
+pub fn requests_of_round(alloc: Global, i: u64) -> Result<Vec<Request>, Memory>
+    requires { i < MAX_ROUNDS }
+    ensures { IfOk result (λ requests. requests.items ≡ requests_of_round i) }
 {
     let root = root_fields(alloc, i)?;
     let row = row_fields(alloc)?;
@@ -150,13 +150,13 @@ fn calls(
     below: Items<(Text, Value)>,
     row: Items<(Text, Value)>,
 ) -> [Request; 9]
-    requires { i < MOST_ROUNDS }
+    requires { i < MAX_ROUNDS }
     ensures { result ≡ round_with i root below row }
 {
     let handle = 2 * i;
     let lower = 2 * i + 1;
     [
-        in_round(
+        request_in_round(
             i,
             0,
             Call::New {
@@ -165,8 +165,8 @@ fn calls(
                 fields: root,
             },
         ),
-        in_round(i, 10, Call::Enter { handle }),
-        in_round(
+        request_in_round(i, 10, Call::Enter { handle }),
+        request_in_round(
             i,
             20,
             Call::New {
@@ -175,8 +175,8 @@ fn calls(
                 fields: below,
             },
         ),
-        in_round(i, 30, Call::Enter { handle: lower }),
-        in_round(
+        request_in_round(i, 30, Call::Enter { handle: lower }),
+        request_in_round(
             i,
             40,
             Call::Event {
@@ -185,9 +185,9 @@ fn calls(
                 fields: row,
             },
         ),
-        in_round(i, 50, Call::Exit { guard: lower }),
-        in_round(i, 60, Call::Drop { handle: lower }),
-        in_round(i, 70, Call::Exit { guard: handle }),
-        in_round(i, 80, Call::Drop { handle }),
+        request_in_round(i, 50, Call::Exit { guard: lower }),
+        request_in_round(i, 60, Call::Drop { handle: lower }),
+        request_in_round(i, 70, Call::Exit { guard: handle }),
+        request_in_round(i, 80, Call::Drop { handle }),
     ]
 }

@@ -1,7 +1,7 @@
 //! Reading lines: what a settings line and a request line spell.
 ghost use Rattle.std.specs.Prelude.{◌≡◌, map, true, Ok, Err, IfOk, IsErrOf, option_and_then};
 ghost use Rattle.serde_json.specs.View.{view};
-ghost use Rattle.span_script.specs.Setups.{HasOwnIds};
+ghost use Rattle.span_script.specs.Setups.{HaveDistinctIds};
 ghost use Rattle.trace_lines.specs.forms.Forms.{all_of};
 ghost use Rattle.trace_lines.specs.reading.Gives.{Gives};
 ghost use Rattle.trace_lines.specs.forms.RequestForm.{request_form};
@@ -34,7 +34,7 @@ use serde_json::Value as Json;
 use span_script::request::Request;
 use span_script::settings::Settings;
 use std::alloc::{AllocError, AllocFailed, Global};
-pub use syntax::flat::{closes, is_utf8};
+pub use syntax::flat::{expect_bracket, is_utf8};
 pub use syntax::object::Object;
 pub use syntax::value::Value;
 
@@ -94,7 +94,7 @@ fn request_of(alloc: Global, line: &[u8]) -> Result<Request, LineError>
 #[tactic(auto, using(crate::proofs::ids::PlacesLemmas::own_ids), unfolding(crate::specs::reading::Spelled::settings_spelled))]
 pub fn read_settings(alloc: Global, line: &[u8]) -> Result<Settings, LineError>
     ensures ok { IfOk result (λ settings. settings_spelled line.now ≡ Ok settings) }
-    ensures lanes { IfOk result (λ settings. HasOwnIds (map (λ l. l.0) settings.lanes)) }
+    ensures lanes { IfOk result (λ settings. HaveDistinctIds (map (λ l. l.0) settings.lanes)) }
     ensures bad_line { IsErrOf result LineError.BadLine → settings_spelled line.now ≡ Err Told.BadLine }
 {
     settings_of(alloc, line)

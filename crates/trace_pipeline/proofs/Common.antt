@@ -20,9 +20,8 @@ pub use Rattle.span_script.proofs.steps.BalanceLemmas.{set_none}
 pub use Rattle.span_script.proofs.steps.LanesLemmas.{has_own, on_err, own_serves, own_lane, own_there, refused_kept, refused_state, same_kept, same_state, within_view}
 pub use Rattle.span_script.proofs.steps.RequiresLemmas.{exit_may, exit_still, guard_entry, guard_named, needs_few, needs_known, needs_there, needs_whole}
 pub use Rattle.span_script.proofs.steps.ServesLemmas.{by_view, by_view_error, by_view_refused, serves_refusal}
-pub use Rattle.span_script.proofs.steps.SlotsLemmas.{found_parent}
 pub use Rattle.span_script.specs.Fields.{Fields, all_values, declared_value}
-pub use Rattle.span_script.specs.Fits.{StandsFor, State, held_by, held_of, stack_views, without_first, without_first_measure}
+pub use Rattle.span_script.specs.Fits.{StandsFor, PipelineState, held_by, held_of, stack_views, without_first, without_first_measure}
 pub use Rattle.span_script.specs.Setups.{event_site, id_at, setup_by, span_site}
 pub use Rattle.span_script.specs.Slots.{named_values, names_handle, parent_for}
 pub use Rattle.span_script.specs.Tables.{Scope, Tables, slot_at, tables}

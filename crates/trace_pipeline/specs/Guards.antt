@@ -7,7 +7,7 @@ use Rattle.span_script.specs.Slots.{names_handle}
 pub record GuardsValue : Type 0 where
   pub items : List (Option Guard)
   pub room : ℕ
-  pub space : ℕ
+  pub value_room : ℕ
   pub counted : ℕ
 
 -- each handle's count is that of the guards that name it; past the end there are none

@@ -1,11 +1,11 @@
 //! Contexts by their numbers, and the guards of attaches.
 ghost use Rattle.std.specs.Prelude.{◌≡◌, [], None, OnOk, OnErr, slice_index_or, slice_set};
 ghost use Rattle.trace_pipeline.specs.Contexts.{context_slots};
-ghost use Rattle.trace_pipeline.specs.Spending.{spend_on, spent_by};
+ghost use Rattle.trace_pipeline.specs.Spending.{lane_check, spending_result};
 
 use crate::guards::check_lane;
 use otel_base::context::Context;
-use span_script::contexts::Attach;
+use span_script::contexts::AttachGuard;
 use span_script::reply::{Refusal, What};
 use sparse_slots::Slots;
 use std::alloc::Global;
@@ -16,7 +16,7 @@ pub struct Contexts {
     /// The contexts, in the order of making.
     pub contexts: Vec<Context>,
     /// The guards, by the numbers that they share with those of entries: none where one is spent, or is an entry's.
-    pub attaches: Slots<Attach>,
+    pub attaches: Slots<AttachGuard>,
 }
 
 impl Contexts {
@@ -32,9 +32,9 @@ impl Contexts {
 
     /// Takes out the guard of an attach on the lane at a place. `UnknownName` where it isn't there, and `WrongLane` where it
     /// is of another lane.
-    pub fn take_on(&mut self, number: u64, place: u64) -> Result<Attach, Refusal>
+    pub fn take_on_lane(&mut self, number: u64, place: u64) -> Result<AttachGuard, Refusal>
         ensures contexts { self.new.contexts ≡ self.old.contexts }
-        ensures value { result ≡ spent_by (λ attach. spend_on place attach.place)
+        ensures value { result ≡ spending_result (λ attach. lane_check place attach.place)
             (slice_index_or self.old.attaches.items number None) }
         ensures spent { OnOk result (self.new.attaches.items ≡ slice_set self.old.attaches.items number None) }
         ensures leaves { OnErr result (self.new.attaches.items ≡ self.old.attaches.items) }

@@ -1,7 +1,7 @@
 //! The guards of entries, with the number of open ones beside each handle.
 ghost use Rattle.std.specs.Prelude.{◌≡◌, ℕ, ◌<◌, ◌+◌, ◌-◌, ◌^◌, ◌&&◌, nat_lt, ◌++◌, ◌∷◌, [], Some, None, OnOk, OnErr, length, count_by, slice_index_or, slice_set};
-ghost use Rattle.span_script.specs.Slots.{is_named, is_shared_by, names_handle};
-ghost use Rattle.trace_pipeline.specs.Spending.{spend_entry, spend_on, spent_by};
+ghost use Rattle.span_script.specs.Slots.{is_named_by_guard, is_shared_by, names_handle};
+ghost use Rattle.trace_pipeline.specs.Spending.{entry_check, lane_check, spending_result};
 
 use otel_base::memory::Memory;
 use span_script::reply::{Refusal, What};
@@ -28,7 +28,7 @@ impl Model for Guards {
     ghost view = { λ g. record {
       items = g.slots.items;
       room = g.slots.room;
-      space = g.slots.space;
+      value_room = g.slots.value_room;
       counted = length g.counts.items;
     } };
 
@@ -55,7 +55,7 @@ impl Guards {
 
     /// Whether an open guard names the handle.
     pub fn is_borrowed(&self, handle: u64) -> bool
-        ensures { result ≡ is_named self.now.items handle }
+        ensures { result ≡ is_named_by_guard self.now.items handle }
     {
         count_at(&self.counts, handle) > 0
     }
@@ -73,7 +73,7 @@ impl Guards {
     pub fn reserve_for(&mut self, handle: u64) -> Result<(), Memory>
         ensures items { self.new.items ≡ self.old.items }
         ensures room { OnOk result (0 < self.new.room) }
-        ensures space { OnOk result (0 < self.new.space) }
+        ensures value_room { OnOk result (0 < self.new.value_room) }
         ensures counted { OnOk result (handle < self.new.counted) }
         ensures few { OnOk result (count_by (names_handle handle) self.new.items + 1 < 2 ^ 32) }
     {
@@ -86,15 +86,15 @@ impl Guards {
     }
 
     /// Puts a guard more into its room.
-    pub fn keep(&mut self, guard: Guard)
+    pub fn push_reserved(&mut self, guard: Guard)
         requires room { 0 < self.old.room }
-        requires space { 0 < self.old.space }
+        requires value_room { 0 < self.old.value_room }
         requires counted { guard.handle < self.old.counted }
         requires few { count_by (names_handle guard.handle) self.old.items + 1 < 2 ^ 32 }
         ensures { self.new.items ≡ self.old.items ++ Some guard ∷ [] }
     {
         count_more(&mut self.counts, guard.handle);
-        self.slots.keep(guard);
+        self.slots.push_reserved(guard);
     }
 
     /// Passes over a number, which is an attach's guard, in the room that there is.
@@ -107,8 +107,8 @@ impl Guards {
 
     /// Takes out an open guard on the lane at a place. `UnknownName` where it isn't there, `InUse` where it owns a handle
     /// that another one names, and `WrongLane` where it is of another lane.
-    pub fn take_on(&mut self, number: u64, place: u64) -> Result<Guard, Refusal>
-        ensures value { result ≡ spent_by (λ guard. spend_entry (is_shared_by self.old.items guard) place guard)
+    pub fn take_on_lane(&mut self, number: u64, place: u64) -> Result<Guard, Refusal>
+        ensures value { result ≡ spending_result (λ guard. entry_check (is_shared_by self.old.items guard) place guard)
             (slice_index_or self.old.items number None) }
         ensures spent { OnOk result (self.new.items ≡ slice_set self.old.items number None) }
         ensures leaves { OnErr result (self.new.items ≡ self.old.items) }
@@ -134,7 +134,7 @@ fn take_entry(
     number: u64,
     place: u64,
 ) -> Result<Guard, Refusal>
-    ensures value { result ≡ spent_by (λ guard. spend_entry (guard.owns && nat_lt 1 (slice_index_or counts.now.items guard.handle 0))
+    ensures value { result ≡ spending_result (λ guard. entry_check (guard.owns && nat_lt 1 (slice_index_or counts.now.items guard.handle 0))
         place guard) (slice_index_or slots.old.items number None) }
     ensures spent { OnOk result (slots.new.items ≡ slice_set slots.old.items number None) }
     ensures leaves { OnErr result (slots.new.items ≡ slots.old.items) }
@@ -147,7 +147,7 @@ fn take_entry(
 
 // Whether a guard is spent on the lane at a place, by the counts of the open ones: else `InUse` or `WrongLane`.
 fn check_entry(counts: &Vec<u32>, place: u64, guard: &Guard) -> Result<(), Refusal>
-    ensures { result ≡ spend_entry (guard.now.owns && nat_lt 1 (slice_index_or counts.now.items guard.now.handle 0)) place
+    ensures { result ≡ entry_check (guard.now.owns && nat_lt 1 (slice_index_or counts.now.items guard.now.handle 0)) place
         guard.now }
 {
     if guard.owns && count_at(counts, guard.handle) > 1 {
@@ -158,7 +158,7 @@ fn check_entry(counts: &Vec<u32>, place: u64, guard: &Guard) -> Result<(), Refus
 
 /// Whether a guard is spent on the lane at a place, which is its own: else `WrongLane`.
 pub fn check_lane(place: u64, own: u64) -> Result<(), Refusal>
-    ensures { result ≡ spend_on place own }
+    ensures { result ≡ lane_check place own }
 {
     if own != place {
         return Err(Refusal::WrongLane { lane_place: own });

@@ -16,8 +16,8 @@ pub mod pipeline;
 mod records;
 mod runs;
 
-pub use filters::read_texts;
-pub use opening::world_of;
+pub use filters::read_filters;
+pub use opening::new_world;
 pub use pipeline::Pipeline;
 pub use span_script::{
     Call, LAST_MOMENT, OpenError, Outcome, Refusal, Reply, Request, RequestParent, Settings, What,

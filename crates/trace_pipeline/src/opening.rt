@@ -15,7 +15,7 @@ use trace_base::subscriber::Subscriber;
 use trace_base::world::World;
 
 /// Lanes without contexts, whose own subscriber this is.
-pub fn lanes(
+pub fn new_lanes(
     alloc: Global,
     ids_and_names: Items<(u64, Option<Text>)>,
     dispatch: Dispatch,
@@ -38,7 +38,7 @@ pub fn lanes(
 }
 
 /// A world with callsites and one subscriber.
-pub fn world_of<S: Subscriber + Discard>(
+pub fn new_world<S: Subscriber + Discard>(
     alloc: Global,
     callsites: Vec<Callsite>,
     subscriber: S,

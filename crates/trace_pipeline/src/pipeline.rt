@@ -2,12 +2,12 @@
 //! filter.
 ghost use Rattle.std.specs.Prelude.{◌≡◌, ◌<◌, [], true, map, option_map, length, IfOk, OnOk, IfErr, OnErr, Ok, Err};
 ghost use Rattle.env_filter.specs.Filtering.{plain_filter, IsNewFilter};
-ghost use Rattle.span_script.specs.Admission.{opening_read, IsUnread, IsTextFilter, IsCounter};
-ghost use Rattle.span_script.specs.Setups.{HasOwnIds, setup_by};
+ghost use Rattle.span_script.specs.Admission.{opening_read, IsOpenError, IsTextFilter, IsCountingFilter};
+ghost use Rattle.span_script.specs.Setups.{HaveDistinctIds, setup_by};
 ghost use Rattle.span_script.specs.Effects.{is_bad_moment};
 
 use crate::contexts::Contexts;
-use crate::filters::read_texts;
+use crate::filters::read_filters;
 use crate::guards::Guards;
 use crate::{laws, opening};
 use env_filter::filter::EnvFilter;
@@ -17,7 +17,7 @@ use span_handles::span::Span;
 use span_script::open_error::OpenError;
 use span_script::reply::{Refusal, Reply, What};
 use span_script::request::{Call, LAST_MOMENT, Request};
-use span_script::settings::{Settings, Texts};
+use span_script::settings::{FilterTexts, Settings};
 use span_stack::{Stack, new_stack};
 use sparse_slots::Slots;
 use std::alloc::Global;
@@ -34,7 +34,7 @@ use trace_base::world::World;
 pub struct Pipeline {
     pub(crate) world: World<Stack>,
     pub(crate) dispatch: Dispatch,
-    pub(crate) opening: Texts,
+    pub(crate) opening: FilterTexts,
     pub(crate) lanes: Vec<Lane>,
     pub(crate) handles: Slots<Span>,
     pub(crate) guards: Guards,
@@ -43,14 +43,14 @@ pub struct Pipeline {
 }
 
 impl Model for Pipeline {
-    ghost use Rattle.span_script.specs.Fits.{State, state_of, stack_views, IsKept};
+    ghost use Rattle.span_script.specs.Fits.{PipelineState, state_of, stack_views, PipelineInvariant};
     ghost use Rattle.trace_pipeline.specs.Parts.{parts_of};
 
-    ghost Value = { State };
+    ghost Value = { PipelineState };
 
     ghost view = { λ p. state_of ⟦<Stack as Subscriber>⟧.spans stack_views (parts_of p) };
 
-    ghost invariant = { λ p. IsKept ⟦<Stack as Subscriber>⟧.spans stack_views ⟦<Stack as Subscriber>⟧.kept
+    ghost invariant = { λ p. PipelineInvariant ⟦<Stack as Subscriber>⟧.spans stack_views ⟦<Stack as Subscriber>⟧.kept
         ⟦<Stack as Subscriber>⟧.is_whole (parts_of p) };
 }
 
@@ -83,14 +83,14 @@ fn is_bad_moment(before: Moment, given: Moment) -> bool
 impl Pipeline {
     ghost use Rattle.span_script.specs.Tables.{History, tables};
     ghost use Rattle.span_script.specs.Effects.{effect_of};
-    ghost use Rattle.span_script.specs.Fits.{StandsFor, Serves, ServedByHistory, IsRefusal};
+    ghost use Rattle.span_script.specs.Fits.{StandsFor, Serves, IsServedByHistory, IsRefusal};
     ghost use Rattle.span_script.specs.calls.Refusals.{takes_no_memory};
     ghost use Rattle.span_script.specs.declared.reply.Refusal.TheVariants.{Memory as NoMemory};
 
     /// A pipeline for the settings, before any request. `Directive` where a piece of the filter's text is none, or else one
     /// of the text for counting; it may answer `Memory`.
     pub fn open(alloc: Global, settings: Settings) -> Result<Pipeline, OpenError>
-        requires { HasOwnIds (map (λ l. l.0) settings.lanes) }
+        requires { HaveDistinctIds (map (λ l. l.0) settings.lanes) }
 
         // A new pipeline stands for the empty history of its settings.
         ensures setup { IfOk result (λ pipeline. pipeline.setup ≡ setup_by settings) }
@@ -100,26 +100,26 @@ impl Pipeline {
 
         // Both texts are read before anything is made.
         ensures read { OnOk result (opening_read settings.filter settings.counting ≡ Ok tt) }
-        ensures refused { IfErr result (IsUnread (opening_read settings.filter settings.counting)) }
+        ensures refused { IfErr result (IsOpenError (opening_read settings.filter settings.counting)) }
     {
-        let (gate, counter) = read_texts(alloc, &settings.filter, &settings.counting)?;
-        match Pipeline::begin(alloc, settings, gate, counter) {
+        let (gate, counting_filter) = read_filters(alloc, &settings.filter, &settings.counting)?;
+        match Pipeline::with_filters(alloc, settings, gate, counting_filter) {
             Ok(pipeline) => Ok(pipeline),
             Err(_) => Err(OpenError::Memory),
         }
     }
 
     // A pipeline for settings, with the filters of their texts.
-    fn begin(
+    fn with_filters(
         alloc: Global,
         settings: Settings,
         gate: EnvFilter,
-        counter: Option<EnvFilter>,
+        counting_filter: Option<EnvFilter>,
     ) -> Result<Pipeline, Memory>
-        requires ids { HasOwnIds (map (λ l. l.0) settings.lanes) }
+        requires ids { HaveDistinctIds (map (λ l. l.0) settings.lanes) }
         requires gate { IsTextFilter settings.filter (plain_filter gate) }
         requires new { IsNewFilter (plain_filter gate) }
-        requires counter { IsCounter settings.counting (option_map plain_filter counter) }
+        requires counting_filter { IsCountingFilter settings.counting (option_map plain_filter counting_filter) }
 
         ensures setup { IfOk result (λ pipeline. pipeline.setup ≡ setup_by settings) }
         ensures stands { IfOk result (λ pipeline. StandsFor pipeline (tables (setup_by settings) [])) }
@@ -134,16 +134,16 @@ impl Pipeline {
             callsites,
             layer,
         } = settings;
-        let stack = new_stack(alloc, layer, gate, counter);
-        let (world, dispatch) = opening::world_of(alloc, callsites.into_vec(), stack)?;
-        let Ok(lanes) = opening::lanes(alloc, lanes, dispatch) else {
+        let stack = new_stack(alloc, layer, gate, counting_filter);
+        let (world, dispatch) = opening::new_world(alloc, callsites.into_vec(), stack)?;
+        let Ok(lanes) = opening::new_lanes(alloc, lanes, dispatch) else {
             world.discard();
             return Err(Memory);
         };
         Ok(Pipeline {
             world,
             dispatch,
-            opening: Texts { filter, counting },
+            opening: FilterTexts { filter, counting },
             lanes,
             handles: Slots::new(alloc),
             guards: Guards::new(alloc),
@@ -160,7 +160,7 @@ impl Pipeline {
     /// answer `Memory`, but not to a drop, an exit, a detach, a `has_field`, an `enabled`, a `set_parent` or a `set_status`.
     pub fn step(&mut self, request: Request) -> Result<Reply, Refusal>
         ensures ok { (h : History) → StandsFor self.old (tables self.old.setup h)
-            → IfOk result (ServedByHistory (effect_of self.old.setup (tables self.old.setup h) request) h self.old self.new) }
+            → IfOk result (IsServedByHistory (effect_of self.old.setup (tables self.old.setup h) request) h self.old self.new) }
         ensures refused { (h : History) → StandsFor self.old (tables self.old.setup h)
             → IfErr result (IsRefusal (effect_of self.old.setup (tables self.old.setup h) request)) }
 

@@ -36,7 +36,7 @@ impl Pipeline {
             (λ record'. self.old.recording.finished ≡ record' ∷ self.new.recording.finished) }
         ensures rest { self.new ≡ without_first self.old }
     {
-        laws::takes();
+        laws::takes_record();
         stack::take_record(&mut self.world, self.dispatch)
     }
 

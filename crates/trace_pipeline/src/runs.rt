@@ -1,7 +1,7 @@
 //! Whole scripts, run at once.
 ghost use Rattle.std.specs.Prelude.{◌≡◌, ◌≢◌, [], map, IfSome, IfOk, OnOk, IfErr, Ok};
-ghost use Rattle.span_script.specs.Admission.{opening_read, IsUnread};
-ghost use Rattle.span_script.specs.Setups.{HasOwnIds, setup_by};
+ghost use Rattle.span_script.specs.Admission.{opening_read, IsOpenError};
+ghost use Rattle.span_script.specs.Setups.{HaveDistinctIds, setup_by};
 ghost use Rattle.span_script.specs.Outcomes.{HasReplies, outcome_of};
 
 use crate::pipeline::Pipeline;
@@ -19,7 +19,7 @@ use trace_base::discard::Discard;
 impl Pipeline {
     ghost use Rattle.span_script.specs.Tables.{tables};
     ghost use Rattle.span_script.specs.Fits.{StandsFor};
-    ghost use Rattle.span_script.specs.Outcomes.{Ran};
+    ghost use Rattle.span_script.specs.Outcomes.{HasRun};
 
     /// Stands for a whole script at once: its requests up to the first refused one, of which each reply is read off the
     /// requests before it. `trace_tool` steps line by line. `Directive` where `open` answers it; it may answer `Memory`,
@@ -29,14 +29,14 @@ impl Pipeline {
         settings: Settings,
         requests: Items<Request>,
     ) -> Result<Outcome, OpenError>
-        requires { HasOwnIds (map (λ l. l.0) settings.lanes) }
+        requires { HaveDistinctIds (map (λ l. l.0) settings.lanes) }
         ensures ok { IfOk result (λ outcome. outcome ≡ outcome_of (setup_by settings) requests) }
         ensures replies { IfOk result (HasReplies requests) }
         ensures not_memory { IfOk result (λ outcome. IfSome outcome.refused (λ refused. refused.1 ≢ Refusal.Memory)) }
 
         // Texts that are read are refused for want of memory alone.
         ensures read { OnOk result (opening_read settings.filter settings.counting ≡ Ok tt) }
-        ensures refused { IfErr result (IsUnread (opening_read settings.filter settings.counting)) }
+        ensures refused { IfErr result (IsOpenError (opening_read settings.filter settings.counting)) }
         ensures complete { opening_read settings.filter settings.counting ≡ Ok tt
             → IfErr result (λ error. error ≡ OpenError.Memory) }
     {
@@ -71,7 +71,7 @@ impl Pipeline {
     ) -> Result<Option<(u64, Refusal)>, Memory>
         ensures ok { StandsFor self.old (tables self.old.setup []) → self.old.recording.finished ≡ []
             → replies.old.items ≡ []
-            → IfOk result (Ran self.old.setup requests.items self.new replies.new.items) }
+            → IfOk result (HasRun self.old.setup requests.items self.new replies.new.items) }
         ensures not_memory { IfOk result (λ refused. IfSome refused (λ refused. refused.1 ≢ Refusal.Memory)) }
     {
         for request in requests {

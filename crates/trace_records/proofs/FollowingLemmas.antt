@@ -7,7 +7,7 @@ use Rattle.span_script.specs.Setups.{Setup}
 use Rattle.span_script.specs.Tables.{History, Tables, no_tables, tables, records_of}
 use Rattle.span_script.specs.calls.Spans.{open_spans}
 use Rattle.span_script.specs.Outcomes.{records_of_history}
-use Rattle.span_script.specs.Fits.{State, StandsFor}
+use Rattle.span_script.specs.Fits.{PipelineState, StandsFor}
 use Rattle.span_script.proofs.runs.RunLemmas.{records_push}
 use Rattle.trace_lines.specs.declared.told.Told.TheVariants as told
 use Rattle.trace_lines.specs.Lines.{is_blank}
@@ -44,7 +44,7 @@ opened_on of most lines count next old new line opened o counted is opens spans 
 }
 
 -- records and measures that are to be taken change nothing else
-beside : (k : State) (t : Tables) → StandsFor k t → StandsFor (without_taken k) t
+beside : (k : PipelineState) (t : Tables) → StandsFor k t → StandsFor (without_taken k) t
 beside k t s = record {
   fits = record {
     handle_slots = s.fits.handle_slots;
@@ -65,10 +65,10 @@ beside k t s = record {
     few_holds = s.fits.few_holds;
   };
   recording = record { recorded = s.recording.recorded; known = s.recording.known; attached = s.recording.attached };
-  filtering = record { in_place = s.filtering.in_place; fresh = s.filtering.fresh; counter = s.filtering.counter; new = s.filtering.new };
+  filtering = record { in_place = s.filtering.in_place; fresh = s.filtering.fresh; counting_filter = s.filtering.counting_filter; new = s.filtering.new };
 }
 
-back : (k : State) (t : Tables) → StandsFor (without_taken k) t → StandsFor k t
+back : (k : PipelineState) (t : Tables) → StandsFor (without_taken k) t → StandsFor k t
 back k t s = record {
   fits = record {
     handle_slots = s.fits.handle_slots;
@@ -89,14 +89,14 @@ back k t s = record {
     few_holds = s.fits.few_holds;
   };
   recording = record { recorded = s.recording.recorded; known = s.recording.known; attached = s.recording.attached };
-  filtering = record { in_place = s.filtering.in_place; fresh = s.filtering.fresh; counter = s.filtering.counter; new = s.filtering.new };
+  filtering = record { in_place = s.filtering.in_place; fresh = s.filtering.fresh; counting_filter = s.filtering.counting_filter; new = s.filtering.new };
 }
 
-pub stands_beside : (old new : State) (t : Tables) → without_taken new ≡ without_taken old → StandsFor old t → StandsFor new t
-stands_beside old new t same stands = back new t (subst (λ (k : State). StandsFor k t) (sym same) (beside old t stands))
+pub stands_beside : (old new : PipelineState) (t : Tables) → without_taken new ≡ without_taken old → StandsFor old t → StandsFor new t
+stands_beside old new t same stands = back new t (subst (λ (k : PipelineState). StandsFor k t) (sym same) (beside old t stands))
 
 -- a request that is answered
-pub answered_on : {K : Type 0} (of : Record → K) (most : Option ℕ) (lines : List (List ℕ)) (count next : ℕ) (old mid new : State) (before after : FinishedSpans K) (line : List ℕ) (answered : Answered)
+pub answered_on : {K : Type 0} (of : Record → K) (most : Option ℕ) (lines : List (List ℕ)) (count next : ℕ) (old mid new : PipelineState) (before after : FinishedSpans K) (line : List ℕ) (answered : Answered)
     (r : IsRunning of most lines count old before) → next ≡ count + 1 → is_blank line ≡ false → AnswersRequest line r.history old mid answered
     → without_taken new ≡ without_taken mid → new.recording.finished ≡ []
     → after.spans.items ≡ before.spans.items ++ map of mid.recording.finished → after.lanes.items ≡ before.lanes.items ++ map (λ (x : Record). answered.lane_place) mid.recording.finished
@@ -106,7 +106,7 @@ answered_on of most lines count next old mid new before after line answered r co
     let t : Tables = tables old.setup h in
     let more : List Record = records_of t a.effect in
     let finished : mid.recording.finished ≡ more = a.records ∙ ap (λ (f : List Record). f ++ more) r.taken in
-    let setup : new.setup ≡ old.setup = ap (λ (k : State). k.setup) same ∙ a.setup in
+    let setup : new.setup ≡ old.setup = ap (λ (k : PipelineState). k.setup) same ∙ a.setup in
     let lanes : after.lanes.items ≡ before.lanes.items ++ lanes_on line more = lanes_are ∙ rw (a.lane, finished) refl in
     let all : after.spans.items ≡ map of (records_of_history old.setup (h ++ a.effect ∷ [])) =
     spans_are ∙ rw (r.spans_are, finished) refl ∙ sym (map-append of (records_of_history old.setup h) more) ∙ sym (ap (map of) (records_push (no_tables old.setup) h a.effect)) in
@@ -134,7 +134,7 @@ pub opening_end : {K : Type 0} (of : Record → K) (most : Option ℕ) (lines : 
     → EndsAs of most lines (Err (record { line = next; told = told.BadLine }))
 opening_end of most lines count next finished o counted = (with_none most lines ∙ o.script_is [] ∙ rw counted refl, λ is. cc)
 
-pub running_end : {K : Type 0} (of : Record → K) (most : Option ℕ) (lines : List (List ℕ)) (count : ℕ) (kept : State) (before after : FinishedSpans K) → IsRunning of most lines count kept before
+pub running_end : {K : Type 0} (of : Record → K) (most : Option ℕ) (lines : List (List ℕ)) (count : ℕ) (kept : PipelineState) (before after : FinishedSpans K) → IsRunning of most lines count kept before
     → after.spans.items ≡ before.spans.items → after.lanes.items ≡ before.lanes.items → after.lane_count ≡ before.lane_count
     → ((h : History) → StandsFor kept (tables kept.setup h) → after.open_spans ≡ open_spans (tables kept.setup h))
     → EndsAs of most lines (Ok after)
@@ -144,7 +144,7 @@ running_end of most lines count kept before after r spans_are lanes_are number c
   record { spans_are = spans_are ∙ r.spans_are; lanes_are = lanes_are; lane_count = number ∙ r.lanes_are; left_open = counts r.history r.stands },
 )
 
-pub running_refuses_none : {K : Type 0} (of : Record → K) (most : Option ℕ) (lines : List (List ℕ)) (count : ℕ) (kept : State) (finished : FinishedSpans K) → IsRunning of most lines count kept finished → IsRefusedBy most lines None
+pub running_refuses_none : {K : Type 0} (of : Record → K) (most : Option ℕ) (lines : List (List ℕ)) (count : ℕ) (kept : PipelineState) (finished : FinishedSpans K) → IsRunning of most lines count kept finished → IsRefusedBy most lines None
 running_refuses_none of most lines count kept finished r = inr (record { setup = kept.setup; history = r.history; lanes = finished.lanes.items }, with_none most lines ∙ r.script_is [])
 
 pub stopped_end : {K : Type 0} (of : Record → K) (most : Option ℕ) (lines : List (List ℕ)) (refused : RefusedLine) → IsStopped most lines refused → EndsAs of most lines (Err refused)

@@ -10,7 +10,7 @@ use Rattle.span_script.specs.declared.reply.Refusal.{Refusal}
 use Rattle.span_script.specs.declared.reply.Refusal.TheVariants as refusal
 use Rattle.span_script.specs.Tables.{History, Effect, Tables, tables}
 use Rattle.span_script.specs.Effects.{effect_of}
-use Rattle.span_script.specs.Fits.{State, StandsFor, ServedByHistory, is_for_memory}
+use Rattle.span_script.specs.Fits.{PipelineState, StandsFor, IsServedByHistory, is_for_memory}
 use Rattle.span_script.specs.Admission.{opening_read}
 use Rattle.trace_lines.specs.declared.told.Told.{Told}
 use Rattle.trace_lines.specs.declared.told.Told.TheVariants as told
@@ -75,8 +75,8 @@ stepped : (setup : Setup) (t : Tables) (text : List ℕ) (request : Request) (ef
 unfolding effect_of_line
 stepped setup t text request effect is does = rw (is, does) refl
 
-pub answers : (text : List ℕ) (h : History) (old new : State) (request : Request) (answered : Answered) → request_spelled text ≡ Ok request
-    → answered.lane_place ≡ request.lane_place → ServedByHistory (effect_of old.setup (tables old.setup h) request) h old new answered.reply → AnswersRequest text h old new answered
+pub answers : (text : List ℕ) (h : History) (old new : PipelineState) (request : Request) (answered : Answered) → request_spelled text ≡ Ok request
+    → answered.lane_place ≡ request.lane_place → IsServedByHistory (effect_of old.setup (tables old.setup h) request) h old new answered.reply → AnswersRequest text h old new answered
 answers text h old new request answered is lane did = record {
   effect = did.effect;
   is = stepped old.setup (tables old.setup h) text request did.effect is did.is;

@@ -19,12 +19,12 @@ use Rattle.span_script.specs.calls.Here.{Resolved, ◌>>=◌, need}
 use Rattle.span_script.specs.Effects.{is_bad_moment, effect_of_call, effect_of}
 use Rattle.span_script.specs.Outcomes.{records_of_history}
 use Rattle.span_script.proofs.runs.RunLemmas.{records_push}
-use Rattle.span_laws.specs.Laws.{IsHistory, none, more}
+use Rattle.span_laws.specs.LegalHistories.{IsHistory, none, more}
 use Rattle.trace_lines.specs.declared.signal.Signal.TheVariants as signal
 use Rattle.trace_lines.specs.declared.told.Told.{Told}
 use Rattle.trace_lines.specs.Lines.{is_blank}
 use Rattle.trace_lines.specs.reading.Spelled.{settings_spelled, request_spelled}
-use Rattle.trace_lines.specs.Report.{Report, report_on_effect, effect_of_line, effect_of_request, told_step, report_on, report_from, report_on_settings, report_on_opening, accepts, answer_count}
+use Rattle.trace_lines.specs.Report.{Report, report_on_effect, effect_of_line, effect_of_request, step_or_refusal, report_on, report_from, report_on_settings, report_on_opening, accepts, answer_count}
 use Rattle.trace_records.specs.Scripts.{ScriptRan, ScriptResult, run_unless_refused, setup_read, setup_of_settings, setup_of_line, lane_spelled, lanes_on, script_on, script_from, script_of}
 
 -- ---- the same lines are accepted
@@ -79,7 +79,7 @@ pub going_either : {A : Type 0} (P : Type 0) (r : Result A Told) (line : ℕ) (g
 going_either P (Ok x) line go s e holds = holds x refl e
 going_either P (Err why) line go s e holds = absurd cc
 
-told_ok : (r : Resolved) (e : Effect) → told_step r ≡ Ok e → r ≡ Ok e
+told_ok : (r : Resolved) (e : Effect) → step_or_refusal r ≡ Ok e → r ≡ Ok e
 told_ok (Ok x) e is = let same : x ≡ e = cc in ap Ok same
 told_ok (Err why) e is = absurd cc
 

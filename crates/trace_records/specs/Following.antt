@@ -3,7 +3,7 @@ use Rattle.std.specs.Prelude.{◌≡◌, ℕ, List, [], ◌++◌, ◌⊎◌, len
 use Rattle.otel_base.specs.declared.record.Record.{Record}
 use Rattle.span_script.specs.Tables.{History, tables}
 use Rattle.span_script.specs.calls.Spans.{open_spans}
-use Rattle.span_script.specs.Fits.{State, StandsFor}
+use Rattle.span_script.specs.Fits.{PipelineState, StandsFor}
 use Rattle.span_script.specs.Outcomes.{records_of_history}
 use Rattle.input_lines.specs.Refusals.{IsTold, are_blank}
 use Rattle.trace_records.specs.declared.finished.FinishedSpans.{FinishedSpans}
@@ -14,7 +14,7 @@ use Rattle.trace_records.specs.declared.script.ScriptStage.TheVariants as stage
 use Rattle.trace_records.specs.Scripts.{ScriptRan, script_on, script_from, script_of}
 
 -- what is kept beside the records and the measures that are to be taken
-abbrev pub without_taken : State → State
+abbrev pub without_taken : PipelineState → PipelineState
 without_taken kept = record kept { recording = record kept.recording { finished = [] }; measures = [] }
 
 -- All lines are blank, and nothing finished.
@@ -26,7 +26,7 @@ pub record IsOpening {K : Type 0} (most : Option ℕ) (lines : List (List ℕ)) 
 
 -- The pipeline stands for the requests so far, of whose records what is wanted (of) is kept, and the script goes on with the
 -- lines that follow.
-pub record IsRunning {K : Type 0} (of : Record → K) (most : Option ℕ) (lines : List (List ℕ)) (count : ℕ) (kept : State) (finished : FinishedSpans K) : Type 0 where
+pub record IsRunning {K : Type 0} (of : Record → K) (most : Option ℕ) (lines : List (List ℕ)) (count : ℕ) (kept : PipelineState) (finished : FinishedSpans K) : Type 0 where
   pub history : History
   pub some : are_blank lines ≡ false
   pub stands : StandsFor kept (tables kept.setup history)

@@ -1,7 +1,7 @@
 -- What one line does to a pipeline.
 use Rattle.std.specs.Prelude.{◌≡◌, ℕ, List, [], ◌∷◌, ◌++◌, length, Option, Result, Ok, Err}
 use Rattle.span_script.specs.Tables.{History, Effect, tables, records_of}
-use Rattle.span_script.specs.Fits.{State, StandsFor}
+use Rattle.span_script.specs.Fits.{PipelineState, StandsFor}
 use Rattle.trace_lines.specs.declared.told.Told.{Told}
 use Rattle.trace_lines.specs.reading.Spelled.{request_spelled}
 use Rattle.trace_lines.specs.Report.{effect_of_line}
@@ -23,7 +23,7 @@ OpensLine most text (Ok opened) = Opens most text opened
 OpensLine most text (Err why) = (setup_of_line most text ≡ Err why) × IsTold why
 
 -- The request on a line is answered: the pipeline stands for one effect more.
-pub record AnswersRequest (text : List ℕ) (h : History) (old new : State) (answered : Answered) : Type 0 where
+pub record AnswersRequest (text : List ℕ) (h : History) (old new : PipelineState) (answered : Answered) : Type 0 where
   pub effect : Effect
   pub is : effect_of_line old.setup (tables old.setup h) text ≡ Ok effect
   pub lane : answered.lane_place ≡ lane_spelled (request_spelled text)
@@ -33,6 +33,6 @@ pub record AnswersRequest (text : List ℕ) (h : History) (old new : State) (ans
   pub measures : new.measures ≡ old.measures ++ effect.measures
   pub stands : StandsFor new (tables old.setup (h ++ effect ∷ []))
 
-abbrev pub AnswersLine : List ℕ → History → State → State → Result Answered Told → Type 0
+abbrev pub AnswersLine : List ℕ → History → PipelineState → PipelineState → Result Answered Told → Type 0
 AnswersLine text h old new (Ok answered) = AnswersRequest text h old new answered
 AnswersLine text h old new (Err why) = (effect_of_line old.setup (tables old.setup h) text ≡ Err why) × IsTold why

@@ -2,7 +2,7 @@
 ghost use Rattle.std.specs.Prelude.{◌≡◌, ◌<◌, ◌≤◌, ◌↔◌, ℕ, List, Option, Some, None, Ok, All, is_ok, length};
 ghost use Rattle.trace_lines.specs.Report.{accepts, report_from};
 ghost use Rattle.trace_lines.specs.declared.signal.Signal.TheVariants.{Traces};
-ghost use Rattle.span_laws.specs.Laws.{IsHistory};
+ghost use Rattle.span_laws.specs.LegalHistories.{IsHistory};
 ghost use Rattle.span_script.specs.Outcomes.{records_of_history};
 ghost use Rattle.trace_records.specs.Inputs.{EndsWith, last_of};
 ghost use Rattle.trace_records.specs.Scripts.{ScriptRan, script_of};

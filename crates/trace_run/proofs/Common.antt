@@ -1,12 +1,12 @@
 -- The names that most proofs of the crate cite, passed on from one place. Declares nothing.
 pub use Rattle.otel_base.specs.declared.record.Record.{Record}
 pub use Rattle.trace_batch.specs.declared.relay.TheConstants.{MOST_LANES}
-pub use Rattle.span_script.specs.Fits.{ServedByHistory, StandsFor, State}
+pub use Rattle.span_script.specs.Fits.{IsServedByHistory, StandsFor, PipelineState}
 pub use Rattle.span_script.specs.Outcomes.{records_of_history}
 pub use Rattle.span_script.specs.Setups.{Setup, setup_by}
 pub use Rattle.span_script.specs.Tables.{History, Tables, no_tables, records_of, tables}
 pub use Rattle.span_script.specs.declared.request.Request.{Request}
-pub use Rattle.trace_lines.specs.Generated.{generated_requests, generated_script, generated_setup, round, rounds}
+pub use Rattle.trace_lines.specs.Generated.{generated_requests, generated_script, generated_setup, requests_of_round, requests_of_rounds}
 pub use Rattle.trace_lines.specs.Lines.{lines_of}
 pub use Rattle.trace_lines.specs.Replay.{busy_in, busy_of, event_count, history_after, history_unless_refused}
 pub use Rattle.trace_lines.specs.Report.{IsValid, accepts}

@@ -2,7 +2,7 @@
 use Rattle.std.proofs.Common.{◌≡◌, ℕ, zero, suc, ◌+◌, List, [], ◌∷◌, ◌++◌, length, Some, Ok, refl, sym, ap, subst, ◌∙◌, arith, append_assoc, append-nil, length-append}
 use Rattle.std.specs.List.{sum_by}
 use Rattle.std.proofs.lemmas.List.Sums.{sum_by-append}
-use Rattle.trace_run.proofs.Common.{Record, Request, State, StandsFor, ServedByHistory, records_of_history, Setup, History, Tables, no_tables, tables, records_of, generated_setup, generated_requests, generated_script, round, rounds, history_unless_refused, history_after, busy_of, event_count, IsValid, without_taken, SumsUp, with_records, of_requests, Counts, ServesRequests}
+use Rattle.trace_run.proofs.Common.{Record, Request, PipelineState, StandsFor, IsServedByHistory, records_of_history, Setup, History, Tables, no_tables, tables, records_of, generated_setup, generated_requests, generated_script, requests_of_round, requests_of_rounds, history_unless_refused, history_after, busy_of, event_count, IsValid, without_taken, SumsUp, with_records, of_requests, Counts, ServesRequests}
 use Rattle.span_script.specs.declared.reply.Reply.{Reply}
 use Rattle.span_script.specs.calls.Here.{Resolved}
 use Rattle.span_script.specs.Effects.{effect_of}
@@ -47,13 +47,13 @@ with_request n m rs ss t next is =
 
 -- ---- histories
 
-pub served : (h : History) (old mid new : State) (before last : Totals) (request : Request) (reply : Reply) → Counts h old before
-    → ServedByHistory (effect_of old.setup (tables old.setup h) request) h old mid reply
+pub served : (h : History) (old mid new : PipelineState) (before last : Totals) (request : Request) (reply : Reply) → Counts h old before
+    → IsServedByHistory (effect_of old.setup (tables old.setup h) request) h old mid reply
     → last ≡ with_records (record before { requests = before.requests + 1 }) mid.recording.finished → new.recording.finished ≡ [] → without_taken new ≡ without_taken mid
     → ServesRequests (request ∷ []) h new last
 served h old mid new before last request reply c a last_is taken state =
     let t : Tables = tables generated_setup h in
-    let setup : new.setup ≡ generated_setup = ap (λ (k : State). k.setup) state ∙ a.setup ∙ c.setup in
+    let setup : new.setup ≡ generated_setup = ap (λ (k : PipelineState). k.setup) state ∙ a.setup ∙ c.setup in
     let is : effect_of generated_setup t request ≡ Ok a.effect = subst (λ (s : Setup). effect_of s (tables s h) request ≡ Ok a.effect) c.setup a.is in
     let finished : mid.recording.finished ≡ records_of t a.effect =
     a.records ∙ ap (λ (f : List Record). f ++ records_of (tables old.setup h) a.effect) c.taken ∙ ap (λ (s : Setup). records_of (tables s h) a.effect) c.setup in
@@ -70,7 +70,7 @@ served h old mid new before last request reply c a last_is taken state =
       replays = λ more. ap (λ (r : Resolved). history_unless_refused r (λ e. history_after generated_setup (h ++ e ∷ []) more)) is;
     }
 
-pub serves_on : (xs ys all : List Request) (h : History) (k l : State) (t u : Totals) (s : ServesRequests xs h k t) → ServesRequests ys s.history l u → xs ++ ys ≡ all → ServesRequests all h l u
+pub serves_on : (xs ys all : List Request) (h : History) (k l : PipelineState) (t u : Totals) (s : ServesRequests xs h k t) → ServesRequests ys s.history l u → xs ++ ys ≡ all → ServesRequests all h l u
 serves_on xs ys all h k l t u s z is =
     subst (λ (rs : List Request). ServesRequests rs h l u) is (record {
       history = z.history;
@@ -78,19 +78,19 @@ serves_on xs ys all h k l t u s z is =
       replays = λ more. ap (history_after generated_setup h) (append_assoc xs ys more) ∙ s.replays (ys ++ more) ∙ z.replays more;
     })
 
-pub rounds_more : (first i : ℕ) → rounds first (i + 1) ≡ rounds first i ++ round (first + i)
-rounds_more first zero = append-nil (round first) ∙ ap round {x = first} {y = first + 0} (omega arith)
+pub rounds_more : (first i : ℕ) → requests_of_rounds first (i + 1) ≡ requests_of_rounds first i ++ requests_of_round (first + i)
+rounds_more first zero = append-nil (requests_of_round first) ∙ ap requests_of_round {x = first} {y = first + 0} (omega arith)
 rounds_more first (suc i) =
-    ap (rounds first) {x = suc i + 1} {y = suc (i + 1)} (omega arith)
-    ∙ ap (λ (rs : List Request). round first ++ rs) (rounds_more (first + 1) i) ∙ sym (append_assoc (round first) (rounds (first + 1) i) (round ((first + 1) + i)))
-    ∙ ap (λ (k : ℕ). rounds first (suc i) ++ round k) {x = (first + 1) + i} {y = first + suc i} (omega arith)
+    ap (requests_of_rounds first) {x = suc i + 1} {y = suc (i + 1)} (omega arith)
+    ∙ ap (λ (rs : List Request). requests_of_round first ++ rs) (rounds_more (first + 1) i) ∙ sym (append_assoc (requests_of_round first) (requests_of_rounds (first + 1) i) (requests_of_round ((first + 1) + i)))
+    ∙ ap (λ (k : ℕ). requests_of_rounds first (suc i) ++ requests_of_round k) {x = (first + 1) + i} {y = first + suc i} (omega arith)
 
 -- ---- the whole run
 
-pub opened : (k : State) → k.setup ≡ generated_setup → StandsFor k (tables generated_setup []) → k.recording.finished ≡ [] → Counts [] k (of_requests 0)
+pub opened : (k : PipelineState) → k.setup ≡ generated_setup → StandsFor k (tables generated_setup []) → k.recording.finished ≡ [] → Counts [] k (of_requests 0)
 opened k setup stands taken = record { setup = setup; stands = stands; taken = taken; totals_are = sym (with_none (of_requests 0)) }
 
-pub summed : (n : ℕ) (k : State) (t : Totals) (summary : Summary) (spans lines : ℕ) (s : ServesRequests (generated_requests n) [] k t) → ((h : History) → history_after generated_setup [] (generated_requests n) ≡ Some h → IsValid (generated_script n))
+pub summed : (n : ℕ) (k : PipelineState) (t : Totals) (summary : Summary) (spans lines : ℕ) (s : ServesRequests (generated_requests n) [] k t) → ((h : History) → history_after generated_setup [] (generated_requests n) ≡ Some h → IsValid (generated_script n))
     → ((u : Tables) → StandsFor k u → spans ≡ open_spans u) → lines ≡ t.requests + t.records + 1
     → summary ≡ record { busy = t.busy; events = t.events; lines = lines; open_spans = spans; records = t.records; requests = t.requests } → SumsUp n summary
 summed n k t summary spans lines s valid counts lines_are is =

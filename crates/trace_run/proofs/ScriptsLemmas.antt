@@ -4,7 +4,7 @@ use Rattle.std.specs.List.{All}
 use Rattle.std.proofs.lemmas.List.{map-id}
 use Rattle.trace_run.proofs.Common.{Record, records_of_history, Setup, History, MOST_LANES, accepts, EndsAs, Refuses, NoneRefused, AreRefused, TellsRun, accepts_within, refuses, accepts_same, legal, TellsAll, TellsTrees}
 use Rattle.batch_lines.specs.Texts.{TellsBatches}
-use Rattle.span_laws.specs.Laws.{IsHistory, occurrences}
+use Rattle.span_laws.specs.LegalHistories.{IsHistory, occurrences}
 use Rattle.span_laws.specs.Telling.{id_of}
 use Rattle.span_laws.proofs.spans.OccurrencesLemmas.{occurs_cons}
 use Rattle.trace_lines.specs.text.Texts.{refusal_text}

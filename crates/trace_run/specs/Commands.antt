@@ -12,7 +12,7 @@ use Rattle.trace_run.specs.declared.invocation.Invocation.{Invocation}
 use Rattle.trace_run.specs.declared.invocation.Invocation.TheVariants as invocation
 use Rattle.trace_run.specs.declared.script.Command.{Command}
 use Rattle.trace_run.specs.declared.script.Command.TheVariants as command
-use Rattle.trace_lines.specs.declared.generated.TheConstants.{MOST_ROUNDS}
+use Rattle.trace_lines.specs.declared.generated.TheConstants.{MAX_ROUNDS}
 use Rattle.trace_lines.specs.declared.signal.Signal.TheVariants as signal
 use Rattle.trace_lines.specs.text.Decimals.{u128_word}
 pub mod Make
@@ -38,7 +38,7 @@ command_by word =
 -- by a word with a number
 abbrev pub command_with : List ℕ → List ℕ → Option Command
 command_with word number =
-    if bytes_eq word (codes "make") then option_map command.Make (number_up_to MOST_ROUNDS number) else None
+    if bytes_eq word (codes "make") then option_map command.Make (number_up_to MAX_ROUNDS number) else None
 
 abbrev pub meaning_of : Command → Meaning
 meaning_of (command.Run told) = meaning_of_runs told

@@ -4,7 +4,7 @@ use Rattle.std.specs.List.{sum_by}
 use Rattle.otel_base.specs.declared.record.Record.{Record}
 use Rattle.span_script.specs.declared.request.Request.{Request}
 use Rattle.span_script.specs.Tables.{History, tables}
-use Rattle.span_script.specs.Fits.{State, StandsFor}
+use Rattle.span_script.specs.Fits.{PipelineState, StandsFor}
 use Rattle.span_script.specs.Outcomes.{records_of_history}
 use Rattle.trace_lines.specs.Generated.{generated_setup, generated_requests, generated_script}
 use Rattle.trace_lines.specs.Replay.{history_after, busy_of, event_count, summary_of}
@@ -40,14 +40,14 @@ abbrev pub totals_of : History → Totals
 totals_of h = with_records (of_requests (length h)) (records_of_history generated_setup h)
 
 -- A pipeline stands for a history, its records are taken, and the totals are those of the history.
-pub record Counts (h : History) (kept : State) (totals : Totals) : Type 0 where
+pub record Counts (h : History) (kept : PipelineState) (totals : Totals) : Type 0 where
   pub setup : kept.setup ≡ generated_setup
   pub stands : StandsFor kept (tables generated_setup h)
   pub taken : kept.recording.finished ≡ []
   pub totals_are : totals ≡ totals_of h
 
 -- Behind a history some requests were served: they have effects, and the totals are those of all effects.
-pub record ServesRequests (requests : List Request) (h : History) (kept : State) (totals : Totals) : Type 0 where
+pub record ServesRequests (requests : List Request) (h : History) (kept : PipelineState) (totals : Totals) : Type 0 where
   pub history : History
   pub counts : Counts history kept totals
   pub replays : (more : List Request) → history_after generated_setup h (requests ++ more) ≡ history_after generated_setup history more

@@ -17,7 +17,7 @@ use crate::script::tree::Tree;
 use std::alloc::{AllocGlobal, Global};
 use std::random::RandomSource;
 use trace_lines::Signal;
-use trace_lines::generated::MOST_ROUNDS;
+use trace_lines::generated::MAX_ROUNDS;
 use trace_stream::all_lines::answer_all;
 use trace_stream::run::run;
 use trace_stream::sink::Sink;
@@ -60,7 +60,7 @@ pub(crate) fn command_with(word: &str, number: &str) -> Option<Command>
 {
     match word {
         "make" => {
-            let rounds = number_up_to(MOST_ROUNDS, number)?;
+            let rounds = number_up_to(MAX_ROUNDS, number)?;
             Some(Command::Make { rounds })
         }
         _ => None,

@@ -7,7 +7,7 @@ use Rattle.span_script.specs.declared.settings.Settings.{Settings}
 use Rattle.span_script.specs.Setups.{Setup, setup_by}
 use Rattle.span_script.specs.Tables.{History, Tables, tables, records_of}
 use Rattle.span_script.specs.calls.Spans.{open_spans}
-use Rattle.span_script.specs.Fits.{State, StandsFor}
+use Rattle.span_script.specs.Fits.{PipelineState, StandsFor}
 use Rattle.span_script.specs.Admission.{OpeningRead, opening_read}
 use Rattle.trace_stream.proofs.Common.{Signal, is_blank, Report, with_text_before, refused_report, effect_of_line, answer_text, answer_count, last_text, report_on, report_from, OpensLine, AnswersLine, IsAnswered, Opens, Runs, Stops, AnswersAt, is_refused, Cuts}
 use Rattle.trace_lines.specs.declared.told.Told.{Told}
@@ -73,7 +73,7 @@ unopened signal lines count next text tally line out why o counted is refuses te
 }
 
 -- a request line that is refused
-pub unserved : (signal : Signal) (lines : List (List ℕ)) (count next : ℕ) (kept : State) (text : List ℕ) (tally : ℕ) (line out : List ℕ) (why : Told)
+pub unserved : (signal : Signal) (lines : List (List ℕ)) (count next : ℕ) (kept : PipelineState) (text : List ℕ) (tally : ℕ) (line out : List ℕ) (why : Told)
     (r : Runs signal lines count kept text tally) → next ≡ count + 1 → is_blank line ≡ false → effect_of_line kept.setup (tables kept.setup r.history) line ≡ Err why
     → out ≡ text ++ refusal_text next why → Stops signal (lines ++ line ∷ []) out
 unserved signal lines count next kept text tally line out why r counted is none tells = record {
@@ -89,7 +89,7 @@ pub put_behind : (put old more new : List ℕ) → new ≡ old ++ more → put +
 put_behind put old more new is = ap (λ (t : List ℕ). put ++ t) is ∙ sym (append_assoc put old more)
 
 -- a request that is answered
-pub answered : (signal : Signal) (put : List ℕ) (lines : List (List ℕ)) (count next : ℕ) (old mid new : State) (before after : Written) (line : List ℕ) (did : Answered)
+pub answered : (signal : Signal) (put : List ℕ) (lines : List (List ℕ)) (count next : ℕ) (old mid new : PipelineState) (before after : Written) (line : List ℕ) (did : Answered)
     (r : Runs signal lines count old (put ++ before.text.items) before.count) → next ≡ count + 1 → is_blank line ≡ false → AnswersLine line r.history old mid (Ok did)
     → IsAnswered signal next did.reply mid new before after → Runs signal (lines ++ line ∷ []) next new (put ++ after.text.items) after.count
 answered signal put lines count next old mid new before after line did r counted is a told =
@@ -98,7 +98,7 @@ answered signal put lines count next old mid new before after line did r counted
     let records : List Record = records_of t a.effect in
     let finished : mid.recording.finished ≡ records = a.records ∙ ap (λ (f : List Record). f ++ records) r.taken.records in
     let measured : mid.measures ≡ a.effect.measures = a.measures ∙ ap (λ (m : List Measure). m ++ a.effect.measures) r.taken.measures in
-    let setup : new.setup ≡ old.setup = ap (λ (k : State). k.setup) told.state ∙ a.setup in
+    let setup : new.setup ≡ old.setup = ap (λ (k : PipelineState). k.setup) told.state ∙ a.setup in
     let text : after.text.items ≡ before.text.items ++ answer_text signal next before.count a.effect.reply records a.effect.measures =
     told.text ∙ rw (a.reply_is, finished, measured) refl in
     let behind_put : put ++ after.text.items ≡ (put ++ before.text.items) ++ answer_text signal next before.count a.effect.reply records a.effect.measures =
@@ -125,7 +125,7 @@ pub opens_end : (signal : Signal) (lines : List (List ℕ)) (count next : ℕ) (
     → out ≡ text ++ refusal_text next told.BadLine → report_from signal 0 lines ≡ record { written = out; accepted = false }
 opens_end signal lines count next text out tally o counted tells = with_none signal lines ∙ o.report_is [] ∙ sym (rw (tells, o.empty, counted) refl)
 
-pub runs_end : (signal : Signal) (lines : List (List ℕ)) (count : ℕ) (kept : State) (text out : List ℕ) (tally spans : ℕ) → Runs signal lines count kept text tally
+pub runs_end : (signal : Signal) (lines : List (List ℕ)) (count : ℕ) (kept : PipelineState) (text out : List ℕ) (tally spans : ℕ) → Runs signal lines count kept text tally
     → ((h : History) → StandsFor kept (tables kept.setup h) → spans ≡ open_spans (tables kept.setup h))
     → out ≡ text ++ last_text signal spans tally → report_from signal 0 lines ≡ record { written = out; accepted = true }
 runs_end signal lines count kept text out tally spans r counts tells =

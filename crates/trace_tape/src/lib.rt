@@ -1,6 +1,6 @@
 //! A subscriber that keeps the list of requests that its calls spell.
 //!
-//! All turns on `specs/Taping`: what each call makes of a tape beside the registry in it.
+//! All turns on `specs/Tapes`: what each call makes of a tape beside the registry in it.
 #![tactic(auto)]
 
 pub mod copies;

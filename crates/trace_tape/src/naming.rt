@@ -1,6 +1,6 @@
 //! Values by the names of their fields.
 ghost use Rattle.std.specs.Prelude.{◌≡◌, ℕ, List, IfOk};
-ghost use Rattle.trace_tape.specs.Taping.{field_name_at, named_values};
+ghost use Rattle.trace_tape.specs.Tapes.{field_name_at, named_values};
 
 use crate::copies::copied_value;
 use otel_base::list::Items;

@@ -4,8 +4,8 @@ ghost use Rattle.std.proofs.Common.{refl};
 ghost use Rattle.std.proofs.lemmas.Bool.{true≢false};
 ghost use Rattle.otel_state.specs.declared.op.OpReply.TheVariants as replies;
 ghost use Rattle.span_script.specs.declared.request.Call.TheVariants as call;
-ghost use Rattle.trace_tape.specs.Taping.{on_first_lane};
-ghost use Rattle.trace_tape.specs.Touching.{TouchesTape, tape_stays};
+ghost use Rattle.trace_tape.specs.Tapes.{on_first_lane};
+ghost use Rattle.trace_tape.specs.PartCalls.{TouchesTape, tape_stays};
 
 use crate::tape::{Tape, request};
 use otel_base::context::Context;
@@ -76,7 +76,7 @@ fn set_attribute(tape: &mut Tape, id: Id, at: u64, pair: KeyValue) -> Result<OpR
     let KeyValue { key, value } = pair;
     match tape.roll.reserve() {
         Ok(()) => {
-            tape.roll.tell(request(
+            tape.roll.push_request(request(
                 at,
                 Call::SetAttribute {
                     handle: id.place(),

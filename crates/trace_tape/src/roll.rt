@@ -17,7 +17,7 @@ pub(crate) struct Roll {
 
 impl Model for Roll {
     ghost use Rattle.std.specs.Prelude.{◌+◌, ◌≤◌, vec_len, vec_capacity};
-    ghost use Rattle.trace_tape.specs.Taping.{RequestsWithRoom};
+    ghost use Rattle.trace_tape.specs.Tapes.{RequestsWithRoom};
 
     ghost Value = { RequestsWithRoom };
 
@@ -66,7 +66,7 @@ impl Roll {
     }
 
     // Adds a request at a spare place.
-    pub(crate) fn tell(&mut self, request: Request)
+    pub(crate) fn push_request(&mut self, request: Request)
         requires { 0 < self.old.spare }
         ensures requests { self.new.requests ≡ self.old.requests ++ request ∷ [] }
         ensures spare { self.new.spare + 1 ≡ self.old.spare }

@@ -3,13 +3,13 @@ ghost use Rattle.std.specs.Prelude.{◌≡◌, ◌≤◌, ◌+◌, ◌-◌, [], 
 ghost use Rattle.std.proofs.Common.{refl, ◌∙◌, ap};
 ghost use Rattle.trace_base.specs.declared.lane.Lane.{Lane};
 ghost use Rattle.trace_base.specs.declared.subscriber.Interest.TheVariants as interests;
-ghost use Rattle.trace_tape.specs.Taping.{TapeValue, DoesTape, blank_tape, one_more, held_more, handles_of, drop_requests, is_held, spelled_parent};
+ghost use Rattle.trace_tape.specs.Tapes.{TapeValue, DoesTape, blank_tape, one_more, one_more_handle, handles_of, drop_requests, has_handles, spelled_parent};
 ghost use Rattle.trace_tape.specs.Sinks.{TakesAll};
-ghost use Rattle.trace_tape.specs.Taped.{tape_same, tape_lanes};
+ghost use Rattle.trace_tape.specs.TapeLaws.{tape_same, tape_lanes};
 ghost use Rattle.span_registry.specs.Registering.{no_spans};
 
 use crate::naming::named_values;
-use crate::opened::{Opened, take_last};
+use crate::opened::{OpenEntry, take_last};
 use crate::request_sink::RequestSink;
 use crate::roll::Roll;
 use otel_base::enter_error::EnterError;
@@ -33,14 +33,14 @@ pub struct Tape {
     pub(crate) registry: Registry,
     handles: Vec<u64>,
     due: Option<Id>,
-    entries: Vec<Opened>,
+    entries: Vec<OpenEntry>,
     guards: u64,
     pub(crate) roll: Roll,
 }
 
 impl Model for Tape {
     ghost use Rattle.std.specs.Prelude.{◌≤◌};
-    ghost use Rattle.trace_tape.specs.Taping.{TapeValue, requests_owed};
+    ghost use Rattle.trace_tape.specs.Tapes.{TapeValue, requests_owed};
 
     ghost Value = { TapeValue };
 
@@ -175,7 +175,7 @@ impl Subscriber for Tape {
         {
             Ok(id) => {
                 self.handles.push_reserved(1);
-                self.roll.tell(request(
+                self.roll.push_request(request(
                     at,
                     Call::New {
                         site: number,
@@ -202,7 +202,7 @@ impl Subscriber for Tape {
         self.roll.reserve()?;
         let fields = named_values(self.alloc, callsite, values)?;
         self.registry.record(id, at, callsite, values)?;
-        self.roll.tell(request(
+        self.roll.push_request(request(
             at,
             Call::Record {
                 handle: id.place(),
@@ -215,7 +215,7 @@ impl Subscriber for Tape {
     fn record_follows_from(&mut self, id: Id, from: Id, at: u64) -> Result<(), Memory> {
         self.roll.reserve()?;
         self.registry.record_follows_from(id, from, at)?;
-        self.roll.tell(request(
+        self.roll.push_request(request(
             at,
             Call::Follows {
                 handle: id.place(),
@@ -241,7 +241,7 @@ impl Subscriber for Tape {
         let place = spelled_parent(&parent);
         self.registry
             .event(lane, at, parent, current, site, callsite, values)?;
-        self.roll.tell(request(
+        self.roll.push_request(request(
             at,
             Call::Event {
                 site: number,
@@ -263,20 +263,20 @@ impl Subscriber for Tape {
         self.registry.enter(id, lane, at)?;
         let guard = self.guards;
         self.guards = one_more(guard);
-        self.entries.push_reserved(Opened {
+        self.entries.push_reserved(OpenEntry {
             lane: lane.id,
             id,
             guard,
         });
         self.roll
-            .tell(request(at, Call::Enter { handle: id.place() }));
+            .push_request(request(at, Call::Enter { handle: id.place() }));
         Ok(())
     }
 
     fn exit(&mut self, id: Id, lane: &mut Lane, at: u64) {
         self.registry.exit(id, lane, at);
         if let Some(opened) = take_last(&mut self.entries, lane.id, id) {
-            self.roll.tell(request(
+            self.roll.push_request(request(
                 at,
                 Call::Exit {
                     guard: opened.guard,
@@ -287,7 +287,7 @@ impl Subscriber for Tape {
 
     fn clone_span(&mut self, id: Id) {
         self.registry.clone_span(id);
-        hold(&mut self.handles, id);
+        add_handle(&mut self.handles, id);
     }
 
     fn try_close(&mut self, id: Id, at: u64) -> CloseReply {
@@ -298,7 +298,7 @@ impl Subscriber for Tape {
         };
         self.due = closing.next;
         if !is_due {
-            let_go(&mut self.handles, &mut self.roll, id, at);
+            drop_handle(&mut self.handles, &mut self.roll, id, at);
         }
         closing
     }
@@ -353,9 +353,9 @@ fn one_more(n: u64) -> u64
 }
 
 // One handle of a span more.
-fn hold(handles: &mut Vec<u64>, id: Id)
-    ensures value { handles.new.items ≡ slice_set handles.old.items id (held_more (handles_of handles.old.items id)) }
-    ensures room { count_by is_held handles.new.items ≡ count_by is_held handles.old.items }
+fn add_handle(handles: &mut Vec<u64>, id: Id)
+    ensures value { handles.new.items ≡ slice_set handles.old.items id (one_more_handle (handles_of handles.old.items id)) }
+    ensures room { count_by has_handles handles.new.items ≡ count_by has_handles handles.old.items }
 {
     let place = id.place() as usize;
     if place < handles.len() {
@@ -367,12 +367,12 @@ fn hold(handles: &mut Vec<u64>, id: Id)
 }
 
 // One handle of a span less, which spells a drop if it was the last one.
-fn let_go(handles: &mut Vec<u64>, roll: &mut Roll, id: Id, at: u64)
-    requires { count_by is_held handles.old.items ≤ roll.old.spare }
+fn drop_handle(handles: &mut Vec<u64>, roll: &mut Roll, id: Id, at: u64)
+    requires { count_by has_handles handles.old.items ≤ roll.old.spare }
     ensures handles { handles.new.items ≡ slice_set handles.old.items id (handles_of handles.old.items id - 1) }
     ensures requests { roll.new.requests ≡ roll.old.requests ++ drop_requests at id (handles_of handles.old.items id) }
-    ensures room { (others : ℕ) → others + count_by is_held handles.old.items ≤ roll.old.spare
-        → others + count_by is_held handles.new.items ≤ roll.new.spare }
+    ensures room { (others : ℕ) → others + count_by has_handles handles.old.items ≤ roll.old.spare
+        → others + count_by has_handles handles.new.items ≤ roll.new.spare }
 {
     let place = id.place() as usize;
     if place < handles.len() {
@@ -381,7 +381,7 @@ fn let_go(handles: &mut Vec<u64>, roll: &mut Roll, id: Id, at: u64)
             handles[place] = n - 1;
         }
         if n == 1 {
-            roll.tell(request(at, Call::Drop { handle: id.place() }));
+            roll.push_request(request(at, Call::Drop { handle: id.place() }));
         }
     }
 }

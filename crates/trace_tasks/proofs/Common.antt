@@ -33,16 +33,16 @@ pub use Rattle.otel_state.specs.declared.op.OpReply.{OpReply}
 pub use Rattle.otel_layer.specs.Parts.{Applies, PartCall, StaysStack}
 pub use Rattle.span_script.specs.Fields.{Fields, declared_value, declares, values_by, values_of}
 pub use Rattle.span_script.specs.declared.request.Request.{Request}
-pub use Rattle.trace_tape.specs.Taping.{DoesTape, TapeValue, drop_requests, exit_requests, handles_of, is_due, is_opened, let_go, field_name_at, named_values, on_first_lane, one_more, taped_after}
-pub use Rattle.trace_tape.specs.Touching.{AppliesTape, TouchesTape, is_live}
-pub use Rattle.trace_tasks.specs.Acts.{Asks, CallsIf, Changes, IsGranted, PollsSteps, RecordsTo, StepAt, StepIf, StepOn, StepsOn, TellsAt, Wants, asked, denied, steps_left, nothing, steps_now, recorded, room, spare, told, untouched}
-pub use Rattle.trace_tasks.specs.Begun.{AllSited, AreBegun, Begins, MakesOne, Ran}
-pub use Rattle.trace_tasks.specs.Carrying.{Carries, CarriesCall, Entered, EventTold, Exited, Handled, Made, MakesGated, TaskScene}
+pub use Rattle.trace_tape.specs.Tapes.{DoesTape, TapeValue, drop_requests, exit_requests, handles_of, is_due, is_entry_of, without_handle, field_name_at, named_values, on_first_lane, one_more, tape_after}
+pub use Rattle.trace_tape.specs.PartCalls.{AppliesTape, TouchesTape, is_live}
+pub use Rattle.trace_tasks.specs.Acts.{Asks, CallsIf, Changes, IsGranted, PollsSteps, RecordsTo, StepAt, StepIf, StepOn, StepsOn, TellsAt, WantsMemory, asked, denied, steps_left, nothing, steps_now, recorded, room, spare, told, untouched}
+pub use Rattle.trace_tasks.specs.Begun.{AllHaveCallsites, AreBegun, Begins, MakesTaskSpan, RunsTasks}
+pub use Rattle.trace_tasks.specs.Carrying.{Carries, CarriesCall, CarriesEnter, CarriesEvent, CarriesExit, CarriesOnHandle, CarriesNew, MakesGated, TaskScene}
 pub use Rattle.trace_tasks.specs.Flat.{UnfinishedTask, after_poll, all_polls, declared_ones, drop_at_end, flat_list, makings, moment_of, poll_requests, polls_left, requeue, round_requests, rounds_requests, step_call, tasks_at_first, turns_requests, yield_count}
-pub use Rattle.trace_tasks.specs.Spelled.{AreTested, CarriesTape, IsDeclared, IsNewTape, IsTested, KeepsOnTape, tape_spans}
+pub use Rattle.trace_tasks.specs.Spelled.{TasksAreDeclared, CarriesTape, IsDeclared, IsNewTape, StepsAreDeclared, KeepsOnTape, tape_spans}
 pub use Rattle.trace_tasks.specs.Stops.{Drops, DropsAll, GaveUp, IsFrontOf, IsPartOfPoll, MeetsFull, StopsBeginning, StopsInTurn, StopsPoll, StopsTurns, TurnStops, drops_of_tasks, exit_if, leaving_requests, left_after}
-pub use Rattle.trace_tasks.specs.Turning.{IsAlone, IsAloneAs, IsLeft, Ready, SameAttached, SpansStay, Turned, dispatch_serving, left_as, root_of_one_handle, served_by}
+pub use Rattle.trace_tasks.specs.Turning.{IsAlone, IsAloneAs, IsAfterPoll, ReadyToPoll, SameAttached, SpansStay, PollsTask, dispatch_serving, unfinished_task, root_of_one_handle, dispatch_of_default}
 pub use Rattle.trace_tasks.specs.Waiting.{AllKnown, AllStand, AllWait, AreApart, IsApart, KeepsBut, TakesTurn, TakesTurnIf, TakesTurns, TaskStands, Waits, polls_in, queue_with}
-pub use Rattle.trace_tasks.specs.declared.running.Running.{Running}
+pub use Rattle.trace_tasks.specs.declared.running.TaskFuture.{TaskFuture}
 pub use Rattle.trace_tasks.specs.declared.script.Step.{Step}
 pub use Rattle.trace_tasks.specs.declared.script.Task.{Task}

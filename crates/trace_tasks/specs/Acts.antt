@@ -92,10 +92,10 @@ module _ {S : Type 0} (spans : S → Spans) (hint : S → Option LevelFilter) (e
   -- ---- what wanting memory leaves
 
   -- nothing; spare room that was taken; or an op from outside that wasn't granted
-  pub data Wants (same : S → S → Type 0) (at : ℕ) (old new : WorldValue S) : Type 0 where
-    untouched : new ≡ old → Wants same at old new
-    spare : (d : ℕ) → Replaced same old new d → Wants same at old new
-    denied : (d id : ℕ) (op : Op) (wanted : memory.Memory) → Replaced (λ s t. touches s (Applies id at op (Some (Err wanted))) t) old new d → Wants same at old new
+  pub data WantsMemory (same : S → S → Type 0) (at : ℕ) (old new : WorldValue S) : Type 0 where
+    untouched : new ≡ old → WantsMemory same at old new
+    spare : (d : ℕ) → Replaced same old new d → WantsMemory same at old new
+    denied : (d id : ℕ) (op : Op) (wanted : memory.Memory) → Replaced (λ s t. touches s (Applies id at op (Some (Err wanted))) t) old new d → WantsMemory same at old new
 
   -- the first of some steps were done, and the next one wanted memory
   pub record StopsIn (same : S → S → Type 0) (lane : Lane) (at : ℕ) (steps : List Step) (old new : WorldValue S) : Type 0 where
@@ -105,7 +105,7 @@ module _ {S : Type 0} (spans : S → Spans) (hint : S → Option LevelFilter) (e
     pub within : done ++ refused ∷ others ≡ steps
     pub world : WorldValue S
     pub did : StepsOn lane at done old world
-    pub wants : Wants same at world new
+    pub wants : WantsMemory same at world new
 
   -- a poll of some steps: those up to a yield or the end, and what is left
   abbrev pub PollsSteps : (S → S → Type 0) → List Step → WorldValue S → Lane → ℕ → Polled (Unit {0}) → List Step → WorldValue S → Lane → Type 0

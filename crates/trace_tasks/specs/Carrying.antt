@@ -33,7 +33,7 @@ module _ {S : Type 0} (spans : S → Spans) (hint : S → Option LevelFilter) (e
   MakesGated true old new lane at site callsite fields handle = Makes spans does old new lane at parent.Current site (values_of callsite fields) d handle
   MakesGated false old new lane at site callsite fields handle = (handle ≡ record { held = None; site = Some site }) × (new ≡ old)
 
-  pub record Made (at site : ℕ) (fields : Fields) (s t : TaskScene S) : Type 0 where
+  pub record CarriesNew (at site : ℕ) (fields : Fields) (s t : TaskScene S) : Type 0 where
     pub callsite : Callsite
     pub is : slice_get s.world.sites site ≡ Some callsite
     pub admitted : Bool
@@ -53,21 +53,21 @@ module _ {S : Type 0} (spans : S → Spans) (hint : S → Option LevelFilter) (e
   OnHandle at _ handle old before new later = ⊥
 
   -- of the handle of a number
-  pub record Handled (at number : ℕ) (call : Call) (s t : TaskScene S) : Type 0 where
+  pub record CarriesOnHandle (at number : ℕ) (call : Call) (s t : TaskScene S) : Type 0 where
     pub handle : Handle
     pub is : slice_get s.handles number ≡ Some handle
     pub did : OnHandle at call handle s.world s.lane t.world t.lane
     pub handles : t.handles ≡ s.handles
     pub guards : t.guards ≡ s.guards
 
-  pub record Entered (at number : ℕ) (s t : TaskScene S) : Type 0 where
+  pub record CarriesEnter (at number : ℕ) (s t : TaskScene S) : Type 0 where
     pub handle : Handle
     pub is : slice_get s.handles number ≡ Some handle
     pub begins : BeginsInside does at handle.held s.world s.lane t.world t.lane
     pub handles : t.handles ≡ s.handles
     pub guards : t.guards ≡ s.guards ++ handle.held ∷ []
 
-  pub record Exited (at number : ℕ) (s t : TaskScene S) : Type 0 where
+  pub record CarriesExit (at number : ℕ) (s t : TaskScene S) : Type 0 where
     pub held : HeldSpan
     pub is : slice_get s.guards number ≡ Some held
     pub exited : ReplacedOn (λ id a b. does a (Exit id at s.lane t.lane) b) s.world t.world held
@@ -75,7 +75,7 @@ module _ {S : Type 0} (spans : S → Spans) (hint : S → Option LevelFilter) (e
     pub handles : t.handles ≡ s.handles
     pub guards : t.guards ≡ s.guards
 
-  pub record EventTold (at site : ℕ) (fields : Fields) (s t : TaskScene S) : Type 0 where
+  pub record CarriesEvent (at site : ℕ) (fields : Fields) (s t : TaskScene S) : Type 0 where
     pub told : TellsAt spans hint enables does touches s.lane at d site fields (slice_get s.world.sites site) s.world t.world
     pub lane : t.lane ≡ s.lane
     pub handles : t.handles ≡ s.handles
@@ -83,13 +83,13 @@ module _ {S : Type 0} (spans : S → Spans) (hint : S → Option LevelFilter) (e
 
   -- a request carried out, of those that tasks make
   abbrev pub CarriesCall : ℕ → Call → TaskScene S → TaskScene S → Type 0
-  CarriesCall at (call.New site request_parent.Contextual fields) s t = Made at site fields s t
-  CarriesCall at (call.Enter n) s t = Entered at n s t
-  CarriesCall at (call.Exit n) s t = Exited at n s t
-  CarriesCall at (call.Event site request_parent.Contextual fields) s t = EventTold at site fields s t
-  CarriesCall at (call.Record n fields) s t = Handled at n (call.Record n fields) s t
-  CarriesCall at (call.SetAttribute n key value) s t = Handled at n (call.SetAttribute n key value) s t
-  CarriesCall at (call.Drop n) s t = Handled at n (call.Drop n) s t
+  CarriesCall at (call.New site request_parent.Contextual fields) s t = CarriesNew at site fields s t
+  CarriesCall at (call.Enter n) s t = CarriesEnter at n s t
+  CarriesCall at (call.Exit n) s t = CarriesExit at n s t
+  CarriesCall at (call.Event site request_parent.Contextual fields) s t = CarriesEvent at site fields s t
+  CarriesCall at (call.Record n fields) s t = CarriesOnHandle at n (call.Record n fields) s t
+  CarriesCall at (call.SetAttribute n key value) s t = CarriesOnHandle at n (call.SetAttribute n key value) s t
+  CarriesCall at (call.Drop n) s t = CarriesOnHandle at n (call.Drop n) s t
   CarriesCall at _ s t = ⊥
 
   -- requests carried out, one after another, and nothing else

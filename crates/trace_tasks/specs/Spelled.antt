@@ -6,8 +6,8 @@ use Rattle.trace_base.specs.declared.subscriber.Interest.TheVariants as interest
 use Rattle.trace_base.specs.Gate.{WorldValue, cached_at}
 use Rattle.trace_base.specs.Spans.{Spans}
 use Rattle.span_script.specs.declared.request.Request.{Request}
-use Rattle.trace_tape.specs.Taping.{TapeValue, DoesTape}
-use Rattle.trace_tape.specs.Touching.{TouchesTape}
+use Rattle.trace_tape.specs.Tapes.{TapeValue, DoesTape}
+use Rattle.trace_tape.specs.PartCalls.{TouchesTape}
 use Rattle.trace_tasks.specs.declared.script.Step.{Step}
 use Rattle.trace_tasks.specs.declared.script.Step.TheVariants as step
 use Rattle.trace_tasks.specs.declared.script.Task.{Task}
@@ -27,16 +27,16 @@ IsDeclared None fields = ⊥
 IsDeclared (Some c) fields = list_all (λ field. declares c field.0) fields ≡ true
 
 -- what the tests of a script let through: each callsite is there, and declares the fields of a span or an event
-abbrev pub IsTested : List Callsite → List Step → Type 0
-IsTested sites [] = Unit {0}
-IsTested sites (step.Event site fields ∷ steps) = IsDeclared (slice_get sites site) fields × IsTested sites steps
-IsTested sites (step.Record fields ∷ steps) = IsTested sites steps
-IsTested sites (step.SetAttribute key value ∷ steps) = IsTested sites steps
-IsTested sites (step.Yield ∷ steps) = IsTested sites steps
+abbrev pub StepsAreDeclared : List Callsite → List Step → Type 0
+StepsAreDeclared sites [] = Unit {0}
+StepsAreDeclared sites (step.Event site fields ∷ steps) = IsDeclared (slice_get sites site) fields × StepsAreDeclared sites steps
+StepsAreDeclared sites (step.Record fields ∷ steps) = StepsAreDeclared sites steps
+StepsAreDeclared sites (step.SetAttribute key value ∷ steps) = StepsAreDeclared sites steps
+StepsAreDeclared sites (step.Yield ∷ steps) = StepsAreDeclared sites steps
 
-abbrev pub AreTested : List Callsite → List Task → Type 0
-AreTested sites [] = Unit {0}
-AreTested sites (t ∷ ts) = IsDeclared (slice_get sites t.site) t.fields × IsTested sites t.steps × AreTested sites ts
+abbrev pub TasksAreDeclared : List Callsite → List Task → Type 0
+TasksAreDeclared sites [] = Unit {0}
+TasksAreDeclared sites (t ∷ ts) = IsDeclared (slice_get sites t.site) t.fields × StepsAreDeclared sites t.steps × TasksAreDeclared sites ts
 
 -- a tape of a world keeps exactly some requests
 abbrev pub KeepsOnTape : ℕ → List Request → WorldValue TapeValue → Type 0

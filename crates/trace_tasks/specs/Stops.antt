@@ -16,14 +16,14 @@ use Rattle.span_futures.specs.declared.instrument.Instrumented.{Instrumented}
 use Rattle.otel_layer.specs.Parts.{PartCall}
 use Rattle.span_script.specs.declared.request.Call.TheVariants as call
 use Rattle.span_script.specs.declared.request.Request.{Request}
-use Rattle.trace_tape.specs.Taping.{on_first_lane}
-use Rattle.trace_tasks.specs.declared.running.Running.{Running}
+use Rattle.trace_tape.specs.Tapes.{on_first_lane}
+use Rattle.trace_tasks.specs.declared.running.TaskFuture.{TaskFuture}
 use Rattle.trace_tasks.specs.declared.script.Task.{Task}
-use Rattle.trace_tasks.specs.Acts.{Wants}
+use Rattle.trace_tasks.specs.Acts.{WantsMemory}
 use Rattle.trace_tasks.specs.Begun.{AreBegun}
 use Rattle.trace_tasks.specs.Carrying.{TaskScene, Carries}
 use Rattle.trace_tasks.specs.Flat.{UnfinishedTask, all_polls, tasks_at_first, makings, flat_list, moment_of, entry_and_steps, requeue, after_poll, turns_requests}
-use Rattle.trace_tasks.specs.Turning.{dispatch_serving, left_as}
+use Rattle.trace_tasks.specs.Turning.{dispatch_serving, unfinished_task}
 use Rattle.trace_tasks.specs.Waiting.{AllStand}
 
 -- the tasks that are left after so many polls, the next one first
@@ -70,13 +70,13 @@ module _ {S : Type 0} (spans : S → Spans) (hint : S → Option LevelFilter) (e
       → Carries spans hint enables does touches d (drops_of_tasks at ts) (record { world = old; lane = lane; handles = handles; guards = guards }) (record { world = new; lane = lane; handles = handles; guards = guards })
 
   -- those of all tasks of a queue
-  abbrev pub DropsAll : List (Instrumented Running) → WorldValue S → WorldValue S → Type 0
+  abbrev pub DropsAll : List (Instrumented TaskFuture) → WorldValue S → WorldValue S → Type 0
   DropsAll fs old new = (handles : List Handle) (ts : List UnfinishedTask) → AllStand handles ts fs → Drops ts handles old new
 
 module _ {S : Type 0} (spans : S → Spans) (hint : S → Option LevelFilter) (enables : S → ℕ → Callsite → Bool) (activates : S → ℕ → Bool) (does : S → SubscriberCall → S → Type 0) (touches : S → PartCall → S → Type 0) (same : S → S → Type 0) (d : ℕ) where
   -- memory was wanted, or a full lane was met: nothing more than room and a denied op tells the stages apart
   pub record Fails (at : ℕ) (s t : TaskScene S) : Type 0 where
-    pub world : Wants spans hint enables does touches same at s.world t.world
+    pub world : WantsMemory spans hint enables does touches same at s.world t.world
     pub lane : KeepsLaneButRoom s.lane t.lane
     pub handles : t.handles ≡ s.handles
     pub guards : t.guards ≡ s.guards
@@ -139,24 +139,24 @@ module _ {S : Type 0} (spans : S → Spans) (hint : S → Option LevelFilter) (e
 
 -- the first of some tasks were begun, and the next one wanted memory
 pub record StopsBeginning {S : Type 0} (spans : S → Spans) (hint : S → Option LevelFilter) (enables : S → ℕ → Callsite → Bool) (kept : S → ℕ → ℕ → ℕ) (is_whole : S → Type 0) (does : S → SubscriberCall → S → Type 0) (touches : S → PartCall → S → Type 0) (same : S → S → Type 0)
-    (tasks : List Task) (lane : Lane) (old new : WorldValue S) (fs : List (Instrumented Running)) : Type 0 where
+    (tasks : List Task) (lane : Lane) (old new : WorldValue S) (fs : List (Instrumented TaskFuture)) : Type 0 where
   pub first : List Task
   pub within : IsFrontOf first tasks
   pub world : WorldValue S
   pub so_far : AreBegun spans hint enables kept is_whole does touches first lane old world fs
-  pub wants : Wants spans hint enables does touches same 0 world new
+  pub wants : WantsMemory spans hint enables does touches same 0 world new
 
 -- a task's poll was refused, and its handle closed
 pub record TurnStops {S : Type 0} (spans : S → Spans) (hint : S → Option LevelFilter) (enables : S → ℕ → Callsite → Bool) (activates : S → ℕ → Bool) (does : S → SubscriberCall → S → Type 0) (touches : S → PartCall → S → Type 0) (same : S → S → Type 0)
-    (at : ℕ) (f : Instrumented Running) (old : WorldValue S) (before : Lane) (e : EnterError) (new : WorldValue S) (later : Lane) : Type 0 where
+    (at : ℕ) (f : Instrumented TaskFuture) (old : WorldValue S) (before : Lane) (e : EnterError) (new : WorldValue S) (later : Lane) : Type 0 where
   pub stops : (number site k : ℕ) (handles : List Handle) (guards : List HeldSpan) → at ≡ moment_of k → slice_get handles number ≡ Some f.span → length guards ≡ k → f.span.site ≡ Some site
-      → StopsPoll spans hint enables activates does touches same (dispatch_serving before) old.sites at k (left_as number site f.inner) e (record { world = old; lane = before; handles = handles; guards = guards }) new later
+      → StopsPoll spans hint enables activates does touches same (dispatch_serving before) old.sites at k (unfinished_task number site f.inner) e (record { world = old; lane = before; handles = handles; guards = guards }) new later
 
 -- the poll of the first task of a queue was refused, and the handles of all tasks were closed
 pub record StopsInTurn {S : Type 0} (spans : S → Spans) (hint : S → Option LevelFilter) (enables : S → ℕ → Callsite → Bool) (activates : S → ℕ → Bool) (does : S → SubscriberCall → S → Type 0) (touches : S → PartCall → S → Type 0) (same : S → S → Type 0)
-    (at : ℕ) (first : List (Instrumented Running)) (old : WorldValue S) (before : Lane) (e : EnterError) (new : WorldValue S) (later : Lane) : Type 0 where
-  pub f : Instrumented Running
-  pub others : List (Instrumented Running)
+    (at : ℕ) (first : List (Instrumented TaskFuture)) (old : WorldValue S) (before : Lane) (e : EnterError) (new : WorldValue S) (later : Lane) : Type 0 where
+  pub f : Instrumented TaskFuture
+  pub others : List (Instrumented TaskFuture)
   pub is : first ≡ f ∷ others
   pub world : WorldValue S
   pub stops : TurnStops spans hint enables activates does touches same at f old before e world later

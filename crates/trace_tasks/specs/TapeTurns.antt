@@ -10,11 +10,11 @@ use Rattle.span_handles.specs.Handles.{Handle, HeldSpan, handle_of}
 use Rattle.span_futures.specs.declared.instrument.Instrumented.{Instrumented}
 use Rattle.span_script.specs.declared.request.Request.{Request}
 use Rattle.trace_tape.specs.Sinks.{TakesAll}
-use Rattle.trace_tape.specs.Taping.{TapeValue, handles_of}
-use Rattle.trace_tasks.specs.declared.running.Running.{Running}
+use Rattle.trace_tape.specs.Tapes.{TapeValue, handles_of}
+use Rattle.trace_tasks.specs.declared.running.TaskFuture.{TaskFuture}
 use Rattle.trace_tasks.specs.Carrying.{TaskScene}
 use Rattle.trace_tasks.specs.Flat.{UnfinishedTask, all_polls, turns_requests}
-use Rattle.trace_tasks.specs.Spelled.{IsTested}
+use Rattle.trace_tasks.specs.Spelled.{StepsAreDeclared}
 use Rattle.trace_tasks.specs.Turning.{root_of_one_handle}
 use Rattle.trace_tasks.specs.Waiting.{AllStand}
 
@@ -40,7 +40,7 @@ pub record CanBePolled (d : ℕ) (sites : List Callsite) (s : TaskScene TapeValu
   pub waits : HeldOnce d s tape t
   pub callsite : Callsite
   pub is : slice_get sites t.site ≡ Some callsite
-  pub tested : IsTested sites t.steps
+  pub tested : StepsAreDeclared sites t.steps
 
 abbrev pub HasOwnNumber : UnfinishedTask → List UnfinishedTask → Type 0
 HasOwnNumber t [] = Unit {0}
@@ -51,7 +51,7 @@ AllCanBePolled d sites s tape [] = Unit {0}
 AllCanBePolled d sites s tape (t ∷ ts) = CanBePolled d sites s tape t × HasOwnNumber t ts × AllCanBePolled d sites s tape ts
 
 -- tasks of a queue that wait on a tape after k polls, all requests having been handed on
-pub record WaitOnTape (d : ℕ) (sites : List Callsite) (k : ℕ) (ts : List UnfinishedTask) (world : WorldValue TapeValue) (lane : Lane) (fs : List (Instrumented Running)) : Type 0 where
+pub record WaitOnTape (d : ℕ) (sites : List Callsite) (k : ℕ) (ts : List UnfinishedTask) (world : WorldValue TapeValue) (lane : Lane) (fs : List (Instrumented TaskFuture)) : Type 0 where
   pub handles : List Handle
   pub guards : List HeldSpan
   pub stand : AllStand handles ts fs

@@ -13,21 +13,21 @@ use Rattle.span_handles.specs.Handles.{Handle, HeldSpan}
 use Rattle.span_futures.specs.declared.instrument.Instrumented.{Instrumented}
 use Rattle.span_futures.specs.Lent.{HasAll, AreAllAttached}
 use Rattle.otel_layer.specs.Parts.{PartCall}
-use Rattle.trace_tasks.specs.declared.running.Running.{Running}
+use Rattle.trace_tasks.specs.declared.running.TaskFuture.{TaskFuture}
 use Rattle.trace_tasks.specs.Acts.{steps_left}
 use Rattle.trace_tasks.specs.Carrying.{Carries}
 use Rattle.trace_tasks.specs.Flat.{UnfinishedTask, poll_requests, moment_of}
 
 -- the subscriber that serves a lane by the lane's default
-abbrev pub served_by : Option ℕ → ℕ
-served_by None = 0
-served_by (Some d) = d
+abbrev pub dispatch_of_default : Option ℕ → ℕ
+dispatch_of_default None = 0
+dispatch_of_default (Some d) = d
 
 abbrev pub dispatch_serving : Lane → ℕ
-dispatch_serving lane = served_by lane.default
+dispatch_serving lane = dispatch_of_default lane.default
 
 -- a world and a lane between polls: the lane has a default of the world, and no entry is open on it there
-pub record Ready {S : Type 0} (spans : S → Spans) (kept : S → ℕ → ℕ → ℕ) (is_whole : S → Type 0) (world : WorldValue S) (lane : Lane) : Type 0 where
+pub record ReadyToPoll {S : Type 0} (spans : S → Spans) (kept : S → ℕ → ℕ → ℕ) (is_whole : S → Type 0) (world : WorldValue S) (lane : Lane) : Type 0 where
   pub default : lane.default ≡ Some (dispatch_serving lane)
   pub there : dispatch_serving lane < length world.subscribers
   pub whole : HasAll is_whole world
@@ -48,16 +48,16 @@ pub record IsAlone (made : List Span) (d site : ℕ) (handle : Handle) : Type 0 
   pub held_is : IsAloneAs made d site handle.held
 
 -- the task of a handle's number
-abbrev pub left_as : ℕ → ℕ → Running → UnfinishedTask
-left_as number site f = record { number = number; site = site; steps = f.steps.items }
+abbrev pub unfinished_task : ℕ → ℕ → TaskFuture → UnfinishedTask
+unfinished_task number site f = record { number = number; site = site; steps = f.steps.items }
 
 -- what becomes of a task that is polled: it has the steps behind the yield left, or it is finished
-abbrev pub IsLeft : Option (Instrumented Running) → Instrumented Running → Type 0
-IsLeft None f = steps_left f.inner.steps.items ≡ None
-IsLeft (Some g) f = (steps_left f.inner.steps.items ≡ Some g.inner.steps.items) × (g.span ≡ f.span)
+abbrev pub IsAfterPoll : Option (Instrumented TaskFuture) → Instrumented TaskFuture → Type 0
+IsAfterPoll None f = steps_left f.inner.steps.items ≡ None
+IsAfterPoll (Some g) f = (steps_left f.inner.steps.items ≡ Some g.inner.steps.items) × (g.span ≡ f.span)
 
 -- the spans after a poll: all are the same, but for one that closed
-abbrev pub SpansStay : Option (Instrumented Running) → HeldSpan → List Span → List Span → Type 0
+abbrev pub SpansStay : Option (Instrumented TaskFuture) → HeldSpan → List Span → List Span → Type 0
 SpansStay None held old new = (q : ℕ) → (option_map (λ h. h.1) held ≡ Some q → ⊥) → span_at new q ≡ span_at old q
 SpansStay (Some g) held old new = new ≡ old
 
@@ -66,10 +66,10 @@ abbrev pub SameAttached : Lane → Lane → Type 0
 SameAttached before later = (number : ℕ) → attached_as number later ≡ attached_as number before
 
 -- a poll of a task, and its end if it is finished, are the requests of its poll
-pub record Turned {S : Type 0} (spans : S → Spans) (hint : S → Option LevelFilter) (enables : S → ℕ → Callsite → Bool) (kept : S → ℕ → ℕ → ℕ) (is_whole : S → Type 0) (does : S → SubscriberCall → S → Type 0) (touches : S → PartCall → S → Type 0)
-    (at : ℕ) (f : Instrumented Running) (old : WorldValue S) (before : Lane) (left : Option (Instrumented Running)) (new : WorldValue S) (later : Lane) : Type 0 where
-  pub left_is : IsLeft left f
-  pub ready : Ready spans kept is_whole new later
+pub record PollsTask {S : Type 0} (spans : S → Spans) (hint : S → Option LevelFilter) (enables : S → ℕ → Callsite → Bool) (kept : S → ℕ → ℕ → ℕ) (is_whole : S → Type 0) (does : S → SubscriberCall → S → Type 0) (touches : S → PartCall → S → Type 0)
+    (at : ℕ) (f : Instrumented TaskFuture) (old : WorldValue S) (before : Lane) (left : Option (Instrumented TaskFuture)) (new : WorldValue S) (later : Lane) : Type 0 where
+  pub left_is : IsAfterPoll left f
+  pub ready : ReadyToPoll spans kept is_whole new later
   pub lane_id : later.id ≡ before.id
   pub default : later.default ≡ before.default
   pub attached : SameAttached before later
@@ -77,5 +77,5 @@ pub record Turned {S : Type 0} (spans : S → Spans) (hint : S → Option LevelF
   pub count : length new.subscribers ≡ length old.subscribers
   pub stay : SpansStay left f.span.held (spans_in spans old (dispatch_serving before)).made (spans_in spans new (dispatch_serving before)).made
   pub carried : (number site k : ℕ) (handles : List Handle) (guards : List HeldSpan) → at ≡ moment_of k → length guards ≡ k → slice_get handles number ≡ Some f.span → f.span.site ≡ Some site
-      → Carries spans hint enables does touches (dispatch_serving before) (poll_requests old.sites k (left_as number site f.inner))
+      → Carries spans hint enables does touches (dispatch_serving before) (poll_requests old.sites k (unfinished_task number site f.inner))
       (record { world = old; lane = before; handles = handles; guards = guards }) (record { world = new; lane = later; handles = handles; guards = guards ++ f.span.held ∷ [] })

@@ -3,7 +3,7 @@ ghost use Rattle.std.specs.Prelude.{◌≡◌, ◌<◌, length, Some, OnOk, OnEr
 ghost use Rattle.trace_base.specs.Gate.{IsInWorld, dispatch_on};
 ghost use Rattle.span_futures.specs.Lent.{HasAll};
 ghost use Rattle.trace_tasks.specs.declared.script.Step.TheVariants as steps;
-ghost use Rattle.trace_tasks.specs.Acts.{StepOn, Changes, Wants};
+ghost use Rattle.trace_tasks.specs.Acts.{StepOn, Changes, WantsMemory};
 
 use crate::fields::values_of;
 use crate::script::Step;
@@ -28,13 +28,13 @@ pub(crate) fn act<S: OtelSubscriber>(
     at: u64,
     step: Step,
 ) -> Result<(), Memory>
-    requires own { IsInWorld world.old lane.now.default }
+    requires in_world { IsInWorld world.old lane.now.default }
     requires whole { HasAll S.Subscriber.is_whole world.old }
     ensures ok { OnOk result (StepOn S.Subscriber.spans S.Subscriber.hint S.Subscriber.enables S.Subscriber.does
         S.OtelPart.touches lane.now at step world.old world.new) }
     ensures changes { Changes S.Subscriber.spans S.Subscriber.hint S.Subscriber.enables S.Subscriber.does
         S.OtelPart.touches S.Subscriber.same_but_room at world.old world.new }
-    ensures wants { OnErr result (Wants S.Subscriber.spans S.Subscriber.hint S.Subscriber.enables S.Subscriber.does
+    ensures wants { OnErr result (WantsMemory S.Subscriber.spans S.Subscriber.hint S.Subscriber.enables S.Subscriber.does
         S.OtelPart.touches S.Subscriber.same_but_room at world.old world.new) }
 {
     let Some(dispatch) = get_default(world, lane) else {
@@ -59,7 +59,7 @@ fn tell<S: OtelSubscriber>(
     site: u64,
     fields: Items<(Text, Value)>,
 ) -> Result<(), Memory>
-    requires own { IsInWorld world.old lane.now.default }
+    requires in_world { IsInWorld world.old lane.now.default }
     requires serves { dispatch_on lane.now.default world.old.global ≡ Some dispatch }
     requires there { dispatch < length world.old.subscribers }
     requires whole { HasAll S.Subscriber.is_whole world.old }
@@ -67,7 +67,7 @@ fn tell<S: OtelSubscriber>(
         S.OtelPart.touches lane.now at (steps.Event site fields) world.old world.new) }
     ensures changes { Changes S.Subscriber.spans S.Subscriber.hint S.Subscriber.enables S.Subscriber.does
         S.OtelPart.touches S.Subscriber.same_but_room at world.old world.new }
-    ensures wants { OnErr result (Wants S.Subscriber.spans S.Subscriber.hint S.Subscriber.enables S.Subscriber.does
+    ensures wants { OnErr result (WantsMemory S.Subscriber.spans S.Subscriber.hint S.Subscriber.enables S.Subscriber.does
         S.OtelPart.touches S.Subscriber.same_but_room at world.old world.new) }
 {
     let Some(found) = world.site_at(site) else {
@@ -100,7 +100,7 @@ fn record<S: OtelSubscriber>(
         S.OtelPart.touches lane.now at (steps.Record fields) world.old world.new) }
     ensures changes { Changes S.Subscriber.spans S.Subscriber.hint S.Subscriber.enables S.Subscriber.does
         S.OtelPart.touches S.Subscriber.same_but_room at world.old world.new }
-    ensures wants { OnErr result (Wants S.Subscriber.spans S.Subscriber.hint S.Subscriber.enables S.Subscriber.does
+    ensures wants { OnErr result (WantsMemory S.Subscriber.spans S.Subscriber.hint S.Subscriber.enables S.Subscriber.does
         S.OtelPart.touches S.Subscriber.same_but_room at world.old world.new) }
 {
     let Some((id, site)) = world.subscriber(dispatch).current_span(lane.id) else {
@@ -132,7 +132,7 @@ fn set<S: OtelSubscriber>(
         S.OtelPart.touches lane.now at (steps.SetAttribute key value) world.old world.new) }
     ensures changes { Changes S.Subscriber.spans S.Subscriber.hint S.Subscriber.enables S.Subscriber.does
         S.OtelPart.touches S.Subscriber.same_but_room at world.old world.new }
-    ensures wants { OnErr result (Wants S.Subscriber.spans S.Subscriber.hint S.Subscriber.enables S.Subscriber.does
+    ensures wants { OnErr result (WantsMemory S.Subscriber.spans S.Subscriber.hint S.Subscriber.enables S.Subscriber.does
         S.OtelPart.touches S.Subscriber.same_but_room at world.old world.new) }
 {
     let pair = KeyValue { key, value };

@@ -4,14 +4,14 @@ ghost use Rattle.span_handles.specs.Worlds.{spans_in};
 ghost use Rattle.span_handles.specs.Handles.{IsKnown};
 ghost use Rattle.span_handles.specs.Knowing.{KeepsHandles};
 ghost use Rattle.span_futures.specs.Lent.{HasAll};
-ghost use Rattle.trace_tasks.specs.Acts.{Wants};
-ghost use Rattle.trace_tasks.specs.Begun.{MakesOne, Begins, AllSited, AreBegun};
+ghost use Rattle.trace_tasks.specs.Acts.{WantsMemory};
+ghost use Rattle.trace_tasks.specs.Begun.{MakesTaskSpan, Begins, AllHaveCallsites, AreBegun};
 ghost use Rattle.trace_tasks.specs.Stops.{StopsBeginning};
-ghost use Rattle.trace_tasks.specs.Turning.{Ready, dispatch_serving};
+ghost use Rattle.trace_tasks.specs.Turning.{ReadyToPoll, dispatch_serving};
 ghost use Rattle.trace_tasks.specs.Waiting.{AllKnown};
 
 use crate::fields::values_of;
-use crate::running::Running;
+use crate::running::TaskFuture;
 use crate::script::Task;
 use otel_base::list::Items;
 use otel_base::memory::Memory;
@@ -34,13 +34,13 @@ fn make<S: OtelSubscriber>(
     site: SiteId,
     fields: Items<(Text, Value)>,
 ) -> Result<Span, Memory>
-    requires ready { Ready S.Subscriber.spans S.Subscriber.kept S.Subscriber.is_whole world.old lane.now }
+    requires ready { ReadyToPoll S.Subscriber.spans S.Subscriber.kept S.Subscriber.is_whole world.old lane.now }
     requires site { site < length world.old.sites }
     requires few { length (spans_in S.Subscriber.spans world.old (dispatch_serving lane.now)).made < 2 ^ 63 }
 
-    ensures ok { IfOk result (MakesOne S.Subscriber.spans S.Subscriber.hint S.Subscriber.enables
+    ensures ok { IfOk result (MakesTaskSpan S.Subscriber.spans S.Subscriber.hint S.Subscriber.enables
         S.Subscriber.does S.OtelPart.touches site fields lane.now world.old world.new) }
-    ensures wants { OnErr result (Wants S.Subscriber.spans S.Subscriber.hint S.Subscriber.enables S.Subscriber.does
+    ensures wants { OnErr result (WantsMemory S.Subscriber.spans S.Subscriber.hint S.Subscriber.enables S.Subscriber.does
         S.OtelPart.touches S.Subscriber.same_but_room 0 world.old world.new) }
     ensures known { IfOk result (λ span. IsKnown S.Subscriber.spans world.new span.held) }
     ensures keeps { KeepsHandles S.Subscriber.spans world.old world.new }
@@ -60,13 +60,13 @@ fn begin<S: OtelSubscriber>(
     task: Task,
     world: &mut World<S>,
     lane: &Lane,
-) -> Result<Instrumented<Running>, Memory>
-    requires ready { Ready S.Subscriber.spans S.Subscriber.kept S.Subscriber.is_whole world.old lane.now }
+) -> Result<Instrumented<TaskFuture>, Memory>
+    requires ready { ReadyToPoll S.Subscriber.spans S.Subscriber.kept S.Subscriber.is_whole world.old lane.now }
     requires site { task.site < length world.old.sites }
     requires few { length (spans_in S.Subscriber.spans world.old (dispatch_serving lane.now)).made < 2 ^ 63 }
     ensures ok { IfOk result (Begins S.Subscriber.spans S.Subscriber.hint S.Subscriber.enables S.Subscriber.kept
         S.Subscriber.is_whole S.Subscriber.does S.OtelPart.touches task lane.now world.old world.new) }
-    ensures wants { OnErr result (Wants S.Subscriber.spans S.Subscriber.hint S.Subscriber.enables S.Subscriber.does
+    ensures wants { OnErr result (WantsMemory S.Subscriber.spans S.Subscriber.hint S.Subscriber.enables S.Subscriber.does
         S.OtelPart.touches S.Subscriber.same_but_room 0 world.old world.new) }
     ensures keeps { KeepsHandles S.Subscriber.spans world.old world.new }
     ensures whole { HasAll S.Subscriber.is_whole world.new }
@@ -82,7 +82,7 @@ fn begin<S: OtelSubscriber>(
     match make(alloc, world, lane, found, fields) {
         Ok(span) => {
             let steps = VecDeque::from(steps.into_vec());
-            Ok(Running { alloc, steps }.instrument(span))
+            Ok(TaskFuture { alloc, steps }.instrument(span))
         }
         Err(memory) => {
             drop(steps);
@@ -95,13 +95,13 @@ fn begin<S: OtelSubscriber>(
 pub(crate) fn begin_all<S: OtelSubscriber>(
     alloc: Global,
     tasks: Items<Task>,
-    queue: &mut VecDeque<Instrumented<Running>>,
+    queue: &mut VecDeque<Instrumented<TaskFuture>>,
     world: &mut World<S>,
     lane: &Lane,
 ) -> Result<(), Memory>
     requires none { queue.old.items ≡ [] }
-    requires ready { Ready S.Subscriber.spans S.Subscriber.kept S.Subscriber.is_whole world.old lane.now }
-    requires sites { AllSited (length world.old.sites) tasks }
+    requires ready { ReadyToPoll S.Subscriber.spans S.Subscriber.kept S.Subscriber.is_whole world.old lane.now }
+    requires sites { AllHaveCallsites (length world.old.sites) tasks }
     requires few { length (spans_in S.Subscriber.spans world.old (dispatch_serving lane.now)).made + length tasks < 2 ^ 63 }
 
     ensures ok { OnOk result (AreBegun S.Subscriber.spans S.Subscriber.hint S.Subscriber.enables S.Subscriber.kept

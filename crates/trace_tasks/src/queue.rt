@@ -4,10 +4,10 @@ ghost use Rattle.std.specs.VecDeque.{deque_len, deque_capacity};
 ghost use Rattle.futures.specs.Task.{Keeps};
 ghost use Rattle.span_futures.specs.Lent.{HasAll};
 ghost use Rattle.trace_tasks.specs.Stops.{StopsTurns, StopsInTurn, DropsAll};
-ghost use Rattle.trace_tasks.specs.Turning.{Ready, dispatch_serving};
+ghost use Rattle.trace_tasks.specs.Turning.{ReadyToPoll, dispatch_serving};
 ghost use Rattle.trace_tasks.specs.Waiting.{AllWait, AllKnown, AllStand, TakesTurnIf, TakesTurns, polls_in, queue_with};
 
-use crate::running::Running;
+use crate::running::TaskFuture;
 use crate::turn::turn;
 use futures::task::Context;
 use otel_base::enter_error::EnterError;
@@ -20,13 +20,13 @@ use trace_base::world::World;
 /// Polls the first task of a queue, which goes to the end if it isn't finished; false if there is none. A poll that is
 /// refused closes the handles of all tasks, at its moment.
 pub(crate) fn take_turn<S: OtelSubscriber>(
-    queue: &mut VecDeque<Instrumented<Running>>,
+    queue: &mut VecDeque<Instrumented<TaskFuture>>,
     world: &mut World<S>,
     lane: &mut Lane,
     at: u64,
     cx: &mut Context<'_>,
 ) -> Result<bool, EnterError>
-    requires ready { Ready S.Subscriber.spans S.Subscriber.kept S.Subscriber.is_whole world.old lane.old }
+    requires ready { ReadyToPoll S.Subscriber.spans S.Subscriber.kept S.Subscriber.is_whole world.old lane.old }
     requires wait { AllWait S.Subscriber.spans world.old (dispatch_serving lane.old) queue.old.items }
 
     ensures ok { IfOk result (λ taken. TakesTurnIf S.Subscriber.spans S.Subscriber.hint S.Subscriber.enables
@@ -56,12 +56,12 @@ pub(crate) fn take_turn<S: OtelSubscriber>(
 
 /// Polls the tasks of a queue in turn until none is left; answers the number of polls. The k-th poll is at the moment 10 k.
 pub(crate) fn poll_all<S: OtelSubscriber>(
-    queue: &mut VecDeque<Instrumented<Running>>,
+    queue: &mut VecDeque<Instrumented<TaskFuture>>,
     world: &mut World<S>,
     lane: &mut Lane,
     cx: &mut Context<'_>,
 ) -> Result<u64, EnterError>
-    requires ready { Ready S.Subscriber.spans S.Subscriber.kept S.Subscriber.is_whole world.old lane.old }
+    requires ready { ReadyToPoll S.Subscriber.spans S.Subscriber.kept S.Subscriber.is_whole world.old lane.old }
     requires wait { AllWait S.Subscriber.spans world.old (dispatch_serving lane.old) queue.old.items }
     requires few { polls_in queue.old.items < 2 ^ 60 }
 
@@ -83,7 +83,7 @@ pub(crate) fn poll_all<S: OtelSubscriber>(
 }
 
 // A task goes to the end of the queue, if it isn't finished.
-fn put_back(queue: &mut VecDeque<Instrumented<Running>>, left: Option<Instrumented<Running>>)
+fn put_back(queue: &mut VecDeque<Instrumented<TaskFuture>>, left: Option<Instrumented<TaskFuture>>)
     requires { deque_len queue.old < deque_capacity queue.old }
     ensures { queue.new.items ≡ queue_with queue.old.items left }
 {
@@ -95,7 +95,7 @@ fn put_back(queue: &mut VecDeque<Instrumented<Running>>, left: Option<Instrument
 
 /// Closes the handles of all tasks that are left.
 pub(crate) fn close_all<S: OtelSubscriber>(
-    queue: &mut VecDeque<Instrumented<Running>>,
+    queue: &mut VecDeque<Instrumented<TaskFuture>>,
     world: &mut World<S>,
     at: u64,
 )

@@ -2,15 +2,15 @@
 ghost use Rattle.std.specs.Prelude.{◌≡◌, ◌<◌, ◌^◌, ◌+◌, [], length, sum_by, IfOk, IfErr};
 ghost use Rattle.futures.specs.Task.{Keeps};
 ghost use Rattle.span_handles.specs.Worlds.{spans_in};
-ghost use Rattle.trace_tasks.specs.Begun.{AllSited, Ran};
+ghost use Rattle.trace_tasks.specs.Begun.{AllHaveCallsites, RunsTasks};
 ghost use Rattle.trace_tasks.specs.Flat.{all_polls, tasks_at_first, yield_count};
 ghost use Rattle.trace_tasks.specs.Stops.{GaveUp};
-ghost use Rattle.trace_tasks.specs.Turning.{Ready, dispatch_serving};
+ghost use Rattle.trace_tasks.specs.Turning.{ReadyToPoll, dispatch_serving};
 
 use crate::begin::begin_all;
 use crate::copies::copied_tasks;
 use crate::queue::{close_all, poll_all};
-use crate::running::Running;
+use crate::running::TaskFuture;
 use crate::script::{Task, TaskScript};
 use futures::task::Context;
 use otel_base::enter_error::EnterError;
@@ -33,13 +33,13 @@ pub fn run_tasks<S: OtelSubscriber>(
     lane: &mut Lane,
     cx: &mut Context<'_>,
 ) -> Result<u64, EnterError>
-    requires ready { Ready S.Subscriber.spans S.Subscriber.kept S.Subscriber.is_whole world.old lane.old }
+    requires ready { ReadyToPoll S.Subscriber.spans S.Subscriber.kept S.Subscriber.is_whole world.old lane.old }
     requires sites { world.old.sites ≡ script.now.settings.callsites }
-    requires sited { AllSited (length script.now.settings.callsites) script.now.tasks }
+    requires sited { AllHaveCallsites (length script.now.settings.callsites) script.now.tasks }
     requires few { length (spans_in S.Subscriber.spans world.old (dispatch_serving lane.old)).made + length script.now.tasks < 2 ^ 63 }
     requires few_polls { all_polls (tasks_at_first 0 script.now.tasks) < 2 ^ 60 }
 
-    ensures ok { IfOk result (Ran S.Subscriber.spans S.Subscriber.hint S.Subscriber.enables S.Subscriber.does
+    ensures ok { IfOk result (RunsTasks S.Subscriber.spans S.Subscriber.hint S.Subscriber.enables S.Subscriber.does
         S.OtelPart.touches script.now.settings.callsites script.now.tasks world.old world.new lane.old lane.new) }
     ensures answer { IfOk result (λ polls. polls ≡ sum_by (λ t. yield_count t.steps) script.now.tasks + length script.now.tasks) }
     ensures gives_up { IfErr result (λ e.
@@ -62,18 +62,18 @@ pub fn run_tasks<S: OtelSubscriber>(
 fn begin_and_poll<S: OtelSubscriber>(
     alloc: Global,
     tasks: Items<Task>,
-    queue: &mut VecDeque<Instrumented<Running>>,
+    queue: &mut VecDeque<Instrumented<TaskFuture>>,
     world: &mut World<S>,
     lane: &mut Lane,
     cx: &mut Context<'_>,
 ) -> Result<u64, EnterError>
     requires none { queue.old.items ≡ [] }
-    requires ready { Ready S.Subscriber.spans S.Subscriber.kept S.Subscriber.is_whole world.old lane.old }
-    requires sited { AllSited (length world.old.sites) tasks }
+    requires ready { ReadyToPoll S.Subscriber.spans S.Subscriber.kept S.Subscriber.is_whole world.old lane.old }
+    requires sited { AllHaveCallsites (length world.old.sites) tasks }
     requires few { length (spans_in S.Subscriber.spans world.old (dispatch_serving lane.old)).made + length tasks < 2 ^ 63 }
     requires few_polls { all_polls (tasks_at_first 0 tasks) < 2 ^ 60 }
 
-    ensures ok { IfOk result (Ran S.Subscriber.spans S.Subscriber.hint S.Subscriber.enables S.Subscriber.does
+    ensures ok { IfOk result (RunsTasks S.Subscriber.spans S.Subscriber.hint S.Subscriber.enables S.Subscriber.does
         S.OtelPart.touches world.old.sites tasks world.old world.new lane.old lane.new) }
     ensures answer { IfOk result (λ polls. polls ≡ sum_by (λ t. yield_count t.steps) tasks + length tasks) }
     ensures gives_up { IfErr result (λ e.

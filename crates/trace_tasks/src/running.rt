@@ -16,14 +16,14 @@ use trace_base::world::World;
 
 /// The steps of a task that are left. A poll does those up to a yield, or up to the end, and lets them go.
 #[derive(Drop)]
-pub struct Running {
+pub struct TaskFuture {
     /// The allocator of what its steps give.
     pub alloc: Global,
     /// The steps, the next one first.
     pub steps: VecDeque<Step>,
 }
 
-impl<S: OtelSubscriber> TracedFuture<S> for Running {
+impl<S: OtelSubscriber> TracedFuture<S> for TaskFuture {
     type Output = ();
 
     ghost can_poll = { λ f. Unit {0} };

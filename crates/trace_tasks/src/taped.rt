@@ -6,21 +6,21 @@ ghost use Rattle.trace_base.specs.declared.callsite.Callsite.{Callsite};
 ghost use Rattle.trace_base.specs.declared.lane.Lane.{Lane};
 ghost use Rattle.trace_base.specs.Gate.{WorldValue};
 ghost use Rattle.trace_tape.specs.Sinks.{TakesAll};
-ghost use Rattle.trace_tape.specs.Taping.{TapeValue, DoesTape};
-ghost use Rattle.trace_tape.specs.Touching.{TouchesTape};
+ghost use Rattle.trace_tape.specs.Tapes.{TapeValue, DoesTape};
+ghost use Rattle.trace_tape.specs.PartCalls.{TouchesTape};
 ghost use Rattle.trace_tasks.specs.declared.script.Task.{Task};
-ghost use Rattle.trace_tasks.specs.Begun.{AllSited, Ran};
+ghost use Rattle.trace_tasks.specs.Begun.{AllHaveCallsites, RunsTasks};
 ghost use Rattle.trace_tasks.specs.Carrying.{TaskScene};
 ghost use Rattle.trace_tasks.specs.Flat.{all_polls, tasks_at_first, flat_list, yield_count};
-ghost use Rattle.trace_tasks.specs.Spelled.{AreTested, IsNewTape, KeepsOnTape, tape_spans};
+ghost use Rattle.trace_tasks.specs.Spelled.{TasksAreDeclared, IsNewTape, KeepsOnTape, tape_spans};
 ghost use Rattle.trace_tasks.specs.Stops.{GaveUp};
 ghost use Rattle.trace_tasks.specs.TapeTurns.{WaitOnTape, OnlyRequestsChange, HandsOn, HandsTurnsOn};
-ghost use Rattle.trace_tasks.specs.Turning.{Ready, dispatch_serving};
+ghost use Rattle.trace_tasks.specs.Turning.{ReadyToPoll, dispatch_serving};
 ghost use Rattle.trace_tasks.specs.Waiting.{AllWait, polls_in};
 
 use crate::begin::begin_all;
 use crate::queue::{close_all, take_turn};
-use crate::running::Running;
+use crate::running::TaskFuture;
 use crate::script::Task;
 use futures::task::Context;
 use otel_base::enter_error::EnterError;
@@ -39,9 +39,9 @@ use trace_tape::tape::Tape;
 pub fn runs_over_a_tape()
     ensures spelled { (tasks : List Task) (old new : WorldValue TapeValue) (before later : Lane) (tape : TapeValue) (polls : ℕ)
         → IsNewTape old (dispatch_serving before) tape
-        → Ready tape_spans (λ s lane number. 0) (λ s. Unit {0}) old before
-        → AreTested old.sites tasks → all_polls (tasks_at_first 0 tasks) < 2 ^ 60
-        → Ran tape_spans (λ s. None) (λ s lane c. true) DoesTape TouchesTape old.sites tasks old new before later polls
+        → ReadyToPoll tape_spans (λ s lane number. 0) (λ s. Unit {0}) old before
+        → TasksAreDeclared old.sites tasks → all_polls (tasks_at_first 0 tasks) < 2 ^ 60
+        → RunsTasks tape_spans (λ s. None) (λ s lane c. true) DoesTape TouchesTape old.sites tasks old new before later polls
         → KeepsOnTape (dispatch_serving before) (flat_list old.sites tasks) new }
     ensures never_full { (d : ℕ) (sites : List Callsite) (tasks : List Task) (s : TaskScene TapeValue)
         (new : WorldValue TapeValue) (later : Lane)
@@ -63,9 +63,9 @@ pub fn run_on_tape<K: RequestSink>(
 ) -> Result<u64, EnterError>
     requires serves { dispatch_serving lane.old ≡ dispatch }
     requires new_tape { (tape : _) × IsNewTape world.old dispatch tape }
-    requires ready { Ready tape_spans (λ s lane number. 0) (λ s. Unit {0}) world.old lane.old }
-    requires sited { AllSited (length world.old.sites) tasks }
-    requires tested { AreTested world.old.sites tasks }
+    requires ready { ReadyToPoll tape_spans (λ s lane number. 0) (λ s. Unit {0}) world.old lane.old }
+    requires sited { AllHaveCallsites (length world.old.sites) tasks }
+    requires tested { TasksAreDeclared world.old.sites tasks }
     requires few { length tasks < 2 ^ 63 }
     requires few_polls { all_polls (tasks_at_first 0 tasks) < 2 ^ 60 }
 
@@ -84,7 +84,7 @@ pub fn run_on_tape<K: RequestSink>(
 fn begin_and_spell<K: RequestSink>(
     alloc: Global,
     tasks: Items<Task>,
-    queue: &mut VecDeque<Instrumented<Running>>,
+    queue: &mut VecDeque<Instrumented<TaskFuture>>,
     world: &mut World<Tape>,
     lane: &mut Lane,
     dispatch: Dispatch,
@@ -94,9 +94,9 @@ fn begin_and_spell<K: RequestSink>(
     requires none { queue.old.items ≡ [] }
     requires serves { dispatch_serving lane.old ≡ dispatch }
     requires new_tape { (tape : _) × IsNewTape world.old dispatch tape }
-    requires ready { Ready tape_spans (λ s lane number. 0) (λ s. Unit {0}) world.old lane.old }
-    requires sited { AllSited (length world.old.sites) tasks }
-    requires tested { AreTested world.old.sites tasks }
+    requires ready { ReadyToPoll tape_spans (λ s lane number. 0) (λ s. Unit {0}) world.old lane.old }
+    requires sited { AllHaveCallsites (length world.old.sites) tasks }
+    requires tested { TasksAreDeclared world.old.sites tasks }
     requires few { length tasks < 2 ^ 63 }
     requires few_polls { all_polls (tasks_at_first 0 tasks) < 2 ^ 60 }
 
@@ -124,7 +124,7 @@ fn begin_and_spell<K: RequestSink>(
 
 // Polls the tasks of a queue in turn until none is left, and hands on what each poll spelled; answers the number of polls.
 fn spell_turns<K: RequestSink>(
-    queue: &mut VecDeque<Instrumented<Running>>,
+    queue: &mut VecDeque<Instrumented<TaskFuture>>,
     world: &mut World<Tape>,
     lane: &mut Lane,
     dispatch: Dispatch,
@@ -132,7 +132,7 @@ fn spell_turns<K: RequestSink>(
     sink: &mut K,
 ) -> Result<u64, EnterError>
     requires serves { dispatch_serving lane.old ≡ dispatch }
-    requires ready { Ready tape_spans (λ s lane number. 0) (λ s. Unit {0}) world.old lane.old }
+    requires ready { ReadyToPoll tape_spans (λ s lane number. 0) (λ s. Unit {0}) world.old lane.old }
     requires wait { AllWait tape_spans world.old (dispatch_serving lane.old) queue.old.items }
     requires few { polls_in queue.old.items < 2 ^ 60 }
 

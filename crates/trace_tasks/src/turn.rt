@@ -5,10 +5,10 @@ ghost use Rattle.span_handles.specs.Handles.{IsKnown};
 ghost use Rattle.span_handles.specs.Worlds.{spans_in};
 ghost use Rattle.span_futures.specs.Lent.{HasAll};
 ghost use Rattle.trace_tasks.specs.Stops.{TurnStops};
-ghost use Rattle.trace_tasks.specs.Turning.{Ready, IsAlone, Turned, dispatch_serving};
+ghost use Rattle.trace_tasks.specs.Turning.{ReadyToPoll, IsAlone, PollsTask, dispatch_serving};
 ghost use Rattle.trace_tasks.specs.Waiting.{KeepsBut};
 
-use crate::running::Running;
+use crate::running::TaskFuture;
 use futures::task::{Context, Poll};
 use otel_base::enter_error::EnterError;
 use otel_layer::part::OtelSubscriber;
@@ -19,18 +19,18 @@ use trace_base::world::World;
 
 /// Polls a task once, and ends it if it is finished or refused.
 pub(crate) fn turn<S: OtelSubscriber>(
-    task: Instrumented<Running>,
+    task: Instrumented<TaskFuture>,
     world: &mut World<S>,
     lane: &mut Lane,
     at: u64,
     cx: &mut Context<'_>,
-) -> Result<Option<Instrumented<Running>>, EnterError>
-    requires ready { Ready S.Subscriber.spans S.Subscriber.kept S.Subscriber.is_whole world.old lane.old }
+) -> Result<Option<Instrumented<TaskFuture>>, EnterError>
+    requires ready { ReadyToPoll S.Subscriber.spans S.Subscriber.kept S.Subscriber.is_whole world.old lane.old }
     requires known { IsKnown S.Subscriber.spans world.old task.span.held }
     requires lone { (site : _) × IsAlone (spans_in S.Subscriber.spans world.old (dispatch_serving lane.old)).made (dispatch_serving lane.old) site task.span }
 
     ensures ok { IfOk result (λ left.
-        Turned S.Subscriber.spans S.Subscriber.hint S.Subscriber.enables S.Subscriber.kept S.Subscriber.is_whole
+        PollsTask S.Subscriber.spans S.Subscriber.hint S.Subscriber.enables S.Subscriber.kept S.Subscriber.is_whole
         S.Subscriber.does S.OtelPart.touches at task world.old lane.old left world.new lane.new) }
     ensures stops { IfErr result (λ e.
         TurnStops S.Subscriber.spans S.Subscriber.hint S.Subscriber.enables S.Subscriber.activates S.Subscriber.does

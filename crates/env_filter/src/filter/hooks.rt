@@ -102,7 +102,12 @@ fn append_level(spans: &HashMap<u64, Matches>, lanes: &mut HashMap<u64, Levels>,
 }
 
 // Takes the newest level of the span off, if it has one.
-fn take_level_off(spans: &HashMap<u64, Matches>, lanes: &mut HashMap<u64, Levels>, lane: u64, id: Id)
+fn take_level_off(
+    spans: &HashMap<u64, Matches>,
+    lanes: &mut HashMap<u64, Levels>,
+    lane: u64,
+    id: Id,
+)
     ensures { levels_in lanes.new.entries
         ≡ map_at (levels_in lanes.old.entries) lane (without_open_level (has_match_state spans.now.entries id) id) }
 {

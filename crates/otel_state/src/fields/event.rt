@@ -254,9 +254,5 @@ fn tell_special(
     } else {
         Word::Error
     };
-    add_text(
-        &mut event.attributes,
-        Text::from_word(key),
-        description,
-    )
+    add_text(&mut event.attributes, Text::from_word(key), description)
 }

@@ -1,9 +1,9 @@
 //! Tasks that are polled over a tape, which keeps the requests that they spell.
 ghost use Rattle.std.specs.Prelude.{◌≡◌, [], length, IfOk};
 ghost use Rattle.trace_lines.specs.Generated.{generated_settings};
-ghost use Rattle.trace_tasks.specs.Begun.{AllSited};
+ghost use Rattle.trace_tasks.specs.Begun.{AllHaveCallsites};
 ghost use Rattle.trace_tasks.specs.Flat.{all_polls, tasks_at_first, yield_count};
-ghost use Rattle.trace_tasks.specs.Spelled.{AreTested, IsTested};
+ghost use Rattle.trace_tasks.specs.Spelled.{TasksAreDeclared, StepsAreDeclared};
 
 use futures::task::Context;
 use futures::test::MockTask;
@@ -26,7 +26,7 @@ use trace_tasks::taped::runs_over_a_tape;
 
 // An event, and an attribute in the next poll.
 fn steps(alloc: Global) -> Result<Items<Step>, Memory>
-    ensures tested { IfOk result (IsTested generated_settings.callsites) }
+    ensures tested { IfOk result (StepsAreDeclared generated_settings.callsites) }
     ensures once { IfOk result (λ steps. yield_count steps ≡ 1) }
 {
     let mut steps = Items::new(alloc);
@@ -54,8 +54,8 @@ fn task(alloc: Global, steps: Items<Step>) -> Task
 // A task with these steps, and one without any.
 fn script(alloc: Global) -> Result<TaskScript, Memory>
     ensures settings { IfOk result (λ script. script.settings ≡ generated_settings) }
-    ensures tested { IfOk result (λ script. AreTested generated_settings.callsites script.tasks) }
-    ensures sited { IfOk result (λ script. AllSited 3 script.tasks) }
+    ensures tested { IfOk result (λ script. TasksAreDeclared generated_settings.callsites script.tasks) }
+    ensures sited { IfOk result (λ script. AllHaveCallsites 3 script.tasks) }
     ensures count { IfOk result (λ script. length script.tasks ≡ 2) }
     ensures polls { IfOk result (λ script. all_polls (tasks_at_first 0 script.tasks) ≡ 3) }
 {

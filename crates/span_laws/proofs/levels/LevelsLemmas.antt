@@ -1,6 +1,6 @@
 -- What was heard of spans since the filter in force was put there is in order, so the levels are those that it tells.
 use Rattle.std.proofs.Common.{◌≡◌, ℕ, ◌<◌, ◌≤◌, ◌==◌, ◌||◌, List, [], ◌∷◌, ◌++◌, length, append_assoc, flat_map, fold, map, Bool, true, false, Option, Some, None, Ok, Err, unwrap_or, refl, sym, ap, subst, ◌∙◌, arith, inl, inr, is_some}
-use Rattle.span_laws.proofs.Common.{cases_eq, or_right, length_push, map-append, fold_push, fold-append, Hook, is_in, Directive, FilterState, Each, fresh_filter, span_level, after_hook, AreInOrder, NeverFalls, is_close_of, is_ended, level_by_calls, levels_by_calls, IsBefore, all_more, all_push, new_if, in_order, TextRead, filter_if, text_read, text_filter, hook_of, after_filter_hook, in_force, filter_at, is_open, Setup, Scope, MadeSpan, FilterHook, HookNew, HookRecord, HookEnter, HookExit, HookClose, Effect, History, Tables, with_item, no_tables, after_effect, tables, newer_text, hooks_since, IsHistory, none, more}
+use Rattle.span_laws.proofs.Common.{cases_eq, or_right, length_push, map-append, fold_push, fold-append, Hook, is_in, Directive, FilterState, Each, fresh_filter, span_level, after_hook, AreInOrder, NeverFalls, is_close_of, is_ended, level_by_calls, levels_by_calls, IsBefore, all_more, all_push, new_if, in_order, TextRead, filter_of_read, text_read, text_filter, hook_of, after_filter_hook, text_in_force, filter_in_force, is_open, Setup, Scope, MadeSpan, FilterHook, HookNew, HookRecord, HookEnter, HookExit, HookClose, Effect, History, Tables, with_item, no_tables, after_effect, tables, newer_text, hooks_since, IsHistory, none, more}
 use Rattle.std.proofs.lemmas.Bool.{ne_eqb, true≢false}
 use Rattle.std.proofs.lemmas.List.{append-nil}
 use Rattle.std.proofs.lemmas.List.Folds.{list_any-append}
@@ -101,7 +101,7 @@ fresh_heard f (heard ∷ all) = fresh_heard (after_filter_hook f heard) all ∙ 
     by_one (HookExit s lane) = refl
     by_one (HookClose s) = refl
 
-fresh_text : (r : TextRead) → fresh_filter (filter_if r) ≡ filter_if r
+fresh_text : (r : TextRead) → fresh_filter (filter_of_read r) ≡ filter_of_read r
 fresh_text (Ok ds) = refl
 fresh_text (Err piece) = refl
 
@@ -119,18 +119,18 @@ same_directives f all = ap (λ (x : FilterState). x.dynamics.directives) (fresh_
 
 -- ---- levels
 
-level_at : (setup : Setup) (t : Tables) (s : ℕ) → AreInOrder [] (map hook_of t.hooks) → span_level (filter_at setup t) s ≡ level_by_calls (text_filter (in_force setup t)).dynamics.directives s (map hook_of t.hooks)
-level_at setup t s order = level_is_by_calls (filter_at setup t) (map hook_of t.hooks) s order (heard_fresh (in_force setup t) t.hooks)
-    ∙ ap (λ (ds : List Directive). level_by_calls ds s (map hook_of t.hooks)) (same_directives (text_filter (in_force setup t)) t.hooks)
+level_at : (setup : Setup) (t : Tables) (s : ℕ) → AreInOrder [] (map hook_of t.hooks) → span_level (filter_in_force setup t) s ≡ level_by_calls (text_filter (text_in_force setup t)).dynamics.directives s (map hook_of t.hooks)
+level_at setup t s order = level_is_by_calls (filter_in_force setup t) (map hook_of t.hooks) s order (heard_fresh (text_in_force setup t) t.hooks)
+    ∙ ap (λ (ds : List Directive). level_by_calls ds s (map hook_of t.hooks)) (same_directives (text_filter (text_in_force setup t)) t.hooks)
 
-levels_at : (setup : Setup) (t : Tables) (lane : ℕ) → AreInOrder [] (map hook_of t.hooks) → (filter_at setup t).lanes lane ≡ levels_by_calls (text_filter (in_force setup t)).dynamics.directives lane (map hook_of t.hooks)
-levels_at setup t lane order = levels_are_told (filter_at setup t) (map hook_of t.hooks) lane order (heard_fresh (in_force setup t) t.hooks)
-    ∙ ap (λ (ds : List Directive). levels_by_calls ds lane (map hook_of t.hooks)) (same_directives (text_filter (in_force setup t)) t.hooks)
+levels_at : (setup : Setup) (t : Tables) (lane : ℕ) → AreInOrder [] (map hook_of t.hooks) → (filter_in_force setup t).lanes lane ≡ levels_by_calls (text_filter (text_in_force setup t)).dynamics.directives lane (map hook_of t.hooks)
+levels_at setup t lane order = levels_are_told (filter_in_force setup t) (map hook_of t.hooks) lane order (heard_fresh (text_in_force setup t) t.hooks)
+    ∙ ap (λ (ds : List Directive). levels_by_calls ds lane (map hook_of t.hooks)) (same_directives (text_filter (text_in_force setup t)) t.hooks)
 
 pub span_is : (setup : Setup) (h : History) (s : ℕ) → IsHistory setup h → level_in setup h s ≡ level_by_calls (directives_in setup h) s (hooks_in setup h)
 span_is setup h s legal = level_at setup (tables setup h) s (ordered setup h legal).order
 
-pub lane_is : (setup : Setup) (h : History) (lane : ℕ) → IsHistory setup h → (filter_at setup (tables setup h)).lanes lane ≡ levels_by_calls (directives_in setup h) lane (hooks_in setup h)
+pub lane_is : (setup : Setup) (h : History) (lane : ℕ) → IsHistory setup h → (filter_in_force setup (tables setup h)).lanes lane ≡ levels_by_calls (directives_in setup h) lane (hooks_in setup h)
 lane_is setup h lane legal = levels_at setup (tables setup h) lane (ordered setup h legal).order
 
 -- ---- while a filter is in force

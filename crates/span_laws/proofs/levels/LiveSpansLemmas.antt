@@ -307,21 +307,21 @@ counted_keys : (taken : Bool) (id at : ℕ) (callsite : Callsite) (values : Valu
 counted_keys true id at callsite values r = op_keys id at (event_of callsite values r.settings at) (with_applied id at ops.Counted r) ∙ op_keys id at ops.Counted r
 counted_keys false id at callsite values r = op_keys id at ops.Counted r
 
-event_by_keys : (counter : Option FilterState) (o : Option ℕ) (lane at : ℕ) (callsite : Callsite) (values : ValueSet) (r : Recording) → keys (with_event_by counter o lane at callsite values r) ≡ keys r
+event_by_keys : (counting_filter : Option FilterState) (o : Option ℕ) (lane at : ℕ) (callsite : Callsite) (values : ValueSet) (r : Recording) → keys (with_event_by counting_filter o lane at callsite values r) ≡ keys r
 event_by_keys None o lane at callsite values r = event_keys o at callsite values r
 event_by_keys (Some f) None lane at callsite values r = refl
 event_by_keys (Some f) (Some id) lane at callsite values r = counted_keys (enables_in f lane callsite) id at callsite values r
 
-pub call_kept_by : (counter : Option FilterState) (x : Spans) (r : Recording) (call : SubscriberCall) (t : Recording) → IsSound x → Allowed x call → RecordsCallBy counter x r call t → KeepsLive x r → KeepsLive (spans_after_call x call) t
-call_kept_by counter x r (Event lane at parent site callsite values) t sound allowed h keeps =
-    kept x x r t (λ q. refl) (ap keys h ∙ event_by_keys counter (parent_on (entries_on lane.id x.lanes) parent) lane.id at callsite values r) keeps
-call_kept_by counter x r (NewSpan lane at parent site callsite values) t sound allowed h keeps = call_kept x r (NewSpan lane at parent site callsite values) t sound allowed h keeps
-call_kept_by counter x r (Records id at callsite values) t sound allowed h keeps = call_kept x r (Records id at callsite values) t sound allowed h keeps
-call_kept_by counter x r (Follows id from at) t sound allowed h keeps = call_kept x r (Follows id from at) t sound allowed h keeps
-call_kept_by counter x r (Enter id at before later) t sound allowed h keeps = call_kept x r (Enter id at before later) t sound allowed h keeps
-call_kept_by counter x r (Exit id at before later) t sound allowed h keeps = call_kept x r (Exit id at before later) t sound allowed h keeps
-call_kept_by counter x r (CloneSpan id) t sound allowed h keeps = call_kept x r (CloneSpan id) t sound allowed h keeps
-call_kept_by counter x r (TryClose id at) t sound allowed h keeps = call_kept x r (TryClose id at) t sound allowed h keeps
+pub call_kept_by : (counting_filter : Option FilterState) (x : Spans) (r : Recording) (call : SubscriberCall) (t : Recording) → IsSound x → Allowed x call → RecordsCallBy counting_filter x r call t → KeepsLive x r → KeepsLive (spans_after_call x call) t
+call_kept_by counting_filter x r (Event lane at parent site callsite values) t sound allowed h keeps =
+    kept x x r t (λ q. refl) (ap keys h ∙ event_by_keys counting_filter (parent_on (entries_on lane.id x.lanes) parent) lane.id at callsite values r) keeps
+call_kept_by counting_filter x r (NewSpan lane at parent site callsite values) t sound allowed h keeps = call_kept x r (NewSpan lane at parent site callsite values) t sound allowed h keeps
+call_kept_by counting_filter x r (Records id at callsite values) t sound allowed h keeps = call_kept x r (Records id at callsite values) t sound allowed h keeps
+call_kept_by counting_filter x r (Follows id from at) t sound allowed h keeps = call_kept x r (Follows id from at) t sound allowed h keeps
+call_kept_by counting_filter x r (Enter id at before later) t sound allowed h keeps = call_kept x r (Enter id at before later) t sound allowed h keeps
+call_kept_by counting_filter x r (Exit id at before later) t sound allowed h keeps = call_kept x r (Exit id at before later) t sound allowed h keeps
+call_kept_by counting_filter x r (CloneSpan id) t sound allowed h keeps = call_kept x r (CloneSpan id) t sound allowed h keeps
+call_kept_by counting_filter x r (TryClose id at) t sound allowed h keeps = call_kept x r (TryClose id at) t sound allowed h keeps
 
 -- a stack that was just made
 pub begins_kept : (settings : LayerSettings) (counting : Bool) → KeepsLive no_spans (new_recording settings counting)

@@ -1,6 +1,6 @@
 -- What stands of each legal history: its tables, the stories of its open spans, and the records of its closed ones.
 use Rattle.std.proofs.Common.{◌≡◌, ℕ, ◌+◌, ◌<◌, ◌≤◌, ◌==◌, ◌&&◌, ◌||◌, List, [], ◌∷◌, ◌++◌, length, Bool, true, false, cond, filter, flat_map, map, fold, not, nat_lt, Option, Some, None, option_map, refl, sym, ap, subst, ◌∙◌, arith, append_assoc, if◌then◌else◌}
-use Rattle.span_laws.proofs.Common.{AllByRecursion, length_push, fold_push, fold-append, flat_map-append, cond-true, cond-false, nat_tests, SpanContext, Record, TimedOp, deed, SpanData, Recording, with_start, data_at, is_in, Setup, Scope, MadeSpan, SpanOp, Effect, History, Tables, with_item, no_tables, after_effect, tables, no_made_span, with_span_made, recorded_by, open_part, records_of, slot_at, holds, is_open, records_push, is_drop, IsHistory, none, more, occurrences, EachRecord, records_of_history, start_in, ops_in, ops_from, ops_of, closed_at, with_started, starts_of, at_making, starting_order, place_in, any_counted, pick}
+use Rattle.span_laws.proofs.Common.{AllByRecursion, length_push, fold_push, fold-append, flat_map-append, cond-true, cond-false, nat_tests, SpanContext, Record, TimedOp, deed, SpanData, Recording, with_start, data_at, is_in, Setup, Scope, MadeSpan, SpanOp, Effect, History, Tables, with_item, no_tables, after_effect, tables, no_made_span, with_span_made, recording_after, open_part, records_of, slot_at, holds, is_open, records_push, is_drop, IsHistory, none, more, occurrences, EachRecord, records_of_history, start_in, ops_in, ops_from, ops_of, closed_at, with_started, starts_of, starts_at_making, starting_order, place_in, any_counted, pick}
 use Rattle.std.specs.Option.{option_to_list}
 use Rattle.std.proofs.lemmas.List.{append-nil}
 use Rattle.std.proofs.lemmas.Bool.{ne_eqb, true≢false}
@@ -215,7 +215,7 @@ module _ (setup : Setup) (h : History) (now : IsWhole setup h (tables setup h)) 
   early_open : AllByRecursion (λ s. is_open hs s ≡ true) early
   early_open = subst (λ (o : Option ℕ). AllByRecursion (λ s. is_open hs s ≡ true) (option_to_list o)) (sym step.early) (by_made setup.layer.eager e.new_span refl)
     where
-      by_made : (eager : Bool) (o : Option MadeSpan) → e.new_span ≡ o → AllByRecursion (λ s. is_open hs s ≡ true) (option_to_list (at_making eager (length t.spans) o))
+      by_made : (eager : Bool) (o : Option MadeSpan) → e.new_span ≡ o → AllByRecursion (λ s. is_open hs s ≡ true) (option_to_list (starts_at_making eager (length t.spans) o))
       by_made eager None is = tt
       by_made false (Some m) is = tt
       by_made true (Some m) is = (new_open m is, tt)
@@ -226,7 +226,7 @@ module _ (setup : Setup) (h : History) (now : IsWhole setup h (tables setup h)) 
   abbrev early_done : ℕ → SpanContext → List TimedOp
   early_done = begun_by e.at order_before early begun_done
 
-  begun_early : AreStories setup (first_of ms) order early_done (guards_of t.guards) e.at (is_open hs) (length ms) (table.begun_by (length t.spans) e t.recording)
+  begun_early : AreStories setup (first_of ms) order early_done (guards_of t.guards) e.at (is_open hs) (length ms) (table.with_starts_of (length t.spans) e t.recording)
   begun_early =
       let before : Recording = with_span_made (length t.spans) e.new_span (fold (λ r s. with_start s e.at r) t.recording e.starts) in
       subst (AreStories setup (first_of ms) order early_done (guards_of t.guards) e.at (is_open hs) (length ms)) (starts_fold e.begins e.at before)
@@ -242,7 +242,7 @@ module _ (setup : Setup) (h : History) (now : IsWhole setup h (tables setup h)) 
   between = before_closes (length t.spans) e t.recording
 
   pub did : AreStories setup (first_of ms) order done opened e.at (is_open hs) (length ms) between
-  did = ops_stories setup (first_of ms) e.at timed.most order (is_open hs) (length ms) early_done (guards_of t.guards) (table.begun_by (length t.spans) e t.recording) e.ops begun_early (unstarted_all t.handles e.ops step.reached)
+  did = ops_stories setup (first_of ms) e.at timed.most order (is_open hs) (length ms) early_done (guards_of t.guards) (table.with_starts_of (length t.spans) e t.recording) e.ops begun_early (unstarted_all t.handles e.ops step.reached)
 
   within : (s : ℕ) → opened s ≤ guards_of (after_effect t e).guards s
   within s = turns_within setup.ids t.handles t.guards e.lane e.new_guard e.new_attach e.spent_guard e.entry e.exit step.enters e.ops step.turns s
@@ -268,7 +268,7 @@ module _ (setup : Setup) (h : History) (now : IsWhole setup h (tables setup h)) 
       by_open true b once = b
       by_open false b once = absurd (grind (arith, nat_tests, once, b, some))
 
-  closes : Closes setup (first_of ms) e.at timed.most order done opened (is_open hs) (length ms) between e.closes (recorded_by (length t.spans) e t.recording)
+  closes : Closes setup (first_of ms) e.at timed.most order done opened (is_open hs) (length ms) between e.closes (recording_after (length t.spans) e t.recording)
   closes = closes_stories setup (first_of ms) e.at timed.most opened (length ms) order done (is_open hs) between e.closes did closing_once shut
 
   abbrev h' : History
@@ -285,12 +285,12 @@ module _ (setup : Setup) (h : History) (now : IsWhole setup h (tables setup h)) 
       regroup : (a b x c d : List TimedOp) → (((a ++ b) ++ x) ++ c) ++ d ≡ a ++ (((b ++ x) ++ c) ++ d)
       regroup a b x c d = simp append_assoc
 
-  stories_now : AreStories setup (first_of ms) (starting_order h') (done_in h') (guards_of (after_effect t e).guards) e.at (is_open (after_effect t e).handles) (length ms) (open_part (recorded_by (length t.spans) e t.recording))
+  stories_now : AreStories setup (first_of ms) (starting_order h') (done_in h') (guards_of (after_effect t e).guards) e.at (is_open (after_effect t e).handles) (length ms) (open_part (recording_after (length t.spans) e t.recording))
   stories_now = record {
     each = λ s is.
         let f = closes.after.each s (still_open s is) in
-        subst (λ (o : List ℕ). IsStory setup (data_at s (recorded_by (length t.spans) e t.recording).spans) (first_of ms s) (place_in o s) (done_in h' s) (guards_of (after_effect t e).guards s) e.at) (sym (started_push h e))
-        (later_story setup (first_of ms s) (data_at s (recorded_by (length t.spans) e t.recording).spans) (place_in order_in_end s) (begun_by e.at order e.closes done s) (opened s) e.at f (done_in h' s) (guards_of (after_effect t e).guards s) e.at (done_is s) (within s) (omega arith));
+        subst (λ (o : List ℕ). IsStory setup (data_at s (recording_after (length t.spans) e t.recording).spans) (first_of ms s) (place_in o s) (done_in h' s) (guards_of (after_effect t e).guards s) e.at) (sym (started_push h e))
+        (later_story setup (first_of ms s) (data_at s (recording_after (length t.spans) e t.recording).spans) (place_in order_in_end s) (begun_by e.at order e.closes done s) (opened s) e.at f (done_in h' s) (guards_of (after_effect t e).guards s) e.at (done_is s) (within s) (omega arith));
     fresh = closes.after.fresh;
     count = closes.after.count ∙ ap (λ (o : List ℕ). length o) (sym (started_push h e));
     settings_are = closes.after.settings_are;

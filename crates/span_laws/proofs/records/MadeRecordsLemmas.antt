@@ -1,6 +1,6 @@
 -- Each record is that of a span which a request of the history made, by what that says.
 use Rattle.std.proofs.Common.{◌≡◌, ℕ, ◌+◌, ◌<◌, ◌≤◌, List, [], ◌∷◌, ◌++◌, length, fold, Option, Some, None, Ok, refl, sym, ap, subst, ◌∙◌, arith, inl, inr}
-use Rattle.span_laws.proofs.Common.{get_or_push, length_push, cases_eq, nat_tests, Context, SpanContext, Record, ids_of, recorder_ids, Making, TimedOp, SpanData, data_at_making, after_op, after_stamped, Represents, MomentsRise, content_is, parent_is, Request, effect_of, Setup, Effect, History, MadeSpan, Tables, after_effect, made_of, no_made_span, no_tables, tables, with_item, IsHistory, none, more, occurrences, IsRecordOf, IsMadeWith, EachRecord, IsRecord, all_ops, closed_at, records_of_history, place_in, starting_order}
+use Rattle.span_laws.proofs.Common.{get_or_push, length_push, cases_eq, nat_tests, Context, SpanContext, Record, ids_of, recorder_ids, Making, TimedOp, SpanData, data_at_making, after_op, after_stamped, Represents, MomentsRise, content_is, parent_is, Request, effect_of, Setup, Effect, History, MadeSpan, Tables, after_effect, made_span_at, no_made_span, no_tables, tables, with_item, IsHistory, none, more, occurrences, IsRecordOf, IsMadeWith, EachRecord, IsRecord, all_ops, closed_at, records_of_history, place_in, starting_order}
 use Rattle.std.proofs.lemmas.List.{append-nil}
 use Rattle.otel_state.specs.declared.op.Op.TheVariants as ops
 use Rattle.span_laws.proofs.records.HistoriesLemmas.{IsClosed, done_in, whole}
@@ -47,11 +47,11 @@ made_more : (ms : List MadeSpan) (o : Option MadeSpan) → length ms ≤ length 
 made_more ms None = omega arith
 made_more ms (Some m) = let longer = length_push ms m in omega (arith, longer)
 
-made_kept : (ms : List MadeSpan) (o : Option MadeSpan) (s : ℕ) → s < length ms → made_of (with_item ms o) s ≡ made_of ms s
+made_kept : (ms : List MadeSpan) (o : Option MadeSpan) (s : ℕ) → s < length ms → made_span_at (with_item ms o) s ≡ made_span_at ms s
 made_kept ms None s old = refl
 made_kept ms (Some m) s old = get_push_other ms m no_made_span s (λ same. absurd (omega (arith, same, old)))
 
-pub made_stays : (h : History) (t : Tables) (s : ℕ) → s < length t.spans → made_of (fold after_effect t h).spans s ≡ made_of t.spans s
+pub made_stays : (h : History) (t : Tables) (s : ℕ) → s < length t.spans → made_span_at (fold after_effect t h).spans s ≡ made_span_at t.spans s
 made_stays [] t s old = refl
 made_stays (e ∷ h) t s old = made_stays h (after_effect t e) s (let longer = made_more t.spans e.new_span in omega (arith, longer, old)) ∙ made_kept t.spans e.new_span s old
 
@@ -64,7 +64,7 @@ record IsMadeIn (h : History) (t : Tables) (s : ℕ) : Type 0 where
   is : h ≡ fore ++ e ∷ rest
   made : e.new_span ≡ Some m
   number : length (fold after_effect t fore).spans ≡ s
-  stays : made_of (fold after_effect t h).spans s ≡ m
+  stays : made_span_at (fold after_effect t h).spans s ≡ m
 
 made_in : (h : History) (t : Tables) (s : ℕ) → length t.spans ≤ s → s < length (fold after_effect t h).spans → IsMadeIn h t s
 made_in [] t s from below = absurd (omega (arith, from, below))
@@ -86,7 +86,7 @@ made_in (e ∷ h) t s from below = by_made e.new_span refl (λ later. made_in h 
             is = refl;
             made = is;
             number = sym same;
-            stays = made_stays h (after_effect t e) s (omega (arith, many, same)) ∙ ap (λ (o : Option MadeSpan). made_of (with_item t.spans o) s) is ∙ get_or_push t.spans m no_made_span s (sym same);
+            stays = made_stays h (after_effect t e) s (omega (arith, many, same)) ∙ ap (λ (o : Option MadeSpan). made_span_at (with_item t.spans o) s) is ∙ get_or_push t.spans m no_made_span s (sym same);
           }
           | inr other ↦ behind (later (omega (arith, many, from, other)))
         ]

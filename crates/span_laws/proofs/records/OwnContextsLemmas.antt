@@ -1,6 +1,6 @@
 -- What a request sees of a span's own context is that of the span's record.
 use Rattle.std.proofs.Common.{◌≡◌, ℕ, ◌<◌, ◌&&◌, List, [], ◌∷◌, ◌++◌, Bool, true, false, fold, flat_map, filter, map, not, ◌==◌, Option, Some, None, Ok, refl, sym, ap, ap₂, subst, ◌∙◌, arith, append_assoc, if◌then◌else◌, is_some, filter_map, slice_get}
-use Rattle.span_laws.proofs.Common.{AllByRecursion, cons_option, fold-append, flat_map-append, Context, SpanContext, Record, ids_of, recorder_ids, TimedOp, deed, before_start, is_start, last_or, own_of, SpanData, own_is, parent_is, with_start, parent_source, own_context_or, data_at, current_of, is_in, RequestParent, Request, here_at, effect_of, is_open, parent_at, Setup, Effect, History, MadeSpan, Scope, Tables, after_effect, made_of, no_tables, tables, is_drop, IsHistory, occurrences, HasContextOf, SeesOwn, context_of_lane, context_span, parent_context, EachRecord, all_ops, ops_from, ops_in, ops_of, records_of_history, start_in, place_in, starting_order, starts_of, with_started}
+use Rattle.span_laws.proofs.Common.{AllByRecursion, cons_option, fold-append, flat_map-append, Context, SpanContext, Record, ids_of, recorder_ids, TimedOp, deed, before_start, is_start, last_or, own_of, SpanData, own_is, parent_is, with_start, parent_source, own_context_or, data_at, current_of, is_in, RequestParent, Request, here_at, effect_of, is_open, parent_under, Setup, Effect, History, MadeSpan, Scope, Tables, after_effect, made_span_at, no_tables, tables, is_drop, IsHistory, occurrences, HasContextOf, SeesContextOf, context_of_lane, context_span, parent_context, EachRecord, all_ops, ops_from, ops_in, ops_of, records_of_history, start_in, place_in, starting_order, starts_of, with_started}
 use Rattle.std.specs.Option.{option_to_list}
 use Rattle.otel_base.specs.Stack.{empty_context}
 use Rattle.otel_state.specs.declared.op.Op.TheVariants as ops
@@ -125,10 +125,10 @@ module _ (setup : Setup) (fore rest : History) (e : Effect) (legal : IsHistory s
       regroup : (a b c d : List ℕ) → ((a ++ b) ++ c) ++ d ≡ a ++ (b ++ c ++ d)
       regroup a b c d = simp append_assoc
 
-  same_first : made_of t.spans p ≡ made_of (tables setup h).spans p
+  same_first : made_span_at t.spans p ≡ made_span_at (tables setup h).spans p
   same_first =
       sym (made_stays (e ∷ rest) t p (open_made t.handles t.spans t.closed (whole setup fore legal).stands.sound p is_held))
-      ∙ ap (λ (u : Tables). made_of u.spans p) (sym (fold-append after_effect (no_tables setup) fore (e ∷ rest)))
+      ∙ ap (λ (u : Tables). made_span_at u.spans p) (sym (fold-append after_effect (no_tables setup) fore (e ∷ rest)))
 
   same_parent : story.making.parent ≡ c.making.parent
   same_parent = sym (ap (λ (told : SpanData). told.parent) story.began.is) ∙ ap (λ (m : MadeSpan). m.made_with.parent) same_first ∙ ap (λ (told : SpanData). told.parent) c.began.is
@@ -193,16 +193,16 @@ module _ (setup : Setup) (fore rest : History) (e : Effect) (legal : IsHistory s
 abbrev with_ids : Option SpanContext → Context
 with_ids ids = record { span = ids }
 
-pub sees_own : (setup : Setup) (h : History) → IsHistory setup h → EachRecord (SeesOwn setup h) (tables setup h).closed (records_of_history setup h)
-sees_own setup h legal = each_map (IsClosed setup (tables setup h).spans h) (SeesOwn setup h) (tables setup h).closed (records_of_history setup h) seen (whole setup h legal).each
+pub sees_own : (setup : Setup) (h : History) → IsHistory setup h → EachRecord (SeesContextOf setup h) (tables setup h).closed (records_of_history setup h)
+sees_own setup h legal = each_map (IsClosed setup (tables setup h).spans h) (SeesContextOf setup h) (tables setup h).closed (records_of_history setup h) seen (whole setup h legal).each
   where
-    seen : (p : ℕ) (r : Record) → 0 < occurrences p (tables setup h).closed → IsClosed setup (tables setup h).spans h p r → SeesOwn setup h p r
+    seen : (p : ℕ) (r : Record) → 0 < occurrences p (tables setup h).closed → IsClosed setup (tables setup h).spans h p r → SeesContextOf setup h p r
     seen p r some c fore rest e up is starts =
         let step = legal_step setup h legal fore rest e is in
         let own = own_seen setup fore rest e step.2 step.0 step.3 p starts r (subst (λ (x : History). IsClosed setup (tables setup x).spans x p r) is c) in
         ap (own_context_or empty_context) own.1 ∙ ap with_ids own.2
 
-above_is : (activation : Bool) (under : RequestParent) (up : Scope) (current : Option ℕ) → parent_source activation (parent_at under up) current ≡ context_span activation under up current
+above_is : (activation : Bool) (under : RequestParent) (up : Scope) (current : Option ℕ) → parent_source activation (parent_under under up) current ≡ context_span activation under up current
 above_is activation request_parent.Root up current = refl
 above_is activation (request_parent.Under handle) [] current = refl
 above_is activation (request_parent.Under handle) (s ∷ up) current = refl

@@ -301,9 +301,9 @@ made_finished n (Some m) r = refl
 
 -- what stands before an effect's closes
 abbrev pub before_closes : ℕ → Effect → Recording → Recording
-before_closes n e r = table.done_by n e r
+before_closes n e r = table.with_ops_of n e r
 
 pub before_finished : (n : ℕ) (e : Effect) (r : Recording) → (before_closes n e r).finished ≡ r.finished
 before_finished n e r =
     let started = fold (λ r s. with_start s e.at r) r e.starts in
-    ops_finished e.at (table.begun_by n e r) e.ops ∙ begins_finished e.begins e.at (with_span_made n e.new_span started) ∙ made_finished n e.new_span started ∙ starts_finished e.at r e.starts
+    ops_finished e.at (table.with_starts_of n e r) e.ops ∙ begins_finished e.begins e.at (with_span_made n e.new_span started) ∙ made_finished n e.new_span started ∙ starts_finished e.at r e.starts

@@ -1,6 +1,6 @@
 -- What closes is one chain.
 use Rattle.std.proofs.Common.{◌≡◌, ℕ, ◌==◌, ◌||◌, List, [], ◌∷◌, ◌++◌, Bool, true, false, filter, not, slice_set, Option, Some, None, option_map, Ok, refl, sym, ap, subst, ◌∙◌, arith, inl, inr}
-use Rattle.span_laws.proofs.Common.{cases_Bool, or_right, cond-true, cond-false, nat_tests, is_in, Request, effect_of, holds, is_open, closed_of, Setup, Scope, MadeSpan, ScopeGuard, Effect, History, with_item, spend, slot_at, made_of, tables, BeginsWith, is_drop, IsHistory, any_counted, pick, slot_open, some_is}
+use Rattle.span_laws.proofs.Common.{cases_Bool, or_right, cond-true, cond-false, nat_tests, is_in, Request, effect_of, holds, is_open, closed_of, Setup, Scope, MadeSpan, ScopeGuard, Effect, History, with_item, spend, slot_at, made_span_at, tables, BeginsWith, is_drop, IsHistory, any_counted, pick, slot_open, some_is}
 use Rattle.std.proofs.lemmas.Bool.{eq-eqb, eqb-true, true≢false}
 use Rattle.span_laws.proofs.spans.ClosesLemmas.{AreMine, IsSound, named, step_stands}
 use Rattle.span_laws.proofs.records.HistoriesLemmas.{fits, whole}
@@ -11,19 +11,19 @@ the_rest : (a b : ℕ) (x y : Scope) → ◌≡◌ {A = Scope} (a ∷ x) (b ∷ 
 the_rest a b x y e = cc e
 
 -- with a span the ones above it stand in a line too
-pub in_line : (ms : List MadeSpan) (scope : Scope) (x y : ℕ) (up : Scope) → AreMine ms scope → is_in x scope ≡ true → (made_of ms x).scope ≡ x ∷ up → is_in y up ≡ true → is_in y scope ≡ true
+pub in_line : (ms : List MadeSpan) (scope : Scope) (x y : ℕ) (up : Scope) → AreMine ms scope → is_in x scope ≡ true → (made_span_at ms x).scope ≡ x ∷ up → is_in y up ≡ true → is_in y scope ≡ true
 in_line ms [] x y up mine there is above = absurd (cc there)
 in_line ms (z ∷ zs) x y up mine there is above = by_test (in_line ms zs x y up mine.1) (z == x) refl there
   where
-    by_test : (is_in x zs ≡ true → (made_of ms x).scope ≡ x ∷ up → is_in y up ≡ true → is_in y zs ≡ true) → (b : Bool) → (z == x) ≡ b → (b || is_in x zs) ≡ true → is_in y (z ∷ zs) ≡ true
+    by_test : (is_in x zs ≡ true → (made_span_at ms x).scope ≡ x ∷ up → is_in y up ≡ true → is_in y zs ≡ true) → (b : Bool) → (z == x) ≡ b → (b || is_in x zs) ≡ true → is_in y (z ∷ zs) ≡ true
     by_test rest true same there =
-        let at : zs ≡ up = the_rest z x zs up (sym mine.0 ∙ ap (λ (q : ℕ). (made_of ms q).scope) (eqb-true z x same) ∙ is) in
+        let at : zs ≡ up = the_rest z x zs up (sym mine.0 ∙ ap (λ (q : ℕ). (made_span_at ms q).scope) (eqb-true z x same) ∙ is) in
         or_right (z == y) (is_in y zs) (ap (is_in y) at ∙ above)
     by_test rest false same there = or_right (z == y) (is_in y zs) (rest there is above)
 
 module _ (hs : List (Option Scope)) (ms : List MadeSpan) (cs : List ℕ) (sound : IsSound hs ms cs) where
   -- what is above an open span is open
-  pub open_above : (x y : ℕ) (up : Scope) → (made_of ms x).scope ≡ x ∷ up → is_in y up ≡ true → is_open hs x ≡ true → is_open hs y ≡ true
+  pub open_above : (x y : ℕ) (up : Scope) → (made_span_at ms x).scope ≡ x ∷ up → is_in y up ≡ true → is_open hs x ≡ true → is_open hs y ≡ true
   open_above x y up is above held =
       let counted = any_counted (holds x) hs in
       let found = pick (holds x) hs None (grind (arith, nat_tests, counted, held)) in

@@ -1,6 +1,6 @@
 -- A child closes before its parent.
 use Rattle.std.proofs.Common.{◌≡◌, ℕ, zero, suc, ◌<◌, ◌≤◌, ◌==◌, ◌||◌, List, [], ◌∷◌, ◌++◌, length, Bool, true, false, slice_set, Option, None, refl, sym, ap, subst, ◌∙◌, arith, inl, inr, append_assoc}
-use Rattle.span_laws.proofs.Common.{get_or_push, fold_push, cases_eq, or_right, nat_tests, is_in, is_open, Setup, Scope, MadeSpan, ScopeGuard, History, Tables, with_item, spend, no_made_span, made_of, no_tables, after_effect, tables, BeginsWith, is_drop, IsHistory, none, more, occurrences}
+use Rattle.span_laws.proofs.Common.{get_or_push, fold_push, cases_eq, or_right, nat_tests, is_in, is_open, Setup, Scope, MadeSpan, ScopeGuard, History, Tables, with_item, spend, no_made_span, made_span_at, no_tables, after_effect, tables, BeginsWith, is_drop, IsHistory, none, more, occurrences}
 use Rattle.std.proofs.lemmas.List.{append-nil}
 use Rattle.std.proofs.lemmas.Bool.{eq-eqb, eqb-true}
 use Rattle.span_laws.proofs.spans.ChainsLemmas.{chain_front, in_line, open_above}
@@ -17,14 +17,14 @@ first_in : (p : ℕ) (up : List ℕ) → is_in p (p ∷ up) ≡ true
 first_in p up = ap (λ b. b || is_in p up) (eq-eqb p p refl)
 
 -- in a line a parent stands behind its child
-behind : (ms : List MadeSpan) (x : ℕ) (xs : Scope) (s p : ℕ) (up : Scope) → AreMine ms (x ∷ xs) → is_in s (x ∷ xs) ≡ true → (made_of ms s).scope ≡ s ∷ p ∷ up → is_in p xs ≡ true
+behind : (ms : List MadeSpan) (x : ℕ) (xs : Scope) (s p : ℕ) (up : Scope) → AreMine ms (x ∷ xs) → is_in s (x ∷ xs) ≡ true → (made_span_at ms s).scope ≡ s ∷ p ∷ up → is_in p xs ≡ true
 behind ms x xs s p up mine there is = by_test (x == s) refl there
   where
     by_test : (b : Bool) → (x == s) ≡ b → (b || is_in s xs) ≡ true → is_in p xs ≡ true
-    by_test true same there = ap (is_in p) (the_rest x s xs (p ∷ up) (sym mine.0 ∙ ap (λ (q : ℕ). (made_of ms q).scope) (eqb-true x s same) ∙ is)) ∙ first_in p up
+    by_test true same there = ap (is_in p) (the_rest x s xs (p ∷ up) (sym mine.0 ∙ ap (λ (q : ℕ). (made_span_at ms q).scope) (eqb-true x s same) ∙ is)) ∙ first_in p up
     by_test false same there = in_line ms xs s p (p ∷ up) mine.1 there is (first_in p up)
 
-before : (ms : List MadeSpan) (scope : Scope) (s p : ℕ) (up f rest : List ℕ) → AreMine ms scope → ((q : ℕ) → occurrences q scope ≤ 1) → is_in s scope ≡ true → (made_of ms s).scope ≡ s ∷ p ∷ up → scope ≡ f ++ p ∷ rest → is_in s f ≡ true
+before : (ms : List MadeSpan) (scope : Scope) (s p : ℕ) (up f rest : List ℕ) → AreMine ms scope → ((q : ℕ) → occurrences q scope ≤ 1) → is_in s scope ≡ true → (made_span_at ms s).scope ≡ s ∷ p ∷ up → scope ≡ f ++ p ∷ rest → is_in s f ≡ true
 before ms [] s p up f rest mine once there is parts = absurd (cc there)
 before ms (x ∷ xs) s p up [] rest mine once there is parts = absurd (
     let same : x ≡ p = heads x p xs rest parts in
@@ -39,16 +39,16 @@ before ms (x ∷ xs) s p up (y ∷ f) rest mine once there is parts =
     same : x ≡ y
     same = heads x y xs (f ++ p ∷ rest) parts
 
-    by_test : (is_in s xs ≡ true → (made_of ms s).scope ≡ s ∷ p ∷ up → xs ≡ f ++ p ∷ rest → is_in s f ≡ true) → (b : Bool) → (x == s) ≡ b → (b || is_in s xs) ≡ true → is_in s (y ∷ f) ≡ true
+    by_test : (is_in s xs ≡ true → (made_span_at ms s).scope ≡ s ∷ p ∷ up → xs ≡ f ++ p ∷ rest → is_in s f ≡ true) → (b : Bool) → (x == s) ≡ b → (b || is_in s xs) ≡ true → is_in s (y ∷ f) ≡ true
     by_test later true here there = ap (λ b. b || is_in s f) (eq-eqb y s (sym same ∙ eqb-true x s here))
     by_test later false here there = or_right (y == s) (is_in s f) (later there is (tails x y xs (f ++ p ∷ rest) parts))
 
 -- each child stands before its parent among what closed
 abbrev pub AreFirst : List MadeSpan → List ℕ → Type 0
-AreFirst ms cs = (s p : ℕ) (up fore rest : List ℕ) → (made_of ms s).scope ≡ s ∷ p ∷ up → cs ≡ fore ++ p ∷ rest → is_in s fore ≡ true
+AreFirst ms cs = (s p : ℕ) (up fore rest : List ℕ) → (made_span_at ms s).scope ≡ s ∷ p ∷ up → cs ≡ fore ++ p ∷ rest → is_in s fore ≡ true
 
 -- what has a scope was made
-scoped : (ms : List MadeSpan) (s x : ℕ) (up : Scope) → (made_of ms s).scope ≡ x ∷ up → s < length ms
+scoped : (ms : List MadeSpan) (s x : ℕ) (up : Scope) → (made_span_at ms s).scope ≡ x ∷ up → s < length ms
 scoped [] s x up is = absurd (cc is)
 scoped (m ∷ ms) zero x up is = omega arith
 scoped (m ∷ ms) (suc s) x up is = let less = scoped ms s x up is in omega (arith, less)
@@ -61,7 +61,7 @@ in_right s xs ys there = let a = is_in_counted s ys in let b = is_in_counted s (
 
 -- a new span's parent is open
 module _ (hs : List (Option Scope)) (ms : List MadeSpan) (cs : List ℕ) (sound : IsSound hs ms cs) where
-  old_first : AreFirst ms cs → (o : Option Scope) (m : Option MadeSpan) → Names hs ms o m → (s p : ℕ) (up fore rest : List ℕ) → (made_of (with_item ms m) s).scope ≡ s ∷ p ∷ up → cs ≡ fore ++ p ∷ rest → is_in s fore ≡ true
+  old_first : AreFirst ms cs → (o : Option Scope) (m : Option MadeSpan) → Names hs ms o m → (s p : ℕ) (up fore rest : List ℕ) → (made_span_at (with_item ms m) s).scope ≡ s ∷ p ∷ up → cs ≡ fore ++ p ∷ rest → is_in s fore ≡ true
   old_first first _ _ no_name s p up fore rest is parts = first s p up fore rest is parts
   old_first first _ _ (another scope known) s p up fore rest is parts = first s p up fore rest is parts
   old_first first _ _ (new_span m line known scope_is) s p up fore rest is parts = elim (cases_eq s (length ms)) [
@@ -80,7 +80,7 @@ module _ (hs : List (Option Scope)) (ms : List MadeSpan) (cs : List ℕ) (sound 
 -- one effect more: with its handle `hs` are the handles, and `after_hs` the ones when that is spent
 module _ (hs : List (Option Scope)) (gs : List (Option ScopeGuard)) (ms : List MadeSpan) (cs : List ℕ) (sound : IsSound hs ms cs) (old : AreFirst ms cs) where
   new_first : (o : Option ℕ) (closes : List ℕ) → Spends hs gs o closes → IsSound (spend hs o) ms (cs ++ closes)
-      → (s p : ℕ) (up fore rest : List ℕ) → (made_of ms s).scope ≡ s ∷ p ∷ up → cs ++ closes ≡ fore ++ p ∷ rest → is_in s fore ≡ true
+      → (s p : ℕ) (up fore rest : List ℕ) → (made_span_at ms s).scope ≡ s ∷ p ∷ up → cs ++ closes ≡ fore ++ p ∷ rest → is_in s fore ≡ true
   new_first _ _ no_spending later s p up fore rest is parts = old s p up fore rest is (sym (append-nil cs) ∙ parts)
   new_first _ _ (one_spent k scope closes at free closes_are) later s p up fore rest is parts = elim (parted p rest cs closes fore parts) [
     | inl found ↦ old s p up fore found.0 is found.1
@@ -129,5 +129,5 @@ first_on setup _ (more h request e legal is_effect) =
     (old_first t.handles t.spans t.closed stands.sound (first_on setup h legal) e.new_handle e.new_span step.names)
     e.spent_handle e.closes step.spends later.sound)
 
-pub children_first : (setup : Setup) (h : History) (s p : ℕ) (up fore rest : List ℕ) → IsHistory setup h → (made_of (tables setup h).spans s).scope ≡ s ∷ p ∷ up → (tables setup h).closed ≡ fore ++ p ∷ rest → is_in s fore ≡ true
+pub children_first : (setup : Setup) (h : History) (s p : ℕ) (up fore rest : List ℕ) → IsHistory setup h → (made_span_at (tables setup h).spans s).scope ≡ s ∷ p ∷ up → (tables setup h).closed ≡ fore ++ p ∷ rest → is_in s fore ≡ true
 children_first setup h s p up fore rest legal is parts = first_on setup h legal s p up fore rest is parts

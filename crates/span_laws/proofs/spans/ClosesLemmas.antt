@@ -1,6 +1,6 @@
 -- Each span closes once, when no handle holds it any more.
 use Rattle.std.proofs.Common.{◌≡◌, ℕ, ◌<◌, ◌≤◌, ◌&&◌, ◌||◌, ◌==◌, Bool, List, [], ◌∷◌, ◌++◌, length, true, cond, not, nat_lt, Option, Some, None, option_map, slice_set, refl, sym, ap, subst, ◌∙◌, arith, inl, inr, is_some}
-use Rattle.span_laws.proofs.Common.{length_push, get_or_push, cases_eq, cases_lt, nat_tests, is_in, current_of, counted_if_any, current_in, Setup, Scope, MadeSpan, ScopeGuard, Effect, Tables, with_item, spend, slot_at, no_made_span, made_of, scope_of, no_tables, after_effect, holds, is_open, closed_of, current_scope, occurrences, any_counted, slot_open, named_push, named_set, some_is}
+use Rattle.span_laws.proofs.Common.{length_push, get_or_push, cases_eq, cases_lt, nat_tests, is_in, current_of, counted_if_any, current_in, Setup, Scope, MadeSpan, ScopeGuard, Effect, Tables, with_item, spend, slot_at, no_made_span, made_span_at, scope_of, no_tables, after_effect, holds, is_open, closed_of, current_scope, occurrences, any_counted, slot_open, named_push, named_set, some_is}
 use Rattle.std.proofs.lemmas.List.{append-nil}
 use Rattle.std.proofs.lemmas.Bool.{eq-eqb, lt-ltb}
 use Rattle.span_laws.proofs.steps.GuardsLemmas.{IsGuarded}
@@ -11,7 +11,7 @@ use Rattle.span_laws.proofs.steps.StepsLemmas.{IsKnown, no_scope, of_handle, Nam
 -- from each span of a scope on it is that span's own scope
 abbrev pub AreMine : List MadeSpan → Scope → Type 0
 AreMine ms [] = Unit {0}
-AreMine ms (s ∷ up) = ((made_of ms s).scope ≡ s ∷ up) × AreMine ms up
+AreMine ms (s ∷ up) = ((made_span_at ms s).scope ≡ s ∷ up) × AreMine ms up
 
 -- A scope of made spans, each at most once, and of each span in it.
 pub record IsLine (ms : List MadeSpan) (scope : Scope) : Type 0 where

@@ -1,6 +1,6 @@
 -- A span that is made begins its story.
 use Rattle.std.proofs.Common.{◌≡◌, ℕ, ◌<◌, ◌≤◌, ◌==◌, List, [], ◌∷◌, ◌++◌, length, Bool, true, fold, Option, Some, None, refl, sym, ap, subst, ◌∙◌, arith, inl, inr}
-use Rattle.span_laws.proofs.Common.{AllByRecursion, length_push, get_or_push, cases_eq, cond-true, cond-false, SpanContext, GREATEST, Making, TimedOp, SpanData, data_at_making, after_op, data_at, with_span_data, Recording, told_at_made, Setup, MadeSpan, with_item, made_of, no_made_span, with_span_made, IsMadeWith, with_started, place_in}
+use Rattle.span_laws.proofs.Common.{AllByRecursion, length_push, get_or_push, cases_eq, cond-true, cond-false, SpanContext, GREATEST, Making, TimedOp, SpanData, data_at_making, after_op, data_at, with_span_data, Recording, told_at_made, Setup, MadeSpan, with_item, made_span_at, no_made_span, with_span_made, IsMadeWith, with_started, place_in}
 use Rattle.std.proofs.lemmas.Bool.{eq-eqb, ne_eqb}
 use Rattle.otel_state.specs.declared.op.Op.TheVariants as ops
 use Rattle.span_laws.proofs.spans.OccurrencesLemmas.{get_push_other}
@@ -11,7 +11,7 @@ use Rattle.span_laws.proofs.records.StoriesLemmas.{IsStory, HasId}
 
 -- what spans were made with
 abbrev pub first_of : List MadeSpan → ℕ → SpanData
-first_of ms s = (made_of ms s).made_with
+first_of ms s = (made_span_at ms s).made_with
 
 -- the story of a span that was just made
 begins : (setup : Setup) (told : SpanData) (done : SpanContext → List TimedOp) (opened at : ℕ) (making : Making) → IsMadeWith setup at told making → ((own : SpanContext) → done own ≡ []) → at ≤ GREATEST → IsStory setup (Some told) told 0 done opened at

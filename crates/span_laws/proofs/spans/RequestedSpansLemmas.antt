@@ -1,6 +1,6 @@
 -- A span is made exactly by a request for one that is admitted, and as that says.
 use Rattle.std.proofs.Common.{◌≡◌, ℕ, [], ◌∷◌, length, Bool, true, false, cond, Option, Some, None, Ok, Err, refl, sym, ap, subst, ◌∙◌, is_some, slice_get, ◌==◌, if◌then◌else◌, not}
-use Rattle.span_laws.proofs.Common.{option_map_or, LayerSettings, first_attributes, span_update, Recording, with_starts, parent_source, context_from, Callsite, ValueSet, current_of, Call, RequestParent, Request, TextRead, text_read, Resolved, refuse_if, Here, here_at, ◌>>=◌, need, effect_of, effect_of_call, is_bad_moment, attach_effect, detach_effect, enter_effect, exit_effect, is_full, is_shared, meets_full, entry_call, admits_at, reload_by, follow_effect, context_around, disabled_effect, drop_effect, exchange_effect, is_borrowed, lane_in, new_span_data_at, span_effect, parent_at, scope_at, scope_or_current, Fields, all_values, Setup, event_site, span_site, Effect, History, MadeSpan, Scope, Tables, slot_at, tables, IsHistory, IsMadeBy, asks_admitted, context_of_lane, is_making, parent_context}
+use Rattle.span_laws.proofs.Common.{option_map_or, LayerSettings, first_attributes, span_update, Recording, with_starts, parent_source, context_from, Callsite, ValueSet, current_of, Call, RequestParent, Request, TextRead, text_read, Resolved, refuse_if, Here, here_at, ◌>>=◌, need, effect_of, effect_of_call, is_bad_moment, attach_effect, detach_effect, enter_effect, exit_effect, is_full, is_shared, meets_full, entry_call, admits_on, reload_by, follow_effect, context_around, disabled_effect, drop_effect, exchange_effect, is_borrowed, lane_in, new_span_data_at, span_effect, parent_under, scope_at, scope_or_current, Fields, all_values, Setup, event_site, span_site, Effect, History, MadeSpan, Scope, Tables, slot_at, tables, IsHistory, IsMadeBy, asks_admitted, context_of_lane, is_making, parent_context}
 use Rattle.std.specs.Option.{option_to_list}
 use Rattle.span_script.specs.declared.request.Call.TheVariants as call
 use Rattle.span_script.specs.declared.request.RequestParent.TheVariants as request_parent
@@ -11,7 +11,7 @@ use Rattle.span_laws.proofs.steps.StepsLemmas.{IsFit, allowed, found, starts_kee
 
 -- the context that a new span is put under
 context_is : (activation : Bool) (current : Option ℕ) (t : Tables) (at id : ℕ) (under : RequestParent) (up : Scope) (setup : Setup) → setup.layer.activation ≡ activation → current_of (t.entries id) ≡ current
-    → context_from (with_starts (parent_source activation (parent_at under up) current) at t.recording).spans (context_around (t.contexts id) (parent_at under up)) (parent_source activation (parent_at under up) current)
+    → context_from (with_starts (parent_source activation (parent_under under up) current) at t.recording).spans (context_around (t.contexts id) (parent_under under up)) (parent_source activation (parent_under under up) current)
     ≡ parent_context setup t at id under up
 context_is activation current t at id request_parent.Root up setup active now = refl
 context_is activation current t at id (request_parent.Under handle) [] setup active now = refl
@@ -37,7 +37,7 @@ module _ (setup : Setup) (t : Tables) (fit : IsFit setup t) where
     id = (here at place).lane
 
     abbrev source : Option ℕ
-    source = parent_source setup.layer.activation (parent_at under up) (current_of (t.entries id))
+    source = parent_source setup.layer.activation (parent_under under up) (current_of (t.entries id))
 
     abbrev r : Recording
     r = with_starts source at t.recording
@@ -45,7 +45,7 @@ module _ (setup : Setup) (t : Tables) (fit : IsFit setup t) where
     settings : r.settings ≡ setup.layer
     settings = (starts_keep source at t.recording).0 ∙ fit.settings_are
 
-    made_so : IsMadeBy setup t at place (call.New site under fields) (record { site = site; scope = length t.spans ∷ up; made_with = new_span_data_at (here at place) callsite values (parent_at under up) })
+    made_so : IsMadeBy setup t at place (call.New site under fields) (record { site = site; scope = length t.spans ∷ up; made_with = new_span_data_at (here at place) callsite values (parent_under under up) })
     made_so = record {
       under = under;
       fields = fields;
@@ -57,7 +57,7 @@ module _ (setup : Setup) (t : Tables) (fit : IsFit setup t) where
       parent = placed;
       given = read;
       scope = refl;
-      making = record { name = callsite.name; parent = context_from r.spans (context_around (t.contexts id) (parent_at under up)) source; made_at = at; first = first_attributes callsite (lane_in (here at place)) r.settings; counting = r.counting; inactivity = r.settings.inactivity };
+      making = record { name = callsite.name; parent = context_from r.spans (context_around (t.contexts id) (parent_under under up)) source; made_at = at; first = first_attributes callsite (lane_in (here at place)) r.settings; counting = r.counting; inactivity = r.settings.inactivity };
       name = refl;
       context = context_is setup.layer.activation (current_of (t.entries id)) t at id under up setup refl refl;
       first = ap (first_attributes callsite (lane_in (here at place))) settings;
@@ -65,9 +65,9 @@ module _ (setup : Setup) (t : Tables) (fit : IsFit setup t) where
       written = ap (span_update callsite values) settings;
     }
 
-    by_gate : (b : Bool) → admits_at setup t id callsite ≡ b → Makes at place (call.New site under fields) (cond b (span_effect (here at place) site callsite values under up) (disabled_effect (here at place))).new_span
-    by_gate true gate = (ap (λ (o : Option Callsite). option_map_or (admits_at setup t id) o false) there ∙ gate, made_so)
-    by_gate false gate = ap (λ (o : Option Callsite). option_map_or (admits_at setup t id) o false) there ∙ gate
+    by_gate : (b : Bool) → admits_on setup t id callsite ≡ b → Makes at place (call.New site under fields) (cond b (span_effect (here at place) site callsite values under up) (disabled_effect (here at place))).new_span
+    by_gate true gate = (ap (λ (o : Option Callsite). option_map_or (admits_on setup t id) o false) there ∙ gate, made_so)
+    by_gate false gate = ap (λ (o : Option Callsite). option_map_or (admits_on setup t id) o false) there ∙ gate
 
   -- an effect that makes none
   nothing : (at place : ℕ) (what_for : Call) (a e : Effect) → ◌≡◌ {A = Resolved} (Ok a) (Ok e) → a.new_span ≡ None → asks_admitted setup t (here at place).lane what_for ≡ false → Makes at place what_for e.new_span
@@ -90,7 +90,7 @@ module _ (setup : Setup) (t : Tables) (fit : IsFit setup t) where
       let up = found setup t fit what.Handle (scope_at t (here at place).lane under) _ e callsite.2 in
       let values = found setup t fit what.Field (all_values callsite.0 fields) _ e up.2 in
       subst (λ (x : Effect). Makes at place (call.New site under fields) x.new_span) (the_effect setup t fit _ e values.2)
-      (by_gate at place site under fields callsite.0 up.0 values.0 callsite.1 up.1 values.1 (admits_at setup t (here at place).lane callsite.0) refl)
+      (by_gate at place site under fields callsite.0 up.0 values.0 callsite.1 up.1 values.1 (admits_on setup t (here at place).lane callsite.0) refl)
   by_call at place (call.Clone handle) e is =
       let there = found setup t fit what.Handle (slot_at t.handles handle) _ e is in
       nothing at place (call.Clone handle) _ e there.2 refl refl
@@ -184,18 +184,18 @@ module _ (setup : Setup) (t : Tables) (fit : IsFit setup t) where
 
 -- what starts before a span is made
 pub starts_before : (setup : Setup) (t : Tables) (fit : IsFit setup t) (request : Request) (e : Effect) (m : MadeSpan) → effect_of setup t request ≡ Ok e → e.new_span ≡ Some m → (by : IsMadeBy setup t request.at request.lane_place request.call m)
-    → e.starts ≡ option_to_list (parent_source setup.layer.activation (parent_at by.under by.up) (current_of (t.entries (here_at setup t request.at request.lane_place).lane)))
+    → e.starts ≡ option_to_list (parent_source setup.layer.activation (parent_under by.under by.up) (current_of (t.entries (here_at setup t request.at request.lane_place).lane)))
 starts_before setup t fit request e m is made by =
     let named_call = ap (effect_of_call setup t request.at request.lane_place) (sym by.asked) ∙ call_of setup t fit request e is in
     let callsite = found setup t fit what.Site (span_site setup.sites m.site) _ e named_call in
     let up = found setup t fit what.Handle (scope_at t (here_at setup t request.at request.lane_place).lane by.under) _ e callsite.2 in
     let values = found setup t fit what.Field (all_values callsite.0 by.fields) _ e up.2 in
     let same : up.0 ≡ by.up = cc (sym up.1 ∙ by.parent) in
-    by_gate callsite.0 up.0 values.0 (admits_at setup t (here_at setup t request.at request.lane_place).lane callsite.0) (the_effect setup t fit _ e values.2)
-    ∙ ap (λ (scope : Scope). option_to_list (parent_source setup.layer.activation (parent_at by.under scope) (current_of (t.entries (here_at setup t request.at request.lane_place).lane)))) same
+    by_gate callsite.0 up.0 values.0 (admits_on setup t (here_at setup t request.at request.lane_place).lane callsite.0) (the_effect setup t fit _ e values.2)
+    ∙ ap (λ (scope : Scope). option_to_list (parent_source setup.layer.activation (parent_under by.under scope) (current_of (t.entries (here_at setup t request.at request.lane_place).lane)))) same
   where
     by_gate : (callsite : Callsite) (up : Scope) (values : ValueSet) (b : Bool) → cond b (span_effect (here_at setup t request.at request.lane_place) m.site callsite values by.under up) (disabled_effect (here_at setup t request.at request.lane_place)) ≡ e
-        → e.starts ≡ option_to_list (parent_source setup.layer.activation (parent_at by.under up) (current_of (t.entries (here_at setup t request.at request.lane_place).lane)))
+        → e.starts ≡ option_to_list (parent_source setup.layer.activation (parent_under by.under up) (current_of (t.entries (here_at setup t request.at request.lane_place).lane)))
     by_gate callsite up values true is = ap (λ (x : Effect). x.starts) (sym is)
     by_gate callsite up values false is = (let none : ◌≡◌ {A = Option MadeSpan} None (Some m) = ap (λ (x : Effect). x.new_span) is ∙ made in absurd (cc none))
 

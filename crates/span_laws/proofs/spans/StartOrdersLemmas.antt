@@ -1,6 +1,6 @@
 -- Which spans start, in which order, read off what is recorded.
 use Rattle.std.proofs.Common.{◌≡◌, ℕ, ◌<◌, ◌≤◌, ◌==◌, ◌&&◌, List, [], ◌∷◌, ◌++◌, length, Bool, true, false, cond, not, fold, Option, Some, None, Ok, refl, sym, ap, ◌∙◌, arith, inl, inr, append_assoc}
-use Rattle.span_laws.proofs.Common.{AllByRecursion, cases_Bool, cond-true, cond-false, nat_tests, Context, SpanContext, GREATEST, TimedOp, SpanData, Recording, with_start, with_close, data_at, start_context, context_unless_started, is_in, Setup, Request, Effect, History, Tables, done_by, tables, effect_of, is_drop, IsHistory, occurrences, with_started, starting_order, place_in}
+use Rattle.span_laws.proofs.Common.{AllByRecursion, cases_Bool, cond-true, cond-false, nat_tests, Context, SpanContext, GREATEST, TimedOp, SpanData, Recording, with_start, with_close, data_at, start_context, context_unless_started, is_in, Setup, Request, Effect, History, Tables, with_ops_of, tables, effect_of, is_drop, IsHistory, occurrences, with_started, starting_order, place_in}
 use Rattle.std.specs.Option.{option_to_list}
 use Rattle.std.proofs.lemmas.List.{append-nil}
 use Rattle.span_laws.proofs.records.HistoriesLemmas.{closing_once, did, done_in, fits, moved, shut, started_push, whole}
@@ -79,7 +79,7 @@ module _ (setup : Setup) (first : ℕ → SpanData) (now : ℕ) (most : now ≤ 
 
 -- the spans that an effect starts, beside the one that it makes
 abbrev pub order_in : Tables → Effect → List ℕ
-order_in t e = starts_from e.at t.recording e.starts ++ closes_from e.at (done_by (length t.spans) e t.recording) e.closes
+order_in t e = starts_from e.at t.recording e.starts ++ closes_from e.at (with_ops_of (length t.spans) e t.recording) e.closes
 
 pub effect_order : (setup : Setup) (h : History) (request : Request) (e : Effect) → IsHistory setup h → effect_of setup (tables setup h) request ≡ Ok e → e.begins ≡ None
     → starting_order (h ++ e ∷ []) ≡ starting_order h ++ order_in (tables setup h) e
@@ -88,9 +88,9 @@ effect_order setup h request e legal is none =
     let now = whole setup h legal in
     let step = step_of setup t (fits setup h now) request e is in
     let before = fold with_started (starting_order h) e.starts in
-    let closing = closes_from e.at (done_by (length t.spans) e t.recording) e.closes in
+    let closing = closes_from e.at (with_ops_of (length t.spans) e t.recording) e.closes in
     started_push h e
-    ∙ closes_order setup _ e.at step.0.most _ _ (fold with_started before (option_to_list e.begins)) _ _ (done_by (length t.spans) e t.recording) e.closes (did setup h now request.at (is_drop request.call) e step.0 step.1)
+    ∙ closes_order setup _ e.at step.0.most _ _ (fold with_started before (option_to_list e.begins)) _ _ (with_ops_of (length t.spans) e t.recording) e.closes (did setup h now request.at (is_drop request.call) e step.0 step.1)
     (closing_once setup h now request.at (is_drop request.call) e step.0 step.1) (shut setup h now request.at (is_drop request.call) e step.0 step.1)
     ∙ ap (λ (o : List ℕ). o ++ closing) (
     ap (λ (b : Option ℕ). fold with_started before (option_to_list b)) none

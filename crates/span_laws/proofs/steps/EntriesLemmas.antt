@@ -1,6 +1,6 @@
 -- A span's open entries are at most its open guards.
 use Rattle.std.proofs.Common.{◌≡◌, ℕ, ◌+◌, ◌-◌, ◌≤◌, ◌==◌, ◌||◌, List, [], ◌∷◌, ◌++◌, Bool, true, false, cond, count_by, fold, slice_set, Option, Some, None, refl, sym, ap, subst, ◌∙◌, arith, inl, inr, if◌then◌else◌}
-use Rattle.span_laws.proofs.Common.{AllByRecursion, cases_lt, sum_by-set, is_in, count_push, deed, Scope, SpanOp, ScopeGuard, either_after, slot_at, own_span, is_open, pick, slot_open, named_within}
+use Rattle.span_laws.proofs.Common.{AllByRecursion, cases_lt, sum_by-set, is_in, count_push, deed, Scope, SpanOp, ScopeGuard, either_after, slot_at, span_of_scope, is_open, pick, slot_open, named_within}
 use Rattle.std.proofs.lemmas.Bool.{true≢false}
 use Rattle.span_laws.proofs.steps.GuardsLemmas.{IsGuarded, Enters, no_entry, skips, enters_by, exits_by}
 use Rattle.span_laws.proofs.records.RecordingLemmas.{turned_by}
@@ -53,7 +53,7 @@ module _ (ids : List ℕ) (hs : List (Option Scope)) (gs : List (Option ScopeGua
   abbrev all_turned : List SpanOp → ℕ → ℕ
   all_turned ds s = fold (λ f d. turned_by d f) (guards_of gs) ds s
 
-  by_entry : (g : ScopeGuard) (scope : Scope) → g.scope ≡ scope → (ds : List SpanOp) → Turns (own_span scope) None ds → (s : ℕ) → all_turned ds s ≤ guards_of (gs ++ Some g ∷ []) s
+  by_entry : (g : ScopeGuard) (scope : Scope) → g.scope ≡ scope → (ds : List SpanOp) → Turns (span_of_scope scope) None ds → (s : ℕ) → all_turned ds s ≤ guards_of (gs ++ Some g ∷ []) s
   by_entry g [] is ds turns s = let same = entries_kept ds (guards_of gs) s turns in let push = count_push (guards_span s) gs (Some g) in omega (arith, same, push)
   by_entry g (x ∷ up) is ds turns s =
       let push = count_push (guards_span s) gs (Some g) in
@@ -64,14 +64,14 @@ module _ (ids : List ℕ) (hs : List (Option Scope)) (gs : List (Option ScopeGua
       by_test true is = omega (arith, is)
       by_test false is = omega (arith, is)
 
-  by_exit : (n : ℕ) (g : ScopeGuard) → slot_at gs n ≡ Some g → (scope : Scope) → g.scope ≡ scope → (ds : List SpanOp) → Turns None (own_span scope) ds → (s : ℕ) → all_turned ds s ≤ guards_of (slice_set gs n None) s
+  by_exit : (n : ℕ) (g : ScopeGuard) → slot_at gs n ≡ Some g → (scope : Scope) → g.scope ≡ scope → (ds : List SpanOp) → Turns None (span_of_scope scope) ds → (s : ℕ) → all_turned ds s ≤ guards_of (slice_set gs n None) s
   by_exit n g there scope is ds turns s =
       let write = sum_by-set (λ (o : Option ScopeGuard). cond {A = ℕ} (guards_span s o) 1 0) gs n None None (named_within gs n g there) in
       let slot = ap (λ (o : Option ScopeGuard). cond {A = ℕ} (guards_span s o) 1 0) there in
       let mine = ap (λ (scope : Scope). cond {A = ℕ} (is_own s scope) 1 0) is in
       by_scope scope ds turns (omega (arith, write, slot, mine))
     where
-      by_scope : (scope : Scope) (ds : List SpanOp) → Turns None (own_span scope) ds → guards_of (slice_set gs n None) s + cond (is_own s scope) 1 0 ≡ guards_of gs s → all_turned ds s ≤ guards_of (slice_set gs n None) s
+      by_scope : (scope : Scope) (ds : List SpanOp) → Turns None (span_of_scope scope) ds → guards_of (slice_set gs n None) s + cond (is_own s scope) 1 0 ≡ guards_of gs s → all_turned ds s ≤ guards_of (slice_set gs n None) s
       by_scope [] ds turns fewer = let same = entries_kept ds (guards_of gs) s turns in omega (arith, same, fewer)
       by_scope (x ∷ up) ds turns fewer = subst (λ (ds : List SpanOp). all_turned ds s ≤ guards_of (slice_set gs n None) s) (sym turns) (by_test (x == s) fewer)
         where

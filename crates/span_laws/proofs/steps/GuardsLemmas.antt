@@ -1,13 +1,13 @@
 -- Each entry of a lane has an open guard, whose handle is unspent and of the guard's scope.
 use Rattle.std.proofs.Common.{◌≡◌, ℕ, zero, suc, ◌<◌, ◌==◌, List, [], ◌∷◌, ◌++◌, Bool, true, false, cond, count_by, slice_set, Option, Some, None, option_map, refl, sym, ap, subst, ◌∙◌, arith, inl, inr, ◌&&◌, ◌||◌}
-use Rattle.span_laws.proofs.Common.{cases_eq, cond-true, cond-false, and_from, and_parts, sum_by-set, get_or-le-sum_by, times_in, without_last, count_push, times_without, id_at, Scope, ScopeGuard, with_item, either_after, slot_at, own_span, lanes_with_entry, lanes_with_exit, borrows, is_borrowed, pick, named_push, named_set, named_within, some_is}
+use Rattle.span_laws.proofs.Common.{cases_eq, cond-true, cond-false, and_from, and_parts, sum_by-set, get_or-le-sum_by, times_in, without_last, count_push, times_without, id_at, Scope, ScopeGuard, with_item, either_after, slot_at, span_of_scope, with_entry_on, with_exit_on, borrows, is_borrowed, pick, named_push, named_set, named_within, some_is}
 use Rattle.std.proofs.lemmas.Bool.{eq-eqb, eqb-true, ne_eqb, true≢false}
-use Rattle.span_script.specs.Balance.{guards_span, opened_by}
+use Rattle.span_script.specs.Balance.{guards_span, open_guard_by}
 use Rattle.span_laws.proofs.spans.OccurrencesLemmas.{slot_push, slot_kept}
 
 -- an open guard of a span on the lane of an id
 abbrev pub is_on : List ℕ → ℕ → ℕ → Option ScopeGuard → Bool
-is_on ids l s o = guards_span l s (opened_by ids o)
+is_on ids l s o = guards_span l s (open_guard_by ids o)
 
 pub record IsGuarded (ids : List ℕ) (hs : List (Option Scope)) (gs : List (Option ScopeGuard)) (es : ℕ → List ℕ) : Type 0 where
   pub still : (n : ℕ) (g : ScopeGuard) → slot_at gs n ≡ Some g → slot_at hs g.handle ≡ Some g.scope
@@ -18,15 +18,15 @@ pub record IsGuarded (ids : List ℕ) (hs : List (Option Scope)) (gs : List (Opt
 pub data Enters (ids : List ℕ) (hs : List (Option Scope)) (gs : List (Option ScopeGuard)) (lane : ℕ) : Option ScopeGuard → Option ℕ → Option ℕ → Option ℕ → Option ℕ → Type 0 where
   no_entry : Enters ids hs gs lane None None None None None
   skips : (place : ℕ) → Enters ids hs gs lane None (Some place) None None None
-  enters_by : (g : ScopeGuard) → slot_at hs g.handle ≡ Some g.scope → lane ≡ id_at ids g.place → Enters ids hs gs lane (Some g) None None (own_span g.scope) None
-  exits_by : (n : ℕ) (g : ScopeGuard) → slot_at gs n ≡ Some g → lane ≡ id_at ids g.place → Enters ids hs gs lane None None (Some n) None (own_span g.scope)
+  enters_by : (g : ScopeGuard) → slot_at hs g.handle ≡ Some g.scope → lane ≡ id_at ids g.place → Enters ids hs gs lane (Some g) None None (span_of_scope g.scope) None
+  exits_by : (n : ℕ) (g : ScopeGuard) → slot_at gs n ≡ Some g → lane ≡ id_at ids g.place → Enters ids hs gs lane None None (Some n) None (span_of_scope g.scope)
 
 module _ (ids : List ℕ) (hs : List (Option Scope)) (gs : List (Option ScopeGuard)) (es : ℕ → List ℕ) (now : IsGuarded ids hs gs es) where
   -- whether an open guard with that scope is one of a span on a lane
-  on_of : (l s : ℕ) (g : ScopeGuard) (scope : Scope) → g.scope ≡ scope → is_on ids l s (Some g) ≡ guards_span l s (opened_by ids (Some (record g { scope = scope })))
-  on_of l s g scope is = ap (λ (x : Scope). guards_span l s (opened_by ids (Some (record g { scope = x })))) is
+  on_of : (l s : ℕ) (g : ScopeGuard) (scope : Scope) → g.scope ≡ scope → is_on ids l s (Some g) ≡ guards_span l s (open_guard_by ids (Some (record g { scope = scope })))
+  on_of l s g scope is = ap (λ (x : Scope). guards_span l s (open_guard_by ids (Some (record g { scope = x })))) is
 
-  entered_by : (g : ScopeGuard) (lane : ℕ) → slot_at hs g.handle ≡ Some g.scope → lane ≡ id_at ids g.place → (scope : Scope) → g.scope ≡ scope → (l s : ℕ) → times_in s (lanes_with_entry es lane (own_span scope) l) ≡ count_by (is_on ids l s) (gs ++ Some g ∷ [])
+  entered_by : (g : ScopeGuard) (lane : ℕ) → slot_at hs g.handle ≡ Some g.scope → lane ≡ id_at ids g.place → (scope : Scope) → g.scope ≡ scope → (l s : ℕ) → times_in s (with_entry_on es lane (span_of_scope scope) l) ≡ count_by (is_on ids l s) (gs ++ Some g ∷ [])
   entered_by g lane there at [] is l s =
       let push = count_push (is_on ids l s) gs (Some g) in
       let none = ap (λ b. cond {A = ℕ} b 1 0) (on_of l s g [] is) in
@@ -49,7 +49,7 @@ module _ (ids : List ℕ) (hs : List (Option Scope)) (gs : List (Option ScopeGua
             omega (arith, push, mine, before, e, b))
       ]
 
-  exited_by : (n : ℕ) (g : ScopeGuard) (lane : ℕ) → slot_at gs n ≡ Some g → lane ≡ id_at ids g.place → (scope : Scope) → g.scope ≡ scope → (l s : ℕ) → times_in s (lanes_with_exit es lane (own_span scope) l) ≡ count_by (is_on ids l s) (slice_set gs n None)
+  exited_by : (n : ℕ) (g : ScopeGuard) (lane : ℕ) → slot_at gs n ≡ Some g → lane ≡ id_at ids g.place → (scope : Scope) → g.scope ≡ scope → (l s : ℕ) → times_in s (with_exit_on es lane (span_of_scope scope) l) ≡ count_by (is_on ids l s) (slice_set gs n None)
   exited_by n g lane there at [] is l s =
       let write = sum_by-set (λ (o : Option ScopeGuard). cond {A = ℕ} (is_on ids l s o) 1 0) gs n None None (named_within gs n g there) in
       let slot = ap (λ (o : Option ScopeGuard). cond {A = ℕ} (is_on ids l s o) 1 0) there in
@@ -83,7 +83,7 @@ module _ (ids : List ℕ) (hs : List (Option Scope)) (gs : List (Option ScopeGua
           omega (arith, c, slot, mine, before)
 
   -- after an effect's guard
-  pub guarded_after : (lane : ℕ) (new : Option ScopeGuard) (attach spent entry exit : Option ℕ) → Enters ids hs gs lane new attach spent entry exit → IsGuarded ids hs (either_after gs new attach spent) (lanes_with_exit (lanes_with_entry es lane entry) lane exit)
+  pub guarded_after : (lane : ℕ) (new : Option ScopeGuard) (attach spent entry exit : Option ℕ) → Enters ids hs gs lane new attach spent entry exit → IsGuarded ids hs (either_after gs new attach spent) (with_exit_on (with_entry_on es lane entry) lane exit)
   guarded_after lane _ _ _ _ _ no_entry = now
   guarded_after lane _ _ _ _ _ (skips place) = record {
     still = λ n x is. named_push (λ (y : ScopeGuard). slot_at hs y.handle ≡ Some y.scope) gs None now.still (λ y e. absurd (cc e)) n x is;

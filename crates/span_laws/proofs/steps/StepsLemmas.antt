@@ -1,6 +1,6 @@
 -- What the effect of each request does to handles, guards, spans and entries, whatever its kind.
 use Rattle.std.proofs.Common.{◌≡◌, ℕ, ◌≤◌, ◌==◌, ◌||◌, List, [], ◌∷◌, ◌++◌, length, not, Bool, true, false, cond, Option, Some, None, option_map, slice_set, slice_get, Ok, Err, refl, sym, ap, subst, ◌∙◌, arith, is_some}
-use Rattle.span_laws.proofs.Common.{AllByRecursion, nat_tests, Context, ids_of, is_valid, Op, LayerSettings, GREATEST, Making, deed, event_of, first_attributes, span_update, Recording, with_start_under, with_starts, parent_source, new_span_data, data_at, start_context, Callsite, ValueSet, Lane, is_in, current_of, Request, RequestParent, Call, Setup, span_site, event_site, Here, here_at, Resolved, refuse_if, ◌>>=◌, need, op_on, ops_effect, is_bad_moment, effect_of, effect_of_call, context_effect, own_context, attach_effect, detach_effect, activated_span, enter_effect, meets_full, entry_call, exit_effect, is_shared, is_full, callsite_of, update_ops, hooks_of_values, admits_at, reload_by, follow_effect, happens_at, is_open, holds, closed_of, is_borrowed, scope_at, parent_at, lane_in, new_span_data_at, span_effect, disabled_effect, clone_effect, drop_effect, current_scope, scope_or_current, exchange_effect, Scope, MadeSpan, SpanOp, ScopeGuard, FilterHook, Effect, Tables, with_item, either_after, slot_at, own_span, Fields, all_values, values_of, TextRead, text_read, is_drop, occurrences, IsMadeWith, at_making, any_counted, slot_open}
+use Rattle.span_laws.proofs.Common.{AllByRecursion, nat_tests, Context, ids_of, is_valid, Op, LayerSettings, GREATEST, Making, deed, event_of, first_attributes, span_update, Recording, with_start_under, with_starts, parent_source, new_span_data, data_at, start_context, Callsite, ValueSet, Lane, is_in, current_of, Request, RequestParent, Call, Setup, span_site, event_site, Here, here_at, Resolved, refuse_if, ◌>>=◌, need, op_on, ops_effect, is_bad_moment, effect_of, effect_of_call, context_effect, context_of_scope, attach_effect, detach_effect, activated_span, enter_effect, meets_full, entry_call, exit_effect, is_shared, is_full, callsite_of, update_ops, hooks_of_values, admits_on, reload_by, follow_effect, event_time, is_open, holds, closed_of, is_borrowed, scope_at, parent_under, lane_in, new_span_data_at, span_effect, disabled_effect, clone_effect, drop_effect, current_scope, scope_or_current, exchange_effect, Scope, MadeSpan, SpanOp, ScopeGuard, FilterHook, Effect, Tables, with_item, either_after, slot_at, span_of_scope, Fields, all_values, values_of, TextRead, text_read, is_drop, occurrences, IsMadeWith, starts_at_making, any_counted, slot_open}
 use Rattle.std.specs.Option.{option_to_list}
 use Rattle.std.proofs.lemmas.Bool.{eq-eqb, eqb-true}
 use Rattle.otel_metrics.specs.declared.measure.Measure.{Measure}
@@ -74,7 +74,7 @@ pub record IsStep (setup : Setup) (t : Tables) (at : ℕ) (is_drop : Bool) (e : 
   pub enters : Enters setup.ids t.handles t.guards e.lane e.new_guard e.new_attach e.spent_guard e.entry e.exit
   pub spends : Spends (with_item t.handles (option_map Some e.new_handle)) (either_after t.guards e.new_guard e.new_attach e.spent_guard) e.spent_handle e.closes
   pub begins : Begins setup e.at e.new_span
-  pub early : e.begins ≡ at_making setup.layer.eager (length t.spans) e.new_span
+  pub early : e.begins ≡ starts_at_making setup.layer.eager (length t.spans) e.new_span
   pub starts : AllByRecursion (λ s. is_open t.handles s ≡ true) e.starts
   pub reached : AllByRecursion (IsReached t.handles) e.ops
   pub turns : Turns e.entry e.exit e.ops
@@ -135,7 +135,7 @@ module _ (setup : Setup) (t : Tables) (fit : IsFit setup t) where
   own_open _ (of_handle k scope there) s up is = slot_open t.handles k s scope there (ap (is_in s) is ∙ ap (λ b. b || is_in s up) (eq-eqb s s refl))
 
   -- what starts is open: the span that gives a new one its context, and the one that an entry activates
-  source_open : (activation : Bool) (under : RequestParent) (up : Scope) (lane : ℕ) → IsKnown t.handles up → Open (option_to_list (parent_source activation (parent_at under up) (current_of (t.entries lane))))
+  source_open : (activation : Bool) (under : RequestParent) (up : Scope) (lane : ℕ) → IsKnown t.handles up → Open (option_to_list (parent_source activation (parent_under under up) (current_of (t.entries lane))))
   source_open activation request_parent.Root up lane known = tt
   source_open true request_parent.Contextual up lane known = tt
   source_open false request_parent.Contextual up lane known = by_current (current_of (t.entries lane)) refl
@@ -159,11 +159,11 @@ module _ (setup : Setup) (t : Tables) (fit : IsFit setup t) where
   reaches : (scope : Scope) → IsKnown t.handles scope → (s : ℕ) (up : Scope) (op : Op) → scope ≡ s ∷ up → IsUnstarted op → IsReached t.handles (record { span = s; op = op })
   reaches scope known s up op is unstarted = record { there = own_open scope known s up is; unstarted = unstarted }
 
-  enters_on : (scope : Scope) → Turns (own_span scope) None (op_on scope ops.Enter)
+  enters_on : (scope : Scope) → Turns (span_of_scope scope) None (op_on scope ops.Enter)
   enters_on [] = tt
   enters_on (s ∷ up) = refl
 
-  exits_on_own : (scope : Scope) → Turns None (own_span scope) (op_on scope ops.Exit)
+  exits_on_own : (scope : Scope) → Turns None (span_of_scope scope) (op_on scope ops.Exit)
   exits_on_own [] = tt
   exits_on_own (s ∷ up) = refl
 
@@ -172,11 +172,11 @@ module _ (setup : Setup) (t : Tables) (fit : IsFit setup t) where
 
   made_span : (at place site : ℕ) (callsite : Callsite) (values : ValueSet) (under : RequestParent) (up : Scope) → IsKnown t.handles up → Step at false (span_effect (here at place) site callsite values under up)
   made_span at place site callsite values under up known =
-      let source = parent_source setup.layer.activation (parent_at under up) (current_of (t.entries (here at place).lane)) in
+      let source = parent_source setup.layer.activation (parent_under under up) (current_of (t.entries (here at place).lane)) in
       let keep = starts_keep source at t.recording in
       record {
         moment = refl;
-        names = new_span (record { site = site; scope = length t.spans ∷ up; made_with = new_span_data_at (here at place) callsite values (parent_at under up) }) up known refl;
+        names = new_span (record { site = site; scope = length t.spans ∷ up; made_with = new_span_data_at (here at place) callsite values (parent_under under up) }) up known refl;
         enters = no_entry;
         spends = no_spending;
         begins = told_begins setup (with_starts source at t.recording).settings callsite (lane_in (here at place)) values _ at (with_starts source at t.recording).counting (keep.0 ∙ fit.settings_are) (keep.1 ∙ fit.counting_is);
@@ -289,7 +289,7 @@ module _ (setup : Setup) (t : Tables) (fit : IsFit setup t) where
   follower : (at place : ℕ) (scope from : Scope) → IsKnown t.handles scope → IsKnown t.handles from → Step at false (follow_effect (here at place) scope from)
   follower at place [] from known other = told at place reply.Done [] tt tt
   follower at place (s ∷ up) [] known other = told at place reply.Done [] tt tt
-  follower at place (s ∷ up) (f ∷ above) known other = (let op = link_of (ids_of (own_context t.recording at (f ∷ above))) [] in record {
+  follower at place (s ∷ up) (f ∷ above) known other = (let op = link_of (ids_of (context_of_scope t.recording at (f ∷ above))) [] in record {
     moment = refl;
     names = no_name;
     enters = no_entry;
@@ -363,7 +363,7 @@ module _ (setup : Setup) (t : Tables) (fit : IsFit setup t) where
       let up = found what.Handle (scope_at t (here at place).lane under) _ e callsite.2 in
       let values = found what.Field (all_values callsite.0 fields) _ e up.2 in
       subst (Step at false) (the_effect _ e values.2)
-      (if_both at (admits_at setup t (here at place).lane callsite.0) _ _
+      (if_both at (admits_on setup t (here at place).lane callsite.0) _ _
       (made_span at place site callsite.0 values.0 under up.0 (known_place (here at place).lane under up.0 up.1)) (declined at place))
   by_call at place (call.Clone handle) e is =
       let there = found what.Handle (slot_at t.handles handle) _ e is in
@@ -393,7 +393,7 @@ module _ (setup : Setup) (t : Tables) (fit : IsFit setup t) where
       let reached = found what.Handle (scope_at t (here at place).lane under) _ e there.2 in
       let values = found what.Field (all_values there.0 fields) _ e reached.2 in
       let op = event_of there.0 values.0 setup.layer at in
-      let enabled = admits_at setup t (here at place).lane there.0 in
+      let enabled = admits_on setup t (here at place).lane there.0 in
       let known = known_place (here at place).lane under reached.0 reached.1 in
       subst (Step at false) (the_effect _ e values.2)
       (beside at (ops_effect (here at place) (reply.Enabled enabled) _) None [] _ (of_open None [] tt)
@@ -413,7 +413,7 @@ module _ (setup : Setup) (t : Tables) (fit : IsFit setup t) where
   by_call at place (call.Remote ids) e is = subst (Step at false) (the_effect _ e is) (given at place None _ tt)
   by_call at place (call.Context handle) e is =
       let there = found what.Handle (slot_at t.handles handle) _ e is in
-      subst (Step at false) (the_effect _ e there.2) (given at place (own_span there.0) _ (active_open true there.0 (of_handle handle there.0 there.1)))
+      subst (Step at false) (the_effect _ e there.2) (given at place (span_of_scope there.0) _ (active_open true there.0 (of_handle handle there.0 there.1)))
   by_call at place (call.Attach context) e is =
       let there = found what.Context (slice_get t.named_contexts context) _ e is in
       let room = unrefused (is_full (t.contexts (here at place).lane)) (refusal.Full place) (Ok (attach_effect (here at place) there.0)) e there.2 in
@@ -445,7 +445,7 @@ module _ (setup : Setup) (t : Tables) (fit : IsFit setup t) where
       subst (Step at false) (the_effect _ e there.2) (one_told at place _ there.0 (ops.SetStatus status) (of_handle handle there.0 there.1) refl refl refl)
   by_call at place (call.AddEvent handle name attributes time) e is =
       let there = found what.Handle (slot_at t.handles handle) _ e is in
-      subst (Step at false) (the_effect _ e there.2) (one_told at place _ there.0 (event_at name (happens_at at time) attributes) (of_handle handle there.0 there.1) refl refl refl)
+      subst (Step at false) (the_effect _ e there.2) (one_told at place _ there.0 (event_at name (event_time at time) attributes) (of_handle handle there.0 there.1) refl refl refl)
   by_call at place (call.Enabled site) e is =
       let there = found what.Site (slice_get setup.sites site) _ e is in
       subst (Step at false) (the_effect _ e there.2) (told at place (reply.Enabled _) [] tt tt)

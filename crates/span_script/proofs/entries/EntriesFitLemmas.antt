@@ -1,6 +1,6 @@
 -- What is kept fits after an entry and after an exit.
 use Rattle.std.proofs.Common.{◌≡◌, ℕ, ◌+◌, ◌<◌, List, [], ◌∷◌, ◌++◌, length, cond, count_by, set, Option, Some, None, refl, sym, ap, subst, ◌∙◌, arith, inl, inr, ◌==◌, ◌&&◌}
-use Rattle.span_script.proofs.Common.{cases_eq, cases_Bool, cases_lt, cond-true, cond-false, and_from, length_push, get_or_past, get_or_push, get_or_append_left, sum_by-set, get_or-le-sum_by, Span, Entries, Spans, span_at, entries_on, with_entries, is_in, times_in, open_child_count, without_last, with_hold, span_without_hold, without_hold, with_span_entry, with_span_exit, HasOwnHold, IsLive, MayExit, count_push, any_if_counted, made_if_held, with_same, with_other, keeps_children, less_more, less_holds, times_without, first_if_in, slot_at, lanes_with, OpenGuard, names_span, guards_span, Balanced}
+use Rattle.span_script.proofs.Common.{cases_eq, cases_Bool, cases_lt, cond-true, cond-false, and_from, length_push, get_or_past, get_or_push, get_or_append_left, sum_by-set, get_or-le-sum_by, Span, Entries, Spans, span_at, entries_on, with_entries, is_in, times_in, open_child_count, without_last, with_hold, span_without_hold, without_hold, with_span_entry, with_span_exit, HasOwnHold, IsLive, MayExit, count_push, any_if_counted, made_if_held, with_same, with_other, keeps_children, less_more, less_holds, times_without, first_if_in, slot_at, with_lane_entries, OpenGuard, names_span, guards_span, Balanced}
 use Rattle.std.proofs.lemmas.Bool.{eq-eqb, eqb-true, ne_eqb}
 use Rattle.std.proofs.lemmas.List.{get_or-set_same, get_or-set_other}
 use Rattle.trace_base.proofs.HoldMoveLemmas.{entry_moves, exit_moves}
@@ -29,7 +29,7 @@ exit_children x id lane q live may =
     ]
 
 -- the entries of each lane after one lane's are written
-entries_written : (lanes : List Entries) (lane : ℕ) (ids : List ℕ) (es : ℕ → List ℕ) → ((l : ℕ) → entries_on l lanes ≡ es l) → (l : ℕ) → entries_on l (with_entries lane ids lanes) ≡ lanes_with es lane ids l
+entries_written : (lanes : List Entries) (lane : ℕ) (ids : List ℕ) (es : ℕ → List ℕ) → ((l : ℕ) → entries_on l lanes ≡ es l) → (l : ℕ) → entries_on l (with_entries lane ids lanes) ≡ with_lane_entries es lane ids l
 entries_written lanes lane ids es same l = elim (cases_eq lane l) [
   | inl here ↦ ap (λ (k : ℕ). entries_on k (with_entries lane ids lanes)) (sym here) ∙ with_same lane ids lanes ∙ sym (cond-true {A = List ℕ} (lane == l) ids (es l) (eq-eqb lane l here))
   | inr other ↦ with_other lane l ids lanes other ∙ same l ∙ sym (cond-false {A = List ℕ} (lane == l) ids (es l) (ne_eqb lane l other))
@@ -54,7 +54,7 @@ fits_own spans hs gs es fits n s is = let c = named_counts hs n s is in let h = 
 
 -- one entry more
 pub fits_enter : (spans : Spans) (hs : List (Option ℕ)) (gs : List (Option OpenGuard)) (es : ℕ → List ℕ) → Balanced spans hs gs es → (handle s lane : ℕ) → slot_at hs handle ≡ Some s
-    → Balanced (with_span_entry spans s lane) hs (gs ++ Some (record { handle = handle; span = s; lane = lane }) ∷ []) (lanes_with es lane (es lane ++ s ∷ []))
+    → Balanced (with_span_entry spans s lane) hs (gs ++ Some (record { handle = handle; span = s; lane = lane }) ∷ []) (with_lane_entries es lane (es lane ++ s ∷ []))
 fits_enter spans hs gs es fits handle s lane is =
     let live = fits_live spans hs gs es fits handle s is in
     let guard : OpenGuard = record { handle = handle; span = s; lane = lane } in
@@ -113,7 +113,7 @@ fits_may_exit spans hs gs es fits n g is =
 
 -- one entry less
 pub fits_exit : (spans : Spans) (hs : List (Option ℕ)) (gs : List (Option OpenGuard)) (es : ℕ → List ℕ) → Balanced spans hs gs es → (n : ℕ) (g : OpenGuard) → slot_at gs n ≡ Some g
-    → Balanced (with_span_exit spans g.span g.lane) hs (set gs n None) (lanes_with es g.lane (without_last (λ x. x == g.span) (es g.lane)))
+    → Balanced (with_span_exit spans g.span g.lane) hs (set gs n None) (with_lane_entries es g.lane (without_last (λ x. x == g.span) (es g.lane)))
 fits_exit spans hs gs es fits n g is =
     let live = fits_live spans hs gs es fits g.handle g.span (fits.borrowed n g is) in
     let may = fits_may_exit spans hs gs es fits n g is in

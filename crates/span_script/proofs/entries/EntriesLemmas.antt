@@ -1,6 +1,6 @@
 -- Entries and exits, served.
 use Rattle.std.proofs.Common.{◌≡◌, ℕ, ◌+◌, ◌<◌, List, [], ◌∷◌, ◌++◌, length, Bool, true, false, fold, get_or, set, slice_set, Option, Some, None, option_map, map, refl, sym, ap, subst, ◌∙◌, arith, inl, inr, cond, Ok, Err, Result, IfOk, IfErr, ◌==◌, ◌≢◌, ◌&&◌, nat_lt, count_by, if◌then◌else◌, not}
-use Rattle.span_script.proofs.Common.{cases_eq, cases_Bool, cond-true, cond-false, length-map, length_push, map_push, Lane, WorldValue, Span, Spans, span_at, with_hold, without_hold, without_last, is_in, times_in, entries_on, SubscriberCall, Enter, Exit, with_span_entry, with_span_exit, OneEach, count_cons, read_subscriber, spans_in, Handle, HeldSpan, ReplacedOn, Guard, Attach, id_at, Token, empty_context, LayerSettings, SpanData, is_token, data_at, own_context_or, Recording, no_recording, with_start, with_starts, with_applied, source_of, RecordsCall, Enters, Exits, Scope, MadeSpan, ScopeGuard, FilterHook, HookEnter, HookExit, Effect, Tables, after_effect, recorded_by, slot_at, own_span, lanes_with_entry, lanes_with_exit, with_attached, with_detached, open_part, quiet_effect, EntryOf, Attached, here_at, Resolved, refuse_if, ◌>>=◌, need, effect_of_call, activated_span, attached_by, meets_full, entry_call, enter_effect, is_shared, exit_effect, after_filter_hook, hooks_of_span, borrows, is_borrowed, names_handle, is_named, is_shared_by, Reply, Refusal, Balanced, named_by, opened_by, Views, IsScope, ContextSlots, State, state_of, LaneValue, lane_value, lane_at, StandsFor, RecordingFits, AllContextsFit, MadeFit, IsKept, Served, IsRefusal, held_of, guard_of, lane_of, held_by, Parts, ServesResolved, holds_other, FilterState, CallsLaw, aside_in}
+use Rattle.span_script.proofs.Common.{cases_eq, cases_Bool, cond-true, cond-false, length-map, length_push, map_push, Lane, WorldValue, Span, Spans, span_at, with_hold, without_hold, without_last, is_in, times_in, entries_on, SubscriberCall, Enter, Exit, with_span_entry, with_span_exit, OneEach, count_cons, read_subscriber, spans_in, Handle, HeldSpan, ReplacedOn, Guard, AttachGuard, id_at, Token, empty_context, LayerSettings, SpanData, is_token, data_at, own_context_or, Recording, no_recording, with_start, with_starts, with_applied, source_of, RecordsCall, Enters, Exits, Scope, MadeSpan, ScopeGuard, FilterHook, HookEnter, HookExit, Effect, Tables, after_effect, recording_after, slot_at, span_of_scope, with_entry_on, with_exit_on, with_attached, with_detached, open_part, quiet_effect, EntryOf, Attached, here_at, Resolved, refuse_if, ◌>>=◌, need, effect_of_call, activated_span, entry_context, meets_full, entry_call, enter_effect, is_shared, exit_effect, after_filter_hook, hooks_of_span, borrows, is_borrowed, names_handle, is_named_by_guard, is_shared_by, Reply, Refusal, Balanced, named_span, open_guard_by, Views, IsScope, ContextSlots, PipelineState, state_of, LaneValue, lane_value, lane_at, StandsFor, RecordingFits, AllContextsFit, SpansFit, PipelineInvariant, IsServed, IsRefusal, held_of, guard_of, lane_place_of, held_by, Parts, ServesResolved, holds_other, FilterState, CallsLaw, aside_in}
 use Rattle.std.proofs.lemmas.Bool.{eq-eqb, ne_eqb}
 use Rattle.std.proofs.lemmas.List.{length-set}
 use Rattle.trace_base.proofs.Sound.{one_with}
@@ -36,11 +36,11 @@ one_exited : (spans : Spans) (line : Scope) (lane : ℕ) → OneEach spans.lanes
 one_exited spans [] lane one = one
 one_exited spans (s ∷ up) lane one = one_with lane (without_last (λ x. x == s) (entries_on lane spans.lanes)) spans.lanes one
 
-made_entered : (spans : Spans) (ms : List MadeSpan) (line : Scope) (lane : ℕ) → MadeFit spans.made ms → ((s : ℕ) (up : Scope) → line ≡ s ∷ up → 0 < (span_at spans.made s).holds) → MadeFit (spans_entered spans line lane).made ms
+made_entered : (spans : Spans) (ms : List MadeSpan) (line : Scope) (lane : ℕ) → SpansFit spans.made ms → ((s : ℕ) (up : Scope) → line ≡ s ∷ up → 0 < (span_at spans.made s).holds) → SpansFit (spans_entered spans line lane).made ms
 made_entered spans ms [] lane fit live = fit
 made_entered spans ms (s ∷ up) lane fit live = made_if (is_in s (entries_on lane spans.lanes)) spans.made (with_hold spans.made s) ms fit (made_held spans.made ms s fit (live s up refl))
 
-made_exited : (spans : Spans) (ms : List MadeSpan) (line : Scope) (lane : ℕ) → MadeFit spans.made ms → MadeFit (spans_exited spans line lane).made ms
+made_exited : (spans : Spans) (ms : List MadeSpan) (line : Scope) (lane : ℕ) → SpansFit spans.made ms → SpansFit (spans_exited spans line lane).made ms
 made_exited spans ms [] lane fit = fit
 made_exited spans ms (s ∷ up) lane fit = made_if (times_in s (entries_on lane spans.lanes) == 1) (without_hold spans.made s) spans.made ms (made_released spans.made ms s fit) fit
 
@@ -66,24 +66,24 @@ pub shared_is : (dispatch : ℕ) (gs : List (Option ScopeGuard)) (g : Guard) (x 
 shared_is dispatch gs g x is = ap (is_shared_by (map (option_map (guard_of dispatch)) gs)) is ∙ ap (λ (n : ℕ). x.owns && nat_lt 1 n) (borrowed_count dispatch x.handle gs)
 
 -- an entry
-pub fits_entered : (k next : State) (t : Tables) (at place handle : ℕ) (owns : Bool) (line : Scope) → Fits k t → slot_at t.handles handle ≡ Some line → next.spans ≡ spans_entered k.spans line (id_at k.setup.ids place) → next.setup ≡ k.setup
+pub fits_entered : (k next : PipelineState) (t : Tables) (at place handle : ℕ) (owns : Bool) (line : Scope) → Fits k t → slot_at t.handles handle ≡ Some line → next.spans ≡ spans_entered k.spans line (id_at k.setup.ids place) → next.setup ≡ k.setup
     → next.dispatch ≡ k.dispatch → next.handles ≡ k.handles → next.handle_sites ≡ k.handle_sites → next.guards ≡ k.guards ++ Some (guard_of k.dispatch (record { handle = handle; place = place; owns = owns; scope = line })) ∷ [] → next.contexts.contexts ≡ k.contexts.contexts → next.contexts.attaches ≡ k.contexts.attaches ++ None ∷ [] → next.moment ≡ at
     → Fits next (after_effect t (enter_effect (here_at k.setup t at place) handle owns line))
 fits_entered k next t at place handle owns line fits there step setup dispatch handles sites guards named attaches moment =
     let g : ScopeGuard = record { handle = handle; place = place; owns = owns; scope = line } in
     let id = id_at k.setup.ids place in
-    let live : (s : ℕ) (up : Scope) → line ≡ s ∷ up → 0 < (span_at k.spans.made s).holds = λ s up e. fits_live k.spans (map named_by t.handles) (map (opened_by k.setup.ids) t.guards) t.entries fits.balanced handle s (named_slot t.handles handle line there ∙ ap own_span e) in
+    let live : (s : ℕ) (up : Scope) → line ≡ s ∷ up → 0 < (span_at k.spans.made s).holds = λ s up e. fits_live k.spans (map named_span t.handles) (map (open_guard_by k.setup.ids) t.guards) t.entries fits.balanced handle s (named_slot t.handles handle line there ∙ ap span_of_scope e) in
     fits_step k t fits next (enter_effect (here_at k.setup t at place) handle owns line) (record {
       setup_is = setup;
       dispatch_is = dispatch;
       handles_are = handles;
       sites_are = sites;
       guards_are = guards;
-      attaches_are = ap (map (option_map lane_of)) attaches ∙ map_push (option_map lane_of) k.contexts.attaches None;
+      attaches_are = ap (map (option_map lane_place_of)) attaches ∙ map_push (option_map lane_place_of) k.contexts.attaches None;
       named_are = named;
       moment_is = moment;
-      balanced = subst (λ (x : Spans). Balanced x (map named_by t.handles) (map (opened_by k.setup.ids) (t.guards ++ Some g ∷ [])) (lanes_with_entry t.entries id (own_span line))) (sym step) (balanced_enter k.setup.ids k.spans t.handles t.guards t.entries fits.balanced handle place owns line there);
-      made_fit = subst (λ (x : Spans). MadeFit x.made t.spans) (sym step) (made_entered k.spans t.spans line id fits.made live);
+      balanced = subst (λ (x : Spans). Balanced x (map named_span t.handles) (map (open_guard_by k.setup.ids) (t.guards ++ Some g ∷ [])) (with_entry_on t.entries id (span_of_scope line))) (sym step) (balanced_enter k.setup.ids k.spans t.handles t.guards t.entries fits.balanced handle place owns line there);
+      made_fit = subst (λ (x : Spans). SpansFit x.made t.spans) (sym step) (made_entered k.spans t.spans line id fits.made live);
       new_made = tt;
       new_site = tt;
       new_scope = λ l e. absurd (cc e);
@@ -94,7 +94,7 @@ fits_entered k next t at place handle owns line fits there step setup dispatch h
     })
 
 -- an exit
-pub fits_exited : (k next : State) (t : Tables) (at guard : ℕ) (g : ScopeGuard) → Fits k t → slot_at t.guards guard ≡ Some g → next.spans ≡ spans_exited k.spans g.scope (id_at k.setup.ids g.place) → next.setup ≡ k.setup
+pub fits_exited : (k next : PipelineState) (t : Tables) (at guard : ℕ) (g : ScopeGuard) → Fits k t → slot_at t.guards guard ≡ Some g → next.spans ≡ spans_exited k.spans g.scope (id_at k.setup.ids g.place) → next.setup ≡ k.setup
     → next.dispatch ≡ k.dispatch → next.handles ≡ k.handles → next.handle_sites ≡ k.handle_sites → next.guards ≡ slice_set k.guards guard None → next.contexts ≡ k.contexts → next.moment ≡ at
     → (place : ℕ) → id_at k.setup.ids place ≡ id_at k.setup.ids g.place → Fits next (after_effect t (exit_effect (here_at k.setup t at place) guard g.scope))
 fits_exited k next t at guard g fits there step setup dispatch handles sites guards contexts moment place on =
@@ -105,12 +105,12 @@ fits_exited k next t at guard g fits there step setup dispatch handles sites gua
       handles_are = handles;
       sites_are = sites;
       guards_are = guards;
-      attaches_are = ap (λ (c : ContextSlots). map (option_map lane_of) c.attaches) contexts;
+      attaches_are = ap (λ (c : ContextSlots). map (option_map lane_place_of) c.attaches) contexts;
       named_are = ap (λ (c : ContextSlots). c.contexts) contexts;
       moment_is = moment;
-      balanced = subst (λ (l : ℕ). Balanced next.spans (map named_by t.handles) (map (opened_by k.setup.ids) (slice_set t.guards guard None)) (lanes_with_exit t.entries l (own_span g.scope))) (sym on)
-          (subst (λ (x : Spans). Balanced x (map named_by t.handles) (map (opened_by k.setup.ids) (slice_set t.guards guard None)) (lanes_with_exit t.entries id (own_span g.scope))) (sym step) (balanced_exit k.setup.ids k.spans t.handles t.guards t.entries fits.balanced guard g there g.scope refl));
-      made_fit = subst (λ (x : Spans). MadeFit x.made t.spans) (sym step) (made_exited k.spans t.spans g.scope id fits.made);
+      balanced = subst (λ (l : ℕ). Balanced next.spans (map named_span t.handles) (map (open_guard_by k.setup.ids) (slice_set t.guards guard None)) (with_exit_on t.entries l (span_of_scope g.scope))) (sym on)
+          (subst (λ (x : Spans). Balanced x (map named_span t.handles) (map (open_guard_by k.setup.ids) (slice_set t.guards guard None)) (with_exit_on t.entries id (span_of_scope g.scope))) (sym step) (balanced_exit k.setup.ids k.spans t.handles t.guards t.entries fits.balanced guard g there g.scope refl));
+      made_fit = subst (λ (x : Spans). SpansFit x.made t.spans) (sym step) (made_exited k.spans t.spans g.scope id fits.made);
       new_made = tt;
       new_site = tt;
       new_scope = λ l e. absurd (cc e);
@@ -138,7 +138,7 @@ entered_live spans (s ∷ up) lane q live some = elim (cases_Bool (is_in s (entr
 
 -- what the effect attaches is what the layer attached
 attach_is : (b : Bool) (s at : ℕ) (up : Scope) (r x : Recording) → open_part r ≡ x
-    → (if b then Some (record { owner = EntryOf s; context = own_context_or empty_context (data_at s (with_starts (source_of b s) at r).spans) }) else None) ≡ attached_by x at (activated_span b (s ∷ up))
+    → (if b then Some (record { owner = EntryOf s; context = own_context_or empty_context (data_at s (with_starts (source_of b s) at r).spans) }) else None) ≡ entry_context x at (activated_span b (s ∷ up))
 attach_is true s at up r x is = ap (λ (xs : List (ℕ × SpanData)). Some (record { owner = EntryOf s; context = own_context_or empty_context (data_at s xs) })) (start_open s at r x is)
 attach_is false s at up r x is = refl
 
@@ -168,7 +168,7 @@ module _ {S : Type 0} (spans : S → Spans) (views : Views S) (attaches : S → 
   -- over what the code has
   module _ (does : S → SubscriberCall → S → Type 0) (law : CallsLaw spans views attaches kept is_whole does)
       (at place : ℕ) (before later : Lane) (within : place < length parts.lanes) (here : before ≡ get_or parts.lanes place before) where
-    abbrev now : State
+    abbrev now : PipelineState
     now = state_of spans views parts
 
     abbrev place_id : ℕ
@@ -189,7 +189,7 @@ module _ {S : Type 0} (spans : S → Spans) (views : Views S) (attaches : S → 
     abbrev parts_with : List (Option Guard) → ContextSlots → Parts S
     parts_with gs' cs' = record parts { world = new; lanes = set parts.lanes place later; guards = gs'; contexts = cs'; moment = at }
 
-    abbrev then_with : List (Option Guard) → ContextSlots → State
+    abbrev then_with : List (Option Guard) → ContextSlots → PipelineState
     then_with gs' cs' = state_of spans views (parts_with gs' cs')
 
     abbrev ls' : List LaneValue
@@ -212,7 +212,7 @@ module _ {S : Type 0} (spans : S → Spans) (views : Views S) (attaches : S → 
     -- an exit, by the scope of its guard
     exited_record : (gs' : List (Option Guard)) (t : Tables) (guard : ℕ) (line : Scope) → RecordingFits now t → ((s : ℕ) (up : Scope) → line ≡ s ∷ up → 0 < (span_at now.spans.made s).holds) → lanes_of → later.id ≡ before.id → (line ≡ [] → later ≡ before)
         → ShownOn spans views attaches kept is_whole parts.world new parts.dispatch line (λ id. Exit id at before later)
-        → (toks : List Token) × (r' ≡ record (recorded_by (length t.spans) (exit_effect (here_at now.setup t at place) guard line) r) { tokens = toks }) × AllFit (then_with gs' parts.contexts) (after_effect t (exit_effect (here_at now.setup t at place) guard line)).contexts
+        → (toks : List Token) × (r' ≡ record (recording_after (length t.spans) (exit_effect (here_at now.setup t at place) guard line) r) { tokens = toks }) × AllFit (then_with gs' parts.contexts) (after_effect t (exit_effect (here_at now.setup t at place) guard line)).contexts
     exited_record gs' t guard [] fit live differ same none shown =
         let is = ap (λ (w : WorldValue S). read_subscriber views.recorded no_recording w parts.dispatch) shown in (
           r.tokens,
@@ -234,17 +234,17 @@ module _ {S : Type 0} (spans : S → Spans) (views : Views S) (attaches : S → 
     -- an entry, by the scope of its handle
     entered_record : (gs' : List (Option Guard)) (cs' : ContextSlots) (t : Tables) (handle : ℕ) (owns : Bool) (line : Scope) → RecordingFits now t → ((s : ℕ) (up : Scope) → line ≡ s ∷ up → 0 < (span_at now.spans.made s).holds) → lanes_of → later.id ≡ before.id → (line ≡ [] → later ≡ before)
         → cs'.attaches ≡ parts.contexts.attaches ++ None ∷ [] → ShownOn spans views attaches kept is_whole parts.world new parts.dispatch line (λ id. Enter id at before later)
-        → (toks : List Token) × (r' ≡ record (recorded_by (length t.spans) (enter_effect (here_at now.setup t at place) handle owns line) r) { tokens = toks }) × AllFit (then_with gs' cs') (after_effect t (enter_effect (here_at now.setup t at place) handle owns line)).contexts
+        → (toks : List Token) × (r' ≡ record (recording_after (length t.spans) (enter_effect (here_at now.setup t at place) handle owns line) r) { tokens = toks }) × AllFit (then_with gs' cs') (after_effect t (enter_effect (here_at now.setup t at place) handle owns line)).contexts
     entered_record gs' cs' t handle owns [] fit live differ same none skip shown =
         let is = ap (λ (w : WorldValue S). read_subscriber views.recorded no_recording w parts.dispatch) shown in
-        let nothing : (b : Bool) → recorded_by (length t.spans) (record (quiet_effect at place_id (reply.Guard 0)) { starts = option_to_list (activated_span b []) }) r ≡ r = λ b. ap (λ (o : Option ℕ). recorded_by (length t.spans) (record (quiet_effect at place_id (reply.Guard 0)) { starts = option_to_list o }) r) (no_active b) in (
+        let nothing : (b : Bool) → recording_after (length t.spans) (record (quiet_effect at place_id (reply.Guard 0)) { starts = option_to_list (activated_span b []) }) r ≡ r = λ b. ap (λ (o : Option ℕ). recording_after (length t.spans) (record (quiet_effect at place_id (reply.Guard 0)) { starts = option_to_list o }) r) (no_active b) in (
           r.tokens,
           is ∙ ap (λ (x : Recording). record x { tokens = r.tokens }) (sym (nothing r.settings.activation)),
-          subst (λ (ks : List (Option Attach)). AllContextsFit r'.settings.activation ls' r'.tokens ks (after_effect t (enter_effect (here_at now.setup t at place) handle owns [])).contexts) (sym skip)
+          subst (λ (ks : List (Option AttachGuard)). AllContextsFit r'.settings.activation ls' r'.tokens ks (after_effect t (enter_effect (here_at now.setup t at place) handle owns [])).contexts) (sym skip)
               (all_skipped r'.settings.activation ls' r'.tokens parts.contexts.attaches (after_effect t (enter_effect (here_at now.setup t at place) handle owns [])).contexts
               (subst (λ (c : Recording). AllContextsFit c.settings.activation ls' c.tokens parts.contexts.attaches (after_effect t (enter_effect (here_at now.setup t at place) handle owns [])).contexts) (sym is)
               (subst (λ (ls : List LaneValue). AllContextsFit r.settings.activation ls r.tokens parts.contexts.attaches (after_effect t (enter_effect (here_at now.setup t at place) handle owns [])).contexts) (sym (lanes_same parts.lanes place before later within here (ap lane_value (none refl))))
-              (subst (λ (o : Option ℕ). AllContextsFit r.settings.activation (map lane_value parts.lanes) r.tokens parts.contexts.attaches (with_attached t.contexts place_id (attached_by t.recording at o))) (sym (no_active r.settings.activation)) fit.attached)))),
+              (subst (λ (o : Option ℕ). AllContextsFit r.settings.activation (map lane_value parts.lanes) r.tokens parts.contexts.attaches (with_attached t.contexts place_id (entry_context t.recording at o))) (sym (no_active r.settings.activation)) fit.attached)))),
         )
     entered_record gs' cs' t handle owns (s ∷ up) fit live differ same none skip shown =
         let x = entry_told at before later s (fit.known s (live s up refl)) shown.2 in
@@ -252,14 +252,14 @@ module _ {S : Type 0} (spans : S → Spans) (views : Views S) (attaches : S → 
         let token : Token = record { lane = before.id; id = s; attached = x.attached } in
         let toks = r.tokens ++ token ∷ [] in
         let own = own_context_or empty_context (data_at s (with_starts (source_of b s) at r).spans) in
-        let rec_is : r' ≡ record (recorded_by (length t.spans) (enter_effect (here_at now.setup t at place) handle owns (s ∷ up)) r) { tokens = toks } =
+        let rec_is : r' ≡ record (recording_after (length t.spans) (enter_effect (here_at now.setup t at place) handle owns (s ∷ up)) r) { tokens = toks } =
         x.is ∙ ap (λ (y : Recording). record (with_applied s at ops.Enter y) { tokens = y.tokens ++ token ∷ [] }) (sym (starts_fold (source_of b s) at r))
         ∙ ap (λ (ts : List Token). record (with_applied s at ops.Enter (fold (λ r s. with_start s at r) r (option_to_list (source_of b s)))) { tokens = ts ++ token ∷ [] }) (ap (λ (y : Recording). y.tokens) (starts_fold (source_of b s) at r) ∙ entry_tokens (source_of b s) at r) in
         let settings : r'.settings ≡ r.settings = ap (λ (c : Recording). c.settings) rec_is ∙ recorded_settings (length t.spans) (enter_effect (here_at now.setup t at place) handle owns (s ∷ up)) r in
         let tokens : r'.tokens ≡ toks = ap (λ (c : Recording). c.tokens) rec_is in (
           toks,
           rec_is,
-          subst (λ (ks : List (Option Attach)). AllContextsFit r'.settings.activation ls' r'.tokens ks (after_effect t (enter_effect (here_at now.setup t at place) handle owns (s ∷ up))).contexts) (sym skip)
+          subst (λ (ks : List (Option AttachGuard)). AllContextsFit r'.settings.activation ls' r'.tokens ks (after_effect t (enter_effect (here_at now.setup t at place) handle owns (s ∷ up))).contexts) (sym skip)
               (subst (λ (ts : List Token). AllContextsFit r'.settings.activation ls' ts (parts.contexts.attaches ++ None ∷ []) (after_effect t (enter_effect (here_at now.setup t at place) handle owns (s ∷ up))).contexts) (sym tokens)
               (subst (λ (c : LayerSettings). AllContextsFit c.activation ls' toks (parts.contexts.attaches ++ None ∷ []) (after_effect t (enter_effect (here_at now.setup t at place) handle owns (s ∷ up))).contexts) (sym settings)
               (subst (λ (o : Option Attached). AllContextsFit b ls' toks (parts.contexts.attaches ++ None ∷ []) (with_attached t.contexts place_id o)) (attach_is b s at up r t.recording fit.recorded)
@@ -268,14 +268,14 @@ module _ {S : Type 0} (spans : S → Spans) (views : Views S) (attaches : S → 
         )
 
     module _ (guard : ℕ) (g : Guard) (found : slot_at parts.guards guard ≡ Some g) (on : g.place ≡ place) (gs' : List (Option Guard)) (one : gs' ≡ slice_set parts.guards guard None) (h : Handle) (entry_is : g.entry ≡ h.held)
-        (did : ReplacedOn (λ id s t. does s (Exit id at before later) t) parts.world new h.held) (none : h.held ≡ None → later ≡ before) (alone : is_shared_by parts.guards g ≡ false) (inv : IsKept spans views kept is_whole parts) where
+        (did : ReplacedOn (λ id s t. does s (Exit id at before later) t) parts.world new h.held) (none : h.held ≡ None → later ≡ before) (alone : is_shared_by parts.guards g ≡ false) (inv : PipelineInvariant spans views kept is_whole parts) where
       abbrev exited_then_parts : Parts S
       exited_then_parts = parts_with gs' parts.contexts
 
-      abbrev exited_then : State
+      abbrev exited_then : PipelineState
       exited_then = then_with gs' parts.contexts
 
-      pub serves_exited : (t : Tables) → StandsFor now t → Served (effect_of_call now.setup t at place (call.Exit guard)) t now exited_then reply.Done
+      pub serves_exited : (t : Tables) → StandsFor now t → IsServed (effect_of_call now.setup t at place (call.Exit guard)) t now exited_then reply.Done
       serves_exited t stands =
           let fits = stands.fits in
           let open_one = find (guard_of parts.dispatch) parts.guards t.guards guard g fits.guard_slots found in
@@ -288,7 +288,7 @@ module _ {S : Type 0} (spans : S → Spans) (views : Views S) (attaches : S → 
           let sites = call_sites spans views attaches kept is_whole parts new x.scope (λ id. Exit id at before later) shown in
           let lane_is : place_id ≡ id_at now.setup.ids x.place = ap (id_at now.setup.ids) (sym mine) in
           let e : Effect = exit_effect (here_at now.setup t at place) guard x.scope in
-          let live : (s : ℕ) (up : Scope) → x.scope ≡ s ∷ up → 0 < (span_at now.spans.made s).holds = λ s up e. fits_live now.spans (map named_by t.handles) (map (opened_by now.setup.ids) t.guards) t.entries fits.balanced x.handle s (named_slot t.handles x.handle x.scope (fits.still guard x open_one.there) ∙ ap own_span e) in
+          let live : (s : ℕ) (up : Scope) → x.scope ≡ s ∷ up → 0 < (span_at now.spans.made s).holds = λ s up e. fits_live now.spans (map named_span t.handles) (map (open_guard_by now.setup.ids) t.guards) t.entries fits.balanced x.handle s (named_slot t.handles x.handle x.scope (fits.still guard x open_one.there) ∙ ap span_of_scope e) in
           let rec_is = exited_record gs' t guard x.scope stands.recording live inv.lanes.differ moved.0 none_at shown in
           let settings = ap (λ (c : Recording). c.settings) rec_is.1 ∙ recorded_settings (length t.spans) e r in
           let setup = setup_after sites moved.0 moved.1 settings in
@@ -302,7 +302,7 @@ module _ {S : Type 0} (spans : S → Spans) (views : Views S) (attaches : S → 
           rec_is.2
           (record { quiet = refl; before = read_subscriber views.filtered None parts.world parts.dispatch; later = read_subscriber views.filtered None new parts.dispatch; shown_before = refl; shown_later = refl; told = exit_heard x.scope shown; known = on_known x.scope (λ s. HookExit s place_id) (length t.spans) (λ s up e. ((subst (IsScope t.spans) e (fits.scopes x.handle x.scope (fits.still guard x open_one.there))).0, refl)); cached = call_cached spans views attaches kept is_whole parts new x.scope (λ id. Exit id at before later) shown; aside = record { before = aside_in views parts.world parts.dispatch; later = aside_in views new parts.dispatch; shown_before = refl; shown_later = refl; waits_before = refl; waits_later = refl; adds = call_aside spans views attaches kept is_whole parts new x.scope (λ id. Exit id at before later) (λ s. refl) shown } })
 
-      pub keeps_exited : IsKept spans views kept is_whole exited_then_parts
+      pub keeps_exited : PipelineInvariant spans views kept is_whole exited_then_parts
       keeps_exited =
           let open_one = find (guard_of parts.dispatch) parts.guards inv.tables.guards guard g inv.stands.fits.guard_slots found in
           let x = open_one.at in
@@ -314,15 +314,15 @@ module _ {S : Type 0} (spans : S → Spans) (views : Views S) (attaches : S → 
 
     module _ (handle number : ℕ) (owns : Bool) (h : Handle) (entry : HeldSpan) (gs' : List (Option Guard)) (found : slot_at parts.handles handle ≡ Some h) (is : entry ≡ h.held) (many : number ≡ length parts.guards) (one : gs' ≡ parts.guards ++ Some (record { handle = handle; place = place; owns = owns; entry = entry }) ∷ [])
         (cs' : ContextSlots) (named_same : cs'.contexts ≡ parts.contexts.contexts) (skip : cs'.attaches ≡ parts.contexts.attaches ++ None ∷ [])
-        (did : ReplacedOn (λ id s t. does s (Enter id at before later) t) parts.world new h.held) (none : h.held ≡ None → later ≡ before) (inv : IsKept spans views kept is_whole parts)
+        (did : ReplacedOn (λ id s t. does s (Enter id at before later) t) parts.world new h.held) (none : h.held ≡ None → later ≡ before) (inv : PipelineInvariant spans views kept is_whole parts)
         (free : (t : Tables) → StandsFor now t → (line : Scope) → slot_at t.handles handle ≡ Some line → h.held ≡ held_of parts.dispatch line → meets_full now.setup.layer.activation line (t.contexts place_id) ≡ false) where
       abbrev entered_then_parts : Parts S
       entered_then_parts = parts_with gs' cs'
 
-      abbrev entered_then : State
+      abbrev entered_then : PipelineState
       entered_then = then_with gs' cs'
 
-      pub serves_entered : (t : Tables) → StandsFor now t → Served (entry_call (here_at now.setup t at place) handle owns) t now entered_then (reply.Guard number)
+      pub serves_entered : (t : Tables) → StandsFor now t → IsServed (entry_call (here_at now.setup t at place) handle owns) t now entered_then (reply.Guard number)
       serves_entered t stands =
           let fits = stands.fits in
           let line = find (held_of parts.dispatch) (map held_by parts.handles) t.handles handle h.held fits.handle_slots (held_slot parts.handles handle h found) in
@@ -332,7 +332,7 @@ module _ {S : Type 0} (spans : S → Spans) (views : Views S) (attaches : S → 
           let sites = call_sites spans views attaches kept is_whole parts new line.at (λ id. Enter id at before later) shown in
           let guards_are : gs' ≡ parts.guards ++ Some (guard_of parts.dispatch (record { handle = handle; place = place; owns = owns; scope = line.at })) ∷ [] = one ∙ ap (λ (h : HeldSpan). parts.guards ++ Some (record { handle = handle; place = place; owns = owns; entry = h }) ∷ []) (is ∙ line.is) in
           let e : Effect = enter_effect (here_at now.setup t at place) handle owns line.at in
-          let live : (s : ℕ) (up : Scope) → line.at ≡ s ∷ up → 0 < (span_at now.spans.made s).holds = λ s up e. fits_live now.spans (map named_by t.handles) (map (opened_by now.setup.ids) t.guards) t.entries fits.balanced handle s (named_slot t.handles handle line.at line.there ∙ ap own_span e) in
+          let live : (s : ℕ) (up : Scope) → line.at ≡ s ∷ up → 0 < (span_at now.spans.made s).holds = λ s up e. fits_live now.spans (map named_span t.handles) (map (open_guard_by now.setup.ids) t.guards) t.entries fits.balanced handle s (named_slot t.handles handle line.at line.there ∙ ap span_of_scope e) in
           let rec_is = entered_record gs' cs' t handle owns line.at stands.recording live inv.lanes.differ moved.0 none_at skip shown in
           let settings = ap (λ (c : Recording). c.settings) rec_is.1 ∙ recorded_settings (length t.spans) e r in
           let setup = setup_after sites moved.0 moved.1 settings in
@@ -346,7 +346,7 @@ module _ {S : Type 0} (spans : S → Spans) (views : Views S) (attaches : S → 
           rec_is.2
           (record { quiet = refl; before = read_subscriber views.filtered None parts.world parts.dispatch; later = read_subscriber views.filtered None new parts.dispatch; shown_before = refl; shown_later = refl; told = entry_heard line.at shown; known = on_known line.at (λ s. HookEnter s place_id) (length t.spans) (λ s up e. ((subst (IsScope t.spans) e (fits.scopes handle line.at line.there)).0, refl)); cached = call_cached spans views attaches kept is_whole parts new line.at (λ id. Enter id at before later) shown; aside = record { before = aside_in views parts.world parts.dispatch; later = aside_in views new parts.dispatch; shown_before = refl; shown_later = refl; waits_before = refl; waits_later = refl; adds = call_aside spans views attaches kept is_whole parts new line.at (λ id. Enter id at before later) (λ s. refl) shown } })
 
-      pub keeps_entered : IsKept spans views kept is_whole entered_then_parts
+      pub keeps_entered : PipelineInvariant spans views kept is_whole entered_then_parts
       keeps_entered =
           let line = find (held_of parts.dispatch) (map held_by parts.handles) inv.tables.handles handle h.held inv.stands.fits.handle_slots (held_slot parts.handles handle h found) in
           let shown = shown_on spans views attaches kept is_whole does law parts.world new parts.dispatch line.at h.held line.is (λ id. Enter id at before later) did in
@@ -355,7 +355,7 @@ module _ {S : Type 0} (spans : S → Spans) (views : Views S) (attaches : S → 
           (lanes_step _ _ _ parts.lanes place before later within here inv.lanes moved.0 moved.2 moved.3)
 
 -- an exit of a guard that owns its handle, which has another open guard
-pub refuses_shared : (k : State) (guard : ℕ) (g : Guard) → slot_at k.guards guard ≡ Some g → is_shared_by k.guards g ≡ true → (at place : ℕ) (t : Tables) → StandsFor k t → effect_of_call k.setup t at place (call.Exit guard) ≡ Err refusal.InUse
+pub refuses_shared : (k : PipelineState) (guard : ℕ) (g : Guard) → slot_at k.guards guard ≡ Some g → is_shared_by k.guards g ≡ true → (at place : ℕ) (t : Tables) → StandsFor k t → effect_of_call k.setup t at place (call.Exit guard) ≡ Err refusal.InUse
 refuses_shared k guard g found shared at place t stands =
     let fits = stands.fits in
     let x = find (guard_of k.dispatch) k.guards t.guards guard g fits.guard_slots found in
@@ -366,7 +366,7 @@ abbrev wrong_lane : ℕ → Resolved
 wrong_lane place = Err (refusal.WrongLane place)
 
 -- one on another lane than the guard's
-pub refuses_wrong_lane : (k : State) (guard : ℕ) (g : Guard) → slot_at k.guards guard ≡ Some g → is_shared_by k.guards g ≡ false → (at place : ℕ) → (g.place ≡ place → ⊥) → (t : Tables) → StandsFor k t → effect_of_call k.setup t at place (call.Exit guard) ≡ Err (refusal.WrongLane g.place)
+pub refuses_wrong_lane : (k : PipelineState) (guard : ℕ) (g : Guard) → slot_at k.guards guard ≡ Some g → is_shared_by k.guards g ≡ false → (at place : ℕ) → (g.place ≡ place → ⊥) → (t : Tables) → StandsFor k t → effect_of_call k.setup t at place (call.Exit guard) ≡ Err (refusal.WrongLane g.place)
 refuses_wrong_lane k guard g found alone at place other t stands =
     let fits = stands.fits in
     let x = find (guard_of k.dispatch) k.guards t.guards guard g fits.guard_slots found in
@@ -377,39 +377,39 @@ refuses_wrong_lane k guard g found alone at place other t stands =
     ∙ ap wrong_lane (sym lane_is)
 
 -- what is said of the fields is said of the value that they make
-pub by_view_opens : (at place handle : ℕ) (owns : Bool) (next : State) (answer : Reply) (view k : State) → view ≡ k → ((t : Tables) → StandsFor view t → Served (entry_call (here_at view.setup t at place) handle owns) t view next answer)
+pub by_view_opens : (at place handle : ℕ) (owns : Bool) (next : PipelineState) (answer : Reply) (view k : PipelineState) → view ≡ k → ((t : Tables) → StandsFor view t → IsServed (entry_call (here_at view.setup t at place) handle owns) t view next answer)
     → ServesResolved (λ t. entry_call (here_at k.setup t at place) handle owns) false k (Ok answer) next
 by_view_opens at place handle owns next answer view k is serves = record {
-  ok = subst (λ (x : State). (t : Tables) → StandsFor x t → Served (entry_call (here_at x.setup t at place) handle owns) t x next answer) is serves;
+  ok = subst (λ (x : PipelineState). (t : Tables) → StandsFor x t → IsServed (entry_call (here_at x.setup t at place) handle owns) t x next answer) is serves;
   refused = λ t stands. tt;
   err = tt;
   room = λ none wants. cc wants;
 }
 
 -- a guard that owns its handle, made where no other one is open
-pub entered_is : (k : State) (hs : List (Option Handle)) → k.handles ≡ map held_by hs → (handle : ℕ) (h : Handle) → slot_at hs handle ≡ Some h → (at place : ℕ) (t : Tables) → StandsFor k t
-    → (is_named k.guards handle ≡ false → effect_of_call k.setup t at place (call.Entered handle) ≡ entry_call (here_at k.setup t at place) handle true) × (is_named k.guards handle ≡ true → effect_of_call k.setup t at place (call.Entered handle) ≡ Err refusal.InUse)
+pub entered_is : (k : PipelineState) (hs : List (Option Handle)) → k.handles ≡ map held_by hs → (handle : ℕ) (h : Handle) → slot_at hs handle ≡ Some h → (at place : ℕ) (t : Tables) → StandsFor k t
+    → (is_named_by_guard k.guards handle ≡ false → effect_of_call k.setup t at place (call.Entered handle) ≡ entry_call (here_at k.setup t at place) handle true) × (is_named_by_guard k.guards handle ≡ true → effect_of_call k.setup t at place (call.Entered handle) ≡ Err refusal.InUse)
 entered_is k hs are handle h found at place t stands =
     let fits = stands.fits in
     let line = find (held_of k.dispatch) (map held_by hs) t.handles handle h.held (sym are ∙ fits.handle_slots) (held_slot hs handle h found) in
-    let named_is : is_named k.guards handle ≡ is_borrowed t.guards handle = ap (λ (xs : List (Option Guard)). is_named xs handle) fits.guard_slots ∙ borrowed_is k.dispatch t.guards handle in
+    let named_is : is_named_by_guard k.guards handle ≡ is_borrowed t.guards handle = ap (λ (xs : List (Option Guard)). is_named_by_guard xs handle) fits.guard_slots ∙ borrowed_is k.dispatch t.guards handle in
     let there = ap (λ o. need what.Handle o >>= (λ (scope : Scope). refuse_if (is_borrowed t.guards handle) refusal.InUse (entry_call (here_at k.setup t at place) handle true))) line.there in (
       λ free. there ∙ cond-false {A = Resolved} (is_borrowed t.guards handle) _ _ (sym named_is ∙ free),
       λ used. there ∙ cond-true {A = Resolved} (is_borrowed t.guards handle) _ _ (sym named_is ∙ used),
     )
 
-pub entered_ok : (view k : State) → view ≡ k → (hs : List (Option Handle)) → view.handles ≡ map held_by hs → (handle : ℕ) (h : Handle) → slot_at hs handle ≡ Some h → is_named view.guards handle ≡ false → (at place : ℕ) (result : Result Reply Refusal) (next : State)
-    → ((t : Tables) → StandsFor k t → IfOk result (Served (entry_call (here_at k.setup t at place) handle true) t k next)) → (t : Tables) → StandsFor k t → IfOk result (Served (effect_of_call k.setup t at place (call.Entered handle)) t k next)
+pub entered_ok : (view k : PipelineState) → view ≡ k → (hs : List (Option Handle)) → view.handles ≡ map held_by hs → (handle : ℕ) (h : Handle) → slot_at hs handle ≡ Some h → is_named_by_guard view.guards handle ≡ false → (at place : ℕ) (result : Result Reply Refusal) (next : PipelineState)
+    → ((t : Tables) → StandsFor k t → IfOk result (IsServed (entry_call (here_at k.setup t at place) handle true) t k next)) → (t : Tables) → StandsFor k t → IfOk result (IsServed (effect_of_call k.setup t at place (call.Entered handle)) t k next)
 entered_ok view k same hs are handle h found free at place result next did t stands =
-    let is = (entered_is k hs (ap (λ (x : State). x.handles) (sym same) ∙ are) handle h found at place t stands).0 (ap (λ (x : State). is_named x.guards handle) (sym same) ∙ free) in
-    subst (λ (r : Resolved). IfOk result (Served r t k next)) (sym is) (did t stands)
+    let is = (entered_is k hs (ap (λ (x : PipelineState). x.handles) (sym same) ∙ are) handle h found at place t stands).0 (ap (λ (x : PipelineState). is_named_by_guard x.guards handle) (sym same) ∙ free) in
+    subst (λ (r : Resolved). IfOk result (IsServed r t k next)) (sym is) (did t stands)
 
-pub entered_refused : (view k : State) → view ≡ k → (hs : List (Option Handle)) → view.handles ≡ map held_by hs → (handle : ℕ) (h : Handle) → slot_at hs handle ≡ Some h → is_named view.guards handle ≡ false → (at place : ℕ) (result : Result Reply Refusal)
+pub entered_refused : (view k : PipelineState) → view ≡ k → (hs : List (Option Handle)) → view.handles ≡ map held_by hs → (handle : ℕ) (h : Handle) → slot_at hs handle ≡ Some h → is_named_by_guard view.guards handle ≡ false → (at place : ℕ) (result : Result Reply Refusal)
     → ((t : Tables) → StandsFor k t → IfErr result (IsRefusal (entry_call (here_at k.setup t at place) handle true))) → (t : Tables) → StandsFor k t → IfErr result (IsRefusal (effect_of_call k.setup t at place (call.Entered handle)))
 entered_refused view k same hs are handle h found free at place result did t stands =
-    let is = (entered_is k hs (ap (λ (x : State). x.handles) (sym same) ∙ are) handle h found at place t stands).0 (ap (λ (x : State). is_named x.guards handle) (sym same) ∙ free) in
+    let is = (entered_is k hs (ap (λ (x : PipelineState). x.handles) (sym same) ∙ are) handle h found at place t stands).0 (ap (λ (x : PipelineState). is_named_by_guard x.guards handle) (sym same) ∙ free) in
     subst (λ (r : Resolved). IfErr result (IsRefusal r)) (sym is) (did t stands)
 
-pub by_view_opens_refused : (at place handle : ℕ) (owns : Bool) (given : Refusal) (view k : State) → view ≡ k → ((t : Tables) → StandsFor view t → entry_call (here_at view.setup t at place) handle owns ≡ Err given)
+pub by_view_opens_refused : (at place handle : ℕ) (owns : Bool) (given : Refusal) (view k : PipelineState) → view ≡ k → ((t : Tables) → StandsFor view t → entry_call (here_at view.setup t at place) handle owns ≡ Err given)
     → (t : Tables) → StandsFor k t → entry_call (here_at k.setup t at place) handle owns ≡ Err given
-by_view_opens_refused at place handle owns given view k is refuses = subst (λ (x : State). (t : Tables) → StandsFor x t → entry_call (here_at x.setup t at place) handle owns ≡ Err given) is refuses
+by_view_opens_refused at place handle owns given view k is refuses = subst (λ (x : PipelineState). (t : Tables) → StandsFor x t → entry_call (here_at x.setup t at place) handle owns ≡ Err given) is refuses

@@ -1,6 +1,6 @@
 -- An entry on a lane with as many contexts as may be.
 use Rattle.std.proofs.Common.{◌≡◌, ℕ, ◌<◌, List, [], ◌∷◌, length, get_or, Bool, true, false, Option, Some, None, Err, map, refl, sym, ap, subst, ◌∙◌, arith, inl, inr, slice_get, Ok, ◌&&◌, ◌||◌, ◌≢◌}
-use Rattle.span_script.proofs.Common.{cases_Bool, cond-true, length-map, MAX_CONTEXTS, Context, EnterError, SpanData, data_at, knows_span, Recording, no_recording, Lane, Spans, Handle, HeldSpan, MeetsFullLane, Refusal, id_at, named_by, opened_by, Scope, Attached, Tables, slot_at, here_at, Resolved, refuse_if, ◌>>=◌, need, meets_full, enter_effect, entry_call, refused_entry, Views, State, state_of, LaneValue, lane_value, lane_at, StandsFor, IsKept, is_for_memory, held_by, held_of, Parts, FilterWithRoom, layer_or}
+use Rattle.span_script.proofs.Common.{cases_Bool, cond-true, length-map, MAX_CONTEXTS, Context, EnterError, SpanData, data_at, knows_span, Recording, no_recording, Lane, Spans, Handle, HeldSpan, MeetsFullLane, Refusal, id_at, named_span, open_guard_by, Scope, Attached, Tables, slot_at, here_at, Resolved, refuse_if, ◌>>=◌, need, meets_full, enter_effect, entry_call, refused_entry, Views, PipelineState, state_of, LaneValue, lane_value, lane_at, StandsFor, PipelineInvariant, is_for_memory, held_by, held_of, Parts, FilterWithRoom, layer_or}
 use Rattle.std.proofs.lemmas.Bool.{eq-eqb, eqb-true, true≢false}
 use Rattle.otel_base.specs.declared.enter_error.EnterError.TheVariants as errors
 use Rattle.span_script.specs.declared.reply.Refusal.TheVariants as refusal
@@ -35,8 +35,8 @@ meets_made false s up items on many = absurd (true≢false (sym on))
 
 module _ {S : Type 0} (spans : S → Spans) (views : Views S) (activates : S → ℕ → Bool) (kept : S → ℕ → ℕ → ℕ) (is_whole : S → Type 0) (acts : Activates views activates) (parts : Parts S)
     (at place : ℕ) (before : Lane) (within : place < length parts.lanes) (here : before ≡ get_or parts.lanes place before)
-    (handle : ℕ) (h : Handle) (found : slot_at parts.handles handle ≡ Some h) (inv : IsKept spans views kept is_whole parts) where
-  abbrev now : State
+    (handle : ℕ) (h : Handle) (found : slot_at parts.handles handle ≡ Some h) (inv : PipelineInvariant spans views kept is_whole parts) where
+  abbrev now : PipelineState
   now = state_of spans views parts
 
   abbrev place_id : ℕ
@@ -54,7 +54,7 @@ module _ {S : Type 0} (spans : S → Spans) (views : Views S) (activates : S →
   -- the subscriber attaches for an open span where the setup activates
   acts_here : (t : Tables) → StandsFor now t → (s : ℕ) (up : Scope) → slot_at t.handles handle ≡ Some (s ∷ up) → (x : S) → slice_get parts.world.subscribers parts.dispatch ≡ Some x → activates x s ≡ now.setup.layer.activation
   acts_here t stands s up there x is =
-      let live = fits_live now.spans (map named_by t.handles) (map (opened_by now.setup.ids) t.guards) t.entries stands.fits.balanced handle s (named_slot t.handles handle (s ∷ up) there) in
+      let live = fits_live now.spans (map named_span t.handles) (map (open_guard_by now.setup.ids) t.guards) t.entries stands.fits.balanced handle s (named_slot t.handles handle (s ∷ up) there) in
       let same = seen_there views.recorded no_recording parts.world parts.dispatch x is in
       acts x s (λ none. stands.recording.known s live (ap (λ (r : Recording). data_at s r.spans) same ∙ none)) ∙ ap (λ (r : Recording). r.settings.activation) (sym same)
 

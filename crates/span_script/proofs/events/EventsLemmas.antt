@@ -1,5 +1,5 @@
 -- Ops on spans that leave all else as it is, served; and events.
-use Rattle.span_script.proofs.Common.{length-map, Measure, Token, Recording, no_recording, with_start, with_applied, Lane, Callsite, Kind, ValueSet, Parent, WorldValue, FilterState, IsNewFilter, enables_in, Spans, span_at, entries_on, parent_on, SubscriberCall, read_subscriber, spans_in, kept_in, Has, Reply, RequestParent, id_at, if_event, event_site, Scope, SpanOp, FilterHook, Effect, Tables, own_span, recorded_by, quiet_effect, Fields, all_values, text_filter, here_at, Resolved, ◌>>=◌, need, ops_on, effect_of_call, if_enabled, event_ops, event_effect, after_filter_hook, scope_at, parent_for, AreNamed, TellsNamed, TellsOnly, LetsThrough, Views, shown_of, State, state_of, lane_value, held_by, StandsFor, LanesFit, IsKept, Served, Parts, with_counted, with_event_by, AddsMeasures, CallsLaw, aside_in}
+use Rattle.span_script.proofs.Common.{length-map, Measure, Token, Recording, no_recording, with_start, with_applied, Lane, Callsite, Kind, ValueSet, Parent, WorldValue, FilterState, IsNewFilter, enables_in, Spans, span_at, entries_on, parent_on, SubscriberCall, read_subscriber, spans_in, kept_in, Has, Reply, RequestParent, id_at, if_event, event_site, Scope, SpanOp, FilterHook, Effect, Tables, span_of_scope, recording_after, quiet_effect, Fields, all_values, text_filter, here_at, Resolved, ◌>>=◌, need, ops_on, effect_of_call, if_enabled, event_ops, event_effect, after_filter_hook, scope_at, parent_for, AreNamed, TellsNamed, TellsEventOrNothing, LetsThrough, Views, shown_of, PipelineState, state_of, lane_value, held_by, StandsFor, LanesFit, PipelineInvariant, IsServed, Parts, with_counted, with_event_by, AddsMeasures, CallsLaw, aside_in}
 use Rattle.std.proofs.Common.{◌≡◌, ℕ, ◌<◌, List, [], ◌∷◌, length, Bool, true, false, fold, get_or, Option, Some, None, Ok, option_map, map, refl, sym, ap, subst, ◌∙◌, arith, slice_get, option_and_then, IfSome}
 use Rattle.otel_state.specs.fields.EventFields.{event_of}
 use Rattle.otel_state.specs.declared.op.Op.TheVariants as ops
@@ -59,10 +59,10 @@ abbrev pub Decides : Type 0
 Decides = (f : FilterState) (lane : ℕ) (c : Callsite) → IsNewFilter f → c.kind ≡ kinds.Event → enables_in f lane c ≡ admits f.statics.directives c
 
 -- an event is some ops of the own span of the scope that it reaches
-told_is : Decides → (ids : List ℕ) (counting : Option (List ℕ)) (counter : Option FilterState) → option_map (shown_of 0 ids) counter ≡ option_map (shown_of 0 ids) (option_map text_filter counting) → IfSome (option_map text_filter counting) IsNewFilter
+told_is : Decides → (ids : List ℕ) (counting : Option (List ℕ)) (counting_filter : Option FilterState) → option_map (shown_of 0 ids) counting_filter ≡ option_map (shown_of 0 ids) (option_map text_filter counting) → IfSome (option_map text_filter counting) IsNewFilter
     → (scope : Scope) (id place : ℕ) → id ≡ id_at ids place → place < length ids → (at : ℕ) (callsite : Callsite) → callsite.kind ≡ kinds.Event → (values : ValueSet) (r : Recording)
-    → with_event_by counter (own_span scope) id at callsite values r ≡ done_by at (ops_on scope (event_ops counting callsite (event_of callsite values r.settings at))) r
-told_is decides ids counting counter shown new scope id place mine within at callsite event values r = by_counting counting counter shown new scope
+    → with_event_by counting_filter (span_of_scope scope) id at callsite values r ≡ done_by at (ops_on scope (event_ops counting callsite (event_of callsite values r.settings at))) r
+told_is decides ids counting counting_filter shown new scope id place mine within at callsite event values r = by_counting counting counting_filter shown new scope
   where
     by_flag : (b : Bool) (s : ℕ) → with_counted b s at callsite values r ≡ done_by at (ops_on (s ∷ []) (ops.Counted ∷ if_enabled b (event_of callsite values r.settings at ∷ []))) r
     by_flag true s = refl
@@ -73,7 +73,7 @@ told_is decides ids counting counter shown new scope id place mine within at cal
         ap (λ (l : ℕ). enables_in f l callsite) mine ∙ enables_alike 0 ids f g place callsite (agree_by 0 ids f g (let e : shown_of 0 ids f ≡ shown_of 0 ids g = cc same in e)) within ∙ decides g (id_at ids place) callsite fresh event
 
     by_counting : (text : Option (List ℕ)) (o : Option FilterState) → option_map (shown_of 0 ids) o ≡ option_map (shown_of 0 ids) (option_map text_filter text) → IfSome (option_map text_filter text) IsNewFilter → (reached : Scope)
-        → with_event_by o (own_span reached) id at callsite values r ≡ done_by at (ops_on reached (event_ops text callsite (event_of callsite values r.settings at))) r
+        → with_event_by o (span_of_scope reached) id at callsite values r ≡ done_by at (ops_on reached (event_ops text callsite (event_of callsite values r.settings at))) r
     by_counting None None same fresh [] = refl
     by_counting None None same fresh (s ∷ up) = refl
     by_counting None (Some f) same fresh reached = absurd (cc same)
@@ -112,7 +112,7 @@ module _ {S : Type 0} (spans : S → Spans) (views : Views S) (attaches : S → 
     whole = λ has. subst (λ (w : WorldValue S). Has is_whole w parts.dispatch) (sym same) has;
   }
 
-  abbrev now : State
+  abbrev now : PipelineState
   now = state_of spans views parts
 
   abbrev r : Recording
@@ -122,7 +122,7 @@ module _ {S : Type 0} (spans : S → Spans) (views : Views S) (attaches : S → 
     abbrev then_parts : Parts S
     then_parts = record parts { world = new; moment = at }
 
-    abbrev then : State
+    abbrev then : PipelineState
     then = state_of spans views then_parts
 
     -- the effect of some starts and ops, of which the filter hears, and of measures
@@ -132,14 +132,14 @@ module _ {S : Type 0} (spans : S → Spans) (views : Views S) (attaches : S → 
     abbrev pub starts_then : List ℕ → List SpanOp → List FilterHook → Reply → Effect
     starts_then ss o heard answer = measures_then ss o heard [] answer
 
-    pub serves_measures : (t : Tables) → StandsFor now t → (ss : List ℕ) (o : List SpanOp) (heard : List FilterHook) (added : List Measure) (known : AreKnown (length t.spans) heard (length t.spans)) (answer : Reply) (resolved : Resolved) → Starts at ss o heard added → resolved ≡ Ok (measures_then ss o heard added answer) → Served resolved t now then answer
+    pub serves_measures : (t : Tables) → StandsFor now t → (ss : List ℕ) (o : List SpanOp) (heard : List FilterHook) (added : List Measure) (known : AreKnown (length t.spans) heard (length t.spans)) (answer : Reply) (resolved : Resolved) → Starts at ss o heard added → resolved ≡ Ok (measures_then ss o heard added answer) → IsServed resolved t now then answer
     serves_measures t stands ss o heard added known answer resolved did is =
         let fits = stands.fits in
         let ids = now.setup.ids in
         let step = did.spans_same in
         let e : Effect = measures_then ss o heard added answer in
         let tokens = recorded_tokens (length t.spans) e r in
-        let rec_is : read_subscriber views.recorded no_recording new parts.dispatch ≡ record (recorded_by (length t.spans) e r) { tokens = r.tokens } = did.recorded_is ∙ ap (λ (ts : List Token). record (recorded_by (length t.spans) e r) { tokens = ts }) tokens in
+        let rec_is : read_subscriber views.recorded no_recording new parts.dispatch ≡ record (recording_after (length t.spans) e r) { tokens = r.tokens } = did.recorded_is ∙ ap (λ (ts : List Token). record (recording_after (length t.spans) e r) { tokens = ts }) tokens in
         let settings = ap (λ (x : Recording). x.settings) rec_is ∙ recorded_settings (length t.spans) e r in
         let setup : then.setup ≡ now.setup = ap (λ x. record now.setup { sites = x; layer = (read_subscriber views.recorded no_recording new parts.dispatch).settings }) did.sites_same ∙ ap (λ x. record now.setup { layer = x }) settings in
         serve now then t e resolved answer stands is refl setup r.tokens rec_is
@@ -148,23 +148,23 @@ module _ {S : Type 0} (spans : S → Spans) (views : Views S) (attaches : S → 
         (all_same now then t.contexts setup refl refl (ap (λ (x : Recording). x.tokens) rec_is) stands.recording.attached)
         (record { quiet = refl; before = read_subscriber views.filtered None parts.world parts.dispatch; later = read_subscriber views.filtered None new parts.dispatch; shown_before = refl; shown_later = refl; told = did.filter_is; known = known; cached = did.cached_same; aside = record { before = aside_in views parts.world parts.dispatch; later = aside_in views new parts.dispatch; shown_before = refl; shown_later = refl; waits_before = refl; waits_later = refl; adds = did.aside_is } })
 
-    pub keeps_measures : (inv : IsKept spans views kept is_whole parts) (ss : List ℕ) (o : List SpanOp) (heard : List FilterHook) (added : List Measure) (known : AreKnown (length inv.tables.spans) heard (length inv.tables.spans)) (answer : Reply) (resolved : Resolved) → Starts at ss o heard added → resolved ≡ Ok (measures_then ss o heard added answer) → IsKept spans views kept is_whole then_parts
+    pub keeps_measures : (inv : PipelineInvariant spans views kept is_whole parts) (ss : List ℕ) (o : List SpanOp) (heard : List FilterHook) (added : List Measure) (known : AreKnown (length inv.tables.spans) heard (length inv.tables.spans)) (answer : Reply) (resolved : Resolved) → Starts at ss o heard added → resolved ≡ Ok (measures_then ss o heard added answer) → PipelineInvariant spans views kept is_whole then_parts
     keeps_measures inv ss o heard added known answer resolved did is =
         kept_served spans views kept is_whole parts then_parts inv resolved answer (serves_measures inv.tables inv.stands ss o heard added known answer resolved did is) refl did.count did.whole
         (subst (λ (f : ℕ → ℕ → ℕ). LanesFit parts.dispatch f (map lane_value parts.lanes)) (sym did.kept_same) inv.lanes)
 
     -- the same without measures
-    pub serves_starts : (t : Tables) → StandsFor now t → (ss : List ℕ) (o : List SpanOp) (heard : List FilterHook) (known : AreKnown (length t.spans) heard (length t.spans)) (answer : Reply) (resolved : Resolved) → Starts at ss o heard [] → resolved ≡ Ok (starts_then ss o heard answer) → Served resolved t now then answer
+    pub serves_starts : (t : Tables) → StandsFor now t → (ss : List ℕ) (o : List SpanOp) (heard : List FilterHook) (known : AreKnown (length t.spans) heard (length t.spans)) (answer : Reply) (resolved : Resolved) → Starts at ss o heard [] → resolved ≡ Ok (starts_then ss o heard answer) → IsServed resolved t now then answer
     serves_starts t stands ss o heard known answer resolved did is = serves_measures t stands ss o heard [] known answer resolved did is
 
-    pub keeps_starts : (inv : IsKept spans views kept is_whole parts) (ss : List ℕ) (o : List SpanOp) (heard : List FilterHook) (known : AreKnown (length inv.tables.spans) heard (length inv.tables.spans)) (answer : Reply) (resolved : Resolved) → Starts at ss o heard [] → resolved ≡ Ok (starts_then ss o heard answer) → IsKept spans views kept is_whole then_parts
+    pub keeps_starts : (inv : PipelineInvariant spans views kept is_whole parts) (ss : List ℕ) (o : List SpanOp) (heard : List FilterHook) (known : AreKnown (length inv.tables.spans) heard (length inv.tables.spans)) (answer : Reply) (resolved : Resolved) → Starts at ss o heard [] → resolved ≡ Ok (starts_then ss o heard answer) → PipelineInvariant spans views kept is_whole then_parts
     keeps_starts inv ss o heard known answer resolved did is = keeps_measures inv ss o heard [] known answer resolved did is
 
     -- the same of ops alone
-    pub serves_ops : (t : Tables) → StandsFor now t → (o : List SpanOp) (heard : List FilterHook) (known : AreKnown (length t.spans) heard (length t.spans)) (answer : Reply) (resolved : Resolved) → Does at o heard → resolved ≡ Ok (tells_heard at (id_at now.setup.ids place) answer o heard) → Served resolved t now then answer
+    pub serves_ops : (t : Tables) → StandsFor now t → (o : List SpanOp) (heard : List FilterHook) (known : AreKnown (length t.spans) heard (length t.spans)) (answer : Reply) (resolved : Resolved) → Does at o heard → resolved ≡ Ok (tells_heard at (id_at now.setup.ids place) answer o heard) → IsServed resolved t now then answer
     serves_ops t stands o heard known answer resolved did is = serves_starts t stands [] o heard known answer resolved did is
 
-    pub keeps_ops : (inv : IsKept spans views kept is_whole parts) (o : List SpanOp) (heard : List FilterHook) (known : AreKnown (length inv.tables.spans) heard (length inv.tables.spans)) (answer : Reply) (resolved : Resolved) → Does at o heard → resolved ≡ Ok (tells_heard at (id_at now.setup.ids place) answer o heard) → IsKept spans views kept is_whole then_parts
+    pub keeps_ops : (inv : PipelineInvariant spans views kept is_whole parts) (o : List SpanOp) (heard : List FilterHook) (known : AreKnown (length inv.tables.spans) heard (length inv.tables.spans)) (answer : Reply) (resolved : Resolved) → Does at o heard → resolved ≡ Ok (tells_heard at (id_at now.setup.ids place) answer o heard) → PipelineInvariant spans views kept is_whole then_parts
     keeps_ops inv o heard known answer resolved did is = keeps_starts inv [] o heard known answer resolved did is
 
   module _ (does : S → SubscriberCall → S → Type 0) (law : CallsLaw spans views attaches kept is_whole does)
@@ -194,20 +194,20 @@ module _ {S : Type 0} (spans : S → Spans) (views : Views S) (attaches : S → 
       abbrev measures_of : Bool → List Measure
       measures_of b = if_enabled b (measures given values)
 
-      does_told : (t : Tables) → StandsFor now t → (b : Bool) → TellsOnly does b parts.world new before at p site values parts.dispatch → (reached : Scope) → parent_on (entries_on before.id (spans_in spans parts.world parts.dispatch).lanes) p ≡ own_span reached
+      does_told : (t : Tables) → StandsFor now t → (b : Bool) → TellsEventOrNothing does b parts.world new before at p site values parts.dispatch → (reached : Scope) → parent_on (entries_on before.id (spans_in spans parts.world parts.dispatch).lanes) p ≡ span_of_scope reached
           → Starts at [] (ops_of b reached) [] (measures_of b)
       does_told t stands true told reached reaches =
           let rec = r in
           let shown = law.shown parts.world new parts.dispatch _ told.told in
-          let counter = read_subscriber views.counter None parts.world parts.dispatch in
+          let counting_filter = read_subscriber views.counting_filter None parts.world parts.dispatch in
           let viewed = law.viewed parts.world new parts.dispatch _ told.told in
           record {
             spans_same = shown.spans_after;
             kept_same = shown.lanes;
             sites_same = ap (λ (w : WorldValue S). w.sites) told.told.others;
-            recorded_is = viewed.0 ∙ ap (λ (o : Option ℕ). with_event_by counter o before.id at told.callsite values rec) reaches
-                ∙ ap (λ (c : Callsite). with_event_by counter (own_span reached) before.id at c values rec) (same_site told.callsite told.is)
-                ∙ told_is decides (map (λ (l : Lane). l.id) parts.lanes) parts.opening.counting counter stands.filtering.counter stands.filtering.new reached before.id place (id_seen parts.lanes place before within here) (let l = length-map parts.lanes (λ (x : Lane). x.id) in omega (arith, within, l)) at given (event_kind parts.world.sites site given named.given_is) values rec;
+            recorded_is = viewed.0 ∙ ap (λ (o : Option ℕ). with_event_by counting_filter o before.id at told.callsite values rec) reaches
+                ∙ ap (λ (c : Callsite). with_event_by counting_filter (span_of_scope reached) before.id at c values rec) (same_site told.callsite told.is)
+                ∙ told_is decides (map (λ (l : Lane). l.id) parts.lanes) parts.opening.counting counting_filter stands.filtering.counting_filter stands.filtering.new reached before.id place (id_seen parts.lanes place before within here) (let l = length-map parts.lanes (λ (x : Lane). x.id) in omega (arith, within, l)) at given (event_kind parts.world.sites site given named.given_is) values rec;
             filter_is = viewed.1;
             aside_is = subst (λ (c : Callsite). AddsMeasures (aside_in views parts.world parts.dispatch) (aside_in views new parts.dispatch) (measures c values)) (same_site told.callsite told.is) viewed.2;
             cached_same = ap (λ (w : WorldValue S). w.cached) told.told.others;
@@ -239,8 +239,8 @@ module _ {S : Type 0} (spans : S → Spans) (views : Views S) (attaches : S → 
                 ∙ ap (λ (b : Bool). Ok (measures_then at place [] (ops_of b up.up) [] (measures_of b) (reply.Enabled b))) (answered spans views parts place before within here site callsite (site_is parts.world.sites site callsite named.given_is) enabled gate t stands);
           }
 
-      pub serves_told : (t : Tables) → StandsFor now t → Served (effect_of_call now.setup t at place (call.Event site under fields)) t now (then at place) (reply.Enabled enabled)
+      pub serves_told : (t : Tables) → StandsFor now t → IsServed (effect_of_call now.setup t at place (call.Event site under fields)) t now (then at place) (reply.Enabled enabled)
       serves_told t stands = (let e = told t stands in serves_measures at place t stands [] e.ops [] e.added refl (reply.Enabled enabled) _ e.done e.is)
 
-      pub keeps_told : IsKept spans views kept is_whole parts → IsKept spans views kept is_whole (then_parts at place)
+      pub keeps_told : PipelineInvariant spans views kept is_whole parts → PipelineInvariant spans views kept is_whole (then_parts at place)
       keeps_told inv = (let e = told inv.tables inv.stands in keeps_measures at place inv [] e.ops [] e.added refl (reply.Enabled enabled) _ e.done e.is)

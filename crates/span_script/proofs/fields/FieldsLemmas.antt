@@ -1,5 +1,5 @@
 -- Fields that are declared or not, recorded on spans, and asked for.
-use Rattle.span_script.proofs.Common.{list_all, cons_option, cond-true, cond-false, Recording, no_recording, Callsite, ValueSet, Parent, WorldValue, Spans, SubscriberCall, read_subscriber, Handle, HeldSpan, IsSite, RecordsAt, RecordsOn, callsite_in, field_at, field_in, as_parent, RequestParent, id_at, span_site, event_site, Scope, Tables, slot_at, site_of, Effect, Fields, declared_value, declares, declared_by, all_values, values_of, values_by, Resolved, Refusal, here_at, ◌>>=◌, need, ops_effect, effect_of_call, event_effect, scope_at, new_effect, parent_for, named_values, Views, State, state_of, StandsFor, IsScope, IsKept, Served, held_by, held_of, Parts, get_or-map, CallsLaw}
+use Rattle.span_script.proofs.Common.{list_all, cons_option, cond-true, cond-false, Recording, no_recording, Callsite, ValueSet, Parent, WorldValue, Spans, SubscriberCall, read_subscriber, Handle, HeldSpan, IsSite, RecordsAt, RecordsOn, callsite_in, field_at, field_in, as_parent, RequestParent, id_at, span_site, event_site, Scope, Tables, slot_at, site_of, Effect, Fields, declared_value, declares, declared_by, all_values, values_of, values_by, Resolved, Refusal, here_at, ◌>>=◌, need, ops_effect, effect_of_call, event_effect, scope_at, new_effect, parent_for, named_values, Views, PipelineState, state_of, StandsFor, IsScope, PipelineInvariant, IsServed, held_by, held_of, Parts, get_or-map, CallsLaw}
 use Rattle.std.proofs.Common.{◌≡◌, ℕ, suc, ◌<◌, ◌≤◌, List, [], ◌∷◌, length, Bool, true, false, Option, Some, None, Result, Ok, Err, option_map, map, refl, sym, ap, subst, ◌∙◌, arith, ◌&&◌, is_some, slice_get, filter_map, option_and_then}
 use Rattle.trace_base.specs.declared.field.Field.{Field}
 use Rattle.trace_base.specs.Field.{place_of, named_field}
@@ -18,7 +18,7 @@ use Rattle.span_script.specs.declared.request.RequestParent.TheVariants as reque
 
 -- ---- places that aren't there
 
-no_scope : (k : State) (t : Tables) → Fits k t → (lane : ℕ) (under : RequestParent) → parent_for k.handles under ≡ None → scope_at t lane under ≡ None
+no_scope : (k : PipelineState) (t : Tables) → Fits k t → (lane : ℕ) (under : RequestParent) → parent_for k.handles under ≡ None → scope_at t lane under ≡ None
 no_scope k t fits lane request_parent.Root is = absurd (cc is)
 no_scope k t fits lane request_parent.Contextual is = absurd (cc is)
 no_scope k t fits lane (request_parent.Under handle) is = by_slot (slot_at t.handles handle) (sym (ap (λ xs. option_map as_parent (slot_at xs handle)) fits.handle_slots ∙ ap (option_map as_parent) (get_or-map (option_map (held_of k.dispatch)) t.handles handle None)) ∙ is)
@@ -28,7 +28,7 @@ no_scope k t fits lane (request_parent.Under handle) is = by_slot (slot_at t.han
     by_slot (Some scope) e = absurd (cc e)
 
 -- the first that isn't there of what a new span or an event names
-module _ (k : State) (t : Tables) (fits : Fits k t) (lane : ℕ) (under : RequestParent) (parent : Option Parent) (found : parent ≡ parent_for k.handles under) (fields : Fields) (given : Refusal) (make : Callsite → Scope → ValueSet → Effect) where
+module _ (k : PipelineState) (t : Tables) (fits : Fits k t) (lane : ℕ) (under : RequestParent) (parent : Option Parent) (found : parent ≡ parent_for k.handles under) (fields : Fields) (given : Refusal) (make : Callsite → Scope → ValueSet → Effect) where
   -- the effect, or the refusal
   abbrev made_or : Option Callsite → Option Scope → Resolved
   made_or callsite scope = need what.Site callsite >>= (λ c. need what.Handle scope >>= (λ up. need what.Field (all_values c fields) >>= (λ v. Ok (make c up v))))
@@ -48,11 +48,11 @@ module _ (k : State) (t : Tables) (fits : Fits k t) (lane : ℕ) (under : Reques
   refuses_named None e = the_refusal (refusal.UnknownName what.Site) e
   refuses_named (Some c) e = by_parent c parent refl e
 
-pub refuses_new : (k : State) (t : Tables) → Fits k t → (at place site : ℕ) (under : RequestParent) (parent : Option Parent) → parent ≡ parent_for k.handles under → (fields : Fields) (given : Refusal) → named_values (span_site k.setup.sites site) parent fields ≡ Err given
+pub refuses_new : (k : PipelineState) (t : Tables) → Fits k t → (at place site : ℕ) (under : RequestParent) (parent : Option Parent) → parent ≡ parent_for k.handles under → (fields : Fields) (given : Refusal) → named_values (span_site k.setup.sites site) parent fields ≡ Err given
     → effect_of_call k.setup t at place (call.New site under fields) ≡ Err given
 refuses_new k t fits at place site under parent found fields given e = refuses_named k t fits (id_at k.setup.ids place) under parent found fields given (λ c up v. new_effect (here_at k.setup t at place) site c v under up) (span_site k.setup.sites site) e
 
-pub refuses_event : (k : State) (t : Tables) → Fits k t → (at place site : ℕ) (under : RequestParent) (parent : Option Parent) → parent ≡ parent_for k.handles under → (fields : Fields) (given : Refusal) → named_values (event_site k.setup.sites site) parent fields ≡ Err given
+pub refuses_event : (k : PipelineState) (t : Tables) → Fits k t → (at place site : ℕ) (under : RequestParent) (parent : Option Parent) → parent ≡ parent_for k.handles under → (fields : Fields) (given : Refusal) → named_values (event_site k.setup.sites site) parent fields ≡ Err given
     → effect_of_call k.setup t at place (call.Event site under fields) ≡ Err given
 refuses_event k t fits at place site under parent found fields given e = refuses_named k t fits (id_at k.setup.ids place) under parent found fields given (λ c up v. event_effect (here_at k.setup t at place) c v up) (event_site k.setup.sites site) e
 
@@ -112,7 +112,7 @@ has_in world name None = refl
 has_in world name (Some site) = has_at name site (slice_get world.sites site)
 
 module _ {S : Type 0} (spans : S → Spans) (views : Views S) (attaches : S → Bool) (kept : S → ℕ → ℕ → ℕ) (is_whole : S → Type 0) (parts : Parts S) where
-  abbrev now : State
+  abbrev now : PipelineState
   now = state_of spans views parts
 
   module _ (handle : ℕ) (h : Handle) (found : slot_at parts.handles handle ≡ Some h) where
@@ -123,7 +123,7 @@ module _ {S : Type 0} (spans : S → Spans) (views : Views S) (attaches : S → 
     its_callsite t fits = ap (λ (o : Option ℕ). option_and_then (λ k. slice_get parts.world.sites k) o) (site_found now t fits parts.handles refl handle h found (its_scope t fits).at (its_scope t fits).there)
 
     -- a handle's callsite is there
-    pub needs_site : IsKept spans views kept is_whole parts → IsSite parts.world h.site
+    pub needs_site : PipelineInvariant spans views kept is_whole parts → IsSite parts.world h.site
     needs_site inv = by_scope (its_scope inv.tables inv.stands.fits).at (inv.stands.fits.scopes handle (its_scope inv.tables inv.stands.fits).at (its_scope inv.tables inv.stands.fits).there) h.site (site_found now inv.tables inv.stands.fits parts.handles refl handle h found (its_scope inv.tables inv.stands.fits).at (its_scope inv.tables inv.stands.fits).there)
       where
         by_scope : (line : Scope) → IsScope inv.tables.spans line → (site : Option ℕ) → site ≡ site_of inv.tables.spans line → IsSite parts.world site
@@ -134,7 +134,7 @@ module _ {S : Type 0} (spans : S → Spans) (views : Views S) (attaches : S → 
       abbrev then_parts : Parts S
       then_parts = record parts { world = new; moment = at }
 
-      abbrev then : State
+      abbrev then : PipelineState
       then = state_of spans views then_parts
 
       -- whether a name is declared is asked
@@ -145,10 +145,10 @@ module _ {S : Type 0} (spans : S → Spans) (views : Views S) (attaches : S → 
             ap (λ o. need what.Handle o >>= (λ scope. Ok (ops_effect (here_at now.setup t at place) (reply.Has (declared_by (callsite_of now.setup t scope) name)) []))) line.there
             ∙ ap (λ (b : Bool). Ok (ops_effect (here_at now.setup t at place) (reply.Has b) [])) (ap (λ (o : Option Callsite). declared_by o name) (sym (its_callsite t stands.fits)) ∙ sym (has_in parts.world name h.site) ∙ sym is)
 
-        pub serves_asked : (t : Tables) → StandsFor now t → Served (effect_of_call now.setup t at place (call.HasField handle name)) t now then (reply.Has has)
+        pub serves_asked : (t : Tables) → StandsFor now t → IsServed (effect_of_call now.setup t at place (call.HasField handle name)) t now then (reply.Has has)
         serves_asked t stands = serves_ops spans views attaches kept is_whole parts new at place t stands [] [] refl (reply.Has has) _ (does_none spans views attaches kept is_whole parts new at same) (asked t stands)
 
-        pub keeps_asked : IsKept spans views kept is_whole parts → IsKept spans views kept is_whole then_parts
+        pub keeps_asked : PipelineInvariant spans views kept is_whole parts → PipelineInvariant spans views kept is_whole then_parts
         keeps_asked inv = keeps_ops spans views attaches kept is_whole parts new at place inv [] [] refl (reply.Has has) _ (does_none spans views attaches kept is_whole parts new at same) (asked inv.tables inv.stands)
 
       -- values are recorded
@@ -192,8 +192,8 @@ module _ {S : Type 0} (spans : S → Spans) (views : Views S) (attaches : S → 
         its_update : (t : Tables) (fits : Fits now t) → effect_of_call now.setup t at place (call.Record handle fields) ≡ Ok (record_effect (here_at now.setup t at place) (its_scope t fits).at fields)
         its_update t fits = ap (λ o. need what.Handle o >>= (λ scope. Ok (record_effect (here_at now.setup t at place) scope fields))) (its_scope t fits).there
 
-        pub serves_recorded : (t : Tables) → StandsFor now t → Served (effect_of_call now.setup t at place (call.Record handle fields)) t now then reply.Done
+        pub serves_recorded : (t : Tables) → StandsFor now t → IsServed (effect_of_call now.setup t at place (call.Record handle fields)) t now then reply.Done
         serves_recorded t stands = serves_ops spans views attaches kept is_whole parts new at place t stands _ _ (values_known (its_scope t stands.fits).at (callsite_of now.setup t (its_scope t stands.fits).at) (length t.spans)) reply.Done _ (updated t stands.fits) (its_update t stands.fits)
 
-        pub keeps_recorded : IsKept spans views kept is_whole parts → IsKept spans views kept is_whole then_parts
+        pub keeps_recorded : PipelineInvariant spans views kept is_whole parts → PipelineInvariant spans views kept is_whole then_parts
         keeps_recorded inv = keeps_ops spans views attaches kept is_whole parts new at place inv _ _ (values_known (its_scope inv.tables inv.stands.fits).at (callsite_of now.setup inv.tables (its_scope inv.tables inv.stands.fits).at) (length inv.tables.spans)) reply.Done _ (updated inv.tables inv.stands.fits) (its_update inv.tables inv.stands.fits)

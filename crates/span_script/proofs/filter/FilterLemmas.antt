@@ -1,6 +1,6 @@
 -- The filter in force, and the cache, after one effect more.
 use Rattle.std.proofs.Common.{◌≡◌, ℕ, zero, suc, ◌+◌, ◌<◌, List, [], ◌∷◌, ◌++◌, length, fold, Option, Some, None, option_map, map, slice_get, refl, sym, ap, subst, ◌∙◌, arith, inl, inr, is_some, nat_eq, IfSome}
-use Rattle.span_script.proofs.Common.{cases_eq, cond-true, cond-false, option_map_or, Callsite, Interest, WorldValue, IsFresh, interests_of_sites, read_subscriber, Stacks, filter_in_place, stack_interest, layer_or, sometimes, Directive, FilterState, FilterWithRoom, IsNewFilter, plain_filter, interest_in, is_admitted, enables_in, Setup, id_at, FilterHook, HookNew, HookRecord, HookEnter, HookExit, HookClose, Effect, Tables, after_effect, with_item, newer_text, hooks_since, after_filter_hook, in_force, filter_at, text_filter, Views, ShownFilter, first_of, shown_of, counter_by, State, FilteringFits}
+use Rattle.span_script.proofs.Common.{cases_eq, cond-true, cond-false, option_map_or, Callsite, Interest, WorldValue, IsFresh, interests_of_sites, read_subscriber, Stacks, filter_in_place, stack_interest, layer_or, sometimes, Directive, FilterState, FilterWithRoom, IsNewFilter, plain_filter, interest_in, is_admitted, enables_in, Setup, id_at, FilterHook, HookNew, HookRecord, HookEnter, HookExit, HookClose, Effect, Tables, after_effect, with_item, newer_text, hooks_since, after_filter_hook, text_in_force, filter_in_force, text_filter, Views, ShownFilter, first_of, shown_of, counting_filter_by, PipelineState, FilteringFits}
 use Rattle.std.proofs.lemmas.Bool.{eq-eqb, ne_eqb}
 use Rattle.trace_base.specs.declared.subscriber.Interest.TheVariants as interests
 use Rattle.span_registry.specs.Both.{joint_interest}
@@ -161,7 +161,7 @@ enables_alike n ids f g place c a within = rw (a.statics, a.dynamics, lane_agree
 -- ---- one effect more
 
 -- what an effect leaves that puts no filter in force: what is heard is told to the filter, and the cache stays
-pub record Hears (k : State) (t : Tables) (e : Effect) (next : State) : Type 0 where
+pub record Hears (k : PipelineState) (t : Tables) (e : Effect) (next : PipelineState) : Type 0 where
   pub quiet : e.filter ≡ None
   pub before : Option FilterState
   pub later : Option FilterState
@@ -172,10 +172,10 @@ pub record Hears (k : State) (t : Tables) (e : Effect) (next : State) : Type 0 w
   pub cached : next.cached ≡ k.cached
   pub aside : AddsTo k next e.measures
 
-heard_at : (setup : Setup) (t : Tables) (e : Effect) → e.filter ≡ None → filter_at setup (after_effect t e) ≡ fold after_filter_hook (filter_at setup t) e.hooks
+heard_at : (setup : Setup) (t : Tables) (e : Effect) → e.filter ≡ None → filter_in_force setup (after_effect t e) ≡ fold after_filter_hook (filter_in_force setup t) e.hooks
 heard_at setup t e quiet =
-    ap (λ (o : Option (List ℕ)). filter_at setup (record (after_effect t e) { filter = newer_text t.filter o; hooks = hooks_since t.hooks o ++ e.hooks })) quiet
-    ∙ heard_both (text_filter (in_force setup t)) t.hooks e.hooks
+    ap (λ (o : Option (List ℕ)). filter_in_force setup (record (after_effect t e) { filter = newer_text t.filter o; hooks = hooks_since t.hooks o ++ e.hooks })) quiet
+    ∙ heard_both (text_filter (text_in_force setup t)) t.hooks e.hooks
 
 -- what is seen of the filter in place is seen of the one in force
 pub record InPlace (n : ℕ) (ids : List ℕ) (place : Option FilterState) (force : FilterState) : Type 0 where
@@ -187,25 +187,25 @@ pub in_place_by : (n : ℕ) (ids : List ℕ) (place : Option FilterState) (force
 in_place_by n ids None force same = absurd (cc same)
 in_place_by n ids (Some f) force same = record { filter = f; is = refl; agree = agree_by n ids f force (let shown : shown_of n ids f ≡ shown_of n ids force = cc same in shown) }
 
-pub filtering_step : (k next : State) (t : Tables) (e : Effect) → length k.spans.made ≡ length t.spans → length next.spans.made ≡ length (after_effect t e).spans → FilteringFits k t → next.setup ≡ k.setup → Hears k t e next → FilteringFits next (after_effect t e)
+pub filtering_step : (k next : PipelineState) (t : Tables) (e : Effect) → length k.spans.made ≡ length t.spans → length next.spans.made ≡ length (after_effect t e).spans → FilteringFits k t → next.setup ≡ k.setup → Hears k t e next → FilteringFits next (after_effect t e)
 filtering_step k next t e count count_later fits setup h =
     let ids = k.setup.ids in
     let n = length t.spans in
     let m = length (with_item t.spans e.new_span) in
-    let place = in_place_by n ids h.before (filter_at k.setup t) (ap (λ (i : ℕ). option_map (shown_of i ids) h.before) (sym count) ∙ sym h.shown_before ∙ fits.in_place) in
-    let now : filter_at next.setup (after_effect t e) ≡ fold after_filter_hook (filter_at k.setup t) e.hooks = ap (λ (x : Setup). filter_at x (after_effect t e)) setup ∙ heard_at k.setup t e h.quiet in
+    let place = in_place_by n ids h.before (filter_in_force k.setup t) (ap (λ (i : ℕ). option_map (shown_of i ids) h.before) (sym count) ∙ sym h.shown_before ∙ fits.in_place) in
+    let now : filter_in_force next.setup (after_effect t e) ≡ fold after_filter_hook (filter_in_force k.setup t) e.hooks = ap (λ (x : Setup). filter_in_force x (after_effect t e)) setup ∙ heard_at k.setup t e h.quiet in
     let ids_are : next.setup.ids ≡ ids = ap (λ (x : Setup). x.ids) setup in
-    let alike = shown_same m ids (fold after_filter_hook place.filter e.hooks) (fold after_filter_hook (filter_at k.setup t) e.hooks) (agree_all n m ids place.filter (filter_at k.setup t) e.hooks h.known place.agree) in
+    let alike = shown_same m ids (fold after_filter_hook place.filter e.hooks) (fold after_filter_hook (filter_in_force k.setup t) e.hooks) (agree_all n m ids place.filter (filter_in_force k.setup t) e.hooks h.known place.agree) in
     record {
       in_place = h.shown_later ∙ ap (λ (o : Option FilterState). option_map (shown_of (length next.spans.made) next.setup.ids) o) (h.told ∙ ap (option_map (λ (f : FilterState). fold after_filter_hook f e.hooks)) place.is)
           ∙ ap (λ (i : ℕ). Some (shown_of i next.setup.ids (fold after_filter_hook place.filter e.hooks))) count_later
           ∙ ap (λ (xs : List ℕ). Some (shown_of m xs (fold after_filter_hook place.filter e.hooks))) ids_are
           ∙ ap Some alike
-          ∙ ap (λ (f : FilterState). Some (shown_of m ids f)) (sym now) ∙ ap (λ (xs : List ℕ). Some (shown_of m xs (filter_at next.setup (after_effect t e)))) (sym ids_are);
-      fresh = h.cached ∙ fits.fresh ∙ sym (rows_heard (filter_at k.setup t) e.hooks k.setup.sites)
-          ∙ ap (λ (f : FilterState). rows_of f k.setup.sites) (sym now) ∙ ap (λ (x : Setup). rows_of (filter_at next.setup (after_effect t e)) x.sites) (sym setup);
-      counter = h.aside.shown_later ∙ ap (λ (xs : List ℕ). option_map (shown_of 0 xs) h.aside.later.0) ids_are ∙ ap (option_map (shown_of 0 ids)) h.aside.adds.counter ∙ sym h.aside.shown_before
-          ∙ fits.counter ∙ ap (λ (x : Setup). counter_by x) (sym setup);
+          ∙ ap (λ (f : FilterState). Some (shown_of m ids f)) (sym now) ∙ ap (λ (xs : List ℕ). Some (shown_of m xs (filter_in_force next.setup (after_effect t e)))) (sym ids_are);
+      fresh = h.cached ∙ fits.fresh ∙ sym (rows_heard (filter_in_force k.setup t) e.hooks k.setup.sites)
+          ∙ ap (λ (f : FilterState). rows_of f k.setup.sites) (sym now) ∙ ap (λ (x : Setup). rows_of (filter_in_force next.setup (after_effect t e)) x.sites) (sym setup);
+      counting_filter = h.aside.shown_later ∙ ap (λ (xs : List ℕ). option_map (shown_of 0 xs) h.aside.later.0) ids_are ∙ ap (option_map (shown_of 0 ids)) h.aside.adds.counting_filter ∙ sym h.aside.shown_before
+          ∙ fits.counting_filter ∙ ap (λ (x : Setup). counting_filter_by x) (sym setup);
       new = subst (λ (x : Setup). IfSome (option_map text_filter x.counting) IsNewFilter) (sym setup) fits.new;
     }
 

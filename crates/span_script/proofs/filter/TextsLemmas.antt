@@ -8,7 +8,7 @@ use Rattle.env_directives.specs.reading.Reading.{DirectiveRead, read_directive}
 use Rattle.env_directives.specs.reading.Separators.{comma_pieces}
 use Rattle.env_directives.specs.declared.directive.ParseError.{ParseError}
 use Rattle.env_directives.specs.declared.directive.ParseError.TheVariants as fault
-use Rattle.span_script.proofs.Common.{Directive, FilterState, TextRead, with_piece_read, with_piece, pieces_read, text_read, fault_in, IsTextFilter, IsUnread, unread_by}
+use Rattle.span_script.proofs.Common.{Directive, FilterState, TextRead, with_piece_read, with_piece, pieces_read, text_read, fault_in, IsTextFilter, IsOpenError, open_error_by}
 use Rattle.env_directives.proofs.forms.FaultsLemmas.{Explained}
 use Rattle.env_directives.proofs.forms.GrammarLemmas.{directive_reads, level_told, field_told}
 use Rattle.env_directives.proofs.forms.ReadingsLemmas.{reading_explained}
@@ -94,7 +94,7 @@ at_first text number cause first = all_refused 1 (comma_pieces text) first.direc
 at_piece : (counting : Bool) (text : List ℕ) (number : ℕ) (cause : ParseError) → IsFirstFault false text number cause → fault_in counting (text_read text) ≡ Err (counting, number)
 at_piece counting text number cause first = ap (fault_in counting) (at_first text number cause first)
 
-unread_with : (counting : Bool) (text : List ℕ) (number : ℕ) (cause : ParseError) → HasFilterFaultAt false text number cause → IsUnread (fault_in counting (text_read text)) (unread_by counting number cause)
+unread_with : (counting : Bool) (text : List ℕ) (number : ℕ) (cause : ParseError) → HasFilterFaultAt false text number cause → IsOpenError (fault_in counting (text_read text)) (open_error_by counting number cause)
 unread_with counting text number fault.Shape r = at_piece counting text number fault.Shape r
 unread_with counting text number fault.Level r = at_piece counting text number fault.Level r
 unread_with counting text number fault.Field r = at_piece counting text number fault.Field r
@@ -103,9 +103,9 @@ unread_with counting text number fault.Equals r = at_piece counting text number 
 unread_with counting text number (fault.Fields many) r = at_piece counting text number (fault.Fields many) r
 unread_with counting text number fault.Memory r = tt
 
-pub unread_is : (counting : Bool) (d b : BuilderValue) (text : List ℕ) (number : ℕ) (cause : ParseError) (error : OpenError) → b ≡ record d { patterns = false } → error ≡ unread_by counting number cause → HasFilterFaultAt b.patterns text number cause → IsUnread (fault_in counting (text_read text)) error
+pub unread_is : (counting : Bool) (d b : BuilderValue) (text : List ℕ) (number : ℕ) (cause : ParseError) (error : OpenError) → b ≡ record d { patterns = false } → error ≡ open_error_by counting number cause → HasFilterFaultAt b.patterns text number cause → IsOpenError (fault_in counting (text_read text)) error
 unread_is counting d b text number cause error set is refused =
-    subst (IsUnread (fault_in counting (text_read text))) (sym is) (unread_with counting text number cause (subst (λ (x : BuilderValue). HasFilterFaultAt x.patterns text number cause) set refused))
+    subst (IsOpenError (fault_in counting (text_read text))) (sym is) (unread_with counting text number cause (subst (λ (x : BuilderValue). HasFilterFaultAt x.patterns text number cause) set refused))
 
 -- ---- both texts of an opening
 

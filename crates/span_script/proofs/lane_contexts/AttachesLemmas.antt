@@ -1,6 +1,6 @@
 -- Attaches to a lane, served.
 use Rattle.std.proofs.Common.{◌≡◌, ℕ, ◌<◌, List, [], ◌∷◌, ◌++◌, length, get_or, set, false, count_by, Option, Some, None, Ok, Err, option_map, map, refl, sym, ap, subst, ◌∙◌, arith, slice_get, ◌==◌, Result}
-use Rattle.span_script.proofs.Common.{cond-true, cond-false, length-map, length_push, map_push, MAX_CONTEXTS, Context, EnterError, has_number, Lane, Spans, count_push, Recording, no_recording, read_subscriber, kept_in, Attach, Guard, Refusal, refused_entry, id_at, GuardOf, Attached, ScopeGuard, Effect, Tables, slot_at, with_attached, here_at, Resolved, refuse_if, ◌>>=◌, need, effect_of_call, attach_effect, is_full, Balanced, OpenGuard, named_by, opened_by, Views, ContextSlots, State, state_of, LaneValue, lane_value, lane_at, lane_of, StandsFor, AllContextsFit, IsKept, Served, is_for_memory, LanesFit, Parts, aside_in}
+use Rattle.span_script.proofs.Common.{cond-true, cond-false, length-map, length_push, map_push, MAX_CONTEXTS, Context, EnterError, has_number, Lane, Spans, count_push, Recording, no_recording, read_subscriber, kept_in, AttachGuard, Guard, Refusal, refused_entry, id_at, GuardOf, Attached, ScopeGuard, Effect, Tables, slot_at, with_attached, here_at, Resolved, refuse_if, ◌>>=◌, need, effect_of_call, attach_effect, is_full, Balanced, OpenGuard, named_span, open_guard_by, Views, ContextSlots, PipelineState, state_of, LaneValue, lane_value, lane_at, lane_place_of, StandsFor, AllContextsFit, PipelineInvariant, IsServed, is_for_memory, LanesFit, Parts, aside_in}
 use Rattle.std.proofs.lemmas.Bool.{ne_eqb, eq-eqb, true≢false}
 use Rattle.otel_base.specs.declared.enter_error.EnterError.TheVariants as errors
 use Rattle.span_script.specs.declared.reply.Refusal.TheVariants as refusal
@@ -21,7 +21,7 @@ pub not_full : (number : ℕ) (P : Type 0) → (P → ◌≡◌ {A = Result ℕ 
 not_full number P full many = absurd (let no = full many in cc no)
 
 -- as many contexts are live on a lane as the history attached
-pub lives_there : (k : State) (t : Tables) → StandsFor k t → (lanes : List Lane) → k.lanes ≡ map lane_value lanes → (n : ℕ) (before : Lane) → n < length lanes → before ≡ get_or lanes n before → length before.contexts.live ≡ length (t.contexts before.id)
+pub lives_there : (k : PipelineState) (t : Tables) → StandsFor k t → (lanes : List Lane) → k.lanes ≡ map lane_value lanes → (n : ℕ) (before : Lane) → n < length lanes → before ≡ get_or lanes n before → length before.contexts.live ≡ length (t.contexts before.id)
 lives_there k t stands lanes are n before within here =
     let seen_at : lane_at k.lanes n ≡ lane_value before = ap (λ (ls : List LaneValue). lane_at ls n) are ∙ lane_seen lanes n before within here in
     let fit = stands.recording.attached n (let l = length-map lanes lane_value in let a = ap length are in omega (arith, within, l, a)) in
@@ -30,8 +30,8 @@ lives_there k t stands lanes are n before within here =
 
 module _ {S : Type 0} (spans : S → Spans) (views : Views S) (kept : S → ℕ → ℕ → ℕ) (is_whole : S → Type 0) (parts : Parts S)
     (at place : ℕ) (before : Lane) (within : place < length parts.lanes) (here : before ≡ get_or parts.lanes place before)
-    (inv : IsKept spans views kept is_whole parts) (context : ℕ) (given : Context) (found : slice_get parts.contexts.contexts context ≡ Some given) where
-  abbrev now : State
+    (inv : PipelineInvariant spans views kept is_whole parts) (context : ℕ) (given : Context) (found : slice_get parts.contexts.contexts context ≡ Some given) where
+  abbrev now : PipelineState
   now = state_of spans views parts
 
   abbrev place_id : ℕ
@@ -50,21 +50,21 @@ module _ {S : Type 0} (spans : S → Spans) (views : Views S) (kept : S → ℕ 
   named_is t stands = ap (λ (xs : List Context). slice_get xs context) (sym stands.fits.named_contexts) ∙ found
 
   -- after a refusal what is kept is as it was
-  module _ (later : Lane) (same_id : later.id ≡ before.id) (same_name : later.name ≡ before.name) (same_own : later.default ≡ before.default) (live : later.contexts.live ≡ before.contexts.live) (gs' : List (Option Guard)) (guards_same : gs' ≡ parts.guards) (ks' : List (Option Attach)) (attaches_same : ks' ≡ parts.contexts.attaches) where
+  module _ (later : Lane) (same_id : later.id ≡ before.id) (same_name : later.name ≡ before.name) (same_own : later.default ≡ before.default) (live : later.contexts.live ≡ before.contexts.live) (gs' : List (Option Guard)) (guards_same : gs' ≡ parts.guards) (ks' : List (Option AttachGuard)) (attaches_same : ks' ≡ parts.contexts.attaches) where
     abbrev left_parts : Parts S
     left_parts = record parts { lanes = set parts.lanes place later; guards = gs'; contexts = record parts.contexts { attaches = ks' } }
 
     pub left_state : state_of spans views left_parts ≡ now
     left_state = rw (lanes_same parts.lanes place before later within here (same_lane before later same_id same_own live), ids_same parts.lanes place before later within here same_id, names_same parts.lanes place before later within here same_name, guards_same, attaches_same) refl
 
-    pub left_kept : IsKept spans views kept is_whole left_parts
+    pub left_kept : PipelineInvariant spans views kept is_whole left_parts
     left_kept = record {
       there = inv.there;
       alone = inv.alone;
       whole = inv.whole;
-      lanes = subst (λ (ls : List LaneValue). LanesFit parts.dispatch (kept_in kept parts.world parts.dispatch) ls) (sym (ap (λ (k : State). k.lanes) left_state)) inv.lanes;
+      lanes = subst (λ (ls : List LaneValue). LanesFit parts.dispatch (kept_in kept parts.world parts.dispatch) ls) (sym (ap (λ (k : PipelineState). k.lanes) left_state)) inv.lanes;
       tables = inv.tables;
-      stands = subst (λ (k : State). StandsFor k inv.tables) (sym left_state) inv.stands;
+      stands = subst (λ (k : PipelineState). StandsFor k inv.tables) (sym left_state) inv.stands;
     }
 
   -- a lane with as many contexts as may be
@@ -80,7 +80,7 @@ module _ {S : Type 0} (spans : S → Spans) (views : Views S) (kept : S → ℕ 
     abbrev then_parts : Parts S
     then_parts = record parts { lanes = set parts.lanes place later; guards = gs'; contexts = cs'; moment = at }
 
-    abbrev then : State
+    abbrev then : PipelineState
     then = state_of spans views then_parts
 
     setup_same : then.setup ≡ now.setup
@@ -88,13 +88,13 @@ module _ {S : Type 0} (spans : S → Spans) (views : Views S) (kept : S → ℕ 
 
     all_fit : (t : Tables) → StandsFor now t → AllContextsFit r.settings.activation then.lanes r.tokens cs'.attaches (with_attached t.contexts place_id (Some (record { owner = GuardOf (length t.guards); context = given })))
     all_fit t stands =
-        let numbered : length parts.contexts.attaches ≡ length t.guards = sym (length-map parts.contexts.attaches (option_map lane_of)) ∙ ap length stands.fits.attach_slots ∙ stands.fits.paired in
-        subst (λ (ks : List (Option Attach)). AllContextsFit r.settings.activation then.lanes r.tokens ks (with_attached t.contexts place_id (Some (record { owner = GuardOf (length t.guards); context = given })))) (sym one)
+        let numbered : length parts.contexts.attaches ≡ length t.guards = sym (length-map parts.contexts.attaches (option_map lane_place_of)) ∙ ap length stands.fits.attach_slots ∙ stands.fits.paired in
+        subst (λ (ks : List (Option AttachGuard)). AllContextsFit r.settings.activation then.lanes r.tokens ks (with_attached t.contexts place_id (Some (record { owner = GuardOf (length t.guards); context = given })))) (sym one)
         (subst (λ (l : ℕ). AllContextsFit r.settings.activation then.lanes r.tokens (parts.contexts.attaches ++ Some (record { place = place; attached = number }) ∷ []) (with_attached t.contexts l (Some (record { owner = GuardOf (length t.guards); context = given })))) id_is
         (subst (λ (n : ℕ). AllContextsFit r.settings.activation then.lanes r.tokens (parts.contexts.attaches ++ Some (record { place = place; attached = number }) ∷ []) (with_attached t.contexts before.id (Some (record { owner = GuardOf n; context = given })))) numbered
         (all_attached r.settings.activation parts.lanes place before later within here same_id inv.lanes.differ r.tokens parts.contexts.attaches t.contexts stands.recording.attached number given fresh live)))
 
-    pub serves_attached : (t : Tables) → StandsFor now t → Served (effect_of_call now.setup t at place (call.Attach context)) t now then (reply.Guard guard)
+    pub serves_attached : (t : Tables) → StandsFor now t → IsServed (effect_of_call now.setup t at place (call.Attach context)) t now then (reply.Guard guard)
     serves_attached t stands =
         let fits = stands.fits in
         let ids = now.setup.ids in
@@ -109,10 +109,10 @@ module _ {S : Type 0} (spans : S → Spans) (views : Views S) (kept : S → ℕ 
           handles_are = refl;
           sites_are = refl;
           guards_are = skip;
-          attaches_are = ap (map (option_map lane_of)) one ∙ map_push (option_map lane_of) parts.contexts.attaches (Some (record { place = place; attached = number }));
+          attaches_are = ap (map (option_map lane_place_of)) one ∙ map_push (option_map lane_place_of) parts.contexts.attaches (Some (record { place = place; attached = number }));
           named_are = made_same;
           moment_is = refl;
-          balanced = subst (λ (xs : List (Option OpenGuard)). Balanced now.spans (map named_by t.handles) xs t.entries) (sym (map_push (opened_by ids) t.guards None)) (quiet_guard now.spans (map named_by t.handles) (map (opened_by ids) t.guards) t.entries fits.balanced);
+          balanced = subst (λ (xs : List (Option OpenGuard)). Balanced now.spans (map named_span t.handles) xs t.entries) (sym (map_push (open_guard_by ids) t.guards None)) (quiet_guard now.spans (map named_span t.handles) (map (open_guard_by ids) t.guards) t.entries fits.balanced);
           made_fit = fits.made;
           new_made = tt;
           new_site = tt;
@@ -126,7 +126,7 @@ module _ {S : Type 0} (spans : S → Spans) (views : Views S) (kept : S → ℕ 
         (all_fit t stands)
         (record { quiet = refl; before = read_subscriber views.filtered None parts.world parts.dispatch; later = read_subscriber views.filtered None parts.world parts.dispatch; shown_before = refl; shown_later = refl; told = heard_none (read_subscriber views.filtered None parts.world parts.dispatch); known = refl; cached = refl; aside = record { before = aside_in views parts.world parts.dispatch; later = aside_in views parts.world parts.dispatch; shown_before = refl; shown_later = refl; waits_before = refl; waits_later = refl; adds = adds_same views parts.world parts.world parts.dispatch refl } })
 
-    pub keeps_attached : IsKept spans views kept is_whole then_parts
+    pub keeps_attached : PipelineInvariant spans views kept is_whole then_parts
     keeps_attached =
         kept_served spans views kept is_whole parts then_parts inv _ _ (serves_attached inv.tables inv.stands) refl refl (λ has. has)
         (lanes_after parts.dispatch (kept_in kept parts.world parts.dispatch) (kept_in kept parts.world parts.dispatch) parts.lanes place before later within here inv.lanes same_id same_own

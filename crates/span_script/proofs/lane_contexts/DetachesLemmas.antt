@@ -1,6 +1,6 @@
 -- Detaches from a lane, served.
 use Rattle.std.proofs.Common.{◌≡◌, ℕ, ◌+◌, ◌<◌, List, [], ◌∷◌, length, get_or, set, true, count_by, Option, Some, None, option_map, map, refl, sym, ap, subst, ◌∙◌, arith, inl, inr, Ok, ◌==◌, slice_set, not}
-use Rattle.span_script.proofs.Common.{cases_Bool, cases_eq, cond-true, cond-false, map-set, get_or-map, Context, has_number, without_number, Lane, WorldValue, Spans, count_cons, kept_by, Recording, no_recording, read_subscriber, kept_in, Attach, id_at, GuardOf, Effect, Tables, slot_at, with_detached, here_at, Resolved, refuse_if, ◌>>=◌, need, effect_of_call, detach_effect, Views, ContextSlots, State, state_of, lane_of, numbers_by, StandsFor, ContextsFit, AllContextsFit, IsKept, Served, Parts, FilterWithRoom, layer_or, none_kept, aside_in}
+use Rattle.span_script.proofs.Common.{cases_Bool, cases_eq, cond-true, cond-false, map-set, get_or-map, Context, has_number, without_number, Lane, WorldValue, Spans, count_cons, kept_by, Recording, no_recording, read_subscriber, kept_in, AttachGuard, id_at, GuardOf, Effect, Tables, slot_at, with_detached, here_at, Resolved, refuse_if, ◌>>=◌, need, effect_of_call, detach_effect, Views, ContextSlots, PipelineState, state_of, lane_place_of, owner_numbers, StandsFor, ContextsFit, AllContextsFit, PipelineInvariant, IsServed, Parts, FilterWithRoom, layer_or, none_kept, aside_in}
 use Rattle.std.proofs.lemmas.Bool.{ne_eqb, eq-eqb, eqb-true}
 use Rattle.span_script.specs.declared.reply.Refusal.TheVariants as refusal
 use Rattle.span_script.specs.declared.reply.Reply.TheVariants as reply
@@ -19,10 +19,10 @@ use Rattle.span_script.proofs.steps.StepLemmas.{fits_step, quiet_step}
 use Rattle.span_script.proofs.runs.TakeLemmas.{seen_there}
 
 -- a guard of an attach, as its table tells it
-pub attach_told : (k : State) (t : Tables) → Fits k t → (n : ℕ) → slot_at t.attaches n ≡ option_map lane_of (slot_at k.contexts.attaches n)
-attach_told k t fits n = ap (λ (xs : List (Option ℕ)). slot_at xs n) (sym fits.attach_slots) ∙ get_or-map (option_map lane_of) k.contexts.attaches n None
+pub attach_told : (k : PipelineState) (t : Tables) → Fits k t → (n : ℕ) → slot_at t.attaches n ≡ option_map lane_place_of (slot_at k.contexts.attaches n)
+attach_told k t fits n = ap (λ (xs : List (Option ℕ)). slot_at xs n) (sym fits.attach_slots) ∙ get_or-map (option_map lane_place_of) k.contexts.attaches n None
 
-abbrev detached : State → Tables → ℕ → ℕ → ℕ → Option ℕ → Resolved
+abbrev detached : PipelineState → Tables → ℕ → ℕ → ℕ → Option ℕ → Resolved
 detached k t at place guard o = need what.Guard o >>= (λ mine. refuse_if (not (mine == place)) (refusal.WrongLane mine) (Ok (detach_effect (here_at k.setup t at place) guard)))
 
 -- the others stay as often live
@@ -48,8 +48,8 @@ KeepsTokens {S} views kept = (s : S) (lane number : ℕ) → kept s lane number 
 
 module _ {S : Type 0} (spans : S → Spans) (views : Views S) (kept : S → ℕ → ℕ → ℕ) (is_whole : S → Type 0) (parts : Parts S)
     (at place : ℕ) (before : Lane) (within : place < length parts.lanes) (here : before ≡ get_or parts.lanes place before)
-    (inv : IsKept spans views kept is_whole parts) (guard : ℕ) (a : Attach) (found : slot_at parts.contexts.attaches guard ≡ Some a) (on : a.place ≡ place) where
-  abbrev now : State
+    (inv : PipelineInvariant spans views kept is_whole parts) (guard : ℕ) (a : AttachGuard) (found : slot_at parts.contexts.attaches guard ≡ Some a) (on : a.place ≡ place) where
+  abbrev now : PipelineState
   now = state_of spans views parts
 
   abbrev place_id : ℕ
@@ -61,7 +61,7 @@ module _ {S : Type 0} (spans : S → Spans) (views : Views S) (kept : S → ℕ 
   id_is : before.id ≡ place_id
   id_is = id_seen parts.lanes place before within here
 
-  its_fit : ContextsFit (numbers_by r.settings.activation place before.id r.tokens parts.contexts.attaches) before.contexts.live (inv.tables.contexts before.id)
+  its_fit : ContextsFit (owner_numbers r.settings.activation place before.id r.tokens parts.contexts.attaches) before.contexts.live (inv.tables.contexts before.id)
   its_fit = own_fit r.settings.activation parts.lanes place before before within here refl inv.lanes.differ r.tokens parts.contexts.attaches inv.tables.contexts inv.stands.recording.attached
 
   -- what it attached is still live
@@ -73,7 +73,7 @@ module _ {S : Type 0} (spans : S → Spans) (views : Views S) (kept : S → ℕ 
     abbrev then_parts : Parts S
     then_parts = record parts { lanes = set parts.lanes place later; contexts = cs'; moment = at }
 
-    abbrev then : State
+    abbrev then : PipelineState
     then = state_of spans views then_parts
 
     setup_same : then.setup ≡ now.setup
@@ -81,23 +81,23 @@ module _ {S : Type 0} (spans : S → Spans) (views : Views S) (kept : S → ℕ 
 
     all_fit : (t : Tables) → StandsFor now t → AllContextsFit r.settings.activation then.lanes r.tokens cs'.attaches (with_detached t.contexts place_id (Some (GuardOf guard)))
     all_fit t stands =
-        subst (λ (ks : List (Option Attach)). AllContextsFit r.settings.activation then.lanes r.tokens ks (with_detached t.contexts place_id (Some (GuardOf guard)))) (sym one)
+        subst (λ (ks : List (Option AttachGuard)). AllContextsFit r.settings.activation then.lanes r.tokens ks (with_detached t.contexts place_id (Some (GuardOf guard)))) (sym one)
         (subst (λ (l : ℕ). AllContextsFit r.settings.activation then.lanes r.tokens (slice_set parts.contexts.attaches guard None) (with_detached t.contexts l (Some (GuardOf guard)))) id_is
         (all_detached r.settings.activation parts.lanes place before later within here same_id inv.lanes.differ r.tokens parts.contexts.attaches t.contexts stands.recording.attached guard a found on live))
 
-    pub serves_detached : (t : Tables) → StandsFor now t → Served (effect_of_call now.setup t at place (call.Detach guard)) t now then reply.Done
+    pub serves_detached : (t : Tables) → StandsFor now t → IsServed (effect_of_call now.setup t at place (call.Detach guard)) t now then reply.Done
     serves_detached t stands =
         let fits = stands.fits in
         let e : Effect = detach_effect (here_at now.setup t at place) guard in
         serve now then t e _ reply.Done stands
-        (ap (detached now t at place guard) (attach_told now t fits guard ∙ ap (option_map lane_of) found) ∙ cond-false {A = Resolved} (not (a.place == place)) _ _ (ap not (eq-eqb a.place place on)))
+        (ap (detached now t at place guard) (attach_told now t fits guard ∙ ap (option_map lane_place_of) found) ∙ cond-false {A = Resolved} (not (a.place == place)) _ _ (ap not (eq-eqb a.place place on)))
         refl setup_same r.tokens refl
-        (fits_step now t fits then e (quiet_step now then t e fits setup_same refl refl refl refl (ap (map (option_map lane_of)) one ∙ map-set (option_map lane_of) parts.contexts.attaches guard None) made_same refl refl))
+        (fits_step now t fits then e (quiet_step now then t e fits setup_same refl refl refl refl (ap (map (option_map lane_place_of)) one ∙ map-set (option_map lane_place_of) parts.contexts.attaches guard None) made_same refl refl))
         (λ s some. known_still now then t e r.tokens refl stands.recording s refl some)
         (all_fit t stands)
         (record { quiet = refl; before = read_subscriber views.filtered None parts.world parts.dispatch; later = read_subscriber views.filtered None parts.world parts.dispatch; shown_before = refl; shown_later = refl; told = heard_none (read_subscriber views.filtered None parts.world parts.dispatch); known = refl; cached = refl; aside = record { before = aside_in views parts.world parts.dispatch; later = aside_in views parts.world parts.dispatch; shown_before = refl; shown_later = refl; waits_before = refl; waits_later = refl; adds = adds_same views parts.world parts.world parts.dispatch refl } })
 
-    pub keeps_detached : ((place number : ℕ) → kept_in kept parts.world parts.dispatch place number ≡ kept_by r.settings.activation r.tokens place number) → IsKept spans views kept is_whole then_parts
+    pub keeps_detached : ((place number : ℕ) → kept_in kept parts.world parts.dispatch place number ≡ kept_by r.settings.activation r.tokens place number) → PipelineInvariant spans views kept is_whole then_parts
     keeps_detached keeps =
         kept_served spans views kept is_whole parts then_parts inv _ _ (serves_detached inv.tables inv.stands) refl refl (λ has. has)
         (lanes_after parts.dispatch (kept_in kept parts.world parts.dispatch) (kept_in kept parts.world parts.dispatch) parts.lanes place before later within here inv.lanes same_id same_own

@@ -1,6 +1,6 @@
 -- What is asked of the span extension, served.
 use Rattle.std.proofs.Common.{◌≡◌, ℕ, List, [], ◌∷◌, Option, Some, None, Result, Ok, Err, map, refl, sym, ap, subst, ◌∙◌, IsTrue, ◌≢◌, Bool, true, false, is_some, slice_get, if◌then◌else◌}
-use Rattle.span_script.proofs.Common.{Context, SpanContext, KeyValue, is_valid, ids_of, Op, SpanData, reply_after, is_growing, WorldValue, Spans, data_at, with_op, start_context, context_unless_started, PartCall, Applies, AppliesTo, AppliesOn, AsksDone, AsksParent, link_of, event_at, done_answer, parent_reply, parent_answer, Recording, no_recording, KeepsPlainData, read_subscriber, Handle, HeldSpan, Scope, SpanOp, Tables, slot_at, own_span, here_at, Resolved, ◌>>=◌, need, op_on, ops_effect, effect_of_call, link_ops, happens_at, set_result, set_parent_result, named_by, opened_by, Views, State, state_of, held_by, held_of, StandsFor, IsKept, Served, Parts, AddsMeasures, AsksLaw, aside_in}
+use Rattle.span_script.proofs.Common.{Context, SpanContext, KeyValue, is_valid, ids_of, Op, SpanData, reply_after, is_growing, WorldValue, Spans, data_at, with_op, start_context, context_unless_started, PartCall, Applies, AppliesTo, AppliesOn, AsksDone, AsksParent, link_of, event_at, done_answer, parent_reply, parent_answer, Recording, no_recording, KeepsPlainData, read_subscriber, Handle, HeldSpan, Scope, SpanOp, Tables, slot_at, span_of_scope, here_at, Resolved, ◌>>=◌, need, op_on, ops_effect, effect_of_call, link_ops, event_time, set_result, set_parent_result, named_span, open_guard_by, Views, PipelineState, state_of, held_by, held_of, StandsFor, PipelineInvariant, IsServed, Parts, AddsMeasures, AsksLaw, aside_in}
 use Rattle.otel_base.specs.declared.memory.Memory.{Memory}
 use Rattle.otel_base.specs.declared.status.Status.{Status}
 use Rattle.otel_state.specs.declared.op.Op.TheVariants as ops
@@ -59,13 +59,13 @@ set_by (Some told) known held spans now id at context (Some (Err m)) did = absur
 module _ {S : Type 0} (spans : S → Spans) (views : Views S) (attaches : S → Bool) (kept : S → ℕ → ℕ → ℕ) (is_whole : S → Type 0) (parts : Parts S) (new : WorldValue S)
     (touches : S → PartCall → S → Type 0) (law : AsksLaw spans views attaches kept is_whole touches)
     (at place : ℕ) (handle : ℕ) (h : Handle) (found : slot_at parts.handles handle ≡ Some h) where
-  abbrev now : State
+  abbrev now : PipelineState
   now = state_of spans views parts
 
   abbrev later_parts : Parts S
   later_parts = record parts { world = new; moment = at }
 
-  abbrev later : State
+  abbrev later : PipelineState
   later = state_of spans views later_parts
 
   abbrev r : Recording
@@ -79,7 +79,7 @@ module _ {S : Type 0} (spans : S → Spans) (views : Views S) (attaches : S → 
 
   -- the span of an unspent handle is known
   known : (t : Tables) → StandsFor now t → (line : Scope) → slot_at t.handles handle ≡ Some line → (s : ℕ) (up : Scope) → line ≡ s ∷ up → data_at s r.spans ≢ None
-  known t stands line there s up is = stands.recording.known s (fits_live now.spans (map named_by t.handles) (map (opened_by now.setup.ids) t.guards) t.entries stands.fits.balanced handle s (named_slot t.handles handle line there ∙ ap own_span is))
+  known t stands line there s up is = stands.recording.known s (fits_live now.spans (map named_span t.handles) (map (open_guard_by now.setup.ids) t.guards) t.entries stands.fits.balanced handle s (named_slot t.handles handle line there ∙ ap span_of_scope is))
 
   abbrev Known : Scope → Type 0
   Known line = (s : ℕ) (up : Scope) → line ≡ s ∷ up → data_at s r.spans ≢ None
@@ -150,28 +150,28 @@ module _ {S : Type 0} (spans : S → Spans) (views : Views S) (attaches : S → 
       its_effect : (t : Tables) (fits : Fits now t) → asked t op ≡ Ok (ops_effect (here_at now.setup t at place) reply.Done (op_on (its_scope t fits).at op))
       its_effect t fits = ap (λ o. need what.Handle o >>= (λ scope. Ok (ops_effect (here_at now.setup t at place) reply.Done (op_on scope op)))) (its_scope t fits).there
 
-      pub serves_op : (t : Tables) → StandsFor now t → Served (asked t op) t now later reply.Done
+      pub serves_op : (t : Tables) → StandsFor now t → IsServed (asked t op) t now later reply.Done
       serves_op t stands = serves_ops spans views attaches kept is_whole parts new at place t stands _ [] refl reply.Done _ (its_op t stands) (its_effect t stands.fits)
 
-      pub keeps_op : IsKept spans views kept is_whole parts → IsKept spans views kept is_whole later_parts
+      pub keeps_op : PipelineInvariant spans views kept is_whole parts → PipelineInvariant spans views kept is_whole later_parts
       keeps_op inv = (let t = inv.tables in let stands : StandsFor now t = inv.stands in
           keeps_ops spans views attaches kept is_whole parts new at place inv _ [] refl reply.Done _ (its_op t stands) (its_effect t inv.stands.fits))
 
     -- where it was, what is kept is as it was
-    module _ (memory : Memory) (wanted : result ≡ Err memory) (inv : IsKept spans views kept is_whole parts) where
+    module _ (memory : Memory) (wanted : result ≡ Err memory) (inv : PipelineInvariant spans views kept is_whole parts) where
       its_rest : Rest
       its_rest = left (its_scope inv.tables inv.stands.fits).at op did.answer memory (line_did inv.tables inv.stands.fits) (sym did.is ∙ wanted)
 
       pub left_state : state_of spans views (record parts { world = new }) ≡ now
       left_state = (let still = adds_nothing (aside_in views parts.world parts.dispatch) (aside_in views new parts.dispatch) its_rest.5 in rw (its_rest.0.spans_same, its_rest.1, its_rest.2, its_rest.3, its_rest.4, still.0, still.1) refl)
 
-      pub left_kept : IsKept spans views kept is_whole (record parts { world = new })
+      pub left_kept : PipelineInvariant spans views kept is_whole (record parts { world = new })
       left_kept = kept_alike spans views attaches kept is_whole parts (record parts { world = new }) inv left_state its_rest.0
 
   -- an event, at its time
-  pub serves_event : (name : List ℕ) (attributes : List KeyValue) (time : Option ℕ) (n : ℕ) → n ≡ happens_at at time → (result : Result (Unit {0}) Memory) → AsksDone touches parts.world new at (event_at name n attributes) h.held result → result ≡ Ok tt
-      → (t : Tables) → StandsFor now t → Served (asked t (event_at name (happens_at at time) attributes)) t now later reply.Done
-  serves_event name attributes time n is result did ok t stands = subst (λ (k : ℕ). Served (asked t (event_at name k attributes)) t now later reply.Done) is (serves_op (event_at name n attributes) result did ok t stands)
+  pub serves_event : (name : List ℕ) (attributes : List KeyValue) (time : Option ℕ) (n : ℕ) → n ≡ event_time at time → (result : Result (Unit {0}) Memory) → AsksDone touches parts.world new at (event_at name n attributes) h.held result → result ≡ Ok tt
+      → (t : Tables) → StandsFor now t → IsServed (asked t (event_at name (event_time at time) attributes)) t now later reply.Done
+  serves_event name attributes time n is result did ok t stands = subst (λ (k : ℕ). IsServed (asked t (event_at name k attributes)) t now later reply.Done) is (serves_op (event_at name n attributes) result did ok t stands)
 
   -- a status never wants memory
   module _ (status : Status) (did : (answer : Option (Result OpReply Memory)) × AppliesOn touches parts.world new at (ops.SetStatus status) h.held answer) where
@@ -181,10 +181,10 @@ module _ {S : Type 0} (spans : S → Spans) (views : Views S) (attaches : S → 
     asks_status : AsksDone touches parts.world new at (ops.SetStatus status) h.held (done_answer did.0)
     asks_status = record { answer = did.0; did = did.1; is = refl }
 
-    pub serves_status : (t : Tables) → StandsFor now t → Served (asked t (ops.SetStatus status)) t now later reply.Done
+    pub serves_status : (t : Tables) → StandsFor now t → IsServed (asked t (ops.SetStatus status)) t now later reply.Done
     serves_status t stands = serves_op (ops.SetStatus status) (done_answer did.0) asks_status (never_wants t stands.fits) t stands
 
-    pub keeps_status : IsKept spans views kept is_whole parts → IsKept spans views kept is_whole later_parts
+    pub keeps_status : PipelineInvariant spans views kept is_whole parts → PipelineInvariant spans views kept is_whole later_parts
     keeps_status inv = keeps_op (ops.SetStatus status) (done_answer did.0) asks_status (never_wants inv.tables inv.stands.fits) inv
 
   -- ---- with a context
@@ -227,10 +227,10 @@ module _ {S : Type 0} (spans : S → Spans) (views : Views S) (attaches : S → 
             its_context t stands.fits (λ scope given. Ok (ops_effect (here_at now.setup t at place) (reply.Set (set_parent_result t.recording scope)) (op_on scope (ops.SetParent given))))
             ∙ ap (λ (x : Result (Unit {0}) SetParentError). Ok (ops_effect (here_at now.setup t at place) (reply.Set x) (op_on (its_scope t stands.fits).at (ops.SetParent given)))) (sym (its_set t stands))
 
-        pub serves_parent : (t : Tables) → StandsFor now t → Served (effect_of_call now.setup t at place (call.SetParent handle context)) t now later (reply.Set set)
+        pub serves_parent : (t : Tables) → StandsFor now t → IsServed (effect_of_call now.setup t at place (call.SetParent handle context)) t now later (reply.Set set)
         serves_parent t stands = serves_ops spans views attaches kept is_whole parts new at place t stands _ [] refl (reply.Set set) _ (its_parent t stands) (parent_effect t stands)
 
-        pub keeps_parent : IsKept spans views kept is_whole parts → IsKept spans views kept is_whole later_parts
+        pub keeps_parent : PipelineInvariant spans views kept is_whole parts → PipelineInvariant spans views kept is_whole later_parts
         keeps_parent inv = (let t = inv.tables in let stands : StandsFor now t = inv.stands in
             keeps_ops spans views attaches kept is_whole parts new at place inv _ [] refl (reply.Set set) _ (its_parent t stands) (parent_effect t stands))
 
@@ -246,10 +246,10 @@ module _ {S : Type 0} (spans : S → Spans) (views : Views S) (attaches : S → 
             its_context t stands.fits (λ scope given. Ok (ops_effect (here_at now.setup t at place) reply.Done (link_ops scope (ids_of given) attributes)))
             ∙ ap (λ (x : SpanContext). Ok (ops_effect (here_at now.setup t at place) reply.Done (link_ops (its_scope t stands.fits).at x attributes))) (sym shown)
 
-        pub serves_link : result ≡ Ok tt → (t : Tables) → StandsFor now t → Served (effect_of_call now.setup t at place (call.AddLink handle context attributes)) t now later reply.Done
+        pub serves_link : result ≡ Ok tt → (t : Tables) → StandsFor now t → IsServed (effect_of_call now.setup t at place (call.AddLink handle context attributes)) t now later reply.Done
         serves_link ok t stands = serves_ops spans views attaches kept is_whole parts new at place t stands _ [] refl reply.Done _ (linked ok t stands (is_valid ids) refl) (link_effect t stands)
 
-        pub keeps_link : result ≡ Ok tt → IsKept spans views kept is_whole parts → IsKept spans views kept is_whole later_parts
+        pub keeps_link : result ≡ Ok tt → PipelineInvariant spans views kept is_whole parts → PipelineInvariant spans views kept is_whole later_parts
         keeps_link ok inv = (let t = inv.tables in let stands : StandsFor now t = inv.stands in
             keeps_ops spans views attaches kept is_whole parts new at place inv _ [] refl reply.Done _ (linked ok t stands (is_valid ids) refl) (link_effect t stands))
 
@@ -261,8 +261,8 @@ module _ {S : Type 0} (spans : S → Spans) (views : Views S) (attaches : S → 
             by_valid true is = valid is
             by_valid false is = absurd (let e = sym (invalid is).0 ∙ wanted in cc e)
 
-        pub left_link_state : (memory : Memory) → result ≡ Err memory → IsKept spans views kept is_whole parts → state_of spans views (record parts { world = new }) ≡ now
+        pub left_link_state : (memory : Memory) → result ≡ Err memory → PipelineInvariant spans views kept is_whole parts → state_of spans views (record parts { world = new }) ≡ now
         left_link_state memory wanted inv = left_state (link_of ids attributes) result (wanted_link memory wanted) memory wanted inv
 
-        pub left_link_kept : (memory : Memory) → result ≡ Err memory → IsKept spans views kept is_whole parts → IsKept spans views kept is_whole (record parts { world = new })
+        pub left_link_kept : (memory : Memory) → result ≡ Err memory → PipelineInvariant spans views kept is_whole parts → PipelineInvariant spans views kept is_whole (record parts { world = new })
         left_link_kept memory wanted inv = left_kept (link_of ids attributes) result (wanted_link memory wanted) memory wanted inv

@@ -1,6 +1,6 @@
 -- A span that is followed, served.
 use Rattle.std.proofs.Common.{◌≡◌, ℕ, List, [], ◌∷◌, Bool, Option, Some, None, Ok, Err, map, refl, sym, ap, subst, ◌∙◌, ◌≢◌}
-use Rattle.span_script.proofs.Common.{ids_of, empty_context, SpanData, WorldValue, Spans, SubscriberCall, link_of, with_link, data_at, with_op, own_context_or, ids_at, Recording, no_recording, with_start, read_subscriber, Handle, HeldSpan, FollowsOn, AreOfOne, Scope, SpanOp, Effect, Tables, slot_at, here_at, ◌>>=◌, need, op_on, effect_of_call, own_context, follow_effect, named_by, opened_by, Views, State, state_of, held_by, held_of, StandsFor, IsKept, Served, Parts, CallsLaw}
+use Rattle.span_script.proofs.Common.{ids_of, empty_context, SpanData, WorldValue, Spans, SubscriberCall, link_of, with_link, data_at, with_op, own_context_or, ids_at, Recording, no_recording, with_start, read_subscriber, Handle, HeldSpan, FollowsOn, AreOfOne, Scope, SpanOp, Effect, Tables, slot_at, here_at, ◌>>=◌, need, op_on, effect_of_call, context_of_scope, follow_effect, named_span, open_guard_by, Views, PipelineState, state_of, held_by, held_of, StandsFor, PipelineInvariant, IsServed, Parts, CallsLaw}
 use Rattle.span_script.specs.declared.reply.Refusal.TheVariants as refusal
 use Rattle.span_script.specs.declared.reply.Reply.TheVariants as reply
 use Rattle.span_script.specs.declared.reply.What.TheVariants as what
@@ -30,7 +30,7 @@ of_one dispatch line from held other is from_is = subst (λ (x : HeldSpan). AreO
 
 module _ {S : Type 0} (spans : S → Spans) (views : Views S) (attaches : S → Bool) (kept : S → ℕ → ℕ → ℕ) (is_whole : S → Type 0) (parts : Parts S)
     (handle : ℕ) (h : Handle) (found : slot_at parts.handles handle ≡ Some h) where
-  abbrev now : State
+  abbrev now : PipelineState
   now = state_of spans views parts
 
   abbrev r : Recording
@@ -40,14 +40,14 @@ module _ {S : Type 0} (spans : S → Spans) (views : Views S) (attaches : S → 
   its_scope t fits n x there = find (held_of parts.dispatch) (map held_by parts.handles) t.handles n x.held fits.handle_slots (held_slot parts.handles n x there)
 
   -- the followed handle isn't there
-  pub refuses_from : (k : State) → now ≡ k → (from : ℕ) → slot_at parts.handles from ≡ None → (t : Tables) → StandsFor k t → (at place : ℕ) → effect_of_call k.setup t at place (call.Follows handle from) ≡ Err (refusal.UnknownName what.Handle)
+  pub refuses_from : (k : PipelineState) → now ≡ k → (from : ℕ) → slot_at parts.handles from ≡ None → (t : Tables) → StandsFor k t → (at place : ℕ) → effect_of_call k.setup t at place (call.Follows handle from) ≡ Err (refusal.UnknownName what.Handle)
   refuses_from k is from gone t stands at place =
-      let line = its_scope t (subst (λ (x : State). Fits x t) (sym is) stands.fits) handle h found in
+      let line = its_scope t (subst (λ (x : PipelineState). Fits x t) (sym is) stands.fits) handle h found in
       ap (λ o. need what.Handle o >>= (λ scope. need what.Handle (slot_at t.handles from) >>= (λ followed. Ok (follow_effect (here_at k.setup t at place) scope followed)))) line.there
       ∙ refuses_unknown now k is parts.handles refl from gone t stands.fits _
 
   module _ (from : ℕ) (f : Handle) (found_from : slot_at parts.handles from ≡ Some f) where
-    pub needs_one : IsKept spans views kept is_whole parts → AreOfOne h.held f.held
+    pub needs_one : PipelineInvariant spans views kept is_whole parts → AreOfOne h.held f.held
     needs_one inv = (let line = its_scope inv.tables inv.stands.fits handle h found in let other = its_scope inv.tables inv.stands.fits from f found_from in of_one parts.dispatch line.at other.at h.held f.held line.is other.is)
 
     module _ (new : WorldValue S) (at place : ℕ) (does : S → SubscriberCall → S → Type 0) (law : CallsLaw spans views attaches kept is_whole does)
@@ -55,7 +55,7 @@ module _ {S : Type 0} (spans : S → Spans) (views : Views S) (attaches : S → 
       abbrev then_parts : Parts S
       then_parts = record parts { world = new; moment = at }
 
-      abbrev then : State
+      abbrev then : PipelineState
       then = state_of spans views then_parts
 
       -- what starts and what is linked
@@ -70,10 +70,10 @@ module _ {S : Type 0} (spans : S → Spans) (views : Views S) (attaches : S → 
       followed_by t stands (s ∷ up) [] there same = record { starting = []; ops = []; done = does_none spans views attaches kept is_whole parts new at same; is = refl }
       followed_by t stands (s ∷ up) (q ∷ above) there step =
           let shown = law.shown parts.world new parts.dispatch _ step in
-          let live = fits_live now.spans (map named_by t.handles) (map (opened_by now.setup.ids) t.guards) t.entries stands.fits.balanced from q (named_slot t.handles from (q ∷ above) there) in
+          let live = fits_live now.spans (map named_span t.handles) (map (open_guard_by now.setup.ids) t.guards) t.entries stands.fits.balanced from q (named_slot t.handles from (q ∷ above) there) in
           let r1 : Recording = with_start q at r in
           let known = start_known q at q r (stands.recording.known q live) in
-          let op = link_of (ids_of (own_context r at (q ∷ above))) [] in
+          let op = link_of (ids_of (context_of_scope r at (q ∷ above))) [] in
           record {
             starting = q ∷ [];
             ops = op_on (s ∷ up) op;
@@ -108,9 +108,9 @@ module _ {S : Type 0} (spans : S → Spans) (views : Views S) (attaches : S → 
           ∙ ap (λ o. need what.Handle o >>= (λ followed. Ok (follow_effect (here_at now.setup t at place) line.at followed))) other.there
           ∙ ap (λ (e : Effect). Ok e) (its_follow t stands).is
 
-      pub serves_follow : (t : Tables) → StandsFor now t → Served (effect_of_call now.setup t at place (call.Follows handle from)) t now then reply.Done
+      pub serves_follow : (t : Tables) → StandsFor now t → IsServed (effect_of_call now.setup t at place (call.Follows handle from)) t now then reply.Done
       serves_follow t stands = (let step = its_follow t stands in serves_starts spans views attaches kept is_whole parts new at place t stands step.starting step.ops [] refl reply.Done _ step.done (its_effect t stands))
 
-      pub keeps_follow : IsKept spans views kept is_whole parts → IsKept spans views kept is_whole then_parts
+      pub keeps_follow : PipelineInvariant spans views kept is_whole parts → PipelineInvariant spans views kept is_whole then_parts
       keeps_follow inv = (let stands : StandsFor now inv.tables = inv.stands in let step = its_follow inv.tables stands in
           keeps_starts spans views attaches kept is_whole parts new at place inv step.starting step.ops [] refl reply.Done _ step.done (its_effect inv.tables stands))

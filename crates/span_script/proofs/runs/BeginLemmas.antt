@@ -1,16 +1,16 @@
 -- A pipeline without requests.
 use Rattle.std.proofs.Common.{◌≡◌, ℕ, ◌<◌, List, [], ◌∷◌, ◌++◌, length, Bool, true, false, Option, Some, None, option_map, map, refl, sym, ap, subst, ◌∙◌, arith, zero, suc, slice_get, IfSome, is_some}
-use Rattle.span_script.proofs.Common.{length-map, Lane, Callsite, WorldValue, AreSame, IsFresh, Interest, FilterState, FilterWithRoom, plain_filter, IsNewFilter, interest_in, Measure, filter_if, text_filter, IsTextFilter, IsCounter, Spans, span_at, Has, Replaced, read_subscriber, spans_in, kept_in, no_spans, new_recording, Handle, Guard, Setup, HasOwnIds, id_at, Recording, no_recording, Owner, EntryOf, GuardOf, no_tables, nothing_recorded, open_part, Context, Views, ShownFilter, shown_of, ContextSlots, State, state_of, StandsFor, RecordingFits, FilteringFits, numbers_by, ContextsFit, LaneValue, lane_value, lane_at, LanesFit, IsKept, Parts, AddsMeasures, SameLaw, aside_in}
+use Rattle.span_script.proofs.Common.{length-map, Lane, Callsite, WorldValue, AreSame, IsFresh, Interest, FilterState, FilterWithRoom, plain_filter, IsNewFilter, interest_in, Measure, filter_of_read, text_filter, IsTextFilter, IsCountingFilter, Spans, span_at, Has, Replaced, read_subscriber, spans_in, kept_in, no_spans, new_recording, Handle, Guard, Setup, HaveDistinctIds, id_at, Recording, no_recording, Owner, EntryOf, GuardOf, no_tables, nothing_recorded, open_part, Context, Views, ShownFilter, shown_of, ContextSlots, PipelineState, state_of, StandsFor, RecordingFits, FilteringFits, owner_numbers, ContextsFit, LaneValue, lane_value, lane_at, LanesFit, PipelineInvariant, Parts, AddsMeasures, SameLaw, aside_in}
 use Rattle.span_script.proofs.filter.CounterLemmas.{adds_nothing}
 use Rattle.span_script.proofs.filter.FilterLemmas.{cached_rows}
-use Rattle.span_script.specs.declared.settings.Texts.{Texts}
+use Rattle.span_script.specs.declared.settings.FilterTexts.{FilterTexts}
 use Rattle.span_script.specs.Fits.{Fits}
 use Rattle.span_script.proofs.steps.SlotsLemmas.{some_is}
 
 -- nothing fits no tables
-pub new_fits : (setup : Setup) (lanes : List LaneValue) (recording : Recording) (filter : Option ShownFilter) (cached : List (List Interest)) (counter : Option ShownFilter) (measures : List Measure) (base : Setup) (dispatch : ℕ) (spans : Spans) → spans ≡ no_spans
-    → Fits (record { setup = setup; spans = spans; lanes = lanes; recording = recording; filter = filter; cached = cached; counter = counter; measures = measures; dispatch = dispatch; handles = []; handle_sites = []; guards = []; contexts = record { contexts = []; attaches = [] }; moment = 0 }) (no_tables base)
-new_fits setup lanes recording filter cached counter measures base dispatch spans is = subst (λ (x : Spans). Fits (record { setup = setup; spans = x; lanes = lanes; recording = recording; filter = filter; cached = cached; counter = counter; measures = measures; dispatch = dispatch; handles = []; handle_sites = []; guards = []; contexts = record { contexts = []; attaches = [] }; moment = 0 }) (no_tables base)) (sym is) (record {
+pub new_fits : (setup : Setup) (lanes : List LaneValue) (recording : Recording) (filter : Option ShownFilter) (cached : List (List Interest)) (counting_filter : Option ShownFilter) (measures : List Measure) (base : Setup) (dispatch : ℕ) (spans : Spans) → spans ≡ no_spans
+    → Fits (record { setup = setup; spans = spans; lanes = lanes; recording = recording; filter = filter; cached = cached; counting_filter = counting_filter; measures = measures; dispatch = dispatch; handles = []; handle_sites = []; guards = []; contexts = record { contexts = []; attaches = [] }; moment = 0 }) (no_tables base)
+new_fits setup lanes recording filter cached counting_filter measures base dispatch spans is = subst (λ (x : Spans). Fits (record { setup = setup; spans = x; lanes = lanes; recording = recording; filter = filter; cached = cached; counting_filter = counting_filter; measures = measures; dispatch = dispatch; handles = []; handle_sites = []; guards = []; contexts = record { contexts = []; attaches = [] }; moment = 0 }) (no_tables base)) (sym is) (record {
   handle_slots = refl;
   site_slots = refl;
   guard_slots = refl;
@@ -40,7 +40,7 @@ own_of_lane dispatch [] served n within = absurd (omega (arith, within))
 own_of_lane dispatch (l ∷ ls) served zero within = cc served
 own_of_lane dispatch (l ∷ ls) served (suc n) within = own_of_lane dispatch ls (cc served) n (omega (arith, within))
 
-pub new_lanes : (dispatch : ℕ) (lanes : List Lane) (ids : List ℕ) → map (λ (l : Lane). l.id) lanes ≡ ids → HasOwnIds ids → map (λ (l : Lane). l.default) lanes ≡ map (λ (l : Lane). Some dispatch) lanes → (kept : ℕ → ℕ → ℕ) → ((lane number : ℕ) → kept lane number ≡ 0) → LanesFit dispatch kept (map lane_value lanes)
+pub new_lanes : (dispatch : ℕ) (lanes : List Lane) (ids : List ℕ) → map (λ (l : Lane). l.id) lanes ≡ ids → HaveDistinctIds ids → map (λ (l : Lane). l.default) lanes ≡ map (λ (l : Lane). Some dispatch) lanes → (kept : ℕ → ℕ → ℕ) → ((lane number : ℕ) → kept lane number ≡ 0) → LanesFit dispatch kept (map lane_value lanes)
 new_lanes dispatch lanes ids are own served kept none =
     let many : length (map lane_value lanes) ≡ length ids = length-map lanes lane_value ∙ sym (length-map lanes (λ (l : Lane). l.id)) ∙ ap length are in
     let few : length (map lane_value lanes) ≡ length lanes = length-map lanes lane_value in
@@ -64,7 +64,7 @@ module _ {S : Type 0} (same : S → S → Type 0) (spans : S → Spans) (views :
     pub kept_is : kept_in kept world dispatch ≡ kept first
     pub recorded_is : read_subscriber views.recorded no_recording world dispatch ≡ views.recorded first
     pub filter_is : read_subscriber views.filtered None world dispatch ≡ views.filtered first
-    pub aside_is : AddsMeasures (views.counter first, views.measured first) (aside_in views world dispatch) []
+    pub aside_is : AddsMeasures (views.counting_filter first, views.measured first) (aside_in views world dispatch) []
     pub alone : length world.subscribers ≡ 1
     pub whole : is_whole first → Has is_whole world dispatch
 
@@ -93,7 +93,7 @@ module _ {S : Type 0} (same : S → S → Type 0) (spans : S → Spans) (views :
       by_list (x ∷ y ∷ ys) e = absurd (let c = are.count in let k = ap (λ (zs : List S). length zs) e in omega (arith, c, k))
 
 -- nobody attached anything
-no_numbers : (activation : Bool) (place lane : ℕ) (o : Owner) → numbers_by activation place lane [] [] o ≡ []
+no_numbers : (activation : Bool) (place lane : ℕ) (o : Owner) → owner_numbers activation place lane [] [] o ≡ []
 no_numbers true place lane (EntryOf s) = refl
 no_numbers false place lane (EntryOf s) = refl
 no_numbers activation place lane (GuardOf n) = refl
@@ -107,10 +107,10 @@ no_live (l ∷ ls) are (suc n) = no_live ls (cc are) n
 -- what a pipeline begins with
 module _ {S : Type 0} (same : S → S → Type 0) (spans : S → Spans) (views : Views S) (attaches : S → Bool) (kept : S → ℕ → ℕ → ℕ) (is_whole : S → Type 0)
     (law : SameLaw spans views attaches kept is_whole same) (first : S)
-    (world before : WorldValue S) (dispatch : ℕ) (opening : Texts) (lanes : List Lane) (ids : List ℕ) (is : dispatch ≡ length before.subscribers) (empty : length before.subscribers ≡ 0) (are : AreSame same (before.subscribers ++ first ∷ []) world.subscribers)
+    (world before : WorldValue S) (dispatch : ℕ) (opening : FilterTexts) (lanes : List Lane) (ids : List ℕ) (is : dispatch ≡ length before.subscribers) (empty : length before.subscribers ≡ 0) (are : AreSame same (before.subscribers ++ first ∷ []) world.subscribers)
     (none : spans first ≡ no_spans) (base : Setup) (nothing : views.recorded first ≡ nothing_recorded base) (quiet : map (λ (l : Lane). l.contexts.live) lanes ≡ map (λ (l : Lane). []) lanes)
     (interest : S → Callsite → Interest) (shown : (s : S) (f : FilterState) (c : Callsite) → views.filtered s ≡ Some f → interest s c ≡ interest_in f c) (fresh : IsFresh interest world)
-    (f : FilterState) (opened : IsTextFilter opening.filter f) (gate : views.filtered first ≡ Some f) (counts : IsCounter opening.counting (views.counter first)) (no_measures : views.measured first ≡ [])
+    (f : FilterState) (opened : IsTextFilter opening.filter f) (gate : views.filtered first ≡ Some f) (counts : IsCountingFilter opening.counting (views.counting_filter first)) (no_measures : views.measured first ≡ [])
     (hs : List (Option Handle)) (no_handles : hs ≡ []) (gs : List (Option Guard)) (no_guards : gs ≡ []) (cs : ContextSlots) (no_contexts : cs ≡ record { contexts = []; attaches = [] }) where
   its_only : Only same spans views attaches kept is_whole law first world dispatch
   its_only = only_one same spans views attaches kept is_whole law first world dispatch (is ∙ empty) (subst (λ (xs : List S). AreSame same (xs ++ first ∷ []) world.subscribers) (no_items before.subscribers empty) are)
@@ -118,7 +118,7 @@ module _ {S : Type 0} (same : S → S → Type 0) (spans : S → Spans) (views :
   abbrev begun_parts : List (Option Handle) → List (Option Guard) → ContextSlots → Parts S
   begun_parts handles guards contexts = record { world = world; dispatch = dispatch; opening = opening; lanes = lanes; handles = handles; guards = guards; contexts = contexts; moment = 0 }
 
-  abbrev begun_state : State
+  abbrev begun_state : PipelineState
   begun_state = state_of spans views (begun_parts hs gs cs)
 
   pub recorded_nothing : begun_state.recording ≡ nothing_recorded base
@@ -133,35 +133,35 @@ module _ {S : Type 0} (same : S → S → Type 0) (spans : S → Spans) (views :
   records_begun = record {
     recorded = ap open_part recorded_nothing;
     known = λ s live. absurd (let e = ap (λ (x : Spans). (span_at x.made s).holds) (its_only.spans_are ∙ none) in omega (arith, e, live));
-    attached = λ n within. subst (λ (live : List (ℕ × Context)). ContextsFit (numbers_by begun_state.setup.layer.activation n (lane_at (map lane_value lanes) n).id begun_state.recording.tokens cs.attaches) live []) (sym (no_live lanes quiet n))
-        (subst (λ (r : Recording). ContextsFit (numbers_by begun_state.setup.layer.activation n (lane_at (map lane_value lanes) n).id r.tokens cs.attaches) [] []) (sym recorded_nothing)
-        (subst (λ (x : ContextSlots). ContextsFit (numbers_by begun_state.setup.layer.activation n (lane_at (map lane_value lanes) n).id [] x.attaches) [] []) (sym no_contexts)
+    attached = λ n within. subst (λ (live : List (ℕ × Context)). ContextsFit (owner_numbers begun_state.setup.layer.activation n (lane_at (map lane_value lanes) n).id begun_state.recording.tokens cs.attaches) live []) (sym (no_live lanes quiet n))
+        (subst (λ (r : Recording). ContextsFit (owner_numbers begun_state.setup.layer.activation n (lane_at (map lane_value lanes) n).id r.tokens cs.attaches) [] []) (sym recorded_nothing)
+        (subst (λ (x : ContextSlots). ContextsFit (owner_numbers begun_state.setup.layer.activation n (lane_at (map lane_value lanes) n).id [] x.attaches) [] []) (sym no_contexts)
         (record { contexts = refl; distinct = tt; numbers_are = λ o. sym (no_numbers begun_state.setup.layer.activation n (lane_at (map lane_value lanes) n).id o) })));
   }
 
   filter_begun : FilteringFits begun_state (no_tables base)
   filter_begun =
-      let now : text_filter opening.filter ≡ f = ap filter_if opened.read ∙ sym opened.is in
+      let now : text_filter opening.filter ≡ f = ap filter_of_read opened.read ∙ sym opened.is in
       record {
         in_place = ap (option_map (shown_of (length (spans_in spans world dispatch).made) begun_state.setup.ids)) (its_only.filter_is ∙ gate)
             ∙ ap (λ (x : Spans). Some (shown_of (length x.made) begun_state.setup.ids f)) (its_only.spans_are ∙ none) ∙ ap (λ (x : FilterState). Some (shown_of 0 begun_state.setup.ids x)) (sym now);
         fresh = cached_rows views interest shown world dispatch f its_only.alone its_only.there (its_only.filter_is ∙ gate) fresh
             ∙ ap (λ (x : FilterState). map (λ (c : Callsite). interest_in x c ∷ []) world.sites) (sym now);
-        counter = ap (option_map (shown_of 0 begun_state.setup.ids)) (its_only.aside_is.counter ∙ counts.is);
+        counting_filter = ap (option_map (shown_of 0 begun_state.setup.ids)) (its_only.aside_is.counting_filter ∙ counts.is);
         new = subst (λ (o : Option FilterState). IfSome o IsNewFilter) counts.is counts.new;
       }
 
   pub measured_nothing : begun_state.measures ≡ []
-  measured_nothing = (adds_nothing (views.counter first, views.measured first) (aside_in views world dispatch) its_only.aside_is).1 ∙ no_measures
+  measured_nothing = (adds_nothing (views.counting_filter first, views.measured first) (aside_in views world dispatch) its_only.aside_is).1 ∙ no_measures
 
   pub begins : StandsFor begun_state (no_tables base)
   begins = record { fits = fits_begun; recording = records_begun; filtering = filter_begun }
 
-  pub begun_setup : (sites : List Callsite) (names : List (Option (List ℕ))) (force : Texts) → world.sites ≡ sites → map (λ (l : Lane). l.id) lanes ≡ ids → map (λ (l : Lane). l.name) lanes ≡ names → opening ≡ force
+  pub begun_setup : (sites : List Callsite) (names : List (Option (List ℕ))) (force : FilterTexts) → world.sites ≡ sites → map (λ (l : Lane). l.id) lanes ≡ ids → map (λ (l : Lane). l.name) lanes ≡ names → opening ≡ force
       → begun_state.setup ≡ record { sites = sites; ids = ids; names = names; filter = force.filter; counting = force.counting; layer = base.layer }
   begun_setup sites names force sites_are ids_are names_are is_force = rw (sites_are, ids_are, names_are, is_force, ap (λ (r : Recording). r.settings) recorded_nothing) refl
 
-  pub keeps_begun : is_whole first → map (λ (l : Lane). l.id) lanes ≡ ids → HasOwnIds ids → map (λ (l : Lane). l.default) lanes ≡ map (λ (l : Lane). Some dispatch) lanes → ((lane number : ℕ) → kept first lane number ≡ 0) → IsKept spans views kept is_whole (begun_parts hs gs cs)
+  pub keeps_begun : is_whole first → map (λ (l : Lane). l.id) lanes ≡ ids → HaveDistinctIds ids → map (λ (l : Lane). l.default) lanes ≡ map (λ (l : Lane). Some dispatch) lanes → ((lane number : ℕ) → kept first lane number ≡ 0) → PipelineInvariant spans views kept is_whole (begun_parts hs gs cs)
   keeps_begun whole ids_are own served free = record {
     there = its_only.there;
     alone = its_only.alone;
@@ -172,8 +172,8 @@ module _ {S : Type 0} (same : S → S → Type 0) (spans : S → Spans) (views :
   }
 
 -- a stack that was just made has recorded nothing, and counts where events are counted
-pub records_none : (r : Recording) (base : Setup) (counter : Option FilterWithRoom) → r ≡ new_recording base.layer (is_some counter) → IsCounter base.counting (option_map plain_filter counter) → r ≡ nothing_recorded base
-records_none r base counter is counts = is ∙ ap (λ (b : Bool). new_recording base.layer b) (sym (some_mapped plain_filter counter) ∙ ap is_some counts.is ∙ some_mapped text_filter base.counting)
+pub records_none : (r : Recording) (base : Setup) (counting_filter : Option FilterWithRoom) → r ≡ new_recording base.layer (is_some counting_filter) → IsCountingFilter base.counting (option_map plain_filter counting_filter) → r ≡ nothing_recorded base
+records_none r base counting_filter is counts = is ∙ ap (λ (b : Bool). new_recording base.layer b) (sym (some_mapped plain_filter counting_filter) ∙ ap is_some counts.is ∙ some_mapped text_filter base.counting)
   where
     some_mapped : {A B : Type 0} (f : A → B) (o : Option A) → is_some (option_map f o) ≡ is_some o
     some_mapped f None = refl

@@ -1,6 +1,6 @@
 -- A handle is dropped, and a chain of spans closes.
 use Rattle.std.proofs.Common.{◌≡◌, ℕ, zero, suc, ◌+◌, ◌<◌, ◌≤◌, List, [], ◌∷◌, Bool, true, false, cond, count_by, slice_set, Option, Some, None, option_map, map, refl, sym, ap, subst, ◌∙◌, arith, inl, inr, ◌==◌, ◌||◌}
-use Rattle.span_script.proofs.Common.{cases_eq, cond-true, cond-false, or_parts, map-set, sum_by-set, get_or-map, Span, Spans, Entries, entries_on, span_at, span_without_hold, without_hold, parent_to_release, entered_lane_count, is_open_child, is_child_of, open_child_count, made_if_held, children_set, keeps_children, less_last, less_more, less_holds, holds_set, holds_other, OneEach, ReleasesChain, all_released, releases, id_at, Balanced, OpenGuard, names_span, named_by, opened_on, opened_by, Scope, MadeSpan, ScopeGuard, Tables, after_effect, slot_at, own_span, here_at, drop_effect, borrows, is_borrowed, is_named, ContextSlots, State, MadeFit, guard_of, lane_of}
+use Rattle.span_script.proofs.Common.{cases_eq, cond-true, cond-false, or_parts, map-set, sum_by-set, get_or-map, Span, Spans, Entries, entries_on, span_at, span_without_hold, without_hold, parent_to_release, entered_lane_count, is_open_child, is_child_of, open_child_count, made_if_held, children_set, keeps_children, less_last, less_more, less_holds, holds_set, holds_other, OneEach, ReleasesChain, all_released, releases, id_at, Balanced, OpenGuard, names_span, named_span, open_guard_on, open_guard_by, Scope, MadeSpan, ScopeGuard, Tables, after_effect, slot_at, span_of_scope, here_at, drop_effect, borrows, is_borrowed, is_named_by_guard, ContextSlots, PipelineState, SpansFit, guard_of, lane_place_of}
 use Rattle.std.proofs.lemmas.Bool.{eq-eqb, ne_eqb}
 use Rattle.std.proofs.lemmas.List.{length-set, get_or-set_other}
 use Rattle.span_script.specs.Fits.{Fits}
@@ -61,7 +61,7 @@ pub record ChainEnds (x y : Spans) (hs : List (Option ℕ)) : Type 0 where
   pub holds : Loose y hs None
   pub lanes : y.lanes ≡ x.lanes
   pub fewer : (q : ℕ) → (span_at y.made q).holds ≤ (span_at x.made q).holds
-  pub made : (ms : List MadeSpan) → MadeFit x.made ms → MadeFit y.made ms
+  pub made : (ms : List MadeSpan) → SpansFit x.made ms → SpansFit y.made ms
 
 pub chain_ends : (next : Option ℕ) (x y : Spans) → ReleasesChain next x y → (hs : List (Option ℕ)) → Loose x hs next → ChainEnds x y hs
 chain_ends _ _ _ (all_released x) hs loose = record { holds = loose; lanes = refl; fewer = λ q. omega arith; made = λ ms fit. fit }
@@ -84,16 +84,16 @@ not_borrowed (Some x ∷ gs) handle zero g none there same =
     absurd (let t = eq-eqb x.handle handle (ap (λ (y : ScopeGuard). y.handle) is ∙ same) in let no : true ≡ false = sym t ∙ parts.0 in cc no)
 not_borrowed (o ∷ gs) handle (suc n) g none there same = not_borrowed gs handle n g (or_parts (borrows handle o) (is_borrowed gs handle) none).1 there same
 
-pub borrowed_is : (dispatch : ℕ) (gs : List (Option ScopeGuard)) (handle : ℕ) → is_named (map (option_map (guard_of dispatch)) gs) handle ≡ is_borrowed gs handle
+pub borrowed_is : (dispatch : ℕ) (gs : List (Option ScopeGuard)) (handle : ℕ) → is_named_by_guard (map (option_map (guard_of dispatch)) gs) handle ≡ is_borrowed gs handle
 borrowed_is dispatch [] handle = refl
 borrowed_is dispatch (None ∷ gs) handle = borrowed_is dispatch gs handle
 borrowed_is dispatch (Some g ∷ gs) handle = ap (λ b. (g.handle == handle) || b) (borrowed_is dispatch gs handle)
 
-pub opened_handle : (ids : List ℕ) (o : Option ScopeGuard) (g : OpenGuard) → opened_by ids o ≡ Some g → (x : ScopeGuard) × (o ≡ Some x) × (x.handle ≡ g.handle)
+pub opened_handle : (ids : List ℕ) (o : Option ScopeGuard) (g : OpenGuard) → open_guard_by ids o ≡ Some g → (x : ScopeGuard) × (o ≡ Some x) × (x.handle ≡ g.handle)
 opened_handle ids None g e = absurd (cc e)
 opened_handle ids (Some x) g e = (x, refl, by_line x.scope e)
   where
-    by_line : (line : Scope) → opened_on x.handle (id_at ids x.place) line ≡ Some g → x.handle ≡ g.handle
+    by_line : (line : Scope) → open_guard_on x.handle (id_at ids x.place) line ≡ Some g → x.handle ≡ g.handle
     by_line [] e = absurd (cc e)
     by_line (s ∷ up) e = (let is : ◌≡◌ {A = OpenGuard} (record { handle = x.handle; span = s; lane = id_at ids x.place }) g = cc e in ap (λ (y : OpenGuard). y.handle) is)
 
@@ -113,9 +113,9 @@ record DropEnds (x y : Spans) (hs : List (Option ℕ)) : Type 0 where
   holds : (q : ℕ) → (span_at y.made q).holds ≡ count_by (names_span q) hs + entered_lane_count y.lanes q + open_child_count y.made q
   lanes : y.lanes ≡ x.lanes
   fewer : (q : ℕ) → (span_at y.made q).holds ≤ (span_at x.made q).holds
-  made : (ms : List MadeSpan) → MadeFit x.made ms → MadeFit y.made ms
+  made : (ms : List MadeSpan) → SpansFit x.made ms → SpansFit y.made ms
 
-drop_ends : (x y : Spans) (hs : List (Option ℕ)) (gs : List (Option OpenGuard)) (es : ℕ → List ℕ) → Balanced x hs gs es → (n : ℕ) (line : Scope) → slot_at hs n ≡ own_span line → ReleasedOn x y line → DropEnds x y (slice_set hs n None)
+drop_ends : (x y : Spans) (hs : List (Option ℕ)) (gs : List (Option OpenGuard)) (es : ℕ → List ℕ) → Balanced x hs gs es → (n : ℕ) (line : Scope) → slot_at hs n ≡ span_of_scope line → ReleasedOn x y line → DropEnds x y (slice_set hs n None)
 drop_ends x y hs gs es fits n [] is same = subst (λ (z : Spans). DropEnds x z (slice_set hs n None)) (sym same) (record {
   holds = λ q. fits.holds q ∙ ap (λ (xs : List (Option ℕ)). count_by (names_span q) xs + entered_lane_count x.lanes q + open_child_count x.made q) (sym (set_none hs n is));
   lanes = refl;
@@ -131,28 +131,28 @@ pub still_spent : (gs : List (Option ScopeGuard)) (hs : List (Option Scope)) (ha
     → (n : ℕ) (x : ScopeGuard) → slot_at gs n ≡ Some x → slot_at (slice_set hs handle None) x.handle ≡ Some x.scope
 still_spent gs hs handle free still n x there = get_or-set_other hs handle x.handle None None (not_borrowed gs handle n x free there) ∙ still n x there
 
-pub fits_dropped : (k next : State) (t : Tables) (at place handle : ℕ) (line : Scope) → Fits k t → slot_at t.handles handle ≡ Some line → is_borrowed t.guards handle ≡ false → ReleasedOn k.spans next.spans line → next.setup ≡ k.setup
+pub fits_dropped : (k next : PipelineState) (t : Tables) (at place handle : ℕ) (line : Scope) → Fits k t → slot_at t.handles handle ≡ Some line → is_borrowed t.guards handle ≡ false → ReleasedOn k.spans next.spans line → next.setup ≡ k.setup
     → next.dispatch ≡ k.dispatch → next.handles ≡ slice_set k.handles handle None → next.handle_sites ≡ slice_set k.handle_sites handle None → next.guards ≡ k.guards → next.contexts ≡ k.contexts → next.moment ≡ at → Fits next (after_effect t (drop_effect (here_at k.setup t at place) handle line))
 fits_dropped k next t at place handle line fits there free chain setup dispatch handles sites guards contexts moment =
     let ids = k.setup.ids in
-    let hs = map named_by t.handles in
-    let ends = drop_ends k.spans next.spans hs (map (opened_by ids) t.guards) t.entries fits.balanced handle line (named_slot t.handles handle line there) chain in
-    let spent : slice_set hs handle None ≡ map named_by (slice_set t.handles handle None) = sym (map-set named_by t.handles handle None) in
+    let hs = map named_span t.handles in
+    let ends = drop_ends k.spans next.spans hs (map (open_guard_by ids) t.guards) t.entries fits.balanced handle line (named_slot t.handles handle line there) chain in
+    let spent : slice_set hs handle None ≡ map named_span (slice_set t.handles handle None) = sym (map-set named_span t.handles handle None) in
     fits_step k t fits next (drop_effect (here_at k.setup t at place) handle line) (record {
       setup_is = setup;
       dispatch_is = dispatch;
       handles_are = handles;
       sites_are = sites;
       guards_are = guards;
-      attaches_are = ap (λ (c : ContextSlots). map (option_map lane_of) c.attaches) contexts;
+      attaches_are = ap (λ (c : ContextSlots). map (option_map lane_place_of) c.attaches) contexts;
       named_are = ap (λ (c : ContextSlots). c.contexts) contexts;
       moment_is = moment;
-      balanced = subst (λ (xs : List (Option ℕ)). Balanced next.spans xs (map (opened_by ids) t.guards) t.entries) spent (record {
+      balanced = subst (λ (xs : List (Option ℕ)). Balanced next.spans xs (map (open_guard_by ids) t.guards) t.entries) spent (record {
         holds = ends.holds;
         entries = λ l. ap (λ (es : List Entries). entries_on l es) ends.lanes ∙ fits.balanced.entries l;
         guarded = fits.balanced.guarded;
         borrowed = λ n g open_there. (
-            let o = opened_handle ids (slot_at t.guards n) g (sym (get_or-map (opened_by ids) t.guards n None) ∙ open_there) in
+            let o = opened_handle ids (slot_at t.guards n) g (sym (get_or-map (open_guard_by ids) t.guards n None) ∙ open_there) in
             get_or-set_other hs handle g.handle None None (λ e. not_borrowed t.guards handle n o.0 free o.1 (o.2 ∙ e)) ∙ fits.balanced.borrowed n g open_there);
       });
       made_fit = ends.made t.spans fits.made;

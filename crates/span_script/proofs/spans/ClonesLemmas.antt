@@ -1,6 +1,6 @@
 -- Clones, served.
 use Rattle.std.proofs.Common.{◌≡◌, ℕ, ◌+◌, ◌<◌, ◌≤◌, List, [], ◌∷◌, ◌++◌, length, Bool, Option, Some, None, Ok, option_map, map, refl, sym, ap, subst, ◌∙◌, arith, inl, inr, is_some}
-use Rattle.span_script.proofs.Common.{cases_eq, length-map, length_push, map_push, get_or_append_left, WorldValue, Spans, span_at, SubscriberCall, CloneSpan, OneEach, read_subscriber, spans_in, kept_in, Handle, HeldSpan, id_of, ReplacedOn, Recording, no_recording, Scope, MadeSpan, ScopeGuard, Effect, Tables, slot_at, own_span, here_at, ◌>>=◌, need, effect_of_call, clone_effect, Balanced, named_by, opened_by, Views, State, state_of, lane_value, StandsFor, MadeFit, LanesFit, IsKept, Served, IsScope, held_of, held_by, site_by, Parts, holds_other, CallsLaw, aside_in}
+use Rattle.span_script.proofs.Common.{cases_eq, length-map, length_push, map_push, get_or_append_left, WorldValue, Spans, span_at, SubscriberCall, CloneSpan, OneEach, read_subscriber, spans_in, kept_in, Handle, HeldSpan, id_of, ReplacedOn, Recording, no_recording, Scope, MadeSpan, ScopeGuard, Effect, Tables, slot_at, span_of_scope, here_at, ◌>>=◌, need, effect_of_call, clone_effect, Balanced, named_span, open_guard_by, Views, PipelineState, state_of, lane_value, StandsFor, SpansFit, LanesFit, PipelineInvariant, IsServed, IsScope, held_of, held_by, site_by, Parts, holds_other, CallsLaw, aside_in}
 use Rattle.span_script.specs.declared.reply.Reply.TheVariants as reply
 use Rattle.span_script.specs.declared.request.Call.TheVariants as call
 use Rattle.span_script.specs.declared.reply.What.TheVariants as what
@@ -31,7 +31,7 @@ pub one_clone : (spans : Spans) (line : Scope) → OneEach spans.lanes → OneEa
 one_clone spans [] one = one
 one_clone spans (s ∷ up) one = one
 
-pub made_clone : (spans : Spans) (ms : List MadeSpan) (line : Scope) → MadeFit spans.made ms → ((s : ℕ) (up : Scope) → line ≡ s ∷ up → 0 < (span_at spans.made s).holds) → MadeFit (spans_held spans line).made ms
+pub made_clone : (spans : Spans) (ms : List MadeSpan) (line : Scope) → SpansFit spans.made ms → ((s : ℕ) (up : Scope) → line ≡ s ∷ up → 0 < (span_at spans.made s).holds) → SpansFit (spans_held spans line).made ms
 made_clone spans ms [] fit live = fit
 made_clone spans ms (s ∷ up) fit live = made_held spans.made ms s fit (live s up refl)
 
@@ -39,7 +39,7 @@ pub the_scope : (a b : Scope) → ◌≡◌ {A = Option Scope} (Some a) (Some b)
 the_scope a b e = cc e
 
 -- whether a handle of a scope is enabled
-pub enabled_is : (dispatch : ℕ) (line : Scope) (held : HeldSpan) → held ≡ held_of dispatch line → is_some (id_of held) ≡ is_some (own_span line)
+pub enabled_is : (dispatch : ℕ) (line : Scope) (held : HeldSpan) → held ≡ held_of dispatch line → is_some (id_of held) ≡ is_some (span_of_scope line)
 enabled_is dispatch [] held is = ap (λ (h : HeldSpan). is_some (id_of h)) is
 enabled_is dispatch (s ∷ up) held is = ap (λ (h : HeldSpan). is_some (id_of h)) is
 
@@ -66,21 +66,21 @@ module _ {S : Type 0} (spans : S → Spans) (views : Views S) (attaches : S → 
   clone_filter (s ∷ up) shown = shown.3 ∙ sym (heard_none (read_subscriber views.filtered None parts.world parts.dispatch))
 
   module _ (does : S → SubscriberCall → S → Type 0) (law : CallsLaw spans views attaches kept is_whole does)
-      (hs' : List (Option Handle)) (at place number : ℕ) (many : number ≡ length parts.handles) (inv : IsKept spans views kept is_whole parts) where
-    abbrev now : State
+      (hs' : List (Option Handle)) (at place number : ℕ) (many : number ≡ length parts.handles) (inv : PipelineInvariant spans views kept is_whole parts) where
+    abbrev now : PipelineState
     now = state_of spans views parts
 
     abbrev then_parts : Parts S
     then_parts = record parts { world = new; handles = hs'; moment = at }
 
-    abbrev then : State
+    abbrev then : PipelineState
     then = state_of spans views then_parts
 
     next_number : (t : Tables) → Fits now t → number ≡ length t.handles
     next_number t fits = many ∙ sym (length-map parts.handles held_by) ∙ ap length fits.handle_slots ∙ length-map t.handles (option_map (held_of parts.dispatch))
 
     module _ (handle : ℕ) (h copy : Handle) (enabled : Bool) (found : slot_at parts.handles handle ≡ Some h) (is : copy ≡ h) (shows : enabled ≡ is_some (id_of h.held)) (one : hs' ≡ parts.handles ++ Some copy ∷ []) (did : ReplacedOn (λ id s t. does s (CloneSpan id) t) parts.world new h.held) where
-      pub serves_cloned : (t : Tables) → StandsFor now t → Served (effect_of_call now.setup t at place (call.Clone handle)) t now then (reply.Made enabled number)
+      pub serves_cloned : (t : Tables) → StandsFor now t → IsServed (effect_of_call now.setup t at place (call.Clone handle)) t now then (reply.Made enabled number)
       serves_cloned t stands =
           let fits = stands.fits in
           let line = find (held_of parts.dispatch) (map held_by parts.handles) t.handles handle h.held fits.handle_slots (held_slot parts.handles handle h found) in
@@ -91,7 +91,7 @@ module _ {S : Type 0} (spans : S → Spans) (views : Views S) (attaches : S → 
           let same = clone_recorded line.at shown in
           let sites = call_sites spans views attaches kept is_whole parts new line.at (λ id. CloneSpan id) shown in
           let setup : then.setup ≡ now.setup = ap (λ x. record now.setup { sites = x; layer = (read_subscriber views.recorded no_recording new parts.dispatch).settings }) sites ∙ ap (λ (r : Recording). record now.setup { layer = r.settings }) same in
-          let live : (s : ℕ) (up : Scope) → line.at ≡ s ∷ up → 0 < (span_at sp.made s).holds = λ s up e. fits_live sp (map named_by t.handles) (map (opened_by ids) t.guards) t.entries fits.balanced handle s (named_slot t.handles handle line.at line.there ∙ ap own_span e) in
+          let live : (s : ℕ) (up : Scope) → line.at ≡ s ∷ up → 0 < (span_at sp.made s).holds = λ s up e. fits_live sp (map named_span t.handles) (map (open_guard_by ids) t.guards) t.entries fits.balanced handle s (named_slot t.handles handle line.at line.there ∙ ap span_of_scope e) in
           let e : Effect = clone_effect (here_at now.setup t at place) line.at in
           serve now then t e _ (reply.Made enabled number) stands
           (ap (λ o. need what.Handle o >>= (λ line. Ok (clone_effect (here_at now.setup t at place) line))) line.there)
@@ -106,8 +106,8 @@ module _ {S : Type 0} (spans : S → Spans) (views : Views S) (attaches : S → 
             attaches_are = refl;
             named_are = refl;
             moment_is = refl;
-            balanced = subst (λ (x : Spans). Balanced x (map named_by (t.handles ++ Some line.at ∷ [])) (map (opened_by ids) t.guards) t.entries) (sym step) (balanced_clone ids sp t.handles t.guards t.entries fits.balanced handle line.at line.there);
-            made_fit = subst (λ (x : Spans). MadeFit x.made t.spans) (sym step) (made_clone sp t.spans line.at fits.made live);
+            balanced = subst (λ (x : Spans). Balanced x (map named_span (t.handles ++ Some line.at ∷ [])) (map (open_guard_by ids) t.guards) t.entries) (sym step) (balanced_clone ids sp t.handles t.guards t.entries fits.balanced handle line.at line.there);
+            made_fit = subst (λ (x : Spans). SpansFit x.made t.spans) (sym step) (made_clone sp t.spans line.at fits.made live);
             new_made = tt;
             new_site = tt;
             new_scope = λ l e. subst (IsScope t.spans) (the_scope line.at l e) (fits.scopes handle line.at line.there);
@@ -120,7 +120,7 @@ module _ {S : Type 0} (spans : S → Spans) (views : Views S) (attaches : S → 
           (all_same now then t.contexts setup refl refl (ap (λ (r : Recording). r.tokens) same) stands.recording.attached)
           (record { quiet = refl; before = read_subscriber views.filtered None parts.world parts.dispatch; later = read_subscriber views.filtered None new parts.dispatch; shown_before = refl; shown_later = refl; told = clone_filter line.at shown ∙ heard_none (read_subscriber views.filtered None parts.world parts.dispatch); known = refl; cached = call_cached spans views attaches kept is_whole parts new line.at (λ id. CloneSpan id) shown; aside = record { before = aside_in views parts.world parts.dispatch; later = aside_in views new parts.dispatch; shown_before = refl; shown_later = refl; waits_before = refl; waits_later = refl; adds = call_aside spans views attaches kept is_whole parts new line.at (λ id. CloneSpan id) (λ s. refl) shown } })
 
-      pub keeps_cloned : IsKept spans views kept is_whole then_parts
+      pub keeps_cloned : PipelineInvariant spans views kept is_whole then_parts
       keeps_cloned =
           let line = find (held_of parts.dispatch) (map held_by parts.handles) inv.tables.handles handle h.held inv.stands.fits.handle_slots (held_slot parts.handles handle h found) in
           let shown = shown_on spans views attaches kept is_whole does law parts.world new parts.dispatch line.at h.held line.is (λ id. CloneSpan id) did in

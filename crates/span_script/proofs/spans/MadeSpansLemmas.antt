@@ -1,6 +1,6 @@
 -- Spans that are kept fit those that were made.
 use Rattle.std.proofs.Common.{◌≡◌, ℕ, ◌+◌, ◌<◌, List, length, Bool, true, false, cond, set, refl, sym, ap, ◌∙◌, arith, inl, inr}
-use Rattle.span_script.proofs.Common.{cases_eq, cases_lt, get_or_past, Span, no_span, span_at, with_hold, span_without_hold, without_hold, less_more, less_last, less_holds, MadeSpan, MadeFit}
+use Rattle.span_script.proofs.Common.{cases_eq, cases_lt, get_or_past, Span, no_span, span_at, with_hold, span_without_hold, without_hold, less_more, less_last, less_holds, MadeSpan, SpansFit}
 use Rattle.std.proofs.lemmas.List.{length-set, get_or-set_same, get_or-set_other}
 
 -- a span with the same parent and callsite, or closed
@@ -8,7 +8,7 @@ abbrev pub AsMade : Span → Span → Type 0
 AsMade was now = 0 < now.holds → (now.parent ≡ was.parent) × (now.site ≡ was.site) × (0 < was.holds)
 
 -- a span of which only the holds were written
-pub made_written : (spans : List Span) (ms : List MadeSpan) (id : ℕ) (now : Span) → MadeFit spans ms → AsMade (span_at spans id) now → MadeFit (set spans id now) ms
+pub made_written : (spans : List Span) (ms : List MadeSpan) (id : ℕ) (now : Span) → SpansFit spans ms → AsMade (span_at spans id) now → SpansFit (set spans id now) ms
 made_written spans ms id now fit kin =
     let same : (q : ℕ) → AsMade (span_at spans q) (span_at (set spans id now) q) = λ q live. elim (cases_eq q id) [
       | inl here ↦ elim (cases_lt id (length spans)) [
@@ -30,14 +30,14 @@ made_written spans ms id now fit kin =
       site = λ q live. (same q live).1 ∙ fit.site q (same q live).2;
     }
 
-pub made_if : (b : Bool) (xs ys : List Span) (ms : List MadeSpan) → MadeFit xs ms → MadeFit ys ms → MadeFit (cond b xs ys) ms
+pub made_if : (b : Bool) (xs ys : List Span) (ms : List MadeSpan) → SpansFit xs ms → SpansFit ys ms → SpansFit (cond b xs ys) ms
 made_if true xs ys ms x y = x
 made_if false xs ys ms x y = y
 
-pub made_held : (spans : List Span) (ms : List MadeSpan) (id : ℕ) → MadeFit spans ms → 0 < (span_at spans id).holds → MadeFit (with_hold spans id) ms
+pub made_held : (spans : List Span) (ms : List MadeSpan) (id : ℕ) → SpansFit spans ms → 0 < (span_at spans id).holds → SpansFit (with_hold spans id) ms
 made_held spans ms id fit live = made_written spans ms id (record (span_at spans id) { holds = (span_at spans id).holds + 1 }) fit (λ some. (refl, refl, live))
 
-pub made_released : (spans : List Span) (ms : List MadeSpan) (id : ℕ) → MadeFit spans ms → MadeFit (without_hold spans id) ms
+pub made_released : (spans : List Span) (ms : List MadeSpan) (id : ℕ) → SpansFit spans ms → SpansFit (without_hold spans id) ms
 made_released spans ms id fit =
     let was = span_at spans id in
     made_written spans ms id (span_without_hold was) fit (λ some.

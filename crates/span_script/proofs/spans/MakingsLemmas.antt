@@ -1,6 +1,6 @@
 -- Makings, served.
 use Rattle.std.proofs.Common.{◌≡◌, ℕ, ◌+◌, ◌<◌, ◌≤◌, ◌^◌, List, [], ◌∷◌, ◌++◌, length, Bool, true, false, fold, get_or, Option, Some, None, Ok, option_map, map, refl, sym, ap, subst, ◌∙◌, arith, inl, inr, IfSome, slice_get, ◌≢◌, option_and_then}
-use Rattle.span_script.proofs.Common.{cases_eq, cases_lt, cond-true, cond-false, length-map, length_push, map_push, get_or_past, get_or_push, get_or_append_left, Lane, Parent, Callsite, ValueSet, WorldValue, FilterState, Span, Spans, no_span, span_at, with_hold_of_child, entries_on, parent_on, current_of, SubscriberCall, NewSpan, with_new_span, IsLiveParent, HasFewHolds, AreFew, HasFewHoldsAbove, OneEach, ChangesPlainData, Replaced, read_subscriber, spans_in, kept_in, no_spans, Has, Handle, Makes, MayMake, no_handle, RequestParent, Setup, id_at, name_at, if_span, span_site, Context, KeyValue, empty_context, LayerSettings, SpanData, data_at_making, after_op, Token, parent_source, lane_context, context_from, new_span_data, data_at, with_span_data, Recording, source_of, no_recording, with_start, with_starts, Kind, length_held, holds_other, Scope, MadeSpan, Attached, no_made_span, HookNew, Effect, Tables, recorded_by, open_part, own_span, made_of, here_at, ◌>>=◌, need, effect_of_call, after_filter_hook, admits_at, lane_in, new_span_data_at, context_around, parent_at, new_effect, span_effect, disabled_effect, scope_at, Fields, all_values, parent_for, AreNamed, MakesNamed, MakesOnly, LetsThrough, Balanced, named_by, opened_by, Views, State, state_of, lane_value, StandsFor, MadeFit, LanesFit, IsKept, Served, IsScope, held_of, guard_of, held_by, site_by, Parts, parent_in, CallsLaw, SameLaw, aside_in}
+use Rattle.span_script.proofs.Common.{cases_eq, cases_lt, cond-true, cond-false, length-map, length_push, map_push, get_or_past, get_or_push, get_or_append_left, Lane, Parent, Callsite, ValueSet, WorldValue, FilterState, Span, Spans, no_span, span_at, with_hold_of_child, entries_on, parent_on, current_of, SubscriberCall, NewSpan, with_new_span, IsLiveParent, HasFewHolds, AreFew, HasFewHoldsAbove, OneEach, ChangesPlainData, Replaced, read_subscriber, spans_in, kept_in, no_spans, Has, Handle, Makes, MayMake, no_handle, RequestParent, Setup, id_at, name_at, if_span, span_site, Context, KeyValue, empty_context, LayerSettings, SpanData, data_at_making, after_op, Token, parent_source, lane_context, context_from, new_span_data, data_at, with_span_data, Recording, source_of, no_recording, with_start, with_starts, Kind, length_held, holds_other, Scope, MadeSpan, Attached, no_made_span, HookNew, Effect, Tables, recording_after, open_part, span_of_scope, made_span_at, here_at, ◌>>=◌, need, effect_of_call, after_filter_hook, admits_on, lane_in, new_span_data_at, context_around, parent_under, new_effect, span_effect, disabled_effect, scope_at, Fields, all_values, parent_for, AreNamed, MakesNamed, MakesSpanOrNothing, LetsThrough, Balanced, named_span, open_guard_by, Views, PipelineState, state_of, lane_value, StandsFor, SpansFit, LanesFit, PipelineInvariant, IsServed, IsScope, held_of, guard_of, held_by, site_by, Parts, parent_in, CallsLaw, SameLaw, aside_in}
 use Rattle.span_handles.proofs.ChangedSubscriberLemmas.{seen_before}
 use Rattle.span_script.specs.declared.reply.Reply.TheVariants as reply
 use Rattle.span_script.specs.declared.request.Call.TheVariants as call
@@ -31,12 +31,12 @@ use Rattle.span_script.proofs.spans.ClonesLemmas.{the_scope, still_named_more}
 use Rattle.span_script.proofs.spans.MoreHandlesLemmas.{balanced_decline, balanced_new, find_up}
 
 -- the spans with a new one under a scope
-made_pushed : (xs : List Span) (ms : List MadeSpan) (up : Scope) (site : ℕ) (told : SpanData) → MadeFit xs ms → MadeFit (xs ++ record { holds = 1; parent = own_span up; site = site } ∷ []) (ms ++ record { site = site; scope = length ms ∷ up; made_with = told } ∷ [])
+made_pushed : (xs : List Span) (ms : List MadeSpan) (up : Scope) (site : ℕ) (told : SpanData) → SpansFit xs ms → SpansFit (xs ++ record { holds = 1; parent = span_of_scope up; site = site } ∷ []) (ms ++ record { site = site; scope = length ms ∷ up; made_with = told } ∷ [])
 made_pushed xs ms up site told fit =
-    let new : Span = record { holds = 1; parent = own_span up; site = site } in
+    let new : Span = record { holds = 1; parent = span_of_scope up; site = site } in
     let m : MadeSpan = record { site = site; scope = length ms ∷ up; made_with = told } in
     let counts = fit.count in
-    let all : (q : ℕ) → 0 < (span_at (xs ++ new ∷ []) q).holds → ((span_at (xs ++ new ∷ []) q).parent ≡ parent_in (made_of (ms ++ m ∷ []) q).scope) × ((span_at (xs ++ new ∷ []) q).site ≡ (made_of (ms ++ m ∷ []) q).site) = λ q live. elim (cases_lt q (length xs)) [
+    let all : (q : ℕ) → 0 < (span_at (xs ++ new ∷ []) q).holds → ((span_at (xs ++ new ∷ []) q).parent ≡ parent_in (made_span_at (ms ++ m ∷ []) q).scope) × ((span_at (xs ++ new ∷ []) q).site ≡ (made_span_at (ms ++ m ∷ []) q).site) = λ q live. elim (cases_lt q (length xs)) [
       | inl within ↦ (
           let a = get_or_append_left xs (new ∷ []) no_span q within in
           let b = get_or_append_left ms (m ∷ []) no_made_span q (omega (arith, within, counts)) in
@@ -53,7 +53,7 @@ made_pushed xs ms up site told fit =
     ] in
     record { count = (let a = length_push xs new in let b = length_push ms m in omega (arith, a, b, counts)); parent = λ q live. (all q live).0; site = λ q live. (all q live).1 }
 
-made_child : (xs : List Span) (ms : List MadeSpan) (o : Option ℕ) → MadeFit xs ms → IfSome o (λ p. 0 < (span_at xs p).holds) → MadeFit (with_hold_of_child xs o) ms
+made_child : (xs : List Span) (ms : List MadeSpan) (o : Option ℕ) → SpansFit xs ms → IfSome o (λ p. 0 < (span_at xs p).holds) → SpansFit (with_hold_of_child xs o) ms
 made_child xs ms None fit live = fit
 made_child xs ms (Some p) fit live = made_held xs ms p fit live
 
@@ -143,14 +143,14 @@ made_is setup t at place callsite c values p q before r current recorded layer c
 
 module _ {S : Type 0} (spans : S → Spans) (views : Views S) (attaches : S → Bool) (kept : S → ℕ → ℕ → ℕ) (is_whole : S → Type 0) (parts : Parts S) (new : WorldValue S) where
   module _ (does : S → SubscriberCall → S → Type 0) (law : CallsLaw spans views attaches kept is_whole does)
-      (hs' : List (Option Handle)) (at place number : ℕ) (many : number ≡ length parts.handles) (inv : IsKept spans views kept is_whole parts) where
-    abbrev now : State
+      (hs' : List (Option Handle)) (at place number : ℕ) (many : number ≡ length parts.handles) (inv : PipelineInvariant spans views kept is_whole parts) where
+    abbrev now : PipelineState
     now = state_of spans views parts
 
     abbrev then_parts : Parts S
     then_parts = record parts { world = new; handles = hs'; moment = at }
 
-    abbrev then : State
+    abbrev then : PipelineState
     then = state_of spans views then_parts
 
     abbrev place_id : ℕ
@@ -164,7 +164,7 @@ module _ {S : Type 0} (spans : S → Spans) (views : Views S) (attaches : S → 
 
     module _ (under : RequestParent) (p : Parent) (site : ℕ) (callsite : Callsite) (sited : span_site parts.world.sites site ≡ Some callsite) (found : parent_for (map held_by parts.handles) under ≡ Some p) where
       -- a span that is let through
-      module _ (fields : Fields) (values : ValueSet) (valued : all_values callsite fields ≡ Some values) (made : Handle) (before : Lane) (within : place < length parts.lanes) (seen_is : before ≡ get_or parts.lanes place before) (through : (t : Tables) → StandsFor now t → admits_at now.setup t place_id callsite ≡ true) (one : hs' ≡ parts.handles ++ Some made ∷ [])
+      module _ (fields : Fields) (values : ValueSet) (valued : all_values callsite fields ≡ Some values) (made : Handle) (before : Lane) (within : place < length parts.lanes) (seen_is : before ≡ get_or parts.lanes place before) (through : (t : Tables) → StandsFor now t → admits_on now.setup t place_id callsite ≡ true) (one : hs' ≡ parts.handles ++ Some made ∷ [])
           (did : Makes spans does parts.world new before at p site values parts.dispatch made) where
         abbrev made_call : Replaced (λ s t. does s (NewSpan before at p site did.callsite values) t) parts.world new parts.dispatch
         made_call = record { before = did.made.before; later = did.made.later; there = did.made.there; did = did.made.did.1; others = did.made.others }
@@ -175,17 +175,17 @@ module _ {S : Type 0} (spans : S → Spans) (views : Views S) (attaches : S → 
         id_is : did.id ≡ length (spans_in spans parts.world parts.dispatch).made
         id_is = did.made.did.0 ∙ ap (λ (x : Spans). length x.made) (sym (seen_before (λ s t. does s (NewSpan before at p site did.callsite values) t) parts.world new parts.dispatch made_call spans no_spans))
 
-        pub serves_made : (t : Tables) → StandsFor now t → Served (effect_of_call now.setup t at place (call.New site under fields)) t now then (reply.Made true number)
+        pub serves_made : (t : Tables) → StandsFor now t → IsServed (effect_of_call now.setup t at place (call.New site under fields)) t now then (reply.Made true number)
         serves_made t stands =
             let fits = stands.fits in
             let up = find_up now t fits place_id under p found in
             let sp = spans_in spans parts.world parts.dispatch in
             let ids = now.setup.ids in
             let id_is' = id_seen parts.lanes place before within seen_is in
-            let step : spans_in spans new parts.dispatch ≡ with_new_span sp (own_span up.up) site = made_shown.spans_after ∙ ap (λ (l : ℕ). with_new_span sp (parent_on (entries_on l sp.lanes) p) site) id_is' ∙ ap (λ (o : Option ℕ). with_new_span sp o site) up.on in
+            let step : spans_in spans new parts.dispatch ≡ with_new_span sp (span_of_scope up.up) site = made_shown.spans_after ∙ ap (λ (l : ℕ). with_new_span sp (parent_on (entries_on l sp.lanes) p) site) id_is' ∙ ap (λ (o : Option ℕ). with_new_span sp o site) up.on in
             let line : Scope = length t.spans ∷ up.up in
             let mine : did.id ≡ length t.spans = id_is ∙ fits.made.count in
-            let q = parent_at under up.up in
+            let q = parent_under under up.up in
             let current = current_of (entries_on before.id sp.lanes) in
             let current_is : current ≡ current_of (t.entries place_id) = ap (λ (l : ℕ). current_of (entries_on l sp.lanes)) id_is' ∙ ap current_of (fits.balanced.entries place_id) in
             let callsite_is : did.callsite ≡ callsite = the_callsite did.callsite callsite (sym did.is ∙ site_is parts.world.sites site callsite sited) in
@@ -201,23 +201,23 @@ module _ {S : Type 0} (spans : S → Spans) (views : Views S) (attaches : S → 
             let source = parent_source r.settings.activation p current in
             let source_is : source ≡ parent_source r.settings.activation q (current_of (t.entries place_id)) = ap (λ (x : Parent). parent_source r.settings.activation x current) up.parent_is ∙ ap (λ (o : Option ℕ). parent_source r.settings.activation q o) current_is in
             let viewed = law.viewed parts.world new parts.dispatch _ made_call in
-            let rec_is : read_subscriber views.recorded no_recording new parts.dispatch ≡ record (recorded_by (length t.spans) e r) { tokens = r.tokens } =
+            let rec_is : read_subscriber views.recorded no_recording new parts.dispatch ≡ record (recording_after (length t.spans) e r) { tokens = r.tokens } =
             viewed.0 ∙ ap (λ (n : ℕ). with_starts (source_of r.settings.eager n) at (made_record n raw (with_starts source at r))) fits.made.count
             ∙ ap (λ (x : SpanData). with_starts (source_of r.settings.eager (length t.spans)) at (made_record (length t.spans) x (with_starts source at r))) told_is
             ∙ ap (λ (x : Recording). with_starts (source_of r.settings.eager (length t.spans)) at (made_record (length t.spans) told x)) (sym (starts_fold source at r) ∙ ap (λ (o : Option ℕ). fold (λ r s. with_start s at r) r (option_to_list o)) source_is)
-            ∙ ap (λ (ts : List Token). record (recorded_by (length t.spans) e r) { tokens = ts }) (recorded_tokens (length t.spans) e r) in
+            ∙ ap (λ (ts : List Token). record (recording_after (length t.spans) e r) { tokens = ts }) (recorded_tokens (length t.spans) e r) in
             let settings = ap (λ (x : Recording). x.settings) rec_is ∙ recorded_settings (length t.spans) e r in
             let sites = ap (λ (w : WorldValue S). w.sites) did.made.others in
             let setup : then.setup ≡ now.setup = ap (λ x. record now.setup { sites = x; layer = (read_subscriber views.recorded no_recording new parts.dispatch).settings }) sites ∙ ap (λ x. record now.setup { layer = x }) settings in
             let known : (s : ℕ) → 0 < (span_at then.spans.made s).holds → data_at s (read_subscriber views.recorded no_recording new parts.dispatch).spans ≢ None = λ s some. elim (cases_eq s (length t.spans)) [
               | inl here ↦ (λ none. recorded_known (length t.spans) s e r refl (subst (λ (k : ℕ). data_at k (with_span_data (length t.spans) told (fold (λ r s. with_start s at r) r e.starts).spans) ≢ None) (sym here) (new_known (length t.spans) told (fold (λ r s. with_start s at r) r e.starts).spans)) (ap (λ (x : Recording). data_at s x.spans) (sym rec_is) ∙ none))
-              | inr other ↦ known_still now then t e r.tokens rec_is stands.recording s refl (new_live sp.made (own_span up.up) site s up.live (λ e. other (e ∙ length_held sp.made (own_span up.up) ∙ fits.made.count)) (subst (λ (x : Spans). 0 < (span_at x.made s).holds) step some))
+              | inr other ↦ known_still now then t e r.tokens rec_is stands.recording s refl (new_live sp.made (span_of_scope up.up) site s up.live (λ e. other (e ∙ length_held sp.made (span_of_scope up.up) ∙ fits.made.count)) (subst (λ (x : Spans). 0 < (span_at x.made s).holds) step some))
             ] in
             serve now then t e _ (reply.Made true number) stands
             (ap (λ o. need what.Site o >>= (λ callsite. need what.Handle (scope_at t place_id under) >>= (λ up. need what.Field (all_values callsite fields) >>= (λ v. Ok (new_effect (here_at now.setup t at place) site callsite v under up))))) sited
             ∙ ap (λ o. need what.Handle o >>= (λ up. need what.Field (all_values callsite fields) >>= (λ v. Ok (new_effect (here_at now.setup t at place) site callsite v under up)))) up.is
             ∙ ap (λ o. need what.Field o >>= (λ v. Ok (new_effect (here_at now.setup t at place) site callsite v under up.up))) valued
-            ∙ ap Ok (cond-true {A = Effect} (admits_at now.setup t place_id callsite) _ _ (through t stands)))
+            ∙ ap Ok (cond-true {A = Effect} (admits_on now.setup t place_id callsite) _ _ (through t stands)))
             (ap (λ n. reply.Made true n) (next_number t fits))
             setup r.tokens rec_is
             (fits_step now t fits then e (record {
@@ -229,14 +229,14 @@ module _ {S : Type 0} (spans : S → Spans) (views : Views S) (attaches : S → 
               attaches_are = refl;
               named_are = refl;
               moment_is = refl;
-              balanced = subst (λ (x : Spans). Balanced x (map named_by (t.handles ++ Some line ∷ [])) (map (opened_by ids) t.guards) t.entries) (sym step) (balanced_new ids sp t.handles t.guards t.entries fits.balanced up.up site (length t.spans) up.live fits.made.count);
-              made_fit = subst (λ (x : Spans). MadeFit x.made (t.spans ++ new_made ∷ [])) (sym step) (made_pushed (with_hold_of_child sp.made (own_span up.up)) t.spans up.up site told (made_child sp.made t.spans (own_span up.up) fits.made up.live));
+              balanced = subst (λ (x : Spans). Balanced x (map named_span (t.handles ++ Some line ∷ [])) (map (open_guard_by ids) t.guards) t.entries) (sym step) (balanced_new ids sp t.handles t.guards t.entries fits.balanced up.up site (length t.spans) up.live fits.made.count);
+              made_fit = subst (λ (x : Spans). SpansFit x.made (t.spans ++ new_made ∷ [])) (sym step) (made_pushed (with_hold_of_child sp.made (span_of_scope up.up)) t.spans up.up site told (made_child sp.made t.spans (span_of_scope up.up) fits.made up.live));
               new_made = (up.up, refl, up.scope);
               new_site = got_within parts.world.sites site callsite (site_is parts.world.sites site callsite sited);
               new_scope = λ l e. subst (IsScope (t.spans ++ new_made ∷ [])) (the_scope line l e) (new_line t.spans new_made up.up refl up.scope);
               still = still_named_more t.guards t.handles line fits.still;
               few = (let a = length_push t.handles (Some line) in let b = length_push t.spans new_made in let f = fits.few in omega (arith, a, b, f));
-              few_holds = λ s. (let a = new_most sp.made (own_span up.up) site s (length t.handles + length t.guards) (fits.few_holds s) in let e = ap (λ (x : Spans). (span_at x.made s).holds) step in let l = length_push t.handles (Some line) in omega (arith, a, e, l));
+              few_holds = λ s. (let a = new_most sp.made (span_of_scope up.up) site s (length t.handles + length t.guards) (fits.few_holds s) in let e = ap (λ (x : Spans). (span_at x.made s).holds) step in let l = length_push t.handles (Some line) in omega (arith, a, e, l));
               one = subst (λ (x : Spans). OneEach x.lanes) (sym step) fits.one_lane;
             }))
             known
@@ -254,13 +254,13 @@ module _ {S : Type 0} (spans : S → Spans) (views : Views S) (attaches : S → 
               aside = record { before = aside_in views parts.world parts.dispatch; later = aside_in views new parts.dispatch; shown_before = refl; shown_later = refl; waits_before = refl; waits_later = refl; adds = viewed.2 };
             })
 
-        pub keeps_made : IsKept spans views kept is_whole then_parts
+        pub keeps_made : PipelineInvariant spans views kept is_whole then_parts
         keeps_made = kept_served spans views kept is_whole parts then_parts inv _ _ (serves_made inv.tables inv.stands) refl made_shown.count made_shown.whole
             (subst (λ (f : ℕ → ℕ → ℕ). LanesFit parts.dispatch f (map lane_value parts.lanes)) (sym made_shown.lanes) inv.lanes)
 
       -- one that isn't
-      module _ (fields : Fields) (values : ValueSet) (valued : all_values callsite fields ≡ Some values) (through : (t : Tables) → StandsFor now t → admits_at now.setup t place_id callsite ≡ false) (one : hs' ≡ parts.handles ++ Some no_handle ∷ []) (same : new ≡ parts.world) where
-        pub serves_declined : (t : Tables) → StandsFor now t → Served (effect_of_call now.setup t at place (call.New site under fields)) t now then (reply.Made false number)
+      module _ (fields : Fields) (values : ValueSet) (valued : all_values callsite fields ≡ Some values) (through : (t : Tables) → StandsFor now t → admits_on now.setup t place_id callsite ≡ false) (one : hs' ≡ parts.handles ++ Some no_handle ∷ []) (same : new ≡ parts.world) where
+        pub serves_declined : (t : Tables) → StandsFor now t → IsServed (effect_of_call now.setup t at place (call.New site under fields)) t now then (reply.Made false number)
         serves_declined t stands =
             let fits = stands.fits in
             let up = find_up now t fits place_id under p found in
@@ -274,7 +274,7 @@ module _ {S : Type 0} (spans : S → Spans) (views : Views S) (attaches : S → 
             (ap (λ o. need what.Site o >>= (λ callsite. need what.Handle (scope_at t place_id under) >>= (λ up. need what.Field (all_values callsite fields) >>= (λ v. Ok (new_effect (here_at now.setup t at place) site callsite v under up))))) sited
             ∙ ap (λ o. need what.Handle o >>= (λ up. need what.Field (all_values callsite fields) >>= (λ v. Ok (new_effect (here_at now.setup t at place) site callsite v under up)))) up.is
             ∙ ap (λ o. need what.Field o >>= (λ v. Ok (new_effect (here_at now.setup t at place) site callsite v under up.up))) valued
-            ∙ ap Ok (cond-false {A = Effect} (admits_at now.setup t place_id callsite) _ _ (through t stands)))
+            ∙ ap Ok (cond-false {A = Effect} (admits_on now.setup t place_id callsite) _ _ (through t stands)))
             (ap (λ n. reply.Made false n) (next_number t fits))
             setup r.tokens rec_is
             (fits_step now t fits then e (record {
@@ -286,8 +286,8 @@ module _ {S : Type 0} (spans : S → Spans) (views : Views S) (attaches : S → 
               attaches_are = refl;
               named_are = refl;
               moment_is = refl;
-              balanced = subst (λ (x : Spans). Balanced x (map named_by (t.handles ++ Some [] ∷ [])) (map (opened_by ids) t.guards) t.entries) (sym step) (balanced_decline ids sp t.handles t.guards t.entries fits.balanced);
-              made_fit = subst (λ (x : Spans). MadeFit x.made t.spans) (sym step) fits.made;
+              balanced = subst (λ (x : Spans). Balanced x (map named_span (t.handles ++ Some [] ∷ [])) (map (open_guard_by ids) t.guards) t.entries) (sym step) (balanced_decline ids sp t.handles t.guards t.entries fits.balanced);
+              made_fit = subst (λ (x : Spans). SpansFit x.made t.spans) (sym step) fits.made;
               new_made = tt;
               new_site = tt;
               new_scope = λ l e. subst (IsScope t.spans) (the_scope [] l e) tt;
@@ -300,7 +300,7 @@ module _ {S : Type 0} (spans : S → Spans) (views : Views S) (attaches : S → 
             (all_same now then t.contexts setup refl refl (ap (λ (x : Recording). x.tokens) rec_is) stands.recording.attached)
             (record { quiet = refl; before = read_subscriber views.filtered None parts.world parts.dispatch; later = read_subscriber views.filtered None new parts.dispatch; shown_before = refl; shown_later = refl; told = ap (λ (w : WorldValue S). read_subscriber views.filtered None w parts.dispatch) same ∙ heard_none (read_subscriber views.filtered None parts.world parts.dispatch); known = refl; cached = ap (λ (w : WorldValue S). w.cached) same; aside = record { before = aside_in views parts.world parts.dispatch; later = aside_in views new parts.dispatch; shown_before = refl; shown_later = refl; waits_before = refl; waits_later = refl; adds = adds_same views parts.world new parts.dispatch same } })
 
-        pub keeps_declined : IsKept spans views kept is_whole then_parts
+        pub keeps_declined : PipelineInvariant spans views kept is_whole then_parts
         keeps_declined = kept_served spans views kept is_whole parts then_parts inv _ _ (serves_declined inv.tables inv.stands) refl (ap (λ (w : WorldValue S). length w.subscribers) same) (λ has. subst (λ (w : WorldValue S). Has is_whole w parts.dispatch) (sym same) has)
             (subst (λ (w : WorldValue S). LanesFit parts.dispatch (kept_in kept w parts.dispatch) (map lane_value parts.lanes)) (sym same) inv.lanes)
 
@@ -315,24 +315,24 @@ module _ {S : Type 0} (spans : S → Spans) (views : Views S) (attaches : S → 
       its_parent = sym found ∙ named.under_is
 
       -- the gate answered by the filter in force
-      its_answer : (enabled : Bool) → made.1 ≡ enabled → (t : Tables) → StandsFor now t → admits_at now.setup t place_id named.given ≡ enabled
+      its_answer : (enabled : Bool) → made.1 ≡ enabled → (t : Tables) → StandsFor now t → admits_on now.setup t place_id named.given ≡ enabled
       its_answer enabled is t stands = answered spans views parts place before within seen_is site named.given (site_is parts.world.sites site named.given named.given_is) made.1 gate t stands ∙ is
 
       abbrev Did : Bool → Type 0
-      Did enabled = MakesOnly spans does enabled parts.world new before at named.under site named.values parts.dispatch made.0
+      Did enabled = MakesSpanOrNothing spans does enabled parts.world new before at named.under site named.values parts.dispatch made.0
 
-      serves_let : (enabled : Bool) → made.1 ≡ enabled → Did enabled → (t : Tables) → StandsFor now t → Served (effect_of_call now.setup t at place (call.New site under fields)) t now then (reply.Made enabled number)
+      serves_let : (enabled : Bool) → made.1 ≡ enabled → Did enabled → (t : Tables) → StandsFor now t → IsServed (effect_of_call now.setup t at place (call.New site under fields)) t now then (reply.Made enabled number)
       serves_let true is it t stands = serves_made under named.under site named.given named.given_is its_parent fields named.values named.values_are made.0 before within seen_is (its_answer true is) one it t stands
       serves_let false is it t stands = serves_declined under named.under site named.given named.given_is its_parent fields named.values named.values_are (its_answer false is) (one ∙ ap (λ (h : Handle). parts.handles ++ Some h ∷ []) it.0) it.1 t stands
 
-      keeps_let : (enabled : Bool) → made.1 ≡ enabled → Did enabled → IsKept spans views kept is_whole then_parts
+      keeps_let : (enabled : Bool) → made.1 ≡ enabled → Did enabled → PipelineInvariant spans views kept is_whole then_parts
       keeps_let true is it = keeps_made under named.under site named.given named.given_is its_parent fields named.values named.values_are made.0 before within seen_is (its_answer true is) one it
       keeps_let false is it = keeps_declined under named.under site named.given named.given_is its_parent fields named.values named.values_are (its_answer false is) (one ∙ ap (λ (h : Handle). parts.handles ++ Some h ∷ []) it.0) it.1
 
-      pub serves_new : (t : Tables) → StandsFor now t → Served (effect_of_call now.setup t at place (call.New site under fields)) t now then (reply.Made made.1 number)
+      pub serves_new : (t : Tables) → StandsFor now t → IsServed (effect_of_call now.setup t at place (call.New site under fields)) t now then (reply.Made made.1 number)
       serves_new t stands = serves_let made.1 refl did.did t stands
 
-      pub keeps_new : IsKept spans views kept is_whole then_parts
+      pub keeps_new : PipelineInvariant spans views kept is_whole then_parts
       keeps_new = keeps_let made.1 refl did.did
 
 -- what a making requires
@@ -340,7 +340,7 @@ few_if : (o : Option ℕ) (made : List Span) → ((s : ℕ) → HasFewHolds made
 few_if None made few = tt
 few_if (Some s) made few = few s
 
-module _ {S : Type 0} (spans : S → Spans) (views : Views S) (kept : S → ℕ → ℕ → ℕ) (is_whole : S → Type 0) (parts : Parts S) (inv : IsKept spans views kept is_whole parts) where
+module _ {S : Type 0} (spans : S → Spans) (views : Views S) (kept : S → ℕ → ℕ → ℕ) (is_whole : S → Type 0) (parts : Parts S) (inv : PipelineInvariant spans views kept is_whole parts) where
   pub make_may : (under : RequestParent) (p : Parent) → parent_for (map held_by parts.handles) under ≡ Some p → (lane : ℕ) → length parts.handles < 2 ^ 62 → length parts.guards < 2 ^ 62 → MayMake spans is_whole parts.world lane p parts.dispatch
   make_may under p found lane few_handles few_guards =
       let a = sym (length-map parts.handles held_by) ∙ ap length inv.stands.fits.handle_slots ∙ length-map inv.tables.handles (option_map (held_of parts.dispatch)) in
@@ -366,7 +366,7 @@ module _ {S : Type 0} (spans : S → Spans) (views : Views S) (kept : S → ℕ 
 -- after a refusal for want of memory
 pub made_alike : {S : Type 0} (spans : S → Spans) (views : Views S) (attaches : S → Bool) (kept : S → ℕ → ℕ → ℕ) (is_whole : S → Type 0) (same : S → S → Type 0) → SameLaw spans views attaches kept is_whole same
     → (parts : Parts S) (new : WorldValue S) (hs' : List (Option Handle)) → hs' ≡ parts.handles → Replaced same parts.world new parts.dispatch
-    → (state_of spans views (record parts { world = new; handles = hs' }) ≡ state_of spans views parts) × (IsKept spans views kept is_whole parts → IsKept spans views kept is_whole (record parts { world = new; handles = hs' }))
+    → (state_of spans views (record parts { world = new; handles = hs' }) ≡ state_of spans views parts) × (PipelineInvariant spans views kept is_whole parts → PipelineInvariant spans views kept is_whole (record parts { world = new; handles = hs' }))
 made_alike {S} spans views attaches kept is_whole same law parts new hs' handles did =
     let alike = law.shown parts.world new parts.dispatch did in
     let sites = ap (λ (w : WorldValue S). w.sites) did.others in

@@ -1,6 +1,6 @@
 -- How many spans are open, by the first ids.
 use Rattle.std.proofs.Common.{◌≡◌, ℕ, zero, suc, ◌+◌, ◌<◌, ◌≤◌, List, [], ◌∷◌, ◌++◌, length, Bool, false, cond, count_by, nat_lt, Option, option_map, map, refl, sym, ap, subst, ◌∙◌, arith, add-one, inl, inr}
-use Rattle.span_script.proofs.Common.{range_with_len, cond-true, cond-false, cases_eq, length-map, Span, span_at, count_push, Handle, Tables, is_open, open_spans, State, StandsFor, held_by, held_of}
+use Rattle.span_script.proofs.Common.{range_with_len, cond-true, cond-false, cases_eq, length-map, Span, span_at, count_push, Handle, Tables, is_open, open_spans, PipelineState, StandsFor, held_by, held_of}
 use Rattle.std.proofs.lemmas.Bool.{lt-ltb, le-ltb}
 use Rattle.std.proofs.lemmas.List.{map-id}
 use Rattle.std.proofs.lemmas.List.FromFn.{map-range_with_len_more}
@@ -60,10 +60,10 @@ past_holds (x ∷ made) zero past = absurd (omega (arith, past))
 past_holds (x ∷ made) (suc s) past = past_holds made s (omega (arith, past))
 
 -- as many have holds as are open
-pub open_counted : (view k : State) → view ≡ k → (hs : List (Option Handle)) → view.handles ≡ map held_by hs → (made : List Span) → view.spans.made ≡ made → (n : ℕ) → n ≡ length hs → (t : Tables) → StandsFor k t → count_by (holds_one made) (range_with_len 0 n) ≡ open_spans t
+pub open_counted : (view k : PipelineState) → view ≡ k → (hs : List (Option Handle)) → view.handles ≡ map held_by hs → (made : List Span) → view.spans.made ≡ made → (n : ℕ) → n ≡ length hs → (t : Tables) → StandsFor k t → count_by (holds_one made) (range_with_len 0 n) ≡ open_spans t
 open_counted view k is hs handles made spans n many t stands =
-    let made_is : made ≡ k.spans.made = sym spans ∙ ap (λ (x : State). x.spans.made) is in
-    let l : n ≡ length t.handles = many ∙ sym (length-map hs held_by) ∙ ap length (sym handles ∙ ap (λ (x : State). x.handles) is ∙ stands.fits.handle_slots) ∙ length-map t.handles (λ o. option_map (held_of k.dispatch) o) in
+    let made_is : made ≡ k.spans.made = sym spans ∙ ap (λ (x : PipelineState). x.spans.made) is in
+    let l : n ≡ length t.handles = many ∙ sym (length-map hs held_by) ∙ ap length (sym handles ∙ ap (λ (x : PipelineState). x.handles) is ∙ stands.fits.handle_slots) ∙ length-map t.handles (λ o. option_map (held_of k.dispatch) o) in
     let few = stands.fits.few in
     let count = stands.fits.made.count in
     ap (λ (x : List Span). count_by (holds_one x) (range_with_len 0 n)) made_is

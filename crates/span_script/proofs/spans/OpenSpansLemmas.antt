@@ -1,6 +1,6 @@
 -- A span has a hold exactly while some unspent handle names it or a descendant.
 use Rattle.std.proofs.Common.{◌≡◌, ℕ, zero, suc, ◌+◌, ◌<◌, ◌≤◌, List, [], ◌∷◌, length, Bool, true, false, cond, count_by, get_or, slice_set, Option, Some, None, map, refl, sym, ap, subst, ◌∙◌, arith, inl, inr, ◌⊎◌, ◌==◌, ◌||◌, ◌&&◌, not, nat_lt, filter}
-use Rattle.span_script.proofs.Common.{cases_eq, cases_lt, cases_Bool, cond-true, cond-false, or_cases, or_right, and_parts, get_or-le-sum_by, sum_by-cons, Span, no_span, span_at, entries_on, is_in, times_in, entered_lane_count, is_child_of, is_open_child, Entries, has_entry, IsLive, count_cons, counted_if_any, made_if_held, has_lane, OneEach, OpenGuard, names_span, guards_span, named_by, opened_by, Scope, MadeSpan, Tables, after_effect, slot_at, own_span, made_of, Here, holds, is_open, closed_of, drop_effect, State, IsScope, parent_in, list_any}
+use Rattle.span_script.proofs.Common.{cases_eq, cases_lt, cases_Bool, cond-true, cond-false, or_cases, or_right, and_parts, get_or-le-sum_by, sum_by-cons, Span, no_span, span_at, entries_on, is_in, times_in, entered_lane_count, is_child_of, is_open_child, Entries, has_entry, IsLive, count_cons, counted_if_any, made_if_held, has_lane, OneEach, OpenGuard, names_span, guards_span, named_span, open_guard_by, Scope, MadeSpan, Tables, after_effect, slot_at, span_of_scope, made_span_at, Here, holds, is_open, closed_of, drop_effect, PipelineState, IsScope, parent_in, list_any}
 use Rattle.std.proofs.lemmas.Bool.{eq-eqb, eqb-true, ne_eqb, lt-ltb, le-ltb, true≢false}
 use Rattle.span_script.proofs.entries.EntriesFitLemmas.{fits_live}
 use Rattle.span_script.proofs.steps.SlotsLemmas.{named_within}
@@ -42,17 +42,17 @@ pick p (x ∷ xs) d some =
           (suc more.0, (let w = more.1 in omega (arith, w)), more.2))
     ]
 
-names_holds : (s : ℕ) (o : Option Scope) → names_span s (named_by o) ≡ true → holds s o ≡ true
+names_holds : (s : ℕ) (o : Option Scope) → names_span s (named_span o) ≡ true → holds s o ≡ true
 names_holds s None e = absurd (true≢false (sym e))
 names_holds s (Some []) e = absurd (true≢false (sym e))
 names_holds s (Some (x ∷ up)) e = or_left_true (x == s) (is_in s up) e
 
-named_open : (hs : List (Option Scope)) (s : ℕ) → 0 < count_by (names_span s) (map named_by hs) → is_open hs s ≡ true
+named_open : (hs : List (Option Scope)) (s : ℕ) → 0 < count_by (names_span s) (map named_span hs) → is_open hs s ≡ true
 named_open [] s some = absurd (omega (arith, some))
 named_open (o ∷ hs) s some =
-    elim (cases_Bool (names_span s (named_by o))) [
+    elim (cases_Bool (names_span s (named_span o))) [
       | inl passes ↦ or_left_true (holds s o) (is_open hs s) (names_holds s o passes)
-      | inr fails ↦ or_right (holds s o) (is_open hs s) (named_open hs s (let c = count_cons (names_span s) (named_by o) (map named_by hs) in let z = cond-false {A = ℕ} (names_span s (named_by o)) 1 0 fails in omega (arith, c, z, some)))
+      | inr fails ↦ or_right (holds s o) (is_open hs s) (named_open hs s (let c = count_cons (names_span s) (named_span o) (map named_span hs) in let z = cond-false {A = ℕ} (names_span s (named_span o)) 1 0 fails in omega (arith, c, z, some)))
     ]
 
 pub slot_open : (hs : List (Option Scope)) (n s : ℕ) (line : Scope) → slot_at hs n ≡ Some line → is_in s line ≡ true → is_open hs s ≡ true
@@ -68,26 +68,26 @@ open_slot (Some line ∷ hs) s passes = elim (or_cases (is_in s line) (is_open h
   | inr there ↦ (let more = open_slot hs s there in (suc more.0, more.1, more.2, more.3))
 ]
 
-own_in : (up : Scope) (p : ℕ) → own_span up ≡ Some p → is_in p up ≡ true
+own_in : (up : Scope) (p : ℕ) → span_of_scope up ≡ Some p → is_in p up ≡ true
 own_in [] p e = absurd (cc e)
 own_in (y ∷ r) p e = or_left_true (y == p) (is_in p r) (eq-eqb y p (cc e))
 
-pub up_in : (made : List MadeSpan) (line : Scope) → IsScope made line → (c p : ℕ) → is_in c line ≡ true → parent_in (made_of made c).scope ≡ Some p → is_in p line ≡ true
+pub up_in : (made : List MadeSpan) (line : Scope) → IsScope made line → (c p : ℕ) → is_in c line ≡ true → parent_in (made_span_at made c).scope ≡ Some p → is_in p line ≡ true
 up_in made [] is c p inside e = absurd (true≢false (sym inside))
 up_in made (x ∷ up) is c p inside e = elim (or_cases (x == c) (is_in c up) inside) [
-  | inl here ↦ or_right (x == p) (is_in p up) (own_in up p (ap parent_in (sym is.1) ∙ ap (λ (k : ℕ). parent_in (made_of made k).scope) (eqb-true x c here) ∙ e))
+  | inl here ↦ or_right (x == p) (is_in p up) (own_in up p (ap parent_in (sym is.1) ∙ ap (λ (k : ℕ). parent_in (made_span_at made k).scope) (eqb-true x c here) ∙ e))
   | inr there ↦ or_right (x == p) (is_in p up) (up_in made up is.3 c p there e)
 ]
 
-under_line : (made : List MadeSpan) (line : Scope) (c p : ℕ) → IsScope made line → own_span line ≡ Some c → parent_in line ≡ Some p → p < c
+under_line : (made : List MadeSpan) (line : Scope) (c p : ℕ) → IsScope made line → span_of_scope line ≡ Some c → parent_in line ≡ Some p → p < c
 under_line made [] c p is o a = absurd (cc o)
 under_line made (x ∷ []) c p is o a = absurd (cc a)
 under_line made (x ∷ y ∷ r) c p is o a = (let e : x ≡ c = cc o in let f : y ≡ p = cc a in let l = is.2 in omega (arith, e, f, l))
 
 -- ---- holds and openness
 
-module _ (k : State) (t : Tables) (fits : Fits k t) where
-  child_live : (x p : ℕ) → IsLive k.spans.made x → parent_in (made_of t.spans x).scope ≡ Some p → IsLive k.spans.made p
+module _ (k : PipelineState) (t : Tables) (fits : Fits k t) where
+  child_live : (x p : ℕ) → IsLive k.spans.made x → parent_in (made_span_at t.spans x).scope ≡ Some p → IsLive k.spans.made p
   child_live x p live e =
       let parent = fits.made.parent x live ∙ e in
       let c = get_or-le-sum_by (λ (s : Span). cond {A = ℕ} (is_open_child p s) 1 0) k.spans.made x no_span (made_if_held k.spans.made x live) in
@@ -96,7 +96,7 @@ module _ (k : State) (t : Tables) (fits : Fits k t) where
       let h = fits.balanced.holds p in
       omega (arith, c, one, h)
 
-  all_live : (line : Scope) → IsScope t.spans line → ((p : ℕ) → own_span line ≡ Some p → IsLive k.spans.made p) → (s : ℕ) → is_in s line ≡ true → IsLive k.spans.made s
+  all_live : (line : Scope) → IsScope t.spans line → ((p : ℕ) → span_of_scope line ≡ Some p → IsLive k.spans.made p) → (s : ℕ) → is_in s line ≡ true → IsLive k.spans.made s
   all_live [] is first s inside = absurd (true≢false (sym inside))
   all_live (x ∷ up) is first s inside = elim (or_cases (x == s) (is_in s up) inside) [
     | inl here ↦ subst (IsLive k.spans.made) (eqb-true x s here) (first x refl)
@@ -106,9 +106,9 @@ module _ (k : State) (t : Tables) (fits : Fits k t) where
   live_if_open : (s : ℕ) → is_open t.handles s ≡ true → IsLive k.spans.made s
   live_if_open s passes =
       let at = open_slot t.handles s passes in
-      all_live at.1 (fits.scopes at.0 at.1 at.2) (λ p e. fits_live k.spans (map named_by t.handles) (map (opened_by k.setup.ids) t.guards) t.entries fits.balanced at.0 p (get_or-map-named at.0 at.1 at.2 ∙ e)) s at.3
+      all_live at.1 (fits.scopes at.0 at.1 at.2) (λ p e. fits_live k.spans (map named_span t.handles) (map (open_guard_by k.setup.ids) t.guards) t.entries fits.balanced at.0 p (get_or-map-named at.0 at.1 at.2 ∙ e)) s at.3
     where
-      get_or-map-named : (n : ℕ) (line : Scope) → slot_at t.handles n ≡ Some line → slot_at (map named_by t.handles) n ≡ own_span line
+      get_or-map-named : (n : ℕ) (line : Scope) → slot_at t.handles n ≡ Some line → slot_at (map named_span t.handles) n ≡ span_of_scope line
       get_or-map-named n line there = named_slot t.handles n line there
 
   entered_open : (s : ℕ) → 0 < entered_lane_count k.spans.lanes s → is_open t.handles s ≡ true
@@ -117,23 +117,23 @@ module _ (k : State) (t : Tables) (fits : Fits k t) where
       let counted = counted_if_any (λ x. x == s) (entries_on at.0 k.spans.lanes) at.2 in
       let same = ap (λ (xs : List ℕ). times_in s xs) (fits.balanced.entries at.0) in
       let g = fits.balanced.guarded at.0 s in
-      let found = pick (guards_span at.0 s) (map (opened_by k.setup.ids) t.guards) None (omega (arith, counted, same, g)) in
-      by_guard at.0 found.0 (slot_at (map (opened_by k.setup.ids) t.guards) found.0) refl found.2
+      let found = pick (guards_span at.0 s) (map (open_guard_by k.setup.ids) t.guards) None (omega (arith, counted, same, g)) in
+      by_guard at.0 found.0 (slot_at (map (open_guard_by k.setup.ids) t.guards) found.0) refl found.2
     where
-      by_guard : (lane n : ℕ) (o : Option OpenGuard) → slot_at (map (opened_by k.setup.ids) t.guards) n ≡ o → guards_span lane s o ≡ true → is_open t.handles s ≡ true
+      by_guard : (lane n : ℕ) (o : Option OpenGuard) → slot_at (map (open_guard_by k.setup.ids) t.guards) n ≡ o → guards_span lane s o ≡ true → is_open t.handles s ≡ true
       by_guard lane n None there is = absurd (true≢false (sym is))
       by_guard lane n (Some g) there is =
           let here = eqb-true g.span s (and_parts (g.lane == lane) (g.span == s) is).1 in
           let b = fits.balanced.borrowed n g there in
-          let at = named_counts (map named_by t.handles) g.handle s (b ∙ ap Some here) in
-          let c = get_or-le-sum_by (λ (o : Option ℕ). cond {A = ℕ} (names_span s o) 1 0) (map named_by t.handles) g.handle None at.0 in
+          let at = named_counts (map named_span t.handles) g.handle s (b ∙ ap Some here) in
+          let c = get_or-le-sum_by (λ (o : Option ℕ). cond {A = ℕ} (names_span s o) 1 0) (map named_span t.handles) g.handle None at.0 in
           named_open t.handles s (let one = at.1 in omega (arith, one, c))
 
   open_if_live : (n s : ℕ) → length t.spans ≤ s + n → IsLive k.spans.made s → is_open t.handles s ≡ true
   open_if_live zero s past live = absurd (let w = made_if_held k.spans.made s live in let c = fits.made.count in omega (arith, past, w, c))
   open_if_live (suc n) s past live =
       let h = fits.balanced.holds s in
-      elim (cases_lt 0 (count_by (names_span s) (map named_by t.handles))) [
+      elim (cases_lt 0 (count_by (names_span s) (map named_span t.handles))) [
         | inl named ↦ named_open t.handles s named
         | inr none ↦ elim (cases_lt 0 (entered_lane_count k.spans.lanes s)) [
           | inl entered ↦ entered_open s entered
@@ -149,7 +149,7 @@ module _ (k : State) (t : Tables) (fits : Fits k t) where
               let parent = sym (fits.made.parent c alive) ∙ the_parent s (span_at k.spans.made c).parent of_it in
               let below : c < length t.spans = (let w = child.1 in let m = fits.made.count in omega (arith, w, m)) in
               let mine = fits.own_scopes c below in
-              let older = under_line t.spans (made_of t.spans c).scope c s mine.1 mine.0 parent in
+              let older = under_line t.spans (made_span_at t.spans c).scope c s mine.1 mine.0 parent in
               let at = open_slot t.handles c (open_if_live n c (omega (arith, past, older)) alive) in
               slot_open t.handles at.0 s at.1 at.2 (up_in t.spans at.1 (fits.scopes at.0 at.1 at.2) c s at.3 parent))
         ]
@@ -201,7 +201,7 @@ in_filter p (x ∷ line) s = elim (cases_Bool (p x)) [
     gone (inr e) f = rw e refl
 
 -- the spans of the effect are those that had a hold and have none
-pub closes_them : (k next : State) (here : Here) (handle : ℕ) (line : Scope) → Fits k here.script → slot_at here.script.handles handle ≡ Some line → Fits next (after_effect here.script (drop_effect here handle line)) → (s : ℕ)
+pub closes_them : (k next : PipelineState) (here : Here) (handle : ℕ) (line : Scope) → Fits k here.script → slot_at here.script.handles handle ≡ Some line → Fits next (after_effect here.script (drop_effect here handle line)) → (s : ℕ)
     → is_in s (closed_of (slice_set here.script.handles handle None) line) ≡ (nat_lt 0 (span_at k.spans.made s).holds && not (nat_lt 0 (span_at next.spans.made s).holds))
 closes_them k next here handle line fits there later s =
     let t = here.script in

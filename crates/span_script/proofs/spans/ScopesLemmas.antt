@@ -1,8 +1,8 @@
 -- Scopes stay scopes when one more span is made.
 use Rattle.std.proofs.Common.{◌≡◌, ℕ, ◌<◌, zero, suc, List, [], ◌∷◌, ◌++◌, length, Option, Some, None, option_map, map, refl, sym, ap, subst, ◌∙◌, arith, inl, inr, IfSome}
-use Rattle.span_script.proofs.Common.{cases_eq, length_push, get_or_push, get_or_append_left, Scope, MadeSpan, no_made_span, made_of, own_span, site_of, slot_at, with_item, IsScope, IsLaterThanParent}
+use Rattle.span_script.proofs.Common.{cases_eq, length_push, get_or_push, get_or_append_left, Scope, MadeSpan, no_made_span, made_span_at, span_of_scope, site_of, slot_at, with_item, IsScope, IsLaterThanParent}
 
-pub made_left : (made : List MadeSpan) (m : MadeSpan) (s : ℕ) → s < length made → made_of (made ++ m ∷ []) s ≡ made_of made s
+pub made_left : (made : List MadeSpan) (m : MadeSpan) (s : ℕ) → s < length made → made_span_at (made ++ m ∷ []) s ≡ made_span_at made s
 made_left made m s within = get_or_append_left made (m ∷ []) _ s within
 
 pub line_push : (made : List MadeSpan) (m : MadeSpan) (line : Scope) → IsScope made line → IsScope (made ++ m ∷ []) line
@@ -25,17 +25,17 @@ pub lines_with : (made : List MadeSpan) (new : Option MadeSpan) → NewMade made
 lines_with made None ok line is = is
 lines_with made (Some m) ok line is = line_push made m line is
 
-pub lines_after : (made : List MadeSpan) (new : Option MadeSpan) → NewMade made new → ((s : ℕ) → s < length made → (own_span (made_of made s).scope ≡ Some s) × IsScope made (made_of made s).scope)
-    → (s : ℕ) → s < length (with_item made new) → (own_span (made_of (with_item made new) s).scope ≡ Some s) × IsScope (with_item made new) (made_of (with_item made new) s).scope
+pub lines_after : (made : List MadeSpan) (new : Option MadeSpan) → NewMade made new → ((s : ℕ) → s < length made → (span_of_scope (made_span_at made s).scope ≡ Some s) × IsScope made (made_span_at made s).scope)
+    → (s : ℕ) → s < length (with_item made new) → (span_of_scope (made_span_at (with_item made new) s).scope ≡ Some s) × IsScope (with_item made new) (made_span_at (with_item made new) s).scope
 lines_after made None ok old s within = old s within
 lines_after made (Some m) ok old s within =
-    let P : Scope → Type 0 = λ line. (own_span line ≡ Some s) × IsScope (made ++ m ∷ []) line in
+    let P : Scope → Type 0 = λ line. (span_of_scope line ≡ Some s) × IsScope (made ++ m ∷ []) line in
     elim (cases_eq s (length made)) [
       | inl here ↦ subst P (sym (ap (λ (x : MadeSpan). x.scope) (get_or_push made m _ s (sym here)) ∙ ok.1)) (ap Some (sym here), new_line made m ok.0 ok.1 ok.2)
       | inr other ↦ (
           let below : s < length made = (let n = length_push made m in omega (arith, n, other, within)) in
           let was = old s below in
-          subst P (sym (ap (λ (x : MadeSpan). x.scope) (made_left made m s below))) (was.0, line_push made m (made_of made s).scope was.1))
+          subst P (sym (ap (λ (x : MadeSpan). x.scope) (made_left made m s below))) (was.0, line_push made m (made_span_at made s).scope was.1))
     ]
 
 -- ---- callsites
@@ -58,7 +58,7 @@ sites_left made new (Some scope ∷ slots) are =
 abbrev pub NewSite : ℕ → Option MadeSpan → Type 0
 NewSite many new = IfSome new (λ m. m.site < many)
 
-pub sited_after : (many : ℕ) (made : List MadeSpan) (new : Option MadeSpan) → NewSite many new → ((s : ℕ) → s < length made → (made_of made s).site < many) → (s : ℕ) → s < length (with_item made new) → (made_of (with_item made new) s).site < many
+pub sited_after : (many : ℕ) (made : List MadeSpan) (new : Option MadeSpan) → NewSite many new → ((s : ℕ) → s < length made → (made_span_at made s).site < many) → (s : ℕ) → s < length (with_item made new) → (made_span_at (with_item made new) s).site < many
 sited_after many made None ok old s within = old s within
 sited_after many made (Some m) ok old s within = elim (cases_eq s (length made)) [
   | inl here ↦ (let e = ap (λ (x : MadeSpan). x.site) (get_or_push made m no_made_span s (sym here)) in omega (arith, e, ok))

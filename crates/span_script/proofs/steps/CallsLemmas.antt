@@ -1,6 +1,6 @@
 -- What a call on the subscriber of a handle makes of the plain data.
 use Rattle.std.proofs.Common.{◌≡◌, ℕ, ◌<◌, [], ◌∷◌, length, Bool, Option, None, option_map, refl, sym, ap, subst, slice_get}
-use Rattle.span_script.proofs.Common.{option_map_or, WorldValue, Spans, SubscriberCall, HasOwnHold, Has, ChangesPlainData, read_subscriber, spans_in, no_recording, RecordsCallBy, filter_after, measured_by, HeldSpan, HasOn, IsKnown, ReplacedOn, IsThere, Scope, Views, held_of, AddsMeasures, aside_in, CallsLaw}
+use Rattle.span_script.proofs.Common.{option_map_or, WorldValue, Spans, SubscriberCall, HasOwnHold, Has, ChangesPlainData, read_subscriber, spans_in, no_recording, RecordsCallBy, filter_after, measures_of_call, HeldSpan, HasOn, IsKnown, ReplacedOn, IsThere, Scope, Views, held_of, AddsMeasures, aside_in, CallsLaw}
 
 -- what is read of a subscriber that is there
 pub has_by : {S A : Type 0} (read : S → A) (none : A) (world : WorldValue S) (dispatch : ℕ) (P : A → Type 0) → P (option_map_or read (slice_get world.subscribers dispatch) none) → Has (λ s. P (read s)) world dispatch
@@ -11,9 +11,9 @@ module _ {S : Type 0} (spans : S → Spans) (views : Views S) (attaches : S → 
   abbrev pub ShownOn : WorldValue S → WorldValue S → ℕ → Scope → (ℕ → SubscriberCall) → Type 0
   ShownOn old new dispatch [] call = new ≡ old
   ShownOn old new dispatch (s ∷ up) call = ChangesPlainData spans attaches kept is_whole old new dispatch (call s) × (new.sites ≡ old.sites)
-      × RecordsCallBy (read_subscriber views.counter None old dispatch) (spans_in spans old dispatch) (read_subscriber views.recorded no_recording old dispatch) (call s) (read_subscriber views.recorded no_recording new dispatch)
+      × RecordsCallBy (read_subscriber views.counting_filter None old dispatch) (spans_in spans old dispatch) (read_subscriber views.recorded no_recording old dispatch) (call s) (read_subscriber views.recorded no_recording new dispatch)
       × (read_subscriber views.filtered None new dispatch ≡ option_map (filter_after (spans_in spans old dispatch) (call s)) (read_subscriber views.filtered None old dispatch)) × (new.cached ≡ old.cached)
-      × AddsMeasures (aside_in views old dispatch) (aside_in views new dispatch) (measured_by (call s))
+      × AddsMeasures (aside_in views old dispatch) (aside_in views new dispatch) (measures_of_call (call s))
 
   pub shown_on : (does : S → SubscriberCall → S → Type 0) → CallsLaw spans views attaches kept is_whole does
       → (old new : WorldValue S) (dispatch : ℕ) (line : Scope) (held : HeldSpan) → held ≡ held_of dispatch line → (call : ℕ → SubscriberCall) → ReplacedOn (λ id s t. does s (call id) t) old new held → ShownOn old new dispatch line call

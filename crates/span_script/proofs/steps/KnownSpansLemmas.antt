@@ -1,5 +1,5 @@
 -- Spans that are known to the layer stay so until they close.
-use Rattle.span_script.proofs.Common.{list_any, cases_Bool, cond-true, cond-false, or_parts, Context, Op, SpanData, data_at, knows_span, with_span_data, start_context, Recording, with_start, with_starts, with_applied, with_close, without_closed, data_after, data_started, MadeSpan, SpanOp, Effect, with_span_made, recorded_by}
+use Rattle.span_script.proofs.Common.{list_any, cases_Bool, cond-true, cond-false, or_parts, Context, Op, SpanData, data_at, knows_span, with_span_data, start_context, Recording, with_start, with_starts, with_applied, with_close, without_closed, data_after, data_started, MadeSpan, SpanOp, Effect, with_span_made, recording_after}
 use Rattle.std.proofs.Common.{◌≡◌, ℕ, List, [], ◌∷◌, fold, Bool, true, false, Option, Some, None, refl, sym, ap, ◌∙◌, inl, inr, ◌==◌, ◌||◌, ◌≢◌}
 use Rattle.std.proofs.lemmas.Bool.{eq-eqb, true≢false}
 use Rattle.otel_layer.proofs.FoundSpanLemmas.{told_at_op, told_at_start, told_at_removed}
@@ -66,10 +66,10 @@ begins_known None at q r known = known
 begins_known (Some s) at q r known = starts_known at q (s ∷ []) r known
 
 -- what was known and doesn't close, and what is made
-pub recorded_known : (n q : ℕ) (e : Effect) (r : Recording) → list_any (λ x. x == q) e.closes ≡ false → IsKnown q (with_span_made n e.new_span (fold (λ r s. with_start s e.at r) r e.starts)) → IsKnown q (recorded_by n e r)
+pub recorded_known : (n q : ℕ) (e : Effect) (r : Recording) → list_any (λ x. x == q) e.closes ≡ false → IsKnown q (with_span_made n e.new_span (fold (λ r s. with_start s e.at r) r e.starts)) → IsKnown q (recording_after n e r)
 recorded_known n q e r out known = closes_known e.at q e.closes _ out (ops_known e.at q e.ops _ (begins_known e.begins e.at q _ known))
 
-pub still_known : (n q : ℕ) (e : Effect) (r : Recording) → list_any (λ x. x == q) e.closes ≡ false → IsKnown q r → IsKnown q (recorded_by n e r)
+pub still_known : (n q : ℕ) (e : Effect) (r : Recording) → list_any (λ x. x == q) e.closes ≡ false → IsKnown q r → IsKnown q (recording_after n e r)
 still_known n q e r out known = recorded_known n q e r out (made_known n q e.new_span _ (starts_known e.at q e.starts r known))
 
 -- a span with a state is known

@@ -1,6 +1,6 @@
 -- Lanes, and what every pipeline keeps.
 use Rattle.std.proofs.Common.{◌≡◌, ℕ, Bool, false, zero, suc, ◌<◌, ◌≤◌, List, [], ◌∷◌, length, count_by, get_or, set, Option, Some, None, map, refl, sym, ap, subst, ◌∙◌, arith, inl, inr, Result, Ok, Err, OnErr, ◌==◌}
-use Rattle.span_script.proofs.Common.{cases_eq, cond-true, cond-false, length-map, map-set, Lane, WorldValue, Spans, attached_as, AreAttached, KeepsAttached, Has, KeepsPlainData, read_subscriber, spans_in, kept_in, Handle, HeldSpan, ReplacedOn, KeepsLaneButRoom, Guard, Attach, no_recording, Scope, slot_at, id_at, name_at, Views, State, state_of, LaneValue, lane_value, no_lane_value, lane_at, held_by, LanesFit, IsKept, held_of, StandsFor, Parts, AddsMeasures, SameLaw, aside_in}
+use Rattle.span_script.proofs.Common.{cases_eq, cond-true, cond-false, length-map, map-set, Lane, WorldValue, Spans, attached_as, AreAttached, KeepsAttached, Has, KeepsPlainData, read_subscriber, spans_in, kept_in, Handle, HeldSpan, ReplacedOn, KeepsLaneButRoom, Guard, AttachGuard, no_recording, Scope, slot_at, id_at, name_at, Views, PipelineState, state_of, LaneValue, lane_value, no_lane_value, lane_at, held_by, LanesFit, PipelineInvariant, held_of, StandsFor, Parts, AddsMeasures, SameLaw, aside_in}
 use Rattle.std.proofs.lemmas.Bool.{eq-eqb, ne_eqb}
 use Rattle.trace_base.specs.Gate.{IsInWorld, dispatch_on}
 use Rattle.span_handles.specs.Handles.{HasIf}
@@ -12,8 +12,8 @@ pub on_err : {T E : Type 0} (result : Result T E) (P : Type 0) → P → OnErr r
 on_err (Ok v) P p = tt
 on_err (Err e) P p = p
 
-pub within_view : (view k : State) (lanes : List Lane) (n : ℕ) → view ≡ k → view.lanes ≡ map lane_value lanes → n < length k.lanes → n < length lanes
-within_view view k lanes n same is within = (let a = ap (λ (x : State). length x.lanes) same in let b = ap length is in let c = length-map lanes lane_value in omega (arith, a, b, c, within))
+pub within_view : (view k : PipelineState) (lanes : List Lane) (n : ℕ) → view ≡ k → view.lanes ≡ map lane_value lanes → n < length k.lanes → n < length lanes
+within_view view k lanes n same is within = (let a = ap (λ (x : PipelineState). length x.lanes) same in let b = ap length is in let c = length-map lanes lane_value in omega (arith, a, b, c, within))
 
 -- the lane that was written, seen without its room
 pub lane_seen : (lanes : List Lane) (n : ℕ) (before : Lane) → n < length lanes → before ≡ get_or lanes n before → lane_at (map lane_value lanes) n ≡ lane_value before
@@ -129,7 +129,7 @@ lanes_step dispatch kept now lanes n before later within is fits same own keeps 
     let b = cond-false {A = ℕ} (later.id == lane) (attached_as number later) 0 (ne_eqb later.id lane (λ e. apart (sym same ∙ e))) in
     omega (arith, k, a, b)))
 
-pub own_lane : {S : Type 0} (spans : S → Spans) (views : Views S) (kept : S → ℕ → ℕ → ℕ) (is_whole : S → Type 0) (parts : Parts S) → IsKept spans views kept is_whole parts → (n : ℕ) (before : Lane) → n < length parts.lanes → before ≡ get_or parts.lanes n before → before.default ≡ Some parts.dispatch
+pub own_lane : {S : Type 0} (spans : S → Spans) (views : Views S) (kept : S → ℕ → ℕ → ℕ) (is_whole : S → Type 0) (parts : Parts S) → PipelineInvariant spans views kept is_whole parts → (n : ℕ) (before : Lane) → n < length parts.lanes → before ≡ get_or parts.lanes n before → before.default ≡ Some parts.dispatch
 own_lane spans views kept is_whole parts inv n before within is = lane_served parts.dispatch (kept_in kept parts.world parts.dispatch) parts.lanes n before within is inv.lanes
 
 module _ {S : Type 0} (spans : S → Spans) (views : Views S) (attaches : S → Bool) (kept : S → ℕ → ℕ → ℕ) (is_whole : S → Type 0) where
@@ -163,23 +163,23 @@ module _ {S : Type 0} (spans : S → Spans) (views : Views S) (attaches : S → 
   alike_line old new dispatch (s ∷ up) same = same
 
   -- what alike is kept is kept on
-  pub kept_alike : (parts next : Parts S) → IsKept spans views kept is_whole parts → state_of spans views next ≡ state_of spans views parts → KeepsPlainData spans attaches kept is_whole parts.world next.world parts.dispatch → IsKept spans views kept is_whole next
+  pub kept_alike : (parts next : Parts S) → PipelineInvariant spans views kept is_whole parts → state_of spans views next ≡ state_of spans views parts → KeepsPlainData spans attaches kept is_whole parts.world next.world parts.dispatch → PipelineInvariant spans views kept is_whole next
   kept_alike parts next inv same alike =
-      let on : next.dispatch ≡ parts.dispatch = ap (λ (k : State). k.dispatch) same in
+      let on : next.dispatch ≡ parts.dispatch = ap (λ (k : PipelineState). k.dispatch) same in
       record {
         there = (let c = alike.count in let b = inv.there in omega (arith, on, c, b));
         alone = alike.count ∙ inv.alone;
         whole = subst (λ (d : ℕ). Has is_whole next.world d) (sym on) (alike.whole inv.whole);
         lanes = subst (λ (d : ℕ). LanesFit d (kept_in kept next.world d) (map lane_value next.lanes)) (sym on)
-            (subst (λ (ls : List LaneValue). LanesFit parts.dispatch (kept_in kept next.world parts.dispatch) ls) (sym (ap (λ (k : State). k.lanes) same))
+            (subst (λ (ls : List LaneValue). LanesFit parts.dispatch (kept_in kept next.world parts.dispatch) ls) (sym (ap (λ (k : PipelineState). k.lanes) same))
             (subst (λ (f : ℕ → ℕ → ℕ). LanesFit parts.dispatch f (map lane_value parts.lanes)) (sym alike.kept_same) inv.lanes));
         tables = inv.tables;
-        stands = subst (λ (k : State). StandsFor k inv.tables) (sym same) inv.stands;
+        stands = subst (λ (k : PipelineState). StandsFor k inv.tables) (sym same) inv.stands;
       }
 
   -- after a refusal for want of memory what is kept is as it was
   module _ (same : S → S → Type 0) (law : SameLaw spans views attaches kept is_whole same)
-      (parts : Parts S) (new : WorldValue S) (inv : IsKept spans views kept is_whole parts) (handle : ℕ) (named : Handle) (found : slot_at parts.handles handle ≡ Some named) (did : ReplacedOn (λ id s t. same s t) parts.world new named.held) where
+      (parts : Parts S) (new : WorldValue S) (inv : PipelineInvariant spans views kept is_whole parts) (handle : ℕ) (named : Handle) (found : slot_at parts.handles handle ≡ Some named) (did : ReplacedOn (λ id s t. same s t) parts.world new named.held) where
     its_line : Found (held_of parts.dispatch) inv.tables.handles handle named.held
     its_line = find (held_of parts.dispatch) (map held_by parts.handles) inv.tables.handles handle named.held inv.stands.fits.handle_slots (held_slot parts.handles handle named found)
 
@@ -191,7 +191,7 @@ module _ {S : Type 0} (spans : S → Spans) (views : Views S) (attaches : S → 
 
     -- where a lane or guards got room
     module _ (n : ℕ) (before later : Lane) (within : n < length parts.lanes) (seen_is : before ≡ get_or parts.lanes n before) (lane : KeepsLaneButRoom before later)
-        (gs' : List (Option Guard)) (guards_same : gs' ≡ parts.guards) (ks' : List (Option Attach)) (attaches_same : ks' ≡ parts.contexts.attaches) where
+        (gs' : List (Option Guard)) (guards_same : gs' ≡ parts.guards) (ks' : List (Option AttachGuard)) (attaches_same : ks' ≡ parts.contexts.attaches) where
       abbrev refused_parts : Parts S
       refused_parts = record parts { world = new; lanes = set parts.lanes n later; guards = gs'; contexts = record parts.contexts { attaches = ks' } }
 
@@ -211,12 +211,12 @@ module _ {S : Type 0} (spans : S → Spans) (views : Views S) (attaches : S → 
         attaches_same,
       ) refl
 
-      pub refused_kept : IsKept spans views kept is_whole refused_parts
+      pub refused_kept : PipelineInvariant spans views kept is_whole refused_parts
       refused_kept = kept_alike parts refused_parts inv refused_state its_alike.0
 
     -- where neither did
     pub same_state : state_of spans views (record parts { world = new }) ≡ state_of spans views parts
     same_state = rw (its_alike.0.spans_same, its_alike.1, its_alike.2, its_alike.3, its_alike.4, its_rest.0, its_rest.1) refl
 
-    pub same_kept : IsKept spans views kept is_whole (record parts { world = new })
+    pub same_kept : PipelineInvariant spans views kept is_whole (record parts { world = new })
     same_kept = kept_alike parts (record parts { world = new }) inv same_state its_alike.0

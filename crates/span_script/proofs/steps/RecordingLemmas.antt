@@ -2,7 +2,7 @@
 use Rattle.std.specs.Option.{option_to_list}
 use Rattle.std.proofs.Common.{◌≡◌, ℕ, Bool, List, [], ◌∷◌, ◌++◌, length, fold, Option, Some, None, refl, sym, ap, ◌∙◌}
 use Rattle.std.proofs.lemmas.List.{append-nil, append_assoc}
-use Rattle.span_script.proofs.Common.{LayerSettings, Context, Record, SpanData, Token, data_at, start_context, Recording, with_start_under, with_start, with_starts, with_applied, with_close, without_closed, closed_started, MadeSpan, SpanOp, Effect, Tables, after_effect, with_span_made, recorded_by, open_part, records_of}
+use Rattle.span_script.proofs.Common.{LayerSettings, Context, Record, SpanData, Token, data_at, start_context, Recording, with_start_under, with_start, with_starts, with_applied, with_close, without_closed, closed_started, MadeSpan, SpanOp, Effect, Tables, after_effect, with_span_made, recording_after, open_part, records_of}
 
 -- a recording with other entries, and records before its own
 abbrev shifted : List Token → List Record → Recording → Recording
@@ -43,7 +43,7 @@ module _ (ts : List Token) (fs : List Record) where
   begins_apart None at r = refl
   begins_apart (Some s) at r = start_apart s at r
 
-  recorded_apart : (n : ℕ) (e : Effect) (r : Recording) → recorded_by n e (shifted ts fs r) ≡ shifted ts fs (recorded_by n e r)
+  recorded_apart : (n : ℕ) (e : Effect) (r : Recording) → recording_after n e (shifted ts fs r) ≡ shifted ts fs (recording_after n e r)
   recorded_apart n e r =
       let started = fold (λ r s. with_start s e.at r) r e.starts in
       let made = with_span_made n e.new_span started in
@@ -65,10 +65,10 @@ pub record RecordedStep (k next : Recording) (t : Tables) (e : Effect) : Type 0 
   pub open_is : open_part next ≡ (after_effect t e).recording
   pub finished : next.finished ≡ k.finished ++ records_of t e
 
-pub recording_step : (k next : Recording) (t : Tables) (e : Effect) → open_part k ≡ t.recording → (toks : List Token) → next ≡ record (recorded_by (length t.spans) e k) { tokens = toks } → RecordedStep k next t e
+pub recording_step : (k next : Recording) (t : Tables) (e : Effect) → open_part k ≡ t.recording → (toks : List Token) → next ≡ record (recording_after (length t.spans) e k) { tokens = toks } → RecordedStep k next t e
 recording_step k next t e is toks now =
     let n = length t.spans in
-    let all : recorded_by n e k ≡ shifted k.tokens k.finished (recorded_by n e t.recording) = ap (recorded_by n e) (shift_back k t.recording is) ∙ recorded_apart k.tokens k.finished n e t.recording in
+    let all : recording_after n e k ≡ shifted k.tokens k.finished (recording_after n e t.recording) = ap (recording_after n e) (shift_back k t.recording is) ∙ recorded_apart k.tokens k.finished n e t.recording in
     record {
       open_is = ap open_part now ∙ ap (λ (x : Recording). open_part x) all;
       finished = ap (λ (x : Recording). x.finished) now ∙ ap (λ (x : Recording). x.finished) all;
@@ -117,17 +117,17 @@ begins_stay : (o : Option ℕ) (at : ℕ) (r : Recording) → stays (with_starts
 begins_stay None at r = refl
 begins_stay (Some s) at r = start_stays s at r
 
-recorded_stays : (n : ℕ) (e : Effect) (r : Recording) → stays (recorded_by n e r) ≡ stays r
+recorded_stays : (n : ℕ) (e : Effect) (r : Recording) → stays (recording_after n e r) ≡ stays r
 recorded_stays n e r =
     let started = fold (λ r s. with_start s e.at r) r e.starts in
     let made = with_span_made n e.new_span started in
     let begun = with_starts e.begins e.at made in
     closes_stay e.at e.closes (fold (λ r d. with_applied d.span e.at d.op r) begun e.ops) ∙ ops_stay e.at e.ops begun ∙ begins_stay e.begins e.at made ∙ made_stays n e.new_span started ∙ starts_stay e.at e.starts r
 
-pub recorded_settings : (n : ℕ) (e : Effect) (r : Recording) → (recorded_by n e r).settings ≡ r.settings
+pub recorded_settings : (n : ℕ) (e : Effect) (r : Recording) → (recording_after n e r).settings ≡ r.settings
 recorded_settings n e r = ap (λ (x : LayerSettings × List Token × Bool). x.0) (recorded_stays n e r)
 
-pub recorded_tokens : (n : ℕ) (e : Effect) (r : Recording) → (recorded_by n e r).tokens ≡ r.tokens
+pub recorded_tokens : (n : ℕ) (e : Effect) (r : Recording) → (recording_after n e r).tokens ≡ r.tokens
 recorded_tokens n e r = ap (λ (x : LayerSettings × List Token × Bool). x.1) (recorded_stays n e r)
 
 -- a start of the open part

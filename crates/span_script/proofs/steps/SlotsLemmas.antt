@@ -1,6 +1,6 @@
 -- Lists of slots, of which some are spent.
 use Rattle.std.proofs.Common.{◌≡◌, ℕ, zero, suc, ◌+◌, ◌<◌, List, [], ◌∷◌, ◌++◌, length, Option, Some, None, option_map, map, refl, sym, ap, ◌∙◌, arith, slice_set}
-use Rattle.span_script.proofs.Common.{map_push, map-set, length_push, get_or-map, Handle, Parent, RequestParent, parent_for, held_by, slot_at, with_item, spend, slots_after, with_either, either_after}
+use Rattle.span_script.proofs.Common.{map_push, map-set, length_push, get_or-map, Handle, held_by, slot_at, with_item, spend, slots_after, with_either, either_after}
 use Rattle.std.proofs.lemmas.List.{length-set}
 
 -- what holds of each name that isn't spent holds after one more, if it holds of that
@@ -78,10 +78,6 @@ find f ys xs n y slots there = by_slot (slot_at xs n) refl (sym (ap (λ zs. slot
 -- what a handle in a slot stands for
 pub held_slot : (hs : List (Option Handle)) (n : ℕ) (handle : Handle) → slot_at hs n ≡ Some handle → slot_at (map held_by hs) n ≡ Some handle.held
 held_slot hs n handle there = get_or-map held_by hs n None ∙ ap held_by there
-
--- the parent that a place has in the handles, also as they were
-pub found_parent : (hs' hs : List (Option Handle)) (under : RequestParent) (o p : Option Parent) → hs' ≡ hs → o ≡ parent_for (map held_by hs') under → o ≡ p → parent_for (map held_by hs) under ≡ p
-found_parent hs' hs under o p same is found = ap (λ (xs : List (Option Handle)). parent_for (map held_by xs) under) (sym same) ∙ sym is ∙ found
 
 -- what is there is one
 pub some_is : {A : Type 0} (a b : A) → Some a ≡ Some b → a ≡ b

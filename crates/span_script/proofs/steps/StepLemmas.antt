@@ -1,6 +1,6 @@
 -- One effect more: what fits the tables fits them with the effect, whatever its kind.
 use Rattle.std.proofs.Common.{◌≡◌, ℕ, ◌+◌, ◌≤◌, List, length, Option, Some, None, option_map, map, sym, ap, subst, ◌∙◌, arith}
-use Rattle.span_script.proofs.Common.{Spans, span_at, OneEach, Balanced, named_by, opened_by, Setup, Scope, ScopeGuard, Effect, Tables, after_effect, site_of, slot_at, slots_after, either_after, with_item, lanes_with_entry, lanes_with_exit, State, MadeFit, IsScope, held_of, guard_of, lane_of}
+use Rattle.span_script.proofs.Common.{Spans, span_at, OneEach, Balanced, named_span, open_guard_by, Setup, Scope, ScopeGuard, Effect, Tables, after_effect, site_of, slot_at, slots_after, either_after, with_item, with_entry_on, with_exit_on, PipelineState, SpansFit, IsScope, held_of, guard_of, lane_place_of}
 use Rattle.span_script.specs.Fits.{Fits}
 use Rattle.span_script.proofs.steps.SlotsLemmas.{named_push, slots_map, either_map, either_count, still_named}
 use Rattle.span_script.proofs.spans.ScopesLemmas.{NewMade, NewSite, lines_with, lines_after, sites_left, sited_after}
@@ -13,17 +13,17 @@ abbrev pub guards_after : Tables → Effect → List (Option ScopeGuard)
 guards_after t e = either_after t.guards e.new_guard e.new_attach e.spent_guard
 
 -- what an effect has to leave
-pub record Step (k : State) (t : Tables) (e : Effect) (next : State) : Type 0 where
+pub record Step (k : PipelineState) (t : Tables) (e : Effect) (next : PipelineState) : Type 0 where
   pub setup_is : next.setup ≡ k.setup
   pub dispatch_is : next.dispatch ≡ k.dispatch
   pub handles_are : next.handles ≡ slots_after k.handles (option_map (held_of k.dispatch) e.new_handle) e.spent_handle
   pub sites_are : next.handle_sites ≡ slots_after k.handle_sites (option_map (site_of (with_item t.spans e.new_span)) e.new_handle) e.spent_handle
   pub guards_are : next.guards ≡ either_after k.guards (option_map (guard_of k.dispatch) e.new_guard) e.new_attach e.spent_guard
-  pub attaches_are : map (option_map lane_of) next.contexts.attaches ≡ either_after (map (option_map lane_of) k.contexts.attaches) e.new_attach e.new_guard e.spent_attach
+  pub attaches_are : map (option_map lane_place_of) next.contexts.attaches ≡ either_after (map (option_map lane_place_of) k.contexts.attaches) e.new_attach e.new_guard e.spent_attach
   pub named_are : next.contexts.contexts ≡ with_item k.contexts.contexts e.new_context
   pub moment_is : next.moment ≡ e.at
-  pub balanced : Balanced next.spans (map named_by (handles_after t e)) (map (opened_by k.setup.ids) (guards_after t e)) (lanes_with_exit (lanes_with_entry t.entries e.lane e.entry) e.lane e.exit)
-  pub made_fit : MadeFit next.spans.made (with_item t.spans e.new_span)
+  pub balanced : Balanced next.spans (map named_span (handles_after t e)) (map (open_guard_by k.setup.ids) (guards_after t e)) (with_exit_on (with_entry_on t.entries e.lane e.entry) e.lane e.exit)
+  pub made_fit : SpansFit next.spans.made (with_item t.spans e.new_span)
   pub new_made : NewMade t.spans e.new_span
   pub new_site : NewSite (length k.setup.sites) e.new_span
   pub new_scope : (scope : Scope) → e.new_handle ≡ Some scope → IsScope (with_item t.spans e.new_span) scope
@@ -32,7 +32,7 @@ pub record Step (k : State) (t : Tables) (e : Effect) (next : State) : Type 0 wh
   pub few_holds : (s : ℕ) → (span_at next.spans.made s).holds ≤ length (handles_after t e) + length (guards_after t e)
   pub one : OneEach next.spans.lanes
 
-module _ (k : State) (t : Tables) (fits : Fits k t) (next : State) (e : Effect) where
+module _ (k : PipelineState) (t : Tables) (fits : Fits k t) (next : PipelineState) (e : Effect) where
   handles_made : NewMade t.spans e.new_span → (o : Option Scope) → ((line : Scope) → o ≡ Some line → IsScope (with_item t.spans e.new_span) line) → (n : ℕ) (line : Scope) → slot_at (with_item t.handles (option_map Some o)) n ≡ Some line → IsScope (with_item t.spans e.new_span) line
   handles_made made None new n line there = lines_with t.spans e.new_span made line (fits.scopes n line there)
   handles_made made (Some x) new n line there = named_push (IsScope (with_item t.spans e.new_span)) t.handles (Some x) (λ n line e. lines_with t.spans _ made line (fits.scopes n line e)) new n line there
@@ -48,7 +48,7 @@ module _ (k : State) (t : Tables) (fits : Fits k t) (next : State) (e : Effect) 
     paired = either_count t.attaches t.guards e.new_attach e.new_guard e.spent_attach e.spent_guard fits.paired;
     named_contexts = s.named_are ∙ ap (λ xs. with_item xs e.new_context) fits.named_contexts;
     latest = s.moment_is;
-    balanced = subst (λ (x : Setup). Balanced next.spans (map named_by (handles_after t e)) (map (opened_by x.ids) (guards_after t e)) (lanes_with_exit (lanes_with_entry t.entries e.lane e.entry) e.lane e.exit)) (sym s.setup_is) s.balanced;
+    balanced = subst (λ (x : Setup). Balanced next.spans (map named_span (handles_after t e)) (map (open_guard_by x.ids) (guards_after t e)) (with_exit_on (with_entry_on t.entries e.lane e.entry) e.lane e.exit)) (sym s.setup_is) s.balanced;
     made = s.made_fit;
     one_lane = s.one;
     scopes = λ n line there. handles_made s.new_made e.new_handle s.new_scope n line (still_named (with_item t.handles (option_map Some e.new_handle)) e.spent_handle n line there);
@@ -63,8 +63,8 @@ module _ (k : State) (t : Tables) (fits : Fits k t) (next : State) (e : Effect) 
 abbrev pub quiet_of : Effect → Effect
 quiet_of e = record e { new_handle = None; spent_handle = None; new_guard = None; spent_guard = None; new_attach = None; new_span = None; entry = None; exit = None }
 
-pub quiet_step : (k next : State) (t : Tables) (e : Effect) → Fits k t → next.setup ≡ k.setup → next.dispatch ≡ k.dispatch → next.handles ≡ k.handles → next.handle_sites ≡ k.handle_sites → next.guards ≡ k.guards
-    → map (option_map lane_of) next.contexts.attaches ≡ either_after {B = ScopeGuard} (map (option_map lane_of) k.contexts.attaches) None None e.spent_attach
+pub quiet_step : (k next : PipelineState) (t : Tables) (e : Effect) → Fits k t → next.setup ≡ k.setup → next.dispatch ≡ k.dispatch → next.handles ≡ k.handles → next.handle_sites ≡ k.handle_sites → next.guards ≡ k.guards
+    → map (option_map lane_place_of) next.contexts.attaches ≡ either_after {B = ScopeGuard} (map (option_map lane_place_of) k.contexts.attaches) None None e.spent_attach
     → next.contexts.contexts ≡ with_item k.contexts.contexts e.new_context → next.moment ≡ e.at → next.spans ≡ k.spans → Step k t (quiet_of e) next
 quiet_step k next t e fits setup dispatch handles sites guards attaches named moment spans = record {
   setup_is = setup;
@@ -75,8 +75,8 @@ quiet_step k next t e fits setup dispatch handles sites guards attaches named mo
   attaches_are = attaches;
   named_are = named;
   moment_is = moment;
-  balanced = subst (λ (x : Spans). Balanced x (map named_by t.handles) (map (opened_by k.setup.ids) t.guards) t.entries) (sym spans) fits.balanced;
-  made_fit = subst (λ (x : Spans). MadeFit x.made t.spans) (sym spans) fits.made;
+  balanced = subst (λ (x : Spans). Balanced x (map named_span t.handles) (map (open_guard_by k.setup.ids) t.guards) t.entries) (sym spans) fits.balanced;
+  made_fit = subst (λ (x : Spans). SpansFit x.made t.spans) (sym spans) fits.made;
   new_made = tt;
   new_site = tt;
   new_scope = λ l e. absurd (cc e);

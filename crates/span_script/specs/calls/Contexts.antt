@@ -11,7 +11,7 @@ use Rattle.span_script.specs.declared.reply.Reply.TheVariants as reply
 use Rattle.span_script.specs.declared.reply.Refusal.TheVariants as refusal
 use Rattle.span_script.specs.declared.reply.What.TheVariants as what
 use Rattle.span_script.specs.calls.Here.{Here, Resolved, ◌>>=◌, need, refuse_if, answer_effect}
-use Rattle.span_script.specs.Tables.{Effect, GuardOf, Scope, own_span, slot_at}
+use Rattle.span_script.specs.Tables.{Effect, GuardOf, Scope, span_of_scope, slot_at}
 use Rattle.span_script.specs.calls.Entries.{is_elsewhere, is_full}
 
 -- a context more, and the span that starts for it
@@ -25,14 +25,14 @@ abbrev pub remote_call : Here → SpanContext → Resolved
 remote_call here ids = Ok (context_effect here None (record { span = Some ids }))
 
 -- the own context of a scope's span, which starts; the empty one where there is no span
-abbrev pub own_context : Recording → ℕ → Scope → Context
-own_context r at [] = empty_context
-own_context r at (s ∷ up) = own_context_or empty_context (data_at s (with_start s at r).spans)
+abbrev pub context_of_scope : Recording → ℕ → Scope → Context
+context_of_scope r at [] = empty_context
+context_of_scope r at (s ∷ up) = own_context_or empty_context (data_at s (with_start s at r).spans)
 
 abbrev pub context_call : Here → ℕ → Resolved
 context_call here handle = do
   scope ← need what.Handle (slot_at here.script.handles handle)
-  Ok (context_effect here (own_span scope) (own_context here.script.recording here.at scope))
+  Ok (context_effect here (span_of_scope scope) (context_of_scope here.script.recording here.at scope))
 
 -- an attach to the lane of the request
 abbrev pub attach_effect : Here → Context → Effect

@@ -10,17 +10,17 @@ use Rattle.span_script.specs.declared.reply.Reply.TheVariants as reply
 use Rattle.span_script.specs.declared.reply.Refusal.TheVariants as refusal
 use Rattle.span_script.specs.declared.reply.What.TheVariants as what
 use Rattle.span_script.specs.calls.Here.{Here, Resolved, ◌>>=◌, need, refuse_if, answer_effect, op_on}
-use Rattle.span_script.specs.Tables.{Attached, Effect, EntryOf, ScopeGuard, HookEnter, HookExit, Scope, own_span, slot_at}
+use Rattle.span_script.specs.Tables.{Attached, Effect, EntryOf, ScopeGuard, HookEnter, HookExit, Scope, span_of_scope, slot_at}
 use Rattle.span_script.specs.calls.Filter.{hooks_of_span}
 use Rattle.span_script.specs.calls.Spans.{borrows, is_borrowed}
 
 -- the span that an entry activates
 abbrev pub activated_span : Bool → Scope → Option ℕ
-activated_span activation scope = if activation then own_span scope else None
+activated_span activation scope = if activation then span_of_scope scope else None
 
-abbrev pub attached_by : Recording → ℕ → Option ℕ → Option Attached
-attached_by r at None = None
-attached_by r at (Some s) = Some (record { owner = EntryOf s; context = own_context_or empty_context (data_at s (with_start s at r).spans) })
+abbrev pub entry_context : Recording → ℕ → Option ℕ → Option Attached
+entry_context r at None = None
+entry_context r at (Some s) = Some (record { owner = EntryOf s; context = own_context_or empty_context (data_at s (with_start s at r).spans) })
 
 -- an entry of a handle's span, by a guard that owns the handle or not
 abbrev pub enter_effect : Here → ℕ → Bool → Scope → Effect
@@ -30,8 +30,8 @@ enter_effect here handle owns scope =
       new_guard = Some (record { handle = handle; place = here.place; owns = owns; scope = scope });
       starts = option_to_list starting;
       ops = op_on scope ops.Enter;
-      attach = attached_by here.script.recording here.at starting;
-      entry = own_span scope;
+      attach = entry_context here.script.recording here.at starting;
+      entry = span_of_scope scope;
       hooks = hooks_of_span scope (λ s. HookEnter s here.lane);
     }
 
@@ -60,7 +60,7 @@ exit_effect here guard scope = record (answer_effect here reply.Done) {
   spent_guard = Some guard;
   ops = op_on scope ops.Exit;
   detach = option_map EntryOf (activated_span here.setup.layer.activation scope);
-  exit = own_span scope;
+  exit = span_of_scope scope;
   hooks = hooks_of_span scope (λ s. HookExit s here.lane);
 }
 

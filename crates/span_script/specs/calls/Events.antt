@@ -15,7 +15,7 @@ use Rattle.span_script.specs.Fields.{Fields, all_values}
 use Rattle.span_script.specs.calls.Here.{Here, Resolved, ◌>>=◌, need, ops_effect, ops_on}
 use Rattle.span_script.specs.Setups.{event_site}
 use Rattle.span_script.specs.Tables.{Effect, Scope}
-use Rattle.span_script.specs.calls.Filter.{admits_at}
+use Rattle.span_script.specs.calls.Filter.{admits_on}
 use Rattle.span_script.specs.calls.Spans.{scope_at}
 
 -- what isn't let through leaves nothing
@@ -31,7 +31,7 @@ event_ops (Some text) callsite event = ops.Counted ∷ if_enabled (admits (text_
 -- an event goes to the own span of the scope that its place names, and is measured, with a span or without
 abbrev pub event_effect : Here → Callsite → ValueSet → Scope → Effect
 event_effect here callsite values reached =
-    let enabled = admits_at here.setup here.script here.lane callsite in
+    let enabled = admits_on here.setup here.script here.lane callsite in
     let event = event_of callsite values here.setup.layer here.at in
     record (ops_effect here (reply.Enabled enabled) (if_enabled enabled (ops_on reached (event_ops here.setup.counting callsite event)))) {
       measures = if_enabled enabled (measures callsite values);

@@ -14,8 +14,8 @@ use Rattle.span_script.specs.Setups.{Setup}
 use Rattle.span_script.specs.Tables.{Effect, FilterHook, HookNew, HookRecord, HookEnter, HookExit, HookClose, Scope, Tables}
 
 -- the text in force: that of the last reload, that of the settings before the first
-abbrev pub in_force : Setup → Tables → List ℕ
-in_force setup t = unwrap_or t.filter setup.filter
+abbrev pub text_in_force : Setup → Tables → List ℕ
+text_in_force setup t = unwrap_or t.filter setup.filter
 
 -- a lane of which only the id is told
 abbrev pub bare_lane : ℕ → Lane
@@ -35,12 +35,12 @@ abbrev pub after_filter_hook : FilterState → FilterHook → FilterState
 after_filter_hook f heard = after_hook f (hook_of heard)
 
 -- the filter in force: that of its text, after all that it heard
-abbrev pub filter_at : Setup → Tables → FilterState
-filter_at setup t = fold after_filter_hook (text_filter (in_force setup t)) t.hooks
+abbrev pub filter_in_force : Setup → Tables → FilterState
+filter_in_force setup t = fold after_filter_hook (text_filter (text_in_force setup t)) t.hooks
 
 -- whether what a callsite makes on the lane of an id is let through
-abbrev pub admits_at : Setup → Tables → ℕ → Callsite → Bool
-admits_at setup t lane callsite = is_admitted (filter_at setup t) lane callsite
+abbrev pub admits_on : Setup → Tables → ℕ → Callsite → Bool
+admits_on setup t lane callsite = is_admitted (filter_in_force setup t) lane callsite
 
 -- what is heard of a scope's own span, if it has one
 abbrev pub hooks_of_span : Scope → (ℕ → FilterHook) → List FilterHook
@@ -50,7 +50,7 @@ hooks_of_span (s ∷ up) heard = heard s ∷ []
 -- ---- asking, an answer alone
 
 abbrev pub enabled_effect : Here → Callsite → Effect
-enabled_effect here callsite = answer_effect here (reply.Enabled (admits_at here.setup here.script here.lane callsite))
+enabled_effect here callsite = answer_effect here (reply.Enabled (admits_on here.setup here.script here.lane callsite))
 
 abbrev pub enabled_call : Here → ℕ → Resolved
 enabled_call here site = do

@@ -14,7 +14,7 @@ use Rattle.span_script.specs.declared.reply.Reply.TheVariants as reply
 use Rattle.span_script.specs.declared.reply.What.TheVariants as what
 use Rattle.span_script.specs.calls.Here.{Here, Resolved, ◌>>=◌, need, answer_effect, ops_effect, op_on}
 use Rattle.span_script.specs.Tables.{SpanOp, Effect, Scope, slot_at}
-use Rattle.span_script.specs.calls.Contexts.{own_context}
+use Rattle.span_script.specs.calls.Contexts.{context_of_scope}
 
 -- where both are enabled the followed span starts, and the other one is linked to its own context
 abbrev pub follow_effect : Here → Scope → Scope → Effect
@@ -22,7 +22,7 @@ follow_effect here [] from = answer_effect here reply.Done
 follow_effect here (s ∷ up) [] = answer_effect here reply.Done
 follow_effect here (s ∷ up) (f ∷ up_from) = record (answer_effect here reply.Done) {
   starts = f ∷ [];
-  ops = op_on (s ∷ up) (link_of (ids_of (own_context here.script.recording here.at (f ∷ up_from))) []);
+  ops = op_on (s ∷ up) (link_of (ids_of (context_of_scope here.script.recording here.at (f ∷ up_from))) []);
 }
 
 abbrev pub follows_call : Here → ℕ → ℕ → Resolved
@@ -58,9 +58,9 @@ add_link_call here handle context attributes = do
   Ok (ops_effect here reply.Done (link_ops scope (ids_of given) attributes))
 
 -- an event of a request without a time happens at its moment
-abbrev pub happens_at : ℕ → Option ℕ → ℕ
-happens_at at None = at
-happens_at at (Some time) = time
+abbrev pub event_time : ℕ → Option ℕ → ℕ
+event_time at None = at
+event_time at (Some time) = time
 
 -- one op on a handle's span
 abbrev pub op_call : Here → ℕ → Op → Resolved

@@ -21,8 +21,8 @@ use Rattle.span_script.specs.declared.request.RequestParent.TheVariants as reque
 use Rattle.span_script.specs.Fields.{Fields, all_values}
 use Rattle.span_script.specs.calls.Here.{Here, Resolved, ◌>>=◌, need, refuse_if, answer_effect}
 use Rattle.span_script.specs.Setups.{name_at, span_site}
-use Rattle.span_script.specs.Tables.{Attached, Effect, ScopeGuard, HookNew, HookClose, Scope, Tables, own_span, scope_of, slot_at}
-use Rattle.span_script.specs.calls.Filter.{admits_at, bare_lane}
+use Rattle.span_script.specs.Tables.{Attached, Effect, ScopeGuard, HookNew, HookClose, Scope, Tables, span_of_scope, scope_of, slot_at}
+use Rattle.span_script.specs.calls.Filter.{admits_on, bare_lane}
 
 -- ---- spans that are open
 
@@ -65,11 +65,11 @@ abbrev pub disabled_effect : Here → Effect
 disabled_effect here = record (answer_effect here (reply.Made false (length here.script.handles))) { new_handle = Some [] }
 
 -- the place of a new span, by what the request names
-abbrev pub parent_at : RequestParent → Scope → Parent
-parent_at request_parent.Root up = parent.Root
-parent_at request_parent.Contextual up = parent.Current
-parent_at (request_parent.Under handle) [] = parent.Root
-parent_at (request_parent.Under handle) (s ∷ up) = parent.Of s
+abbrev pub parent_under : RequestParent → Scope → Parent
+parent_under request_parent.Root up = parent.Root
+parent_under request_parent.Contextual up = parent.Current
+parent_under (request_parent.Under handle) [] = parent.Root
+parent_under (request_parent.Under handle) (s ∷ up) = parent.Of s
 
 -- the context that was attached last, the empty one where none is
 abbrev pub last_attached : Context → List Attached → Context
@@ -105,8 +105,8 @@ span_effect here site callsite values under up =
     let scope : Scope = span ∷ up in
     record (answer_effect here (reply.Made true (length here.script.handles))) {
       new_handle = Some scope;
-      new_span = Some (record { site = site; scope = scope; made_with = new_span_data_at here callsite values (parent_at under up) });
-      starts = option_to_list (context_source here (parent_at under up));
+      new_span = Some (record { site = site; scope = scope; made_with = new_span_data_at here callsite values (parent_under under up) });
+      starts = option_to_list (context_source here (parent_under under up));
       begins = source_of here.setup.layer.eager span;
       hooks = HookNew span callsite values ∷ [];
     }
@@ -114,7 +114,7 @@ span_effect here site callsite values under up =
 -- a callsite that is let through gives a span, any other a disabled handle
 abbrev pub new_effect : Here → ℕ → Callsite → ValueSet → RequestParent → Scope → Effect
 new_effect here site callsite values under up =
-    if admits_at here.setup here.script here.lane callsite then span_effect here site callsite values under up else disabled_effect here
+    if admits_on here.setup here.script here.lane callsite then span_effect here site callsite values under up else disabled_effect here
 
 abbrev pub new_call : Here → ℕ → RequestParent → Fields → Resolved
 new_call here site under fields = do
@@ -127,7 +127,7 @@ new_call here site under fields = do
 
 -- another handle of a scope: enabled if the scope has a span
 abbrev pub clone_effect : Here → Scope → Effect
-clone_effect here scope = record (answer_effect here (reply.Made (is_some (own_span scope)) (length here.script.handles))) { new_handle = Some scope }
+clone_effect here scope = record (answer_effect here (reply.Made (is_some (span_of_scope scope)) (length here.script.handles))) { new_handle = Some scope }
 
 abbrev pub clone_call : Here → ℕ → Resolved
 clone_call here handle = do

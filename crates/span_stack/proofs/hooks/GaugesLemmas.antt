@@ -1,6 +1,6 @@
 -- What a layer of metrics over a subscriber hears of calls.
 use Rattle.std.proofs.Common.{◌≡◌, ℕ, List, [], ◌++◌, Bool, false, Option, Some, refl, sym, ap, ◌∙◌, inl, inr}
-use Rattle.span_stack.proofs.Common.{cases_eq, WorldValue, Spans, parent_to_release, span_at, SubscriberCall, NewSpan, Records, Follows, Event, Enter, Exit, CloneSpan, TryClose, CallLanes, Hook, LeavesLanes, Layered, DoesBoth, ObservesCall, Replaced, Chain, ended, closes, read_subscriber, seen_before, seen_later, Measure, Steps, over_hears, MeasuresWithRoom, waiting_measures, measured_by}
+use Rattle.span_stack.proofs.Common.{cases_eq, WorldValue, Spans, parent_to_release, span_at, SubscriberCall, NewSpan, Records, Follows, Event, Enter, Exit, CloneSpan, TryClose, CallLanes, Hook, LeavesLanes, Layered, DoesBoth, ObservesCall, Replaced, Chain, ended, closes, read_subscriber, seen_before, seen_later, Measure, Steps, over_hears, MeasuresWithRoom, waiting_measures, measures_of_call}
 use Rattle.std.proofs.lemmas.List.{append-nil}
 use Rattle.otel_metrics.specs.Waiting.{AddsMeasuresOf, measures_of_hook}
 use Rattle.span_stack.proofs.worlds.ViewsLemmas.{kept_place}
@@ -20,7 +20,7 @@ kept l = l.measures
 abbrev behind : List Measure → Hook → List Measure
 behind ms hook = ms ++ measures_of_hook hook
 
-from_heard : (spans : Spans) (call : SubscriberCall) (a b : List Measure) → ObservesCall (Steps behind) spans a call b → b ≡ a ++ measured_by call
+from_heard : (spans : Spans) (call : SubscriberCall) (a b : List Measure) → ObservesCall (Steps behind) spans a call b → b ≡ a ++ measures_of_call call
 from_heard spans (NewSpan lane at parent site callsite values) a b h = h
 from_heard spans (Records id at callsite values) a b h = h
 from_heard spans (Follows id from at) a b h = h
@@ -37,13 +37,13 @@ abbrev does_over : {S : Type 0} → (S → Spans) → (S → SubscriberCall → 
 does_over spans inner = λ p call q. DoesBoth spans inner measures_at unchanged attaches_no p.inner p.layer call q.inner q.layer
 
 pub one_call : {S : Type 0} (spans : S → Spans) (inner : S → SubscriberCall → S → Type 0) (attaches : S → Bool) (held : S → ℕ → ℕ → ℕ) → ((s : S) (c : SubscriberCall) (t : S) → inner s c t → CallLanes (attaches s) (held s) c (held t))
-    → (old new : WorldValue (Whole S)) (dispatch : ℕ) (call : SubscriberCall) → Replaced (λ p q. does_over spans inner p call q) old new dispatch → read_subscriber waiting_measures [] new dispatch ≡ read_subscriber waiting_measures [] old dispatch ++ measured_by call
+    → (old new : WorldValue (Whole S)) (dispatch : ℕ) (call : SubscriberCall) → Replaced (λ p q. does_over spans inner p call q) old new dispatch → read_subscriber waiting_measures [] new dispatch ≡ read_subscriber waiting_measures [] old dispatch ++ measures_of_call call
 one_call {S} spans inner attaches held lanes old new dispatch call r =
     let R : Whole S → Whole S → Type 0 = λ p q. does_over spans inner p call q in
     let p = r.before in
     let q = r.later in
     let h = over_hears spans inner measures_at unchanged attaches_no behind kept (λ l hook m d. d.0) (λ l m e. e) p.inner q.inner p.layer q.layer call (attaches p.inner) (held p.inner) (held q.inner) (λ c. lanes p.inner c q.inner) r.did in
-    seen_later R old new dispatch r waiting_measures [] ∙ from_heard (spans p.inner) call (kept p.layer) (kept q.layer) h ∙ ap (λ (ms : List Measure). ms ++ measured_by call) (sym (seen_before R old new dispatch r waiting_measures []))
+    seen_later R old new dispatch r waiting_measures [] ∙ from_heard (spans p.inner) call (kept p.layer) (kept q.layer) h ∙ ap (λ (ms : List Measure). ms ++ measures_of_call call) (sym (seen_before R old new dispatch r waiting_measures []))
 
 pub one_room : {S : Type 0} (same : S → S → Type 0) (old new : WorldValue (Whole S)) (dispatch : ℕ) → Replaced (λ p q. same p.inner q.inner × unchanged p.layer q.layer) old new dispatch → read_subscriber waiting_measures [] new dispatch ≡ read_subscriber waiting_measures [] old dispatch
 one_room same old new dispatch r = kept_place waiting_measures [] (λ p q h. h.1) old new dispatch r

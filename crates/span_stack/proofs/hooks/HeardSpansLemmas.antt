@@ -6,7 +6,7 @@ use Rattle.std.proofs.lemmas.Bool.{eq-eqb, ne_eqb}
 use Rattle.span_handles.proofs.ToldClosesLemmas.{told_world}
 use Rattle.env_filter.specs.spans.Keyed.{put}
 use Rattle.env_filter.specs.spans.Kept.{with_open_level, without_open_level}
-use Rattle.span_stack.specs.Filtered.{without_span, filter_after, FiltersChain}
+use Rattle.span_stack.specs.FilterInPlace.{without_span, filter_after, FiltersChain}
 
 -- a filter that can be exchanged, as a layer
 abbrev pub hooks_on : Layer FilterWithRoom → Hook → Layer FilterWithRoom → Type 0

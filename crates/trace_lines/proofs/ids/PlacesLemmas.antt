@@ -1,6 +1,6 @@
 -- Where no two ids of a list are equal, each has its own place.
 use Rattle.std.proofs.Common.{◌≡◌, ℕ, zero, suc, ◌<◌, ◌==◌, List, [], ◌∷◌, length, true, false, not, refl, sym, ap, arith}
-use Rattle.trace_lines.proofs.Common.{list_any, or_parts, and_parts, eqb-false, not-true, HasOwnIds, id_at, all_differ}
+use Rattle.trace_lines.proofs.Common.{list_any, or_parts, and_parts, eqb-false, not-true, HaveDistinctIds, id_at, all_differ}
 
 -- an id that is equal to none stands at no place
 other : (n : ℕ) (ns : List ℕ) (m : ℕ) → m < length ns → list_any (λ x. n == x) ns ≡ false → n ≡ id_at ns m → ⊥
@@ -8,7 +8,7 @@ other n [] m within none same = omega (arith, within)
 other n (x ∷ ns) zero within none same = eqb-false n x (or_parts (n == x) _ none).0 same
 other n (x ∷ ns) (suc m) within none same = other n ns m (omega (arith, within)) (or_parts (n == x) _ none).1 same
 
-pub own_ids : (ns : List ℕ) → all_differ ns ≡ true → HasOwnIds ns
+pub own_ids : (ns : List ℕ) → all_differ ns ≡ true → HaveDistinctIds ns
 own_ids [] differ n m here there same = absurd (omega (arith, here))
 own_ids (x ∷ ns) differ zero zero here there same = refl
 own_ids (x ∷ ns) differ zero (suc m) here there same =

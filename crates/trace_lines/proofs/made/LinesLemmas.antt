@@ -1,7 +1,7 @@
 -- The lines of made scripts stand apart, and spell their requests.
 use Rattle.std.proofs.Common.{◌≡◌, ℕ, zero, suc, ◌+◌, ◌*◌, ◌<◌, ◌≤◌, ◌^◌, ◌==◌, ◌++◌, List, [], ◌∷◌, length, map, true, false, Some, Ok, option_and_then, decimal, refl, ap, ◌∙◌, arith, append_assoc, length-append}
 use Rattle.std.specs.Prelude.{⊤, ok_or, flat_map}
-use Rattle.trace_lines.proofs.Common.{and_parts, nat_tests, is_utf8, escape_byte, depth, number, object, Members, member, as_object, of_json, max_depth, outline, compact_text, serde_json_on_literals, number_of-decimal, Call, Request, BadLine, all_of, generated_settings, root_fields, row_fields, round, rounds, generated_requests, request_members, request_line, settings_line, generated_lines, generated_script, lines_of, is_blank, request_form, new_form, drop_form, enter_form, exit_form, event_form, settings_form, callsite_form, lane_form, error_flags, span_flags, layer_form, request_spelled, settings_spelled}
+use Rattle.trace_lines.proofs.Common.{and_parts, nat_tests, is_utf8, escape_byte, depth, number, object, Members, member, as_object, of_json, max_depth, outline, compact_text, serde_json_on_literals, number_of-decimal, Call, Request, BadLine, all_of, generated_settings, root_fields, row_fields, requests_of_round, requests_of_rounds, generated_requests, request_members, request_line, settings_line, generated_lines, generated_script, lines_of, is_blank, request_form, new_form, drop_form, enter_form, exit_form, event_form, settings_form, callsite_form, lane_form, error_flags, span_flags, layer_form, request_spelled, settings_spelled}
 use Rattle.std.specs.Str.{chars}
 use Rattle.span_script.specs.declared.request.Call.TheVariants as call
 use Rattle.span_script.specs.declared.request.RequestParent.TheVariants as request_parent
@@ -94,7 +94,7 @@ Each P (x ∷ xs) = P x × Each P xs
 abbrev pub HasLine : Request → Type 0
 HasLine request = IsLine (request_line request) request
 
-round_lines : (i : ℕ) → i < 50000 → Each HasLine (round i)
+round_lines : (i : ℕ) → i < 50000 → Each HasLine (requests_of_round i)
 round_lines i few = (
   root_line _ _ i (omega (arith, few)) (omega arith) (omega (arith, few)),
   (
@@ -127,16 +127,16 @@ each-append : {X : Type 0} (P : X → Type 0) (xs ys : List X) → Each P xs →
 each-append P [] ys one two = two
 each-append P (x ∷ xs) ys one two = (one.0, each-append P xs ys one.1 two)
 
-pub each_rounds : (P : Request → Type 0) (most : ℕ) → ((i : ℕ) → i < most → Each P (round i)) → (first n : ℕ) → first + n ≤ most → Each P (rounds first n)
+pub each_rounds : (P : Request → Type 0) (most : ℕ) → ((i : ℕ) → i < most → Each P (requests_of_round i)) → (first n : ℕ) → first + n ≤ most → Each P (requests_of_rounds first n)
 each_rounds P most one first zero few = tt
-each_rounds P most one first (suc n) few = each-append P (round first) (rounds (first + 1) n) (one first (omega (arith, few))) (each_rounds P most one (first + 1) n (omega (arith, few)))
+each_rounds P most one first (suc n) few = each-append P (requests_of_round first) (requests_of_rounds (first + 1) n) (one first (omega (arith, few))) (each_rounds P most one (first + 1) n (omega (arith, few)))
 
 pub made_each : (n : ℕ) → n ≤ 50000 → Each HasLine (generated_requests n)
 made_each n few = each_rounds HasLine 50000 round_lines 0 n (omega (arith, few))
 
-pub many_rounds : (first n : ℕ) → length (rounds first n) ≡ 9 * n
+pub many_rounds : (first n : ℕ) → length (requests_of_rounds first n) ≡ 9 * n
 many_rounds first zero = refl
-many_rounds first (suc n) = length-append (round first) (rounds (first + 1) n) ∙ omega (arith, many_rounds (first + 1) n)
+many_rounds first (suc n) = length-append (requests_of_round first) (requests_of_rounds (first + 1) n) ∙ omega (arith, many_rounds (first + 1) n)
 
 -- ---- the lines stand apart
 

@@ -1,15 +1,15 @@
 -- A made script whose requests have effects is valid.
 use Rattle.std.proofs.Common.{◌≡◌, ℕ, ◌+◌, ◌≤◌, List, [], ◌∷◌, ◌++◌, map, Option, Some, true, refl, ap, ◌∙◌, Ok, Err}
-use Rattle.trace_lines.proofs.Common.{Request, OpeningRead, opening_read, Resolved, effect_of, Setup, History, Effect, tables, records_of, generated_settings, generated_setup, generated_requests, request_line, generated_script, history_unless_refused, history_after, Report, told_step, effect_of_line, effect_of_request, report_on_effect, report_on_opening, report_on, answer_count, accepts, IsValid}
+use Rattle.trace_lines.proofs.Common.{Request, OpeningRead, opening_read, Resolved, effect_of, Setup, History, Effect, tables, records_of, generated_settings, generated_setup, generated_requests, request_line, generated_script, history_unless_refused, history_after, Report, step_or_refusal, effect_of_line, effect_of_request, report_on_effect, report_on_opening, report_on, answer_count, accepts, IsValid}
 use Rattle.trace_lines.specs.declared.signal.Signal.TheVariants as signal
 use Rattle.trace_lines.proofs.made.LinesLemmas.{Each, HasLine, made_each, script_lines, script_short, settings_read}
 
 step_accepted : (resolved : Resolved) (next : Effect → Option History) (go : Effect → Report) (line : ℕ) (h : History) → history_unless_refused resolved next ≡ Some h
-    → ((e : Effect) → next e ≡ Some h → (go e).accepted ≡ true) → (report_on_effect (told_step resolved) go line).accepted ≡ true
+    → ((e : Effect) → next e ≡ Some h → (go e).accepted ≡ true) → (report_on_effect (step_or_refusal resolved) go line).accepted ≡ true
 step_accepted (Ok e) next go line h is on = on e is
 step_accepted (Err why) next go line h is on = absurd (cc is)
 
-effect_is : (setup : Setup) (h : History) (r : Request) → HasLine r → effect_of_line setup (tables setup h) (request_line r) ≡ told_step (effect_of setup (tables setup h) r)
+effect_is : (setup : Setup) (h : History) (r : Request) → HasLine r → effect_of_line setup (tables setup h) (request_line r) ≡ step_or_refusal (effect_of setup (tables setup h) r)
 unfolding effect_of_line
 effect_is setup h r line = ap (effect_of_request setup (tables setup h)) line.spells
 

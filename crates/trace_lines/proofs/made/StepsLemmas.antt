@@ -1,7 +1,7 @@
 -- Each request of a made script has an effect, whatever the filter lets through.
 use Rattle.std.proofs.Common.{◌≡◌, ℕ, zero, suc, ◌+◌, ◌-◌, ◌*◌, ◌%◌, ◌^◌, ◌<◌, ◌≤◌, ◌==◌, ◌&&◌, ◌||◌, List, [], ◌∷◌, ◌++◌, length, Bool, true, false, if◌then◌else◌, Option, Some, None, Ok, refl, sym, ap, subst, ◌∙◌, arith, append_assoc, append-nil, length-append, slice_get, slice_set, is_some, option_map, codes}
 use Rattle.std.specs.Option.{option_to_list}
-use Rattle.trace_lines.proofs.Common.{list_any, nat_tests, set-append_right, list_any-append, Call, Request, LAST_MOMENT, id_at, Scope, EntryOf, Attached, is_attached_by, ScopeGuard, Effect, Tables, History, tables, after_effect, slot_at, scope_of, with_attached, with_detached, here_at, Resolved, effect_of, effect_of_call, is_bad_moment, generated_site, generated_setup, root_fields, row_fields, round, rounds, generated_requests, history_unless_refused, history_after}
+use Rattle.trace_lines.proofs.Common.{list_any, nat_tests, set-append_right, list_any-append, Call, Request, LAST_MOMENT, id_at, Scope, EntryOf, Attached, is_attached_by, ScopeGuard, Effect, Tables, History, tables, after_effect, slot_at, scope_of, with_attached, with_detached, here_at, Resolved, effect_of, effect_of_call, is_bad_moment, generated_site, generated_setup, root_fields, row_fields, requests_of_round, requests_of_rounds, generated_requests, history_unless_refused, history_after}
 use Rattle.std.proofs.lemmas.List.{get_or-append-add}
 use Rattle.std.proofs.lemmas.List.Sums.{fold-append}
 use Rattle.otel_base.specs.declared.context.Context.{Context}
@@ -13,9 +13,9 @@ use Rattle.span_script.specs.declared.request.Call.TheVariants as call
 use Rattle.span_script.specs.declared.request.RequestParent.{RequestParent}
 use Rattle.span_script.specs.declared.request.RequestParent.TheVariants as put
 use Rattle.span_script.specs.Fields.{values_of}
-use Rattle.span_script.specs.calls.Entries.{enter_effect, exit_effect, attached_by, activated_span, is_full}
+use Rattle.span_script.specs.calls.Entries.{enter_effect, exit_effect, entry_context, activated_span, is_full}
 use Rattle.span_script.specs.calls.Events.{event_effect}
-use Rattle.span_script.specs.calls.Filter.{admits_at}
+use Rattle.span_script.specs.calls.Filter.{admits_on}
 use Rattle.span_script.specs.calls.Spans.{borrows, is_borrowed, new_effect, span_effect, disabled_effect, drop_effect}
 use Rattle.trace_lines.proofs.made.LinesLemmas.{asked, root_call, below_call, event_call}
 
@@ -134,7 +134,7 @@ root_step : (t : Tables) (before at lane place i : ℕ) (xs hs : List (Option Sc
 root_step t before at lane place i xs hs ys gs items w on = record {
   effect = new_effect (here_at generated_setup t at place) 0 web_request_site (values_of web_request_site (root_fields i)) put.Root [];
   is = resolved t at place (root_call i) on;
-  now = made_kept (admits_at generated_setup t (id_at generated_setup.ids place) web_request_site) t before at lane place 0 web_request_site (values_of web_request_site (root_fields i)) put.Root [] xs hs ys gs items w;
+  now = made_kept (admits_on generated_setup t (id_at generated_setup.ids place) web_request_site) t before at lane place 0 web_request_site (values_of web_request_site (root_fields i)) put.Root [] xs hs ys gs items w;
 }
 
 below_step : (t : Tables) (before at lane place : ℕ) (xs hs : List (Option Scope)) (ys gs : List (Option ScopeGuard)) (items : List Attached)
@@ -145,7 +145,7 @@ below_step t before at lane place xs hs ys gs items w on =
     record {
       effect = new_effect (here_at generated_setup t at place) 1 query_site (values_of query_site []) put.Contextual up;
       is = resolved t at place below_call on;
-      now = made_kept (admits_at generated_setup t (id_at generated_setup.ids place) query_site) t before at lane place 1 query_site (values_of query_site []) put.Contextual up xs hs ys gs items w;
+      now = made_kept (admits_on generated_setup t (id_at generated_setup.ids place) query_site) t before at lane place 1 query_site (values_of query_site []) put.Contextual up xs hs ys gs items w;
     }
 
 -- ---- events
@@ -174,7 +174,7 @@ attached_more contexts lane items (Some a) is l = by_case (lane == l) refl
     by_case true e = ap (λ (xs : List Attached). xs ++ a ∷ []) (is lane ∙ rw (same lane) refl)
     by_case false e = is l ∙ rw e refl
 
-owned_entry : (t : Tables) (at : ℕ) (scope : Scope) → OwnedBy scope (option_to_list (attached_by t.recording at (activated_span true scope)))
+owned_entry : (t : Tables) (at : ℕ) (scope : Scope) → OwnedBy scope (option_to_list (entry_context t.recording at (activated_span true scope)))
 owned_entry t at [] = refl
 owned_entry t at (s ∷ up) = (_, refl)
 
@@ -201,12 +201,12 @@ enter_step t before at place k scope xs hs ys gs items w on there few =
       is = resolved t at place (call.Enter handle) on
           ∙ rw (slot_behind t.handles xs hs k scope w.handles there, here, not_full (is_some (activated_span true scope)) items few) refl;
       now = (
-        option_to_list (attached_by t.recording at (activated_span true scope)),
+        option_to_list (entry_context t.recording at (activated_span true scope)),
         owned_entry t at scope,
         record {
           handles = w.handles;
           guards = ap (λ l. l ++ Some (entry handle place scope) ∷ []) w.guards ∙ append_assoc ys gs (Some (entry handle place scope) ∷ []);
-          contexts = attached_more t.contexts lane items (attached_by t.recording at (activated_span true scope)) w.contexts;
+          contexts = attached_more t.contexts lane items (entry_context t.recording at (activated_span true scope)) w.contexts;
           moment = omega arith;
         },
       );
@@ -361,7 +361,7 @@ round_behind i h few r =
     one h8 _ _ (steps_on _ _ _ _ (drop_step (made_tables h8) (at + 70) (at + 80) place 0 w1.0 xs _ ys _ _ w8 (timely i _ (at + 70) (at + 80) w8.moment (omega arith) (omega (arith, few))) refl (free (m + 0)) refl)
     (λ u w. ends i lane (at + 80) xs ys u r.handles r.guards free (omega arith) w))))))))))
 
-round_replays : (i : ℕ) (h : History) → i < 50000 → Ready i (made_tables h) → Replays h (round i) (Ready (i + 1))
+round_replays : (i : ℕ) (h : History) → i < 50000 → Ready i (made_tables h) → Replays h (requests_of_round i) (Ready (i + 1))
 round_replays i h few r =
     let m = length (made_tables h).handles in
     let n = length (made_tables h).guards in
@@ -374,14 +374,14 @@ round_replays i h few r =
     (subst (λ k. Replays h (round_of i (m + 0) (m + 1) k (2 * i + 1)) (Ready (i + 1))) e
     (subst (λ k. Replays h (round_of i (m + 0) (m + 1) (n + 0) k) (Ready (i + 1))) f (round_behind i h few r))))
 
-rounds_replay : (first n : ℕ) (h : History) → first + n ≤ 50000 → Ready first (made_tables h) → Replays h (rounds first n) (Ready (first + n))
+rounds_replay : (first n : ℕ) (h : History) → first + n ≤ 50000 → Ready first (made_tables h) → Replays h (requests_of_rounds first n) (Ready (first + n))
 rounds_replay first zero h few r =
     let none : first ≡ first + 0 = omega arith in
     record { history = h; replays = λ more. refl; now = subst (λ k. Ready k (made_tables h)) none r }
 rounds_replay first (suc n) h few r =
     let next : (first + 1) + n ≡ first + suc n = omega arith in
-    followed h (round first) (rounds (first + 1) n) (Ready (first + 1)) (Ready (first + suc n)) (round_replays first h (omega (arith, few)) r)
-    (λ g s. subst (λ k. Replays g (rounds (first + 1) n) (Ready k)) next (rounds_replay (first + 1) n g (omega (arith, few)) s))
+    followed h (requests_of_round first) (requests_of_rounds (first + 1) n) (Ready (first + 1)) (Ready (first + suc n)) (round_replays first h (omega (arith, few)) r)
+    (λ g s. subst (λ k. Replays g (requests_of_rounds (first + 1) n) (Ready k)) next (rounds_replay (first + 1) n g (omega (arith, few)) s))
 
 pub made_replays : (n : ℕ) → n ≤ 50000 → ((h : History) × (history_after generated_setup [] (generated_requests n) ≡ Some h))
 made_replays n few =

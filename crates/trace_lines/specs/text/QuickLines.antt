@@ -18,14 +18,14 @@ use Rattle.trace_lines.specs.declared.read.quick.CallKind.TheVariants as kind
 use Rattle.trace_lines.specs.declared.read.quick.RequestMembers.{RequestMembers}
 
 -- a member of a name, if it has a value, in front of others
-abbrev pub there : List ℕ → Option Data → Members → Members
-there name None ms = ms
-there name (Some d) ms = member name d ms
+abbrev pub with_member_if : List ℕ → Option Data → Members → Members
+with_member_if name None ms = ms
+with_member_if name (Some d) ms = member name d ms
 
 -- the members that have values
-abbrev pub filled : List (List ℕ × Option Data) → Members
-filled [] = no_members
-filled (e ∷ es) = there e.0 e.1 (filled es)
+abbrev pub present_members : List (List ℕ × Option Data) → Members
+present_members [] = no_members
+present_members (e ∷ es) = with_member_if e.0 e.1 (present_members es)
 
 -- the word of a kind of call
 abbrev pub kind_value : CallKind → Data
@@ -42,8 +42,8 @@ parent_value Root = Some (string (codes "root"))
 parent_value (Under handle) = Some (whole_number handle)
 
 -- the names in their order, with their values; the fields are spelled by `d`
-abbrev pub named_values : RequestMembers → Option Data → List (List ℕ × Option Data)
-named_values m d =
+abbrev pub member_values : RequestMembers → Option Data → List (List ℕ × Option Data)
+member_values m d =
     (codes "at", option_map whole_number m.at)
     ∷ (codes "do", option_map kind_value m.kind)
     ∷ (codes "fields", d)
@@ -69,12 +69,12 @@ abbrev pub ReadsMember : RequestMembers → RequestMembers → List ℕ → List
 ReadsMember old new text rest =
     (name : List ℕ) × (d : Data) × HasValue text (quoted name ++ 58 ∷ []) d rest × (IsUtf8 rest → IsUtf8 text)
     × ((before : Option Data) → AreSpelled old.fields before → (after : Option Data) × AreSpelled new.fields after
-    × (filled (named_values new after) ≡ put name d (filled (named_values old before))))
+    × (present_members (member_values new after) ≡ put name d (present_members (member_values old before))))
 
 -- the line is an object of these members
 abbrev pub HasMembers : List ℕ → RequestMembers → Type 0
-HasMembers line m = (d : Option Data) × AreSpelled m.fields d × (line_members line ≡ Some (filled (named_values m d)))
+HasMembers line m = (d : Option Data) × AreSpelled m.fields d × (line_members line ≡ Some (present_members (member_values m d)))
 
 -- the members are those of the request
-abbrev pub AreOf : RequestMembers → Request → Type 0
-AreOf m request = (d : Option Data) → AreSpelled m.fields d → all_of request_form (filled (named_values m d)) ≡ Some request
+abbrev pub AreMembersOf : RequestMembers → Request → Type 0
+AreMembersOf m request = (d : Option Data) → AreSpelled m.fields d → all_of request_form (present_members (member_values m d)) ≡ Some request

@@ -72,8 +72,8 @@ what_name what.Context = codes "context"
 what_name what.Field = codes "field"
 
 -- the member that names a refusal
-abbrev pub refused_as : List ℕ → List ℕ × Data
-refused_as name = (codes "refused", string name)
+abbrev pub refusal_member : List ℕ → List ℕ × Data
+refusal_member name = (codes "refused", string name)
 
 -- the settings' texts of directives by their names: the one for counting, and the filter's
 abbrev pub text_name : Bool → List ℕ
@@ -83,37 +83,37 @@ text_name false = codes "filter"
 -- a text of directives that isn't read, and the number of its piece that is none
 abbrev pub directive_members : List ℕ → ℕ → List (List ℕ × Data)
 directive_members text piece =
-    refused_as (codes "Directive") ∷ (codes "piece", whole_number piece) ∷ (codes "text", string text) ∷ []
+    refusal_member (codes "Directive") ∷ (codes "piece", whole_number piece) ∷ (codes "text", string text) ∷ []
 
 -- What a refusal line tells of a step's refusal. Want of memory has no such line: its row stands for none
 -- that is written.
 abbrev pub step_members : Refusal → List (List ℕ × Data)
 step_members (refusal.UnknownName unknown) =
-    refused_as (codes "UnknownName") ∷ (codes "what", string (what_name unknown)) ∷ []
+    refusal_member (codes "UnknownName") ∷ (codes "what", string (what_name unknown)) ∷ []
 step_members (refusal.BadMoment before given) =
-    refused_as (codes "BadMoment")
+    refusal_member (codes "BadMoment")
     ∷ (codes "before", whole_number before) ∷ (codes "given", whole_number given) ∷ []
-step_members refusal.InUse = refused_as (codes "InUse") ∷ []
-step_members (refusal.WrongLane lane) = refused_as (codes "WrongLane") ∷ (codes "lane", whole_number lane) ∷ []
-step_members (refusal.Full lane) = refused_as (codes "Full") ∷ (codes "lane", whole_number lane) ∷ []
+step_members refusal.InUse = refusal_member (codes "InUse") ∷ []
+step_members (refusal.WrongLane lane) = refusal_member (codes "WrongLane") ∷ (codes "lane", whole_number lane) ∷ []
+step_members (refusal.Full lane) = refusal_member (codes "Full") ∷ (codes "lane", whole_number lane) ∷ []
 step_members (refusal.Directive piece) = directive_members (codes "reload") piece
-step_members refusal.Memory = refused_as (codes "Memory") ∷ []
+step_members refusal.Memory = refusal_member (codes "Memory") ∷ []
 
 -- what a refusal line tells of the refusal
 abbrev pub told_members : Told → List (List ℕ × Data)
-told_members told.BadLine = refused_as (codes "BadLine") ∷ []
+told_members told.BadLine = refusal_member (codes "BadLine") ∷ []
 told_members (told.Directive counting piece) = directive_members (text_name counting) piece
-told_members told.Lanes = refused_as (codes "Lanes") ∷ []
+told_members told.Lanes = refusal_member (codes "Lanes") ∷ []
 told_members (told.Step why) = step_members why
 
 -- a refusal of which the name alone is told, with the number of its line
 abbrev pub named_refusal : ℕ → List ℕ → Data
-named_refusal line name = object (by_name ((codes "line", whole_number line) ∷ refused_as name ∷ []))
+named_refusal line name = object (by_name ((codes "line", whole_number line) ∷ refusal_member name ∷ []))
 
 -- a refusal of which the lane is told beside the name, which is told by its place
 abbrev pub refusal_on : ℕ → ℕ → List ℕ → Data
 refusal_on line lane name = object (by_name (
-    (codes "line", whole_number line) ∷ refused_as name ∷ (codes "lane", whole_number lane) ∷ []))
+    (codes "line", whole_number line) ∷ refusal_member name ∷ (codes "lane", whole_number lane) ∷ []))
 
 -- a text of directives that isn't read, with the number of its line
 abbrev pub directive_refusal : ℕ → List ℕ → ℕ → Data

@@ -85,8 +85,8 @@ abbrev pub fields_member : List (List ℕ × Value) → List (List ℕ × Data)
 fields_member fields = (codes "fields", array_of written_field fields) ∷ []
 
 -- the member that gives attributes
-abbrev pub given_attributes : List KeyValue → List (List ℕ × Data)
-given_attributes attributes = (codes "attributes", attributes_data attributes) ∷ []
+abbrev pub attributes_member : List KeyValue → List (List ℕ × Data)
+attributes_member attributes = (codes "attributes", attributes_data attributes) ∷ []
 
 -- the member that says when an event happened
 abbrev pub time_member : Option ℕ → List (List ℕ × Data)
@@ -94,35 +94,35 @@ time_member None = []
 time_member (Some time) = number_member (codes "time") time
 
 -- what a call names
-abbrev pub number_members_of : Call → List (List ℕ × Data)
-number_members_of (call.New site put fields) = number_member (codes "site") site ++ (parent_member put ++ fields_member fields)
-number_members_of call.Current = []
-number_members_of (call.Clone handle) = number_member (codes "handle") handle
-number_members_of (call.OrCurrent handle) = number_member (codes "handle") handle
-number_members_of (call.Drop handle) = number_member (codes "handle") handle
-number_members_of (call.Enter handle) = number_member (codes "handle") handle
-number_members_of (call.Entered handle) = number_member (codes "handle") handle
-number_members_of (call.Exit guard) = number_member (codes "guard") guard
-number_members_of (call.Record handle fields) = number_member (codes "handle") handle ++ fields_member fields
-number_members_of (call.HasField handle name) = number_member (codes "handle") handle ++ (codes "name", string name) ∷ []
-number_members_of (call.Enabled site) = number_member (codes "site") site
-number_members_of (call.Reload text) = (codes "text", string text) ∷ []
-number_members_of (call.Event site put fields) = number_member (codes "site") site ++ (parent_member put ++ fields_member fields)
-number_members_of (call.Remote ids) =
+abbrev pub members_of_call : Call → List (List ℕ × Data)
+members_of_call (call.New site put fields) = number_member (codes "site") site ++ (parent_member put ++ fields_member fields)
+members_of_call call.Current = []
+members_of_call (call.Clone handle) = number_member (codes "handle") handle
+members_of_call (call.OrCurrent handle) = number_member (codes "handle") handle
+members_of_call (call.Drop handle) = number_member (codes "handle") handle
+members_of_call (call.Enter handle) = number_member (codes "handle") handle
+members_of_call (call.Entered handle) = number_member (codes "handle") handle
+members_of_call (call.Exit guard) = number_member (codes "guard") guard
+members_of_call (call.Record handle fields) = number_member (codes "handle") handle ++ fields_member fields
+members_of_call (call.HasField handle name) = number_member (codes "handle") handle ++ (codes "name", string name) ∷ []
+members_of_call (call.Enabled site) = number_member (codes "site") site
+members_of_call (call.Reload text) = (codes "text", string text) ∷ []
+members_of_call (call.Event site put fields) = number_member (codes "site") site ++ (parent_member put ++ fields_member fields)
+members_of_call (call.Remote ids) =
     (codes "trace", string (hex32 ids.trace)) ∷ (codes "span", string (hex16 ids.span)) ∷ []
-number_members_of (call.Context handle) = number_member (codes "handle") handle
-number_members_of (call.Attach context) = number_member (codes "context") context
-number_members_of (call.Detach guard) = number_member (codes "guard") guard
-number_members_of (call.Follows handle from) = number_member (codes "handle") handle ++ number_member (codes "from") from
-number_members_of (call.SetParent handle context) = number_member (codes "handle") handle ++ number_member (codes "context") context
-number_members_of (call.AddLink handle context attributes) =
-    number_member (codes "handle") handle ++ (number_member (codes "context") context ++ given_attributes attributes)
-number_members_of (call.SetAttribute handle key value) =
+members_of_call (call.Context handle) = number_member (codes "handle") handle
+members_of_call (call.Attach context) = number_member (codes "context") context
+members_of_call (call.Detach guard) = number_member (codes "guard") guard
+members_of_call (call.Follows handle from) = number_member (codes "handle") handle ++ number_member (codes "from") from
+members_of_call (call.SetParent handle context) = number_member (codes "handle") handle ++ number_member (codes "context") context
+members_of_call (call.AddLink handle context attributes) =
+    number_member (codes "handle") handle ++ (number_member (codes "context") context ++ attributes_member attributes)
+members_of_call (call.SetAttribute handle key value) =
     number_member (codes "handle") handle ++ (codes "key", string key) ∷ (codes "value", attribute_value value) ∷ []
-number_members_of (call.SetStatus handle status) =
+members_of_call (call.SetStatus handle status) =
     number_member (codes "handle") handle ++ (codes "status", status_data status) ∷ []
-number_members_of (call.AddEvent handle name attributes time) =
-    number_member (codes "handle") handle ++ (codes "name", string name) ∷ (given_attributes attributes ++ time_member time)
+members_of_call (call.AddEvent handle name attributes time) =
+    number_member (codes "handle") handle ++ (codes "name", string name) ∷ (attributes_member attributes ++ time_member time)
 
 -- the members of an object, from their names and values
 abbrev pub put_all : List (List ℕ × Data) → Members
@@ -133,4 +133,4 @@ abbrev pub request_data : Request → Data
 request_data request = object (put_all (
     (codes "at", number (unsigned request.at)) ∷
     (codes "lane", number (unsigned request.lane_place)) ∷
-    (codes "do", string (word_of request.call)) ∷ number_members_of request.call))
+    (codes "do", string (word_of request.call)) ∷ members_of_call request.call))

@@ -15,7 +15,7 @@ use crate::read::LineError;
 use crate::read::decimal::{i128_of, u128_of};
 use crate::read::plain::Plain;
 use crate::read::plain_fields::plain_fields;
-use crate::read::syntax::flat::closes;
+use crate::read::syntax::flat::expect_bracket;
 use crate::read::syntax::object::Object;
 use crate::read::syntax::scan::{number, word};
 use crate::read::syntax::value::Value;
@@ -130,7 +130,7 @@ fn plain_u64(object: &[u8]) -> Option<u64>
 {
     let digits = word(object, b"{\"u64\":")?;
     let (whole, rest) = number(digits)?;
-    closes(rest, b'}')?;
+    expect_bracket(rest, b'}')?;
     Some(whole)
 }
 

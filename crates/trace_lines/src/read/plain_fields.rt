@@ -8,18 +8,18 @@ ghost use Rattle.trace_lines.specs.reading.Spelled.{line_value};
 
 use crate::read::fields::plain_value;
 use crate::read::plain::Plain;
-use crate::read::syntax::flat::ends;
-use crate::read::syntax::scan::{DEEPEST, behind, plain_text, value};
+use crate::read::syntax::flat::expect_end;
+use crate::read::syntax::scan::{MAX_DEPTH, behind, plain_text, value};
 use otel_base::list::Items;
 use otel_base::text::Text;
 use std::alloc::Global;
 use trace_base::field::Value as FieldValue;
 
 // The room that most lists of fields need.
-const USUAL: usize = 4;
+const USUAL_FIELDS: usize = 4;
 
 // The most fields that are read so.
-const MOST_FIELDS: u32 = 65_536;
+const MAX_FIELDS: u32 = 65_536;
 
 // What stands between two quotes of a text, of which the second stands in front of `rest`. It isn't tested again.
 #[inline(always)]
@@ -44,7 +44,7 @@ fn behind_ascii<'a>(whole: &'a str, rest: &[u8]) -> &'a str
 #[inline(always)]
 fn value_in<'a>(whole: &'a str, bytes: &'a [u8]) -> Option<(Plain<'a>, &'a [u8])>
     requires { (front : List ℕ) × (whole.now ≡ front ++ bytes.now) }
-    ensures { IfSome result (λ r. BeginsWithValue DEEPEST bytes.now (plain_data r.0) r.1.now) }
+    ensures { IfSome result (λ r. BeginsWithValue MAX_DEPTH bytes.now (plain_data r.0) r.1.now) }
 {
     match plain_text(bytes) {
         Some((words, rest)) => Some((Plain::Text(between(whole, words, rest)), rest)),
@@ -59,7 +59,7 @@ fn value_in<'a>(whole: &'a str, bytes: &'a [u8]) -> Option<(Plain<'a>, &'a [u8])
 #[inline(always)]
 fn plain_field(field: &str) -> Option<(&str, Plain<'_>, &str)>
     ensures { IfSome result (λ r.
-        BeginsWithValue (DEEPEST + 1) field.now (field_data r.0.now (plain_data r.1)) r.2.now) }
+        BeginsWithValue (MAX_DEPTH + 1) field.now (field_data r.0.now (plain_data r.1)) r.2.now) }
 {
     let inner = behind(field.as_bytes(), b'[')?;
     let (words, comma) = plain_text(inner)?;
@@ -71,7 +71,7 @@ fn plain_field(field: &str) -> Option<(&str, Plain<'_>, &str)>
 }
 
 // Adds a field. It is made where it is kept, since a field is large. None where there is no memory, or none is spelled.
-fn keep(
+fn add_field(
     alloc: Global,
     fields: &mut Vec<(Text, FieldValue)>,
     name: &str,
@@ -93,7 +93,7 @@ pub fn leading_fields<'a>(
     bytes: &'a [u8],
 ) -> Option<(Items<(Text, FieldValue)>, &'a [u8])>
     ensures fields { IfSome result (λ r.
-        (d : Data) × BeginsWithValue (DEEPEST + 2) bytes.now d r.1.now × (fields_of d ≡ Some r.0)) }
+        (d : Data) × BeginsWithValue (MAX_DEPTH + 2) bytes.now d r.1.now × (fields_of d ≡ Some r.0)) }
     ensures utf8 { IfSome result (λ _. IsUtf8 bytes.now) }
 {
     let whole = str::from_utf8(bytes).ok()?;
@@ -101,11 +101,11 @@ pub fn leading_fields<'a>(
     if let Some(end) = behind(first, b']') {
         return Some((Items::new(alloc), end));
     }
-    let mut fields = Vec::with_capacity(alloc, USUAL).ok()?;
+    let mut fields = Vec::with_capacity(alloc, USUAL_FIELDS).ok()?;
     let mut rest = behind_ascii(whole, first);
-    for _ in 0..MOST_FIELDS {
+    for _ in 0..MAX_FIELDS {
         let (name, plain, after) = plain_field(rest)?;
-        keep(alloc, &mut fields, name, plain)?;
+        add_field(alloc, &mut fields, name, plain)?;
         match behind(after.as_bytes(), b',') {
             Some(more) => rest = behind_ascii(after, more),
             None => {
@@ -122,6 +122,6 @@ pub(crate) fn plain_fields(alloc: Global, array: &str) -> Option<Items<(Text, Fi
     ensures { IfSome result (λ fields. option_and_then fields_of (line_value array.now) ≡ Some fields) }
 {
     let (fields, end) = leading_fields(alloc, array.as_bytes())?;
-    ends(end)?;
+    expect_end(end)?;
     Some(fields)
 }

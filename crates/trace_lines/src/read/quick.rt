@@ -8,7 +8,7 @@ ghost use Rattle.trace_lines.specs.text.QuickLines.{AreSpelled, HasMembers, HasV
 ghost use Rattle.trace_lines.specs.reading.Spelled.{request_spelled};
 
 use crate::read::plain_fields::leading_fields;
-use crate::read::syntax::flat::closes;
+use crate::read::syntax::flat::expect_bracket;
 use crate::read::syntax::scan::{behind, number, word};
 use otel_base::list::Items;
 use otel_base::text::Text;
@@ -17,7 +17,7 @@ use std::alloc::Global;
 use trace_base::field::Value as FieldValue;
 
 // The most members of a line that is read so.
-const MOST_MEMBERS: u32 = 8;
+const MAX_MEMBERS: u32 = 8;
 
 /// The kinds of calls that are read so.
 #[derive(Clone, Copy, Drop)]
@@ -135,13 +135,13 @@ fn parent_member<'a>(parent: &mut RequestParent, text: &'a [u8]) -> Option<&'a [
 }
 
 impl RequestMembers {
-    ghost use Rattle.trace_lines.specs.text.QuickLines.{filled, named_values, ReadsMember, AreOf};
+    ghost use Rattle.trace_lines.specs.text.QuickLines.{present_members, member_values, ReadsMember, AreMembersOf};
 
     // No member was read.
     #[inline(always)]
     fn none() -> RequestMembers
         ensures fields { result.fields ≡ None }
-        ensures all { filled (named_values result None) ≡ no_members }
+        ensures all { present_members (member_values result None) ≡ no_members }
     {
         RequestMembers {
             at: None,
@@ -179,7 +179,7 @@ impl RequestMembers {
     // The request that has these members and no other.
     #[inline(always)]
     fn request(self, alloc: Global) -> Option<Request>
-        ensures { IfSome result (λ request. AreOf self request) }
+        ensures { IfSome result (λ request. AreMembersOf self request) }
     {
         let RequestMembers {
             at,
@@ -228,12 +228,12 @@ fn members(alloc: Global, line: &[u8]) -> Option<RequestMembers>
 {
     let mut members = RequestMembers::none();
     let mut rest = behind(line, b'{')?;
-    for _ in 0..MOST_MEMBERS {
+    for _ in 0..MAX_MEMBERS {
         let after = members.read(alloc, rest)?;
         match behind(after, b',') {
             Some(more) => rest = more,
             None => {
-                closes(after, b'}')?;
+                expect_bracket(after, b'}')?;
                 return Some(members);
             }
         }

@@ -21,13 +21,13 @@ use trace_base::callsite::{Callsite, Kind};
 use trace_base::level::Level;
 
 // The greatest id of a lane.
-const GREATEST_ID: u64 = 9_223_372_036_854_775_807;
+const MAX_LANE_ID: u64 = 9_223_372_036_854_775_807;
 
 #[tactic(auto, unfolding(crate::specs::forms::SettingsForm::lane_form))]
 fn lane_members(alloc: Global, object: &mut Object) -> Result<(u64, Option<Text>), LineError>
     ensures { Gives (λ l. (l, members_left object.new)) result (lane_form (members_left object.old)) }
 {
-    let id = object.whole_to(GREATEST_ID, "id")?;
+    let id = object.whole_to(MAX_LANE_ID, "id")?;
     let name = object.optional_text(alloc, "name")?;
     Ok((id, name))
 }

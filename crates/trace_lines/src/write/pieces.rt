@@ -81,6 +81,7 @@ pub fn add_flag(out: &mut TextBuffer, front: &str, flag: bool) -> Result<(), All
 }
 
 /// Adds a text in quotes.
+#[inline(always)]
 #[tactic(auto, using(crate::proofs::texts::EscapesLemmas::plain_whole))]
 pub fn add_text(out: &mut TextBuffer, front: &str, text: &str) -> Result<(), AllocError>
     ensures { Writes result out.old out.new (front.now ++ quoted text.now) }
@@ -89,9 +90,17 @@ pub fn add_text(out: &mut TextBuffer, front: &str, text: &str) -> Result<(), All
     if plain_run(bytes) == bytes.len() {
         return add_plain(out, front, bytes);
     }
+    add_with_escapes(out, front, text)
+}
+
+#[cold]
+#[inline(never)]
+fn add_with_escapes(out: &mut TextBuffer, front: &str, text: &str) -> Result<(), AllocError>
+    ensures { Writes result out.old out.new (front.now ++ quoted text.now) }
+{
     add(out, front)?;
     out.push(b'"')?;
-    add_escaped(out, bytes)?;
+    add_escaped(out, text.as_bytes())?;
     out.push(b'"')?;
     Ok(())
 }

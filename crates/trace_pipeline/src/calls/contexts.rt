@@ -18,7 +18,7 @@ use otel_base::stack::ContextGuard;
 use otel_layer::part::{OtelPart, OtelSubscriber};
 use otel_layer::span_ext::OpenTelemetrySpanExt;
 use span_handles::span::Span;
-use span_script::contexts::Attach;
+use span_script::contexts::AttachGuard;
 use span_script::reply::{Refusal, Reply, What};
 use span_stack::Stack;
 use trace_base::lane::Lane;
@@ -29,7 +29,7 @@ use trace_base::world::World;
 fn attach_to(lane: &mut Lane, context: Context) -> Result<ContextGuard, EnterError>
     ensures id { lane.new.id ≡ lane.old.id }
     ensures name { lane.new.name ≡ lane.old.name }
-    ensures own { lane.new.default ≡ lane.old.default }
+    ensures same_default { lane.new.default ≡ lane.old.default }
     ensures live { IfOk result (λ number. lane.new.contexts.live ≡ lane.old.contexts.live ++ (number, context) ∷ []) }
     ensures number { IfOk result (λ number. has_number number lane.old.contexts.live ≡ false) }
     ensures full { (result ≡ Err Full) ↔ (length lane.old.contexts.live ≡ MAX_CONTEXTS) }
@@ -43,7 +43,7 @@ fn detach_from(lane: &mut Lane, attached: ContextGuard)
     requires { has_number attached lane.old.contexts.live ≡ true }
     ensures id { lane.new.id ≡ lane.old.id }
     ensures name { lane.new.name ≡ lane.old.name }
-    ensures own { lane.new.default ≡ lane.old.default }
+    ensures same_default { lane.new.default ≡ lane.old.default }
     ensures live { lane.new.contexts.live ≡ without_number attached lane.old.contexts.live }
 {
     lane.contexts.detach(attached);
@@ -120,7 +120,9 @@ impl Pipeline {
             Err(error) => return Err(Refusal::of_entry(place, error)),
         };
         self.guards.skip();
-        self.contexts.attaches.keep(Attach { place, attached });
+        self.contexts
+            .attaches
+            .push_reserved(AttachGuard { place, attached });
         self.moment = at;
         Ok(Reply::Guard { guard })
     }
@@ -129,8 +131,8 @@ impl Pipeline {
         requires { place < length self.old.lanes }
         ensures { Serves self.old at place (Call.Detach guard) result self.new }
     {
-        let open = self.contexts.take_on(guard, place)?;
-        let Attach { place: _, attached } = open;
+        let open = self.contexts.take_on_lane(guard, place)?;
+        let AttachGuard { place: _, attached } = open;
         detach_from(&mut self.lanes[place as usize], attached);
         self.moment = at;
         Ok(Reply::Done)

@@ -23,7 +23,7 @@ impl Pipeline {
         let on = &self.lanes[place as usize];
         let span = Span::current(&mut self.world, on);
         let enabled = span.id().is_some();
-        self.handles.keep(span);
+        self.handles.push_reserved(span);
         self.moment = at;
         Ok(Reply::Made {
             enabled,
@@ -53,7 +53,7 @@ impl Pipeline {
         let on = &self.lanes[place as usize];
         let span = span.or_current(&mut self.world, on);
         let enabled = span.id().is_some();
-        self.handles.keep(span);
+        self.handles.push_reserved(span);
         self.moment = at;
         Ok(Reply::Made {
             enabled,

@@ -38,7 +38,7 @@ impl Pipeline {
             Ok(entry) => entry,
             Err(error) => return Err(Refusal::of_entry(place, error)),
         };
-        self.guards.keep(Guard {
+        self.guards.push_reserved(Guard {
             handle,
             place,
             owns,
@@ -64,7 +64,7 @@ impl Pipeline {
         ensures { Serves self.old at place (Call.Exit guard) result self.new }
     {
         laws::calls();
-        let open = self.guards.take_on(guard, place)?;
+        let open = self.guards.take_on_lane(guard, place)?;
         let Guard {
             handle,
             place: _,

@@ -1,7 +1,7 @@
 //! What is asked of the span extension: parents, attributes, statuses and events.
 ghost use Rattle.std.specs.Prelude.{◌≡◌};
 ghost use Rattle.span_script.specs.declared.request.Call.{Call};
-ghost use Rattle.span_script.specs.calls.Links.{happens_at};
+ghost use Rattle.span_script.specs.calls.Links.{event_time};
 
 use crate::laws;
 use crate::names::context_at;
@@ -15,8 +15,8 @@ use otel_layer::span_ext::OpenTelemetrySpanExt;
 use span_script::reply::{Refusal, Reply, What};
 
 // When an event happens: at its time, else at the request's moment.
-fn happens_at(at: Moment, time: Option<Moment>) -> Moment
-    ensures { result ≡ happens_at at time }
+fn event_time(at: Moment, time: Option<Moment>) -> Moment
+    ensures { result ≡ event_time at time }
 {
     match time {
         Some(time) => time,
@@ -102,7 +102,7 @@ impl Pipeline {
         let Some(span) = self.handles.get(handle) else {
             return Err(Refusal::UnknownName { what: What::Handle });
         };
-        let time = happens_at(at, time);
+        let time = event_time(at, time);
         span.add_event_with_timestamp(&mut self.world, at, name, time, attributes)?;
         self.moment = at;
         Ok(Reply::Done)

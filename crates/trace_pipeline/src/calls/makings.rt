@@ -97,7 +97,7 @@ impl Pipeline {
             parent,
             fields,
         )?;
-        self.handles.keep(span);
+        self.handles.push_reserved(span);
         self.moment = at;
         Ok(Reply::Made {
             enabled,

@@ -27,7 +27,7 @@ impl Pipeline {
         };
         let enabled = span.id().is_some();
         let copy = span.clone_handle(&mut self.world);
-        self.handles.keep(copy);
+        self.handles.push_reserved(copy);
         self.moment = at;
         Ok(Reply::Made {
             enabled,

@@ -2,7 +2,7 @@
 use Rattle.std.specs.Prelude.{◌≡◌, ℕ, ◌≤◌, List, [], Option, Some, None, false}
 use Rattle.std.proofs.Common.{◌⊎◌}
 use Rattle.span_script.specs.Tables.{History}
-use Rattle.trace_lines.specs.declared.generated.TheConstants.{MOST_ROUNDS}
+use Rattle.trace_lines.specs.declared.generated.TheConstants.{MAX_ROUNDS}
 use Rattle.trace_lines.specs.Generated.{generated_setup, generated_requests, generated_script}
 use Rattle.trace_lines.specs.Replay.{history_after, summary_of, summary_text}
 use Rattle.trace_lines.specs.Report.{IsValid}
@@ -41,4 +41,4 @@ pub record MakesSum (rounds : ℕ) (status : Status) (before now : Streams) : Ty
   pub complete : CompletesSum status before.write_faults now.write_faults
 
 abbrev pub meaning_of_make : ℕ → Meaning
-meaning_of_make rounds = record { IsPossible = rounds ≤ MOST_ROUNDS; reads = false; Does = MakesSum rounds }
+meaning_of_make rounds = record { IsPossible = rounds ≤ MAX_ROUNDS; reads = false; Does = MakesSum rounds }

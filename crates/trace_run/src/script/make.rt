@@ -16,7 +16,7 @@ use std::alloc::Global;
 use trace_base::discard::Discard;
 use trace_lines::TextBuffer;
 use trace_lines::generated::laws::validity;
-use trace_lines::generated::{MOST_ROUNDS, generated_settings, round};
+use trace_lines::generated::{MAX_ROUNDS, generated_settings, requests_of_round};
 use trace_lines::write::add_summary_line;
 use trace_lines::write::summary::Summary;
 use trace_pipeline::pipeline::Pipeline;
@@ -27,7 +27,7 @@ use trace_stream::status::Status;
 /// Runs the script of so many rounds, and writes its summary. It reads nothing; nothing is written where no memory
 /// was to be had.
 pub fn make<W: Sink>(alloc: Global, rounds: u64, sink: &mut W) -> Status
-    requires { rounds ≤ MOST_ROUNDS }
+    requires { rounds ≤ MAX_ROUNDS }
     ensures leaves { LeavesSum result rounds (W.holds sink.old) (W.holds sink.new) }
     ensures cause { result ≡ Status.WriteFault → CountsFault (W.faults sink.old) (W.faults sink.new) }
     ensures complete { CompletesSum result (W.faults sink.old) (W.faults sink.new) }
@@ -44,7 +44,7 @@ pub fn make<W: Sink>(alloc: Global, rounds: u64, sink: &mut W) -> Status
 
 // The line of the summary.
 fn generated_line(alloc: Global, rounds: u64) -> Result<Vec<u8>, Memory>
-    requires { rounds ≤ MOST_ROUNDS }
+    requires { rounds ≤ MAX_ROUNDS }
     ensures { IfOk result (λ text. IsGeneratedLine rounds text.items) }
 {
     let summary = run_rounds(alloc, rounds)?;
@@ -55,7 +55,7 @@ fn generated_line(alloc: Global, rounds: u64) -> Result<Vec<u8>, Memory>
 
 // Runs the script, and sums up what it came to.
 fn run_rounds(alloc: Global, rounds: u64) -> Result<Summary, Memory>
-    requires { rounds ≤ MOST_ROUNDS }
+    requires { rounds ≤ MAX_ROUNDS }
     ensures { IfOk result (λ summary. SumsUp rounds summary) }
 {
     validity();
@@ -105,12 +105,12 @@ fn serve_rounds(
     pipeline: &mut Pipeline,
     totals: &mut Totals,
 ) -> Result<(), Memory>
-    requires { rounds ≤ MOST_ROUNDS }
+    requires { rounds ≤ MAX_ROUNDS }
     ensures { Counts [] pipeline.old totals.old
         → OnOk result (ServesRequests (generated_requests rounds) [] pipeline.new totals.new) }
 {
     for i in 0..rounds {
-        let requests = round(alloc, i)?;
+        let requests = requests_of_round(alloc, i)?;
         serve_all(pipeline, totals, requests)?;
     }
     Ok(())

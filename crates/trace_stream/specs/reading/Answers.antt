@@ -3,7 +3,7 @@ use Rattle.std.specs.Prelude.{◌≡◌, ℕ, List, [], ◌++◌, ◌+◌, Bool,
 use Rattle.trace_lines.specs.declared.signal.Signal.{Signal}
 use Rattle.span_script.specs.declared.reply.Reply.{Reply}
 use Rattle.span_script.specs.Tables.{History, tables}
-use Rattle.span_script.specs.Fits.{State, StandsFor}
+use Rattle.span_script.specs.Fits.{PipelineState, StandsFor}
 use Rattle.trace_lines.specs.Report.{with_text_before, answer_text, answer_count, report_on, report_from}
 use Rattle.input_lines.specs.Refusals.{are_blank}
 use Rattle.trace_records.specs.Following.{without_taken}
@@ -15,13 +15,13 @@ use Rattle.trace_stream.specs.declared.answers.RunStage.TheVariants as stage
 use Rattle.trace_stream.specs.declared.written.Written.{Written}
 
 -- no record and no measure waits to be taken
-pub record IsEmptied (kept : State) : Type 0 where
+pub record IsEmptied (kept : PipelineState) : Type 0 where
   pub records : kept.recording.finished ≡ []
   pub measures : kept.measures ≡ []
 
 -- Settings came, the pipeline stands for the requests so far, their records and measures are taken, and behind
 -- what is written, with so many records or measures, comes the report on the lines that follow.
-pub record Runs (signal : Signal) (lines : List (List ℕ)) (count : ℕ) (kept : State) (text : List ℕ) (tally : ℕ) : Type 0 where
+pub record Runs (signal : Signal) (lines : List (List ℕ)) (count : ℕ) (kept : PipelineState) (text : List ℕ) (tally : ℕ) : Type 0 where
   pub history : History
   pub some : are_blank lines ≡ false
   pub stands : StandsFor kept (tables kept.setup history)
@@ -31,7 +31,7 @@ pub record Runs (signal : Signal) (lines : List (List ℕ)) (count : ℕ) (kept 
 
 -- A request on a line that was served is answered: what is told of it stands behind what was written before, and no record
 -- and no measure waits any more.
-pub record IsAnswered (signal : Signal) (line : ℕ) (reply : Reply) (old new : State) (before after : Written) : Type 0 where
+pub record IsAnswered (signal : Signal) (line : ℕ) (reply : Reply) (old new : PipelineState) (before after : Written) : Type 0 where
   pub text : after.text.items
       ≡ before.text.items ++ answer_text signal line before.count reply old.recording.finished old.measures
   pub count : after.count ≡ before.count + answer_count signal old.recording.finished old.measures
@@ -57,7 +57,7 @@ AnswersAt signal (stage.Running pipeline) lines count text tally = Runs signal l
 AnswersAt signal stage.Refused lines count text tally = Stops signal lines text
 
 -- how a run stands behind a request, by whether it was served
-abbrev pub Goes : Signal → Bool → List (List ℕ) → ℕ → State → List ℕ → ℕ → Type 0
+abbrev pub Goes : Signal → Bool → List (List ℕ) → ℕ → PipelineState → List ℕ → ℕ → Type 0
 Goes signal true lines count kept text tally = Runs signal lines count kept text tally
 Goes signal false lines count kept text tally = Stops signal lines text
 

@@ -1,6 +1,6 @@
 -- What the changes of a step keep, and what they are to a subscriber.
 use Rattle.std.proofs.Common.{◌≡◌, ℕ, Option, Some, Result, Ok, Err, refl, sym, subst, ◌∙◌, arith, Bool, slice_get, slice_set, OnOk, OnErr}
-use Rattle.trace_tasks.proofs.Common.{Memory, OpReply, ValueSet, Callsite, Lane, LevelFilter, WorldValue, Spans, SubscriberCall, Records, Event, spans_after_call, CallLanes, KeepsLaneButRoom, Beside, CallsBy, KeepsLent, calls_none, calls_one, called_same, called_once, changed_once, keeps_nothing, refused, PartCall, Applies, StaysStack, Changes, nothing, room, told, recorded, asked, Asks, Wants, spare, denied}
+use Rattle.trace_tasks.proofs.Common.{Memory, OpReply, ValueSet, Callsite, Lane, LevelFilter, WorldValue, Spans, SubscriberCall, Records, Event, spans_after_call, CallLanes, KeepsLaneButRoom, Beside, CallsBy, KeepsLent, calls_none, calls_one, called_same, called_once, changed_once, keeps_nothing, refused, PartCall, Applies, StaysStack, Changes, nothing, room, told, recorded, asked, Asks, WantsMemory, spare, denied}
 use Rattle.otel_state.specs.declared.op.Op.{Op}
 use Rattle.trace_base.specs.declared.span.Parent.{Parent}
 
@@ -72,10 +72,10 @@ module _ {S : Type 0} (spans : S → Spans) (hint : S → Option LevelFilter) (e
 
   -- what a call that wanted memory leaves
   pub tell_wants : (at : ℕ) (old : WorldValue S) (d : ℕ) (s t : S) (result : Result (Unit {0}) Memory) → slice_get old.subscribers d ≡ Some s
-      → OnErr result (same s t) → OnErr result (Wants spans hint enables does touches same at old (record old { subscribers = slice_set old.subscribers d t }))
+      → OnErr result (same s t) → OnErr result (WantsMemory spans hint enables does touches same at old (record old { subscribers = slice_set old.subscribers d t }))
   tell_wants at old d s t (Ok x) there left = tt
   tell_wants at old d s t (Err e) there left = spare d (record { before = s; later = t; there = there; did = left; others = refl })
 
   pub ask_wants : (at : ℕ) (old : WorldValue S) (d : ℕ) (s t : S) (id : ℕ) (op : Op) (wanted : Memory) → slice_get old.subscribers d ≡ Some s → touches s (Applies id at op (Some (Err wanted))) t
-      → Wants spans hint enables does touches same at old (record old { subscribers = slice_set old.subscribers d t })
+      → WantsMemory spans hint enables does touches same at old (record old { subscribers = slice_set old.subscribers d t })
   ask_wants at old d s t id op wanted there did = denied d id op wanted (record { before = s; later = t; there = there; did = did; others = refl })

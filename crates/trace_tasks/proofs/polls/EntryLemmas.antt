@@ -1,6 +1,6 @@
 -- An entry of a task's span, its steps and the exit are the requests of its poll.
 use Rattle.std.proofs.Common.{◌≡◌, ℕ, List, [], ◌∷◌, ◌++◌, length, map, Bool, Option, Some, None, refl, sym, ap, subst, ◌∙◌, slice_get, zero, suc}
-use Rattle.trace_tasks.proofs.Common.{Callsite, Lane, LevelFilter, SubscriberCall, Enter, Exit, spans_after_call, with_span_entry, with_span_exit, CallLanes, attached_as, WorldValue, Span, Spans, span_at, entries_on, current_on, without_hold, Replaced, spans_in, no_spans, Handle, HeldSpan, ReplacedOn, BeginsInside, as_many, seen_before, seen_later, HasAll, PartCall, StaysStack, Request, on_first_lane, Step, steps_now, StepsOn, TaskScene, Entered, Exited, Carries, UnfinishedTask, step_call, moment_of, root_of_one_handle, IsAloneAs, SameAttached}
+use Rattle.trace_tasks.proofs.Common.{Callsite, Lane, LevelFilter, SubscriberCall, Enter, Exit, spans_after_call, with_span_entry, with_span_exit, CallLanes, attached_as, WorldValue, Span, Spans, span_at, entries_on, current_on, without_hold, Replaced, spans_in, no_spans, Handle, HeldSpan, ReplacedOn, BeginsInside, as_many, seen_before, seen_later, HasAll, PartCall, StaysStack, Request, on_first_lane, Step, steps_now, StepsOn, TaskScene, CarriesEnter, CarriesExit, Carries, UnfinishedTask, step_call, moment_of, root_of_one_handle, IsAloneAs, SameAttached}
 use Rattle.span_script.specs.declared.request.Call.TheVariants as call
 use Rattle.trace_tasks.proofs.queues.RootLemmas.{back, entered_made, entered_entries, entered_current, exited_made, exited_entries, none_current}
 use Rattle.trace_tasks.proofs.polls.AttachedLemmas.{entered_and_left}
@@ -57,7 +57,7 @@ module _ {S : Type 0} (spans : S → Spans) (hint : S → Option LevelFilter) (e
         let inside : TaskScene S = record { world = world; lane = lane; handles = handles; guards = guarded } in
         let leaving : TaskScene S = record { world = left; lane = lane; handles = handles; guards = guarded } in
         let now : at ≡ m = moment in
-        let enter : Entered spans hint enables does touches d m t.number (record { world = old; lane = before; handles = handles; guards = guards }) inside = record {
+        let enter : CarriesEnter spans hint enables does touches d m t.number (record { world = old; lane = before; handles = handles; guards = guards }) inside = record {
           handle = record { held = held; site = own };
           is = is;
           begins = subst (λ (n : ℕ). BeginsInside does n held old before world lane) now begins;
@@ -67,7 +67,7 @@ module _ {S : Type 0} (spans : S → Spans) (hint : S → Option LevelFilter) (e
         let did = steps_carry spans hint enables attaches kept is_whole does touches d shows lanes stays old.sites t m lane handles guarded (lane_default ∙ default) (record { held = held; site = own }) (current_by held site)
         (subst (λ (n : ℕ). IsAt d n (record { held = held; site = own }) (current_by held site)) (sym site_is) here) is t.steps world left sites current
         (subst (λ (xs : List Step). StepsOn spans hint enables does touches lane m (steps_now xs) world left) (sym steps_are) (subst (λ (n : ℕ). StepsOn spans hint enables does touches lane n (steps_now steps) world left) now on)) in
-        let exit : Exited spans hint enables does touches d m k leaving (record { world = new; lane = later; handles = handles; guards = guarded }) = record {
+        let exit : CarriesExit spans hint enables does touches d m k leaving (record { world = new; lane = later; handles = handles; guards = guarded }) = record {
           held = held;
           is = get_push guards held k count;
           exited = subst (λ (n : ℕ). ReplacedOn (λ id s t. does s (Exit id n lane later) t) left new held) now exits;

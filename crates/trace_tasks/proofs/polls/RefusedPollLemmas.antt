@@ -1,6 +1,6 @@
 -- A poll of a task that was refused.
 use Rattle.std.proofs.Common.{◌≡◌, ℕ, List, [], ◌∷◌, ◌++◌, length, map, Bool, Option, Some, None, Err, refl, sym, ap, subst, ◌∙◌, slice_get, inl, inr, ◌⊎◌}
-use Rattle.trace_tasks.proofs.Common.{EnterError, Callsite, Lane, LevelFilter, SubscriberCall, Enter, spans_after_call, with_span_entry, CallLanes, WorldValue, Spans, entries_on, current_on, Replaced, Chain, spans_in, no_spans, Handle, HeldSpan, ReplacedOn, BeginsInside, KeepsLaneButRoom, MeetsFullLane, seen_before, seen_later, Instrumented, Polled, CannotEnter, IsInside, PartCall, StaysStack, Request, on_first_lane, Running, Step, PollsSteps, Wants, untouched, spare, TaskScene, Entered, Exited, Handled, UnfinishedTask, step_call, moment_of, StopsPoll, TurnStops, MeetsFull, dispatch_serving, Ready, IsAlone, IsAloneAs, left_as}
+use Rattle.trace_tasks.proofs.Common.{EnterError, Callsite, Lane, LevelFilter, SubscriberCall, Enter, spans_after_call, with_span_entry, CallLanes, WorldValue, Spans, entries_on, current_on, Replaced, Chain, spans_in, no_spans, Handle, HeldSpan, ReplacedOn, BeginsInside, KeepsLaneButRoom, MeetsFullLane, seen_before, seen_later, Instrumented, Polled, CannotEnter, IsInside, PartCall, StaysStack, Request, on_first_lane, TaskFuture, Step, PollsSteps, WantsMemory, untouched, spare, TaskScene, CarriesEnter, CarriesExit, CarriesOnHandle, UnfinishedTask, step_call, moment_of, StopsPoll, TurnStops, MeetsFull, dispatch_serving, ReadyToPoll, IsAlone, IsAloneAs, unfinished_task}
 use Rattle.span_script.specs.declared.request.Call.TheVariants as call
 use Rattle.trace_tasks.proofs.queues.RootLemmas.{entered_current, none_current}
 use Rattle.trace_tasks.proofs.polls.StepLemmas.{IsAt, disabled, enabled, first_acts, acts_carry}
@@ -54,16 +54,16 @@ module _ {S : Type 0} (spans : S → Spans) (hint : S → Option LevelFilter) (e
             }
 
   -- what a poll of a task's steps is
-  abbrev pub RunPolls : Running → WorldValue S → Lane → ℕ → Polled (Unit {0}) → Running → WorldValue S → Lane → Type 0
+  abbrev pub RunPolls : TaskFuture → WorldValue S → Lane → ℕ → Polled (Unit {0}) → TaskFuture → WorldValue S → Lane → Type 0
   RunPolls f world lane at r g new later = PollsSteps spans hint enables does touches same f.steps.items world lane at r g.steps.items new later
 
-  module _ (f g : Instrumented Running) (site : ℕ) (old world new : WorldValue S) (before later : Lane) (e : EnterError) (ready : Ready spans kept is_whole old before) (lone : IsAlone (spans_in spans old (dispatch_serving before)).made (dispatch_serving before) site f.span)
+  module _ (f g : Instrumented TaskFuture) (site : ℕ) (old world new : WorldValue S) (before later : Lane) (e : EnterError) (ready : ReadyToPoll spans kept is_whole old before) (lone : IsAlone (spans_in spans old (dispatch_serving before)).made (dispatch_serving before) site f.span)
       (number k : ℕ) (handles : List Handle) (guards : List HeldSpan) (is : slice_get handles number ≡ Some f.span) (count : length guards ≡ k) where
     abbrev d : ℕ
     d = dispatch_serving before
 
     abbrev t : UnfinishedTask
-    t = left_as number site f.inner
+    t = unfinished_task number site f.inner
 
     abbrev m : ℕ
     m = moment_of k
@@ -75,11 +75,11 @@ module _ {S : Type 0} (spans : S → Spans) (hint : S → Option LevelFilter) (e
     start = record { world = old; lane = before; handles = handles; guards = guards }
 
     drop_at : (gs : List HeldSpan) → ReplacedOn (λ id s t. Chain spans does m (Some id) s t) world new f.span.held
-        → Handled spans hint enables does touches d m number (call.Drop number) (record { world = world; lane = later; handles = handles; guards = gs }) (record { world = new; lane = later; handles = handles; guards = gs })
+        → CarriesOnHandle spans hint enables does touches d m number (call.Drop number) (record { world = world; lane = later; handles = handles; guards = gs }) (record { world = new; lane = later; handles = handles; guards = gs })
     drop_at gs chain = record { handle = f.span; is = is; did = (refl, chain); handles = refl; guards = refl }
 
     -- the entry was refused
-    wants_on : (held : HeldSpan) → ReplacedOn (λ id s t. same s t) old world held → Wants spans hint enables does touches same m old world
+    wants_on : (held : HeldSpan) → ReplacedOn (λ id s t. same s t) old world held → WantsMemory spans hint enables does touches same m old world
     wants_on None nothing = untouched nothing
     wants_on (Some h) room = spare h.0 room
 
@@ -117,7 +117,7 @@ module _ {S : Type 0} (spans : S → Spans) (hint : S → Option LevelFilter) (e
         let stop = polled.2 in
         let inn = inner d f.span.held f.span.site site m old i.world before i.lane lone.site_is ready.none_open lone.held_is i.entered in
         let f' : Step → Request = λ s. on_first_lane m (step_call old.sites t s) in
-        let enter : Entered spans hint enables does touches d m number start (record { world = i.world; lane = i.lane; handles = handles; guards = guarded }) = record {
+        let enter : CarriesEnter spans hint enables does touches d m number start (record { world = i.world; lane = i.lane; handles = handles; guards = guarded }) = record {
           handle = f.span;
           is = is;
           begins = i.entered;
@@ -126,7 +126,7 @@ module _ {S : Type 0} (spans : S → Spans) (hint : S → Option LevelFilter) (e
         } in
         let did = acts_carry spans hint enables attaches kept is_whole does touches d shows lanes stays old.sites t m i.lane handles guarded (inn.default ∙ ready.default) f.span (current_by f.span.held site) inn.here is
         stop.done (first_acts stop.done (stop.refused ∷ stop.others) f.inner.steps.items stop.within) i.world stop.world inn.sites inn.current stop.did in
-        let exit : Exited spans hint enables does touches d m k (record { world = i.left_world; lane = i.left_lane; handles = handles; guards = guarded }) (record { world = world; lane = later; handles = handles; guards = guarded }) = record {
+        let exit : CarriesExit spans hint enables does touches d m k (record { world = i.left_world; lane = i.left_lane; handles = handles; guards = guarded }) (record { world = world; lane = later; handles = handles; guards = guarded }) = record {
           held = f.span.held;
           is = get_push guards f.span.held k count;
           exited = i.exited;
@@ -156,16 +156,16 @@ module _ {S : Type 0} (spans : S → Spans) (hint : S → Option LevelFilter) (e
 
     either : CannotEnter {A = Unit {0}} same activates f old before (Err e) g world later ⊎ IsInside does activates RunPolls f old before m (Err e) g world later → ReplacedOn (λ id s t. Chain spans does m (Some id) s t) world new g.span.held
         → StopsPoll spans hint enables activates does touches same d old.sites m k t e start new later
-    either (inl r) chain = refused r (subst (λ (h : Instrumented Running). ReplacedOn (λ id s t. Chain spans does m (Some id) s t) world new h.span.held) r.future_same chain)
+    either (inl r) chain = refused r (subst (λ (h : Instrumented TaskFuture). ReplacedOn (λ id s t. Chain spans does m (Some id) s t) world new h.span.held) r.future_same chain)
     either (inr i) chain = inside i (subst (λ (h : Handle). ReplacedOn (λ id s t. Chain spans does m (Some id) s t) world new h.held) i.span_same chain)
 
-  pub stops : (f g : Instrumented Running) (at site : ℕ) (old world new : WorldValue S) (before later : Lane) (e : EnterError) → Ready spans kept is_whole old before → IsAlone (spans_in spans old (dispatch_serving before)).made (dispatch_serving before) site f.span
+  pub stops : (f g : Instrumented TaskFuture) (at site : ℕ) (old world new : WorldValue S) (before later : Lane) (e : EnterError) → ReadyToPoll spans kept is_whole old before → IsAlone (spans_in spans old (dispatch_serving before)).made (dispatch_serving before) site f.span
       → CannotEnter {A = Unit {0}} same activates f old before (Err e) g world later ⊎ IsInside does activates RunPolls f old before at (Err e) g world later → ReplacedOn (λ id s t. Chain spans does at (Some id) s t) world new g.span.held
       → TurnStops spans hint enables activates does touches same at f old before e new later
   stops f g at site old world new before later e ready lone polled chain = record {
     stops = λ number own k handles guards moment is count own_is.
         let same_site : site ≡ own = cc (lone.site_is, own_is) in
-        subst (λ (n : ℕ). StopsPoll spans hint enables activates does touches same (dispatch_serving before) old.sites n k (left_as number own f.inner) e (record { world = old; lane = before; handles = handles; guards = guards }) new later) (sym moment)
+        subst (λ (n : ℕ). StopsPoll spans hint enables activates does touches same (dispatch_serving before) old.sites n k (unfinished_task number own f.inner) e (record { world = old; lane = before; handles = handles; guards = guards }) new later) (sym moment)
         (either f g own old world new before later e ready (subst (λ (x : ℕ). IsAlone (spans_in spans old (dispatch_serving before)).made (dispatch_serving before) x f.span) same_site lone) number k handles guards is count
         (subst (λ (n : ℕ). CannotEnter {A = Unit {0}} same activates f old before (Err e) g world later ⊎ IsInside does activates RunPolls f old before n (Err e) g world later) moment polled)
         (subst (λ (n : ℕ). ReplacedOn (λ id s t. Chain spans does n (Some id) s t) world new g.span.held) moment chain));

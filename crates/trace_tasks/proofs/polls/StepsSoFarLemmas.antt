@@ -1,6 +1,6 @@
 -- A poll of a task's steps, so far.
 use Rattle.std.proofs.Common.{◌≡◌, ℕ, List, [], ◌∷◌, ◌++◌, Bool, Option, Err, refl, sym, ap, subst, ◌∙◌, ◌⊎◌, inl, inr, append_assoc}
-use Rattle.trace_tasks.proofs.Common.{Callsite, Lane, LevelFilter, WorldValue, Spans, SubscriberCall, spans_after_call, CallLanes, CallsBy, KeepsLent, calls_none, calls_then, keeps_nothing, PartCall, StaysStack, Step, steps_now, steps_left, StepOn, StepsOn, PollsSteps, Changes, Asks, Wants}
+use Rattle.trace_tasks.proofs.Common.{Callsite, Lane, LevelFilter, WorldValue, Spans, SubscriberCall, spans_after_call, CallLanes, CallsBy, KeepsLent, calls_none, calls_then, keeps_nothing, PartCall, StaysStack, Step, steps_now, steps_left, StepOn, StepsOn, PollsSteps, Changes, Asks, WantsMemory}
 use Rattle.otel_base.specs.declared.enter_error.EnterError.TheVariants as faults
 use Rattle.trace_tasks.specs.declared.script.Step.TheVariants as step
 use Rattle.trace_tasks.proofs.polls.ChangesLemmas.{lent_then, changes_keep, changes_call}
@@ -74,7 +74,7 @@ module _ {S : Type 0} (spans : S → Spans) (hint : S → Option LevelFilter) (e
       }
 
   -- a step wanted memory
-  pub polled_wants : (first all : List Step) (s : Step) (steps : List Step) (old world next : WorldValue S) → Polling first all old world → all ≡ s ∷ steps → IsAct s → Wants spans hint enables does touches same at world next → PollsSteps spans hint enables does touches same first old lane at (Err faults.Memory) steps next lane
+  pub polled_wants : (first all : List Step) (s : Step) (steps : List Step) (old world next : WorldValue S) → Polling first all old world → all ≡ s ∷ steps → IsAct s → WantsMemory spans hint enables does touches same at world next → PollsSteps spans hint enables does touches same first old lane at (Err faults.Memory) steps next lane
   polled_wants first all s steps old world next so_far is act wants = (
     refl,
     refl,

@@ -2,7 +2,7 @@
 use Rattle.std.proofs.Common.{◌≡◌, ◌≢◌, ℕ, ◌+◌, ◌<◌, ◌≤◌, ◌^◌, List, [], ◌∷◌, ◌++◌, length, Bool, Option, Some, None, Result, Ok, Err, refl, sym, ap, subst, ◌∙◌, arith, sum_by, append_assoc, inl, inr, IfOk, IfErr, OnErr}
 use Rattle.std.proofs.lemmas.List.{append-nil, length_push}
 use Rattle.otel_base.specs.declared.enter_error.EnterError.TheVariants as faults
-use Rattle.trace_tasks.proofs.Common.{sum_by-cons, EnterError, Callsite, Lane, LevelFilter, SubscriberCall, WorldValue, Span, Spans, span_at, made_if_held, spans_in, Handle, HeldSpan, id_of, Instrumented, PartCall, Request, on_first_lane, Running, Task, Begins, AreBegun, Ran, TaskScene, Carries, UnfinishedTask, yield_count, polls_left, all_polls, tasks_at_first, makings, moment_of, rounds_requests, untouched, turns_requests, DropsAll, leaving_requests, StopsTurns, StopsBeginning, IsPartOfPoll, IsFrontOf, GaveUp, IsAloneAs, Ready, dispatch_serving, Waits, AllWait, AllKnown, AllStand, TakesTurns, polls_in}
+use Rattle.trace_tasks.proofs.Common.{sum_by-cons, EnterError, Callsite, Lane, LevelFilter, SubscriberCall, WorldValue, Span, Spans, span_at, made_if_held, spans_in, Handle, HeldSpan, id_of, Instrumented, PartCall, Request, on_first_lane, TaskFuture, Task, Begins, AreBegun, RunsTasks, TaskScene, Carries, UnfinishedTask, yield_count, polls_left, all_polls, tasks_at_first, makings, moment_of, rounds_requests, untouched, turns_requests, DropsAll, leaving_requests, StopsTurns, StopsBeginning, IsPartOfPoll, IsFrontOf, GaveUp, IsAloneAs, ReadyToPoll, dispatch_serving, Waits, AllWait, AllKnown, AllStand, TakesTurns, polls_in}
 use Rattle.span_handles.specs.Knowing.{KeepsHandles}
 use Rattle.span_script.specs.declared.request.Call.TheVariants as call
 use Rattle.span_script.specs.declared.request.RequestParent.TheVariants as request_parent
@@ -18,7 +18,7 @@ on_err (Ok x) P p = tt
 on_err (Err e) P p = p
 
 -- with a handle more the tasks stand where they stood
-stand_more : (handles : List Handle) (h : Handle) (ts : List UnfinishedTask) (fs : List (Instrumented Running)) → AllStand handles ts fs → AllStand (handles ++ h ∷ []) ts fs
+stand_more : (handles : List Handle) (h : Handle) (ts : List UnfinishedTask) (fs : List (Instrumented TaskFuture)) → AllStand handles ts fs → AllStand (handles ++ h ∷ []) ts fs
 stand_more handles h [] [] all = tt
 stand_more handles h [] (f ∷ fs) all = absurd all
 stand_more handles h (t ∷ ts) [] all = absurd all
@@ -54,9 +54,9 @@ module _ {S : Type 0} (spans : S → Spans) where
   lone_stays old new d site None stay lone = tt
   lone_stays old new d site (Some h) stay lone = (lone.0, stay h.1 (below old d site (Some h) h.1 lone refl) ∙ lone.1)
 
-  module _ (old new : WorldValue S) (d : ℕ) (f : Instrumented Running) (keeps : KeepsHandles spans old new) (stay : (q : ℕ) → q < length (spans_in spans old d).made → span_at (spans_in spans new d).made q ≡ span_at (spans_in spans old d).made q)
+  module _ (old new : WorldValue S) (d : ℕ) (f : Instrumented TaskFuture) (keeps : KeepsHandles spans old new) (stay : (q : ℕ) → q < length (spans_in spans old d).made → span_at (spans_in spans new d).made q ≡ span_at (spans_in spans old d).made q)
       (fresh : (id : ℕ) → id_of f.span.held ≡ Some id → length (spans_in spans old d).made ≤ id) (one : Waits spans new d f) where
-    pub wait_end : (fs : List (Instrumented Running)) → AllWait spans old d fs → AllWait spans new d (fs ++ f ∷ [])
+    pub wait_end : (fs : List (Instrumented TaskFuture)) → AllWait spans old d fs → AllWait spans new d (fs ++ f ∷ [])
     wait_end [] all = (one, tt, tt)
     wait_end (g ∷ fs) all = (
       record {
@@ -68,13 +68,13 @@ module _ {S : Type 0} (spans : S → Spans) where
       wait_end fs all.2,
     )
 
-  pub known_stays : (old new : WorldValue S) (fs : List (Instrumented Running)) → KeepsHandles spans old new → AllKnown spans old fs → AllKnown spans new fs
+  pub known_stays : (old new : WorldValue S) (fs : List (Instrumented TaskFuture)) → KeepsHandles spans old new → AllKnown spans old fs → AllKnown spans new fs
   known_stays old new [] keeps all = tt
   known_stays old new (f ∷ fs) keeps all = (keeps.known f.span.held all.0, all.1, known_stays old new fs keeps all.2)
 
 module _ {S : Type 0} (spans : S → Spans) (hint : S → Option LevelFilter) (enables : S → ℕ → Callsite → Bool) (kept : S → ℕ → ℕ → ℕ) (is_whole : S → Type 0) (does : S → SubscriberCall → S → Type 0) (touches : S → PartCall → S → Type 0) where
   -- one task more
-  pub one_more_begun : (tasks : List Task) (task : Task) (lane : Lane) (old world new : WorldValue S) (fs : List (Instrumented Running)) (f : Instrumented Running) → AreBegun spans hint enables kept is_whole does touches tasks lane old world fs
+  pub one_more_begun : (tasks : List Task) (task : Task) (lane : Lane) (old world new : WorldValue S) (fs : List (Instrumented TaskFuture)) (f : Instrumented TaskFuture) → AreBegun spans hint enables kept is_whole does touches tasks lane old world fs
       → Begins spans hint enables kept is_whole does touches task lane world new f → KeepsHandles spans world new → AreBegun spans hint enables kept is_whole does touches (tasks ++ task ∷ []) lane old new (fs ++ f ∷ [])
   one_more_begun tasks task lane old world new fs f so_far one keeps =
       let d : ℕ = dispatch_serving lane in
@@ -98,17 +98,17 @@ module _ {S : Type 0} (spans : S → Spans) (hint : S → Option LevelFilter) (e
       }
 
   -- no task yet
-  pub none_begun : (lane : Lane) (old : WorldValue S) → Ready spans kept is_whole old lane → AreBegun spans hint enables kept is_whole does touches [] lane old old []
+  pub none_begun : (lane : Lane) (old : WorldValue S) → ReadyToPoll spans kept is_whole old lane → AreBegun spans hint enables kept is_whole does touches [] lane old old []
   none_begun lane old ready = record { handles = []; count = refl; stand = tt; wait = tt; ready = ready; sites = refl; few = omega arith; carried = refl }
 
 -- as many polls as the tasks take
-same_polls : (handles : List Handle) (ts : List UnfinishedTask) (fs : List (Instrumented Running)) → AllStand handles ts fs → all_polls ts ≡ polls_in fs
+same_polls : (handles : List Handle) (ts : List UnfinishedTask) (fs : List (Instrumented TaskFuture)) → AllStand handles ts fs → all_polls ts ≡ polls_in fs
 same_polls handles [] [] all = refl
 same_polls handles [] (f ∷ fs) all = absurd all
 same_polls handles (t ∷ ts) [] all = absurd all
 same_polls handles (t ∷ ts) (f ∷ fs) all = (
     let a = sum_by-cons polls_left t ts in
-    let b = sum_by-cons (λ (g : Instrumented Running). yield_count g.inner.steps.items + 1) f fs in
+    let b = sum_by-cons (λ (g : Instrumented TaskFuture). yield_count g.inner.steps.items + 1) f fs in
     let e = ap yield_count all.0.steps in
     let r = same_polls handles ts fs all.1 in
     omega (arith, a, b, e, r))
@@ -119,13 +119,13 @@ front_of [] some = absurd (some refl)
 front_of (t ∷ tasks) some = (t, tasks, refl)
 
 module _ {S : Type 0} (spans : S → Spans) (hint : S → Option LevelFilter) (enables : S → ℕ → Callsite → Bool) (kept : S → ℕ → ℕ → ℕ) (is_whole : S → Type 0) (does : S → SubscriberCall → S → Type 0) (touches : S → PartCall → S → Type 0) where
-  pub few_polls : (tasks : List Task) (lane : Lane) (old world : WorldValue S) (fs : List (Instrumented Running)) → AreBegun spans hint enables kept is_whole does touches tasks lane old world fs → all_polls (tasks_at_first 0 tasks) < 2 ^ 60 → polls_in fs < 2 ^ 60
+  pub few_polls : (tasks : List Task) (lane : Lane) (old world : WorldValue S) (fs : List (Instrumented TaskFuture)) → AreBegun spans hint enables kept is_whole does touches tasks lane old world fs → all_polls (tasks_at_first 0 tasks) < 2 ^ 60 → polls_in fs < 2 ^ 60
   few_polls tasks lane old world fs all few = (let e = same_polls all.handles (tasks_at_first 0 tasks) fs all.stand in omega (arith, e, few))
 
   -- the makings and the turns are the flat list
-  pub ran : (sites : List Callsite) (tasks : List Task) (lane later : Lane) (old world new : WorldValue S) (fs : List (Instrumented Running)) (result : Result ℕ EnterError) → old.sites ≡ sites → AreBegun spans hint enables kept is_whole does touches tasks lane old world fs
+  pub ran : (sites : List Callsite) (tasks : List Task) (lane later : Lane) (old world new : WorldValue S) (fs : List (Instrumented TaskFuture)) (result : Result ℕ EnterError) → old.sites ≡ sites → AreBegun spans hint enables kept is_whole does touches tasks lane old world fs
       → IfOk result (λ polls. (handles : List Handle) (ts : List UnfinishedTask) → AllStand handles ts fs → TakesTurns spans hint enables does touches handles ts world new lane later polls)
-      → IfOk result (λ polls. Ran spans hint enables does touches sites tasks old new lane later polls)
+      → IfOk result (λ polls. RunsTasks spans hint enables does touches sites tasks old new lane later polls)
   ran sites tasks lane later old world new fs (Err e) same all turned = tt
   ran sites tasks lane later old world new fs (Ok polls) same all turned =
       let ts : List UnfinishedTask = tasks_at_first 0 tasks in
@@ -144,7 +144,7 @@ module _ {S : Type 0} (spans : S → Spans) (hint : S → Option LevelFilter) (e
       }
 
   -- a run that was refused in a poll
-  pub gave_up_polls : (activates : S → ℕ → Bool) (same : S → S → Type 0) (sites : List Callsite) (tasks : List Task) (lane later : Lane) (old world new : WorldValue S) (fs : List (Instrumented Running)) (e : EnterError) → old.sites ≡ sites
+  pub gave_up_polls : (activates : S → ℕ → Bool) (same : S → S → Type 0) (sites : List Callsite) (tasks : List Task) (lane later : Lane) (old world new : WorldValue S) (fs : List (Instrumented TaskFuture)) (e : EnterError) → old.sites ≡ sites
       → AreBegun spans hint enables kept is_whole does touches tasks lane old world fs
       → ((handles : List Handle) (ts : List UnfinishedTask) → AllStand handles ts fs → StopsTurns spans hint enables activates does touches same (dispatch_serving lane) world.sites ts e (record { world = world; lane = lane; handles = handles; guards = [] }) new later)
       → GaveUp spans hint enables activates does touches same (dispatch_serving lane) sites tasks e (record { world = old; lane = lane; handles = []; guards = [] }) new later
@@ -180,7 +180,7 @@ module _ {S : Type 0} (spans : S → Spans) (hint : S → Option LevelFilter) (e
       }
 
   -- a run that was refused as it made spans
-  pub gave_up_begun : (activates : S → ℕ → Bool) (same : S → S → Type 0) (sites : List Callsite) (tasks : List Task) (lane : Lane) (old world new : WorldValue S) (fs : List (Instrumented Running))
+  pub gave_up_begun : (activates : S → ℕ → Bool) (same : S → S → Type 0) (sites : List Callsite) (tasks : List Task) (lane : Lane) (old world new : WorldValue S) (fs : List (Instrumented TaskFuture))
       → StopsBeginning spans hint enables kept is_whole does touches same tasks lane old world fs
       → DropsAll spans hint enables does touches 0 fs world new
       → GaveUp spans hint enables activates does touches same (dispatch_serving lane) sites tasks faults.Memory (record { world = old; lane = lane; handles = []; guards = [] }) new lane
@@ -217,13 +217,13 @@ module _ {S : Type 0} (spans : S → Spans) (hint : S → Option LevelFilter) (e
       }
 
   -- a run that was refused before it made a span
-  pub gave_up_first : (activates : S → ℕ → Bool) (same : S → S → Type 0) (sites : List Callsite) (tasks : List Task) (lane : Lane) (world : WorldValue S) → tasks ≢ [] → Ready spans kept is_whole world lane
+  pub gave_up_first : (activates : S → ℕ → Bool) (same : S → S → Type 0) (sites : List Callsite) (tasks : List Task) (lane : Lane) (world : WorldValue S) → tasks ≢ [] → ReadyToPoll spans kept is_whole world lane
       → GaveUp spans hint enables activates does touches same (dispatch_serving lane) sites tasks faults.Memory (record { world = world; lane = lane; handles = []; guards = [] }) world lane
   gave_up_first activates same sites tasks lane world some ready =
       gave_up_begun activates same sites tasks lane world world world [] (record { first = []; within = front_of tasks some; world = world; so_far = none_begun spans hint enables kept is_whole does touches lane world ready; wants = untouched refl })
       (λ handles ts stand. closed_all spans hint enables does touches 0 [] [] world world handles ts refl (closing_first spans hint enables does touches 0 [] world handles ts stand))
 
-  pub gave_up_if : (activates : S → ℕ → Bool) (same : S → S → Type 0) (sites : List Callsite) (tasks : List Task) (lane later : Lane) (old world new : WorldValue S) (fs : List (Instrumented Running)) (result : Result ℕ EnterError) → old.sites ≡ sites
+  pub gave_up_if : (activates : S → ℕ → Bool) (same : S → S → Type 0) (sites : List Callsite) (tasks : List Task) (lane later : Lane) (old world new : WorldValue S) (fs : List (Instrumented TaskFuture)) (result : Result ℕ EnterError) → old.sites ≡ sites
       → AreBegun spans hint enables kept is_whole does touches tasks lane old world fs
       → IfErr result (λ e. (handles : List Handle) (ts : List UnfinishedTask) → AllStand handles ts fs → StopsTurns spans hint enables activates does touches same (dispatch_serving lane) world.sites ts e (record { world = world; lane = lane; handles = handles; guards = [] }) new later)
       → IfErr result (λ e. GaveUp spans hint enables activates does touches same (dispatch_serving lane) sites tasks e (record { world = old; lane = lane; handles = []; guards = [] }) new later)
@@ -241,7 +241,7 @@ answer_is n (t ∷ tasks) = (
     omega (arith, a, b, r))
 
 pub answered : {S : Type 0} (spans : S → Spans) (hint : S → Option LevelFilter) (enables : S → ℕ → Callsite → Bool) (does : S → SubscriberCall → S → Type 0) (touches : S → PartCall → S → Type 0)
-    (sites : List Callsite) (tasks : List Task) (old new : WorldValue S) (lane later : Lane) (result : Result ℕ EnterError) → IfOk result (λ polls. Ran spans hint enables does touches sites tasks old new lane later polls)
+    (sites : List Callsite) (tasks : List Task) (old new : WorldValue S) (lane later : Lane) (result : Result ℕ EnterError) → IfOk result (λ polls. RunsTasks spans hint enables does touches sites tasks old new lane later polls)
     → IfOk result (λ polls. polls ≡ sum_by (λ t. yield_count t.steps) tasks + length tasks)
 answered spans hint enables does touches sites tasks old new lane later (Ok polls) ran = ran.answer ∙ answer_is 0 tasks
 answered spans hint enables does touches sites tasks old new lane later (Err e) ran = tt

@@ -1,7 +1,7 @@
 -- A span that was made for a task.
 use Rattle.std.proofs.Common.{◌≡◌, ℕ, zero, suc, ◌+◌, ◌<◌, ◌≤◌, List, [], ◌∷◌, ◌++◌, length, Bool, true, false, Option, Some, None, Result, Ok, Err, refl, sym, ap, subst, ◌∙◌, arith, slice_get, IfOk, OnErr}
 use Rattle.std.proofs.lemmas.List.{length_push}
-use Rattle.trace_tasks.proofs.Common.{Memory, Callsite, ValueSet, Lane, LevelFilter, SubscriberCall, NewSpan, spans_after_call, with_new_span, CallLanes, WorldValue, Span, Spans, span_at, entries_on, parent_on, spans_in, no_spans, Handle, IsKnown, MakesIf, ReplacedIf, id_of, as_many, seen_before, seen_later, Instrumented, HasAll, same_kept, keeps_all, PartCall, Running, Task, Wants, untouched, spare, MakesOne, Begins, MakesGated, values_of, root_of_one_handle, IsAlone, IsAloneAs, Ready, dispatch_serving}
+use Rattle.trace_tasks.proofs.Common.{Memory, Callsite, ValueSet, Lane, LevelFilter, SubscriberCall, NewSpan, spans_after_call, with_new_span, CallLanes, WorldValue, Span, Spans, span_at, entries_on, parent_on, spans_in, no_spans, Handle, IsKnown, MakesIf, ReplacedIf, id_of, as_many, seen_before, seen_later, Instrumented, HasAll, same_kept, keeps_all, PartCall, TaskFuture, Task, WantsMemory, untouched, spare, MakesTaskSpan, Begins, MakesGated, values_of, root_of_one_handle, IsAlone, IsAloneAs, ReadyToPoll, dispatch_serving}
 use Rattle.trace_base.specs.declared.span.Parent.TheVariants as parent
 
 -- something is at each place
@@ -24,10 +24,10 @@ before_end (x ∷ made) new (suc q) less = before_end made new q (omega (arith, 
 module _ {S : Type 0} (spans : S → Spans) (hint : S → Option LevelFilter) (enables : S → ℕ → Callsite → Bool) (attaches : S → Bool) (kept : S → ℕ → ℕ → ℕ) (is_whole : S → Type 0) (does : S → SubscriberCall → S → Type 0) (touches : S → PartCall → S → Type 0)
     (shows : (s : S) (call : SubscriberCall) (t : S) → does s call t → spans t ≡ spans_after_call (spans s) call) (lanes : (s : S) (call : SubscriberCall) (t : S) → does s call t → CallLanes (attaches s) (kept s) call (kept t))
     (keeps_whole : (s : S) (call : SubscriberCall) (t : S) → does s call t → is_whole s → is_whole t) where
-  begun : (task : Task) (lane : Lane) (old new : WorldValue S) (f : Instrumented Running) (one : MakesOne spans hint enables does touches task.site task.fields lane old new f.span) → Ready spans kept is_whole old lane → IsKnown spans new f.span.held → f.inner.steps.items ≡ task.steps
+  begun : (task : Task) (lane : Lane) (old new : WorldValue S) (f : Instrumented TaskFuture) (one : MakesTaskSpan spans hint enables does touches task.site task.fields lane old new f.span) → ReadyToPoll spans kept is_whole old lane → IsKnown spans new f.span.held → f.inner.steps.items ≡ task.steps
       → (made : f.span.site ≡ Some task.site) → IsAlone (spans_in spans new (dispatch_serving lane)).made (dispatch_serving lane) task.site f.span → ((id : ℕ) → id_of f.span.held ≡ Some id → length (spans_in spans old (dispatch_serving lane)).made ≤ id)
       → ((q : ℕ) → q < length (spans_in spans old (dispatch_serving lane)).made → span_at (spans_in spans new (dispatch_serving lane)).made q ≡ span_at (spans_in spans old (dispatch_serving lane)).made q)
-      → length (spans_in spans new (dispatch_serving lane)).made ≤ length (spans_in spans old (dispatch_serving lane)).made + 1 → Ready spans kept is_whole new lane → new.sites ≡ old.sites → Begins spans hint enables kept is_whole does touches task lane old new f
+      → length (spans_in spans new (dispatch_serving lane)).made ≤ length (spans_in spans old (dispatch_serving lane)).made + 1 → ReadyToPoll spans kept is_whole new lane → new.sites ≡ old.sites → Begins spans hint enables kept is_whole does touches task lane old new f
   begun task lane old new f one ready known steps site lone fresh stay count later sites = record {
     steps = steps;
     site = site;
@@ -41,7 +41,7 @@ module _ {S : Type 0} (spans : S → Spans) (hint : S → Option LevelFilter) (e
     sites = sites;
   }
 
-  pub begins : (task : Task) (lane : Lane) (old new : WorldValue S) (f : Instrumented Running) → (one : MakesOne spans hint enables does touches task.site task.fields lane old new f.span) → Ready spans kept is_whole old lane → IsKnown spans new f.span.held → f.inner.steps.items ≡ task.steps
+  pub begins : (task : Task) (lane : Lane) (old new : WorldValue S) (f : Instrumented TaskFuture) → (one : MakesTaskSpan spans hint enables does touches task.site task.fields lane old new f.span) → ReadyToPoll spans kept is_whole old lane → IsKnown spans new f.span.held → f.inner.steps.items ≡ task.steps
       → Begins spans hint enables kept is_whole does touches task lane old new f
   begins task lane old new f one ready known steps = by_gate one.admitted one.made where
     d : ℕ
@@ -60,7 +60,7 @@ module _ {S : Type 0} (spans : S → Spans) (hint : S → Option LevelFilter) (e
         (λ id is. (let e : ◌≡◌ {A = Option ℕ} None (Some id) = sym (ap id_of held) ∙ is in absurd (cc e)))
         (λ q less. ap (λ (y : Spans). span_at y.made q) same)
         (let e = ap (λ (y : Spans). length y.made) same in omega (arith, e))
-        (subst (λ (w : WorldValue S). Ready spans kept is_whole w lane) (sym made.1) ready)
+        (subst (λ (w : WorldValue S). ReadyToPoll spans kept is_whole w lane) (sym made.1) ready)
         (ap (λ (w : WorldValue S). w.sites) made.1)
     by_gate true made =
         let values : ValueSet = values_of one.callsite task.fields in
@@ -103,7 +103,7 @@ module _ {S : Type 0} (is_whole : S → Type 0) (spans : S → Spans) (does : S 
 
 module _ {S : Type 0} (spans : S → Spans) (hint : S → Option LevelFilter) (enables : S → ℕ → Callsite → Bool) (does : S → SubscriberCall → S → Type 0) (touches : S → PartCall → S → Type 0) (same : S → S → Type 0) where
   -- what a making that wanted memory leaves
-  pub wants_made : (old new : WorldValue S) (dispatch : Option ℕ) (result : Result Handle Memory) → OnErr result (ReplacedIf same old new dispatch) → OnErr result (Wants spans hint enables does touches same 0 old new)
+  pub wants_made : (old new : WorldValue S) (dispatch : Option ℕ) (result : Result Handle Memory) → OnErr result (ReplacedIf same old new dispatch) → OnErr result (WantsMemory spans hint enables does touches same 0 old new)
   wants_made old new dispatch (Ok h) left = tt
   wants_made old new None (Err e) left = untouched left
   wants_made old new (Some d) (Err e) left = spare d left

@@ -1,7 +1,7 @@
 -- A queue after a poll of its first task.
 use Rattle.std.proofs.Common.{◌≡◌, ℕ, suc, ◌+◌, List, [], ◌∷◌, ◌++◌, Option, Some, None, refl, sym, ap, subst, ◌∙◌, arith}
 use Rattle.std.specs.Option.{option_map}
-use Rattle.trace_tasks.proofs.Common.{sum_by-cons, sum_by_push, WorldValue, Span, Spans, span_at, spans_in, Handle, HeldSpan, IsKnown, id_of, Instrumented, Running, Step, steps_left, UnfinishedTask, yield_count, polls_left, all_polls, after_poll, requeue, IsAlone, IsAloneAs, IsLeft, SpansStay, Waits, IsApart, AreApart, AllWait, AllKnown, TaskStands, AllStand, KeepsBut, queue_with, polls_in}
+use Rattle.trace_tasks.proofs.Common.{sum_by-cons, sum_by_push, WorldValue, Span, Spans, span_at, spans_in, Handle, HeldSpan, IsKnown, id_of, Instrumented, TaskFuture, Step, steps_left, UnfinishedTask, yield_count, polls_left, all_polls, after_poll, requeue, IsAlone, IsAloneAs, IsAfterPoll, SpansStay, Waits, IsApart, AreApart, AllWait, AllKnown, TaskStands, AllStand, KeepsBut, queue_with, polls_in}
 use Rattle.trace_tasks.specs.declared.script.Step.TheVariants as step
 
 -- ---- polls
@@ -23,16 +23,16 @@ yields_some (step.Event site fields ∷ steps) rest is = yields_some steps rest 
 yields_some (step.Record fields ∷ steps) rest is = yields_some steps rest is
 yields_some (step.SetAttribute key value ∷ steps) rest is = yields_some steps rest is
 
-pub polls_cons : (f : Instrumented Running) (fs : List (Instrumented Running)) → polls_in (f ∷ fs) ≡ yield_count f.inner.steps.items + 1 + polls_in fs
-polls_cons f fs = sum_by-cons (λ (g : Instrumented Running). yield_count g.inner.steps.items + 1) f fs
+pub polls_cons : (f : Instrumented TaskFuture) (fs : List (Instrumented TaskFuture)) → polls_in (f ∷ fs) ≡ yield_count f.inner.steps.items + 1 + polls_in fs
+polls_cons f fs = sum_by-cons (λ (g : Instrumented TaskFuture). yield_count g.inner.steps.items + 1) f fs
 
 -- one poll less
-pub polls_after : (f : Instrumented Running) (fs : List (Instrumented Running)) (left : Option (Instrumented Running)) → IsLeft left f → polls_in (f ∷ fs) ≡ polls_in (queue_with fs left) + 1
+pub polls_after : (f : Instrumented TaskFuture) (fs : List (Instrumented TaskFuture)) (left : Option (Instrumented TaskFuture)) → IsAfterPoll left f → polls_in (f ∷ fs) ≡ polls_in (queue_with fs left) + 1
 polls_after f fs None is = (let a = polls_cons f fs in let b = yields_none f.inner.steps.items is in omega (arith, a, b))
 polls_after f fs (Some g) is = (
     let a = polls_cons f fs in
     let b = yields_some f.inner.steps.items g.inner.steps.items is.0 in
-    let c = sum_by_push (λ (h : Instrumented Running). yield_count h.inner.steps.items + 1) fs g in
+    let c = sum_by_push (λ (h : Instrumented TaskFuture). yield_count h.inner.steps.items + 1) fs g in
     omega (arith, a, b, c))
 
 left_cons : (t : UnfinishedTask) (ts : List UnfinishedTask) → all_polls (t ∷ ts) ≡ polls_left t + all_polls ts
@@ -52,13 +52,13 @@ left_less t ts = left_after t ts (steps_left t.steps) refl
 
 -- ---- where the tasks stand
 
-pub stand_push : (handles : List Handle) (ts : List UnfinishedTask) (fs : List (Instrumented Running)) (t : UnfinishedTask) (f : Instrumented Running) → AllStand handles ts fs → TaskStands handles t f → AllStand handles (ts ++ t ∷ []) (fs ++ f ∷ [])
+pub stand_push : (handles : List Handle) (ts : List UnfinishedTask) (fs : List (Instrumented TaskFuture)) (t : UnfinishedTask) (f : Instrumented TaskFuture) → AllStand handles ts fs → TaskStands handles t f → AllStand handles (ts ++ t ∷ []) (fs ++ f ∷ [])
 stand_push handles [] [] t f all one = (one, tt)
 stand_push handles [] (g ∷ fs) t f all one = absurd all
 stand_push handles (u ∷ ts) [] t f all one = absurd all
 stand_push handles (u ∷ ts) (g ∷ fs) t f all one = (all.0, stand_push handles ts fs t f all.1 one)
 
-pub stand_after : (handles : List Handle) (t : UnfinishedTask) (ts : List UnfinishedTask) (f : Instrumented Running) (fs : List (Instrumented Running)) (left : Option (Instrumented Running)) → TaskStands handles t f → AllStand handles ts fs → IsLeft left f
+pub stand_after : (handles : List Handle) (t : UnfinishedTask) (ts : List UnfinishedTask) (f : Instrumented TaskFuture) (fs : List (Instrumented TaskFuture)) (left : Option (Instrumented TaskFuture)) → TaskStands handles t f → AllStand handles ts fs → IsAfterPoll left f
     → AllStand handles (requeue ts (after_poll t)) (queue_with fs left)
 stand_after handles t ts f fs None one all is =
     subst (λ (o : Option (List Step)). AllStand handles (requeue ts (option_map (λ steps. record t { steps = steps }) o)) fs) (sym (ap steps_left one.steps ∙ is)) all
@@ -75,7 +75,7 @@ stand_after handles t ts f fs (Some g) one all is =
 apart_sym : (a b : HeldSpan) → IsApart a b → IsApart b a
 apart_sym a b apart = λ id is other. apart id other is
 
-pub apart_push : (f : Instrumented Running) (fs : List (Instrumented Running)) (g : Instrumented Running) → AreApart f fs → IsApart f.span.held g.span.held → AreApart f (fs ++ g ∷ [])
+pub apart_push : (f : Instrumented TaskFuture) (fs : List (Instrumented TaskFuture)) (g : Instrumented TaskFuture) → AreApart f fs → IsApart f.span.held g.span.held → AreApart f (fs ++ g ∷ [])
 apart_push f [] g all one = (one, tt)
 apart_push f (x ∷ fs) g all one = (all.0, apart_push f fs g all.1 one)
 
@@ -90,12 +90,12 @@ module _ {S : Type 0} (spans : S → Spans) where
   lone_apart old new d site closed None stay apart lone = tt
   lone_apart old new d site closed (Some h) stay apart lone = (lone.0, stay h.1 (λ is. apart h.1 is refl) ∙ lone.1)
 
-  stay_all : (left : Option (Instrumented Running)) (held : HeldSpan) (old new : List Span) → SpansStay left held old new → (q : ℕ) → (option_map (λ h. h.1) held ≡ Some q → ⊥) → span_at new q ≡ span_at old q
+  stay_all : (left : Option (Instrumented TaskFuture)) (held : HeldSpan) (old new : List Span) → SpansStay left held old new → (q : ℕ) → (option_map (λ h. h.1) held ≡ Some q → ⊥) → span_at new q ≡ span_at old q
   stay_all None held old new stay = stay
   stay_all (Some g) held old new stay = λ q apart. ap (λ (made : List Span). span_at made q) stay
 
-  module _ (old new : WorldValue S) (d : ℕ) (f : Instrumented Running) (keeps : KeepsBut spans old new f.span.held) (stay : (q : ℕ) → (option_map (λ h. h.1) f.span.held ≡ Some q → ⊥) → span_at (spans_in spans new d).made q ≡ span_at (spans_in spans old d).made q) where
-    others_wait : (fs : List (Instrumented Running)) → AreApart f fs → AllWait spans old d fs → AllWait spans new d fs
+  module _ (old new : WorldValue S) (d : ℕ) (f : Instrumented TaskFuture) (keeps : KeepsBut spans old new f.span.held) (stay : (q : ℕ) → (option_map (λ h. h.1) f.span.held ≡ Some q → ⊥) → span_at (spans_in spans new d).made q ≡ span_at (spans_in spans old d).made q) where
+    others_wait : (fs : List (Instrumented TaskFuture)) → AreApart f fs → AllWait spans old d fs → AllWait spans new d fs
     others_wait [] apart all = tt
     others_wait (g ∷ fs) apart all = (
       record {
@@ -107,16 +107,16 @@ module _ {S : Type 0} (spans : S → Spans) where
       others_wait fs apart.1 all.2,
     )
 
-  wait_push : (world : WorldValue S) (d : ℕ) (fs : List (Instrumented Running)) (g : Instrumented Running) → AllWait spans world d fs → AreApart g fs → Waits spans world d g → AllWait spans world d (fs ++ g ∷ [])
+  wait_push : (world : WorldValue S) (d : ℕ) (fs : List (Instrumented TaskFuture)) (g : Instrumented TaskFuture) → AllWait spans world d fs → AreApart g fs → Waits spans world d g → AllWait spans world d (fs ++ g ∷ [])
   wait_push world d [] g all apart one = (one, tt, tt)
   wait_push world d (f ∷ fs) g all apart one = (all.0, apart_push f fs g all.1 (apart_sym g.span.held f.span.held apart.0), wait_push world d fs g all.2 apart.1 one)
 
-  same_apart : (f g : Instrumented Running) (fs : List (Instrumented Running)) → g.span ≡ f.span → AreApart f fs → AreApart g fs
+  same_apart : (f g : Instrumented TaskFuture) (fs : List (Instrumented TaskFuture)) → g.span ≡ f.span → AreApart f fs → AreApart g fs
   same_apart f g [] is apart = tt
   same_apart f g (x ∷ fs) is apart = (subst (λ (h : Handle). IsApart h.held x.span.held) (sym is) apart.0, same_apart f g fs is apart.1)
 
-  pub wait_after : (old new : WorldValue S) (d : ℕ) (f : Instrumented Running) (fs : List (Instrumented Running)) (left : Option (Instrumented Running)) → AllWait spans old d (f ∷ fs) → IsLeft left f
-      → SpansStay left f.span.held (spans_in spans old d).made (spans_in spans new d).made → KeepsBut spans old new f.span.held → ((g : Instrumented Running) → left ≡ Some g → IsKnown spans new g.span.held)
+  pub wait_after : (old new : WorldValue S) (d : ℕ) (f : Instrumented TaskFuture) (fs : List (Instrumented TaskFuture)) (left : Option (Instrumented TaskFuture)) → AllWait spans old d (f ∷ fs) → IsAfterPoll left f
+      → SpansStay left f.span.held (spans_in spans old d).made (spans_in spans new d).made → KeepsBut spans old new f.span.held → ((g : Instrumented TaskFuture) → left ≡ Some g → IsKnown spans new g.span.held)
       → AllWait spans new d (queue_with fs left)
   wait_after old new d f fs None all is stay keeps known = others_wait old new d f keeps stay fs all.1 all.2
   wait_after old new d f fs (Some g) all is stay keeps known =
@@ -128,10 +128,10 @@ module _ {S : Type 0} (spans : S → Spans) where
 
   -- ---- which are known
 
-  pub all_known : (world : WorldValue S) (d : ℕ) (fs : List (Instrumented Running)) → AllWait spans world d fs → AllKnown spans world fs
+  pub all_known : (world : WorldValue S) (d : ℕ) (fs : List (Instrumented TaskFuture)) → AllWait spans world d fs → AllKnown spans world fs
   all_known world d [] all = tt
   all_known world d (f ∷ fs) all = (all.0.known, all.1, all_known world d fs all.2)
 
-  pub known_after : (old new : WorldValue S) (f : Instrumented Running) (fs : List (Instrumented Running)) → KeepsBut spans old new f.span.held → AreApart f fs → AllKnown spans old fs → AllKnown spans new fs
+  pub known_after : (old new : WorldValue S) (f : Instrumented TaskFuture) (fs : List (Instrumented TaskFuture)) → KeepsBut spans old new f.span.held → AreApart f fs → AllKnown spans old fs → AllKnown spans new fs
   known_after old new f [] keeps apart all = tt
   known_after old new f (g ∷ fs) keeps apart all = (known_apart old new f.span.held g.span.held keeps apart.0 all.0, all.1, known_after old new f fs keeps apart.1 all.2)

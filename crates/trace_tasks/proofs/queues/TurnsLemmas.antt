@@ -2,7 +2,7 @@
 use Rattle.std.proofs.Common.{◌≡◌, ℕ, suc, ◌+◌, List, [], ◌∷◌, ◌++◌, length, Bool, true, false, Option, Some, Result, Err, IfErr, refl, sym, ap, subst, ◌∙◌, arith, append_assoc}
 use Rattle.std.proofs.lemmas.Bool.{true≢false}
 use Rattle.std.proofs.lemmas.List.{length_push}
-use Rattle.trace_tasks.proofs.Common.{EnterError, Callsite, Lane, LevelFilter, SubscriberCall, WorldValue, Spans, Handle, HeldSpan, IsKnown, Instrumented, PartCall, Request, Running, Step, TaskScene, Carries, UnfinishedTask, all_polls, drop_at_end, moment_of, on_first_lane, poll_requests, steps_left, after_poll, requeue, turns_requests, served_by, dispatch_serving, Ready, left_as, Turned, AllWait, AllStand, KeepsBut, TakesTurn, TakesTurnIf, TakesTurns, queue_with, polls_in, left_after, exit_if, drops_of_tasks, leaving_requests, StopsInTurn, StopsPoll, StopsTurns, TurnStops, DropsAll, SameAttached}
+use Rattle.trace_tasks.proofs.Common.{EnterError, Callsite, Lane, LevelFilter, SubscriberCall, WorldValue, Spans, Handle, HeldSpan, IsKnown, Instrumented, PartCall, Request, TaskFuture, Step, TaskScene, Carries, UnfinishedTask, all_polls, drop_at_end, moment_of, on_first_lane, poll_requests, steps_left, after_poll, requeue, turns_requests, dispatch_of_default, dispatch_serving, ReadyToPoll, unfinished_task, PollsTask, AllWait, AllStand, KeepsBut, TakesTurn, TakesTurnIf, TakesTurns, queue_with, polls_in, left_after, exit_if, drops_of_tasks, leaving_requests, StopsInTurn, StopsPoll, StopsTurns, TurnStops, DropsAll, SameAttached}
 use Rattle.span_script.specs.declared.request.Call.TheVariants as call
 use Rattle.trace_tasks.proofs.polls.AttachedLemmas.{as_many_live}
 use Rattle.trace_tasks.proofs.polls.CarriesLemmas.{carry_then}
@@ -15,7 +15,7 @@ at_err {A} {E} r e P is p = subst (λ (o : Result A E). IfErr o P) (sym is) p
 
 module _ {S : Type 0} (spans : S → Spans) (hint : S → Option LevelFilter) (enables : S → ℕ → Callsite → Bool) (kept : S → ℕ → ℕ → ℕ) (is_whole : S → Type 0) (does : S → SubscriberCall → S → Type 0) (touches : S → PartCall → S → Type 0) where
   -- from tasks at first to those that are left
-  pub record SoFar (handles : List Handle) (ts : List UnfinishedTask) (fs : List (Instrumented Running)) (old world : WorldValue S) (before lane : Lane) (polls : ℕ) : Type 0 where
+  pub record SoFar (handles : List Handle) (ts : List UnfinishedTask) (fs : List (Instrumented TaskFuture)) (old world : WorldValue S) (before lane : Lane) (polls : ℕ) : Type 0 where
     pub now : List UnfinishedTask
     pub stand : AllStand handles now fs
     pub guards : List HeldSpan
@@ -24,8 +24,8 @@ module _ {S : Type 0} (spans : S → Spans) (hint : S → Option LevelFilter) (e
     pub after : left_after polls ts ≡ now
     pub carried : Carries spans hint enables does touches (dispatch_serving before) (turns_requests old.sites polls 0 ts) (record { world = old; lane = before; handles = handles; guards = [] }) (record { world = world; lane = lane; handles = handles; guards = guards })
 
-  pub record Taking (first fs : List (Instrumented Running)) (old world : WorldValue S) (before lane : Lane) (polls : ℕ) : Type 0 where
-    pub ready : Ready spans kept is_whole world lane
+  pub record Taking (first fs : List (Instrumented TaskFuture)) (old world : WorldValue S) (before lane : Lane) (polls : ℕ) : Type 0 where
+    pub ready : ReadyToPoll spans kept is_whole world lane
     pub wait : AllWait spans world (dispatch_serving lane) fs
     pub few : polls + polls_in fs ≡ polls_in first
     pub default : lane.default ≡ before.default
@@ -33,7 +33,7 @@ module _ {S : Type 0} (spans : S → Spans) (hint : S → Option LevelFilter) (e
     pub sites : world.sites ≡ old.sites
     pub so_far : (handles : List Handle) (ts : List UnfinishedTask) → AllStand handles ts first → SoFar handles ts fs old world before lane polls
 
-  pub taking_first : (fs : List (Instrumented Running)) (world : WorldValue S) (lane : Lane) → Ready spans kept is_whole world lane → AllWait spans world (dispatch_serving lane) fs → Taking fs fs world world lane lane 0
+  pub taking_first : (fs : List (Instrumented TaskFuture)) (world : WorldValue S) (lane : Lane) → ReadyToPoll spans kept is_whole world lane → AllWait spans world (dispatch_serving lane) fs → Taking fs fs world world lane lane 0
   taking_first fs world lane ready wait = record {
     ready = ready;
     wait = wait;
@@ -44,13 +44,13 @@ module _ {S : Type 0} (spans : S → Spans) (hint : S → Option LevelFilter) (e
     so_far = λ handles ts stand. record { now = ts; stand = stand; guards = []; count = refl; polled = omega arith; after = refl; carried = refl };
   }
 
-  so_far_more : (handles : List Handle) (ts : List UnfinishedTask) (f : Instrumented Running) (fs : List (Instrumented Running)) (left : Option (Instrumented Running)) (old world next : WorldValue S) (before lane later : Lane) (polls : ℕ)
-      → dispatch_serving lane ≡ dispatch_serving before → world.sites ≡ old.sites → Turned spans hint enables kept is_whole does touches (moment_of polls) f world lane left next later
+  so_far_more : (handles : List Handle) (ts : List UnfinishedTask) (f : Instrumented TaskFuture) (fs : List (Instrumented TaskFuture)) (left : Option (Instrumented TaskFuture)) (old world next : WorldValue S) (before lane later : Lane) (polls : ℕ)
+      → dispatch_serving lane ≡ dispatch_serving before → world.sites ≡ old.sites → PollsTask spans hint enables kept is_whole does touches (moment_of polls) f world lane left next later
       → (s : SoFar handles ts (f ∷ fs) old world before lane polls) → (now : List UnfinishedTask) → s.now ≡ now → AllStand handles now (f ∷ fs) → SoFar handles ts (queue_with fs left) old next before later (polls + 1)
   so_far_more handles ts f fs left old world next before lane later polls serves sites turned s [] is stand = absurd stand
   so_far_more handles ts f fs left old world next before lane later polls serves sites turned s (t ∷ rest) is stand =
       let d : ℕ = dispatch_serving before in
-      let u : UnfinishedTask = left_as t.number t.site f.inner in
+      let u : UnfinishedTask = unfinished_task t.number t.site f.inner in
       let same : u ≡ t = ap (λ (xs : List Step). let v : UnfinishedTask = record { number = t.number; site = t.site; steps = xs } in v) (sym stand.0.steps) in
       let here : TaskScene S = record { world = world; lane = lane; handles = handles; guards = s.guards } in
       let there : TaskScene S = record { world = next; lane = later; handles = handles; guards = s.guards ++ f.span.held ∷ [] } in
@@ -73,10 +73,10 @@ module _ {S : Type 0} (spans : S → Spans) (hint : S → Option LevelFilter) (e
       }
 
   -- a turn that was taken
-  pub takes_turn : (at : ℕ) (all last : List (Instrumented Running)) (f : Instrumented Running) (fs : List (Instrumented Running)) (left : Option (Instrumented Running)) (world next : WorldValue S) (lane later : Lane) → all ≡ f ∷ fs → last ≡ queue_with fs left → AllWait spans world (dispatch_serving lane) all
-      → Turned spans hint enables kept is_whole does touches at f world lane left next later → KeepsBut spans world next f.span.held → ((g : Instrumented Running) → left ≡ Some g → IsKnown spans next g.span.held) → TakesTurn spans hint enables kept is_whole does touches at all world lane last next later
+  pub takes_turn : (at : ℕ) (all last : List (Instrumented TaskFuture)) (f : Instrumented TaskFuture) (fs : List (Instrumented TaskFuture)) (left : Option (Instrumented TaskFuture)) (world next : WorldValue S) (lane later : Lane) → all ≡ f ∷ fs → last ≡ queue_with fs left → AllWait spans world (dispatch_serving lane) all
+      → PollsTask spans hint enables kept is_whole does touches at f world lane left next later → KeepsBut spans world next f.span.held → ((g : Instrumented TaskFuture) → left ≡ Some g → IsKnown spans next g.span.held) → TakesTurn spans hint enables kept is_whole does touches at all world lane last next later
   takes_turn at all last f fs left world next lane later is queue wait turned keeps known =
-      let others = wait_after spans world next (dispatch_serving lane) f fs left (subst (λ (xs : List (Instrumented Running)). AllWait spans world (dispatch_serving lane) xs) is wait) turned.left_is turned.stay keeps known in
+      let others = wait_after spans world next (dispatch_serving lane) f fs left (subst (λ (xs : List (Instrumented TaskFuture)). AllWait spans world (dispatch_serving lane) xs) is wait) turned.left_is turned.stay keeps known in
       record {
         f = f;
         others = fs;
@@ -84,27 +84,27 @@ module _ {S : Type 0} (spans : S → Spans) (hint : S → Option LevelFilter) (e
         left = left;
         queue = queue;
         turned = turned;
-        wait = subst (λ (n : ℕ). AllWait spans next n last) (sym (ap served_by turned.default)) (subst (λ (xs : List (Instrumented Running)). AllWait spans next (dispatch_serving lane) xs) (sym queue) others);
+        wait = subst (λ (n : ℕ). AllWait spans next n last) (sym (ap dispatch_of_default turned.default)) (subst (λ (xs : List (Instrumented TaskFuture)). AllWait spans next (dispatch_serving lane) xs) (sym queue) others);
       }
 
   -- of an answer that there was a task, or none
-  pub turn_if : (answer : Bool) (at : ℕ) (all last : List (Instrumented Running)) (world next : WorldValue S) (lane later : Lane) → answer ≡ true → TakesTurnIf spans hint enables kept is_whole does touches at answer all world lane last next later → TakesTurn spans hint enables kept is_whole does touches at all world lane last next later
+  pub turn_if : (answer : Bool) (at : ℕ) (all last : List (Instrumented TaskFuture)) (world next : WorldValue S) (lane later : Lane) → answer ≡ true → TakesTurnIf spans hint enables kept is_whole does touches at answer all world lane last next later → TakesTurn spans hint enables kept is_whole does touches at all world lane last next later
   turn_if true at all last world next lane later is turn = turn
   turn_if false at all last world next lane later is turn = absurd (true≢false (sym is))
 
-  pub no_turn : (answer : Bool) (at : ℕ) (all last : List (Instrumented Running)) (world next : WorldValue S) (lane later : Lane) → answer ≡ false → TakesTurnIf spans hint enables kept is_whole does touches at answer all world lane last next later → (all ≡ []) × (last ≡ []) × (next ≡ world) × (later ≡ lane)
+  pub no_turn : (answer : Bool) (at : ℕ) (all last : List (Instrumented TaskFuture)) (world next : WorldValue S) (lane later : Lane) → answer ≡ false → TakesTurnIf spans hint enables kept is_whole does touches at answer all world lane last next later → (all ≡ []) × (last ≡ []) × (next ≡ world) × (later ≡ lane)
   no_turn true at all last world next lane later is turn = absurd (true≢false is)
   no_turn false at all last world next lane later is turn = turn
 
   -- one poll less is left
-  pub one_poll_less : (at : ℕ) (all last : List (Instrumented Running)) (world next : WorldValue S) (lane later : Lane) → TakesTurn spans hint enables kept is_whole does touches at all world lane last next later → polls_in all ≡ polls_in last + 1
+  pub one_poll_less : (at : ℕ) (all last : List (Instrumented TaskFuture)) (world next : WorldValue S) (lane later : Lane) → TakesTurn spans hint enables kept is_whole does touches at all world lane last next later → polls_in all ≡ polls_in last + 1
   one_poll_less at all last world next lane later turn = (let b = ap polls_in turn.is in let c = polls_after turn.f turn.others turn.left turn.turned.left_is in let q = ap polls_in turn.queue in omega (arith, b, c, q))
 
   -- one poll more
-  pub taking_more : (first all last : List (Instrumented Running)) (old world next : WorldValue S) (before lane later : Lane) (polls at : ℕ) → at ≡ moment_of polls → Taking first all old world before lane polls
+  pub taking_more : (first all last : List (Instrumented TaskFuture)) (old world next : WorldValue S) (before lane later : Lane) (polls at : ℕ) → at ≡ moment_of polls → Taking first all old world before lane polls
       → TakesTurn spans hint enables kept is_whole does touches at all world lane last next later → Taking first last old next before later (polls + 1)
   taking_more first all last old world next before lane later polls at moment taking turn =
-      let turned : Turned spans hint enables kept is_whole does touches (moment_of polls) turn.f world lane turn.left next later = subst (λ (n : ℕ). Turned spans hint enables kept is_whole does touches n turn.f world lane turn.left next later) moment turn.turned in
+      let turned : PollsTask spans hint enables kept is_whole does touches (moment_of polls) turn.f world lane turn.left next later = subst (λ (n : ℕ). PollsTask spans hint enables kept is_whole does touches n turn.f world lane turn.left next later) moment turn.turned in
       record {
         ready = turned.ready;
         wait = turn.wait;
@@ -113,9 +113,9 @@ module _ {S : Type 0} (spans : S → Spans) (hint : S → Option LevelFilter) (e
         attached = λ number. turned.attached number ∙ taking.attached number;
         sites = turned.sites ∙ taking.sites;
         so_far = λ handles ts stand. (
-            let s = subst (λ (xs : List (Instrumented Running)). SoFar handles ts xs old world before lane polls) turn.is (taking.so_far handles ts stand) in
-            subst (λ (xs : List (Instrumented Running)). SoFar handles ts xs old next before later (polls + 1)) (sym turn.queue)
-            (so_far_more handles ts turn.f turn.others turn.left old world next before lane later polls (ap served_by taking.default) taking.sites turned s s.now refl s.stand));
+            let s = subst (λ (xs : List (Instrumented TaskFuture)). SoFar handles ts xs old world before lane polls) turn.is (taking.so_far handles ts stand) in
+            subst (λ (xs : List (Instrumented TaskFuture)). SoFar handles ts xs old next before later (polls + 1)) (sym turn.queue)
+            (so_far_more handles ts turn.f turn.others turn.left old world next before lane later polls (ap dispatch_of_default taking.default) taking.sites turned s s.now refl s.stand));
       }
 
   at_last : (handles : List Handle) (ts : List UnfinishedTask) (old world : WorldValue S) (before lane : Lane) (polls : ℕ) (s : SoFar handles ts [] old world before lane polls) (now : List UnfinishedTask) → s.now ≡ now → AllStand handles now []
@@ -128,16 +128,16 @@ module _ {S : Type 0} (spans : S → Spans) (hint : S → Option LevelFilter) (e
   }
   at_last handles ts old world before lane polls s (t ∷ now) is stand = absurd stand
 
-  pub taken : (first all last : List (Instrumented Running)) (old world next : WorldValue S) (before lane later : Lane) (polls : ℕ) → (all ≡ []) × (last ≡ []) × (next ≡ world) × (later ≡ lane) → Taking first all old world before lane polls → (handles : List Handle) (ts : List UnfinishedTask) → AllStand handles ts first
+  pub taken : (first all last : List (Instrumented TaskFuture)) (old world next : WorldValue S) (before lane later : Lane) (polls : ℕ) → (all ≡ []) × (last ≡ []) × (next ≡ world) × (later ≡ lane) → Taking first all old world before lane polls → (handles : List Handle) (ts : List UnfinishedTask) → AllStand handles ts first
       → TakesTurns spans hint enables does touches handles ts old next before later polls
   taken first all last old world next before lane later polls none taking handles ts stand =
-      let s = subst (λ (xs : List (Instrumented Running)). SoFar handles ts xs old world before lane polls) none.0 (taking.so_far handles ts stand) in
+      let s = subst (λ (xs : List (Instrumented TaskFuture)). SoFar handles ts xs old world before lane polls) none.0 (taking.so_far handles ts stand) in
       subst (λ (w : WorldValue S). TakesTurns spans hint enables does touches handles ts old w before later polls) (sym none.2)
       (subst (λ (l : Lane). TakesTurns spans hint enables does touches handles ts old world before l polls) (sym none.3) (at_last handles ts old world before lane polls s s.now refl s.stand))
 
   -- a turn that was refused, and the closes of all handles that were left
   module _ (activates : S → ℕ → Bool) (same : S → S → Type 0) where
-    stops_now : (handles : List Handle) (ts : List UnfinishedTask) (f : Instrumented Running) (fs : List (Instrumented Running)) (old world next gone : WorldValue S) (before lane later : Lane) (polls : ℕ) (e : EnterError)
+    stops_now : (handles : List Handle) (ts : List UnfinishedTask) (f : Instrumented TaskFuture) (fs : List (Instrumented TaskFuture)) (old world next gone : WorldValue S) (before lane later : Lane) (polls : ℕ) (e : EnterError)
         → dispatch_serving lane ≡ dispatch_serving before → world.sites ≡ old.sites → TurnStops spans hint enables activates does touches same (moment_of polls) f world lane e next later
         → SameAttached before lane → DropsAll spans hint enables does touches (moment_of polls) fs next gone
         → (s : SoFar handles ts (f ∷ fs) old world before lane polls) → (now : List UnfinishedTask) → s.now ≡ now → AllStand handles now (f ∷ fs)
@@ -146,7 +146,7 @@ module _ {S : Type 0} (spans : S → Spans) (hint : S → Option LevelFilter) (e
     stops_now handles ts f fs old world next gone before lane later polls e serves sites turn attached closes s (t ∷ rest) is stand =
         let d : ℕ = dispatch_serving before in
         let m : ℕ = moment_of polls in
-        let u : UnfinishedTask = left_as t.number t.site f.inner in
+        let u : UnfinishedTask = unfinished_task t.number t.site f.inner in
         let same_task : u ≡ t = ap (λ (xs : List Step). let v : UnfinishedTask = record { number = t.number; site = t.site; steps = xs } in v) (sym stand.0.steps) in
         let first : TaskScene S = record { world = old; lane = before; handles = handles; guards = [] } in
         let start : TaskScene S = record { world = world; lane = lane; handles = handles; guards = s.guards } in
@@ -198,11 +198,11 @@ module _ {S : Type 0} (spans : S → Spans) (hint : S → Option LevelFilter) (e
           };
         }
 
-    pub stops_turns : (first all : List (Instrumented Running)) (old world gone : WorldValue S) (before lane later : Lane) (polls at : ℕ) (e : EnterError) → at ≡ moment_of polls → Taking first all old world before lane polls
+    pub stops_turns : (first all : List (Instrumented TaskFuture)) (old world gone : WorldValue S) (before lane later : Lane) (polls at : ℕ) (e : EnterError) → at ≡ moment_of polls → Taking first all old world before lane polls
         → StopsInTurn spans hint enables activates does touches same at all world lane e gone later
         → (handles : List Handle) (ts : List UnfinishedTask) → AllStand handles ts first → StopsTurns spans hint enables activates does touches same (dispatch_serving before) old.sites ts e (record { world = old; lane = before; handles = handles; guards = [] }) gone later
     stops_turns first all old world gone before lane later polls at e moment taking turn handles ts stand =
-        let s = subst (λ (xs : List (Instrumented Running)). SoFar handles ts xs old world before lane polls) turn.is (taking.so_far handles ts stand) in
-        stops_now handles ts turn.f turn.others old world turn.world gone before lane later polls e (ap served_by taking.default) taking.sites
+        let s = subst (λ (xs : List (Instrumented TaskFuture)). SoFar handles ts xs old world before lane polls) turn.is (taking.so_far handles ts stand) in
+        stops_now handles ts turn.f turn.others old world turn.world gone before lane later polls e (ap dispatch_of_default taking.default) taking.sites
         (subst (λ (n : ℕ). TurnStops spans hint enables activates does touches same n turn.f world lane e turn.world later) moment turn.stops) taking.attached
         (subst (λ (n : ℕ). DropsAll spans hint enables does touches n turn.others turn.world gone) moment turn.dropped) s s.now refl s.stand

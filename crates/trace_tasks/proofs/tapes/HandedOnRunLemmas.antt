@@ -1,7 +1,7 @@
 -- A run over a new tape hands the flat list on.
 use Rattle.std.proofs.Common.{◌≡◌, ℕ, ◌+◌, List, [], ◌++◌, length, true, None, Result, Ok, Err, sym, ap, subst, ◌∙◌, arith, IfOk}
 use Rattle.std.specs.Prelude.{sum_by}
-use Rattle.trace_tasks.proofs.Common.{EnterError, Callsite, Lane, WorldValue, Instrumented, Running, Request, TapeValue, DoesTape, TouchesTape, Task, yield_count, all_polls, tasks_at_first, makings, rounds_requests, turns_requests, flat_list, AreTested, IsNewTape, tape_spans, Ready, dispatch_serving, AreBegun}
+use Rattle.trace_tasks.proofs.Common.{EnterError, Callsite, Lane, WorldValue, Instrumented, TaskFuture, Request, TapeValue, DoesTape, TouchesTape, Task, yield_count, all_polls, tasks_at_first, makings, rounds_requests, turns_requests, flat_list, TasksAreDeclared, IsNewTape, tape_spans, ReadyToPoll, dispatch_serving, AreBegun}
 use Rattle.trace_tape.proofs.ItemsLemmas.{takes_after}
 use Rattle.trace_tape.specs.Sinks.{TakesAll}
 use Rattle.trace_tasks.specs.TapeTurns.{WaitOnTape, HandsOn, HandsTurnsOn}
@@ -10,8 +10,8 @@ use Rattle.trace_tasks.proofs.tapes.HandingOnLemmas.{waits_emptied, taken_from}
 use Rattle.trace_tasks.proofs.tapes.RoundsLemmas.{rounds_are_turns}
 use Rattle.trace_tasks.proofs.tapes.RunsLemmas.{begun_spells}
 
-module _ {K : Type 0} (takes : K → Request → K → Type 0) (d : ℕ) (tasks : List Task) (old world next : WorldValue TapeValue) (lane : Lane) (tape : TapeValue) (fs : List (Instrumented Running)) (start mid : K) (serves : dispatch_serving lane ≡ d) (new : IsNewTape old d tape)
-    (ready : Ready tape_spans (λ s lane number. 0) (λ s. Unit {0}) old lane) (tested : AreTested old.sites tasks)
+module _ {K : Type 0} (takes : K → Request → K → Type 0) (d : ℕ) (tasks : List Task) (old world next : WorldValue TapeValue) (lane : Lane) (tape : TapeValue) (fs : List (Instrumented TaskFuture)) (start mid : K) (serves : dispatch_serving lane ≡ d) (new : IsNewTape old d tape)
+    (ready : ReadyToPoll tape_spans (λ s lane number. 0) (λ s. Unit {0}) old lane) (tested : TasksAreDeclared old.sites tasks)
     (b : AreBegun tape_spans (λ s. None) (λ s lane c. true) (λ s lane number. 0) (λ s. Unit {0}) DoesTape TouchesTape tasks lane old world fs) (h : HandsOn takes d world next start mid) where
   waits : WaitOnTape d old.sites 0 (tasks_at_first 0 tasks) next lane fs
   waits =

@@ -2,7 +2,7 @@
 use Rattle.std.proofs.Common.{◌≡◌, ℕ, zero, suc, ◌+◌, ◌<◌, ◌^◌, List, [], ◌∷◌, ◌++◌, length, true, false, Option, Some, None, Result, Ok, Err, refl, sym, ap, subst, ◌∙◌, arith, slice_get, slice_set, OnOk}
 use Rattle.std.proofs.lemmas.Bool.{true≢false}
 use Rattle.otel_base.specs.declared.enter_error.EnterError.TheVariants as faults
-use Rattle.trace_tasks.proofs.Common.{EnterError, Memory, Callsite, Lane, WorldValue, Spans, cached_at, entries_on, no_spans, spans_in, now_there, seen_before, seen_later, Handle, HeldSpan, Request, Instrumented, Running, refused, TapeValue, DoesTape, TouchesTape, Step, steps_left, TaskScene, UnfinishedTask, poll_requests, after_poll, requeue, turns_requests, all_polls, moment_of, tape_spans, CarriesTape, left_after, Ready, IsAlone, left_as, Turned, dispatch_serving, served_by, AllStand, AllWait, AllKnown, polls_in, queue_with, TakesTurn, StopsInTurn}
+use Rattle.trace_tasks.proofs.Common.{EnterError, Memory, Callsite, Lane, WorldValue, Spans, cached_at, entries_on, no_spans, spans_in, now_there, seen_before, seen_later, Handle, HeldSpan, Request, Instrumented, TaskFuture, refused, TapeValue, DoesTape, TouchesTape, Step, steps_left, TaskScene, UnfinishedTask, poll_requests, after_poll, requeue, turns_requests, all_polls, moment_of, tape_spans, CarriesTape, left_after, ReadyToPoll, IsAlone, unfinished_task, PollsTask, dispatch_serving, dispatch_of_default, AllStand, AllWait, AllKnown, polls_in, queue_with, TakesTurn, StopsInTurn}
 use Rattle.span_futures.specs.Lent.{more_parts}
 use Rattle.span_handles.specs.Knowing.{KeepsHandles}
 use Rattle.span_handles.proofs.KnownHandlesLemmas.{handles_same}
@@ -30,7 +30,7 @@ module _ (d : ℕ) (old new : WorldValue TapeValue) (r : OnlyRequestsChange d ol
   kept : KeepsHandles tape_spans old new
   kept = handles_same tape_spans (λ s t. t ≡ record s { requests = t.requests }) same_spans old new d r
 
-  pub wait_still : (fs : List (Instrumented Running)) → AllWait tape_spans old d fs → AllWait tape_spans new d fs
+  pub wait_still : (fs : List (Instrumented TaskFuture)) → AllWait tape_spans old d fs → AllWait tape_spans new d fs
   wait_still [] all = tt
   wait_still (f ∷ fs) all = (
     record {
@@ -42,10 +42,10 @@ module _ (d : ℕ) (old new : WorldValue TapeValue) (r : OnlyRequestsChange d ol
     wait_still fs all.2,
   )
 
-  pub known_still : (fs : List (Instrumented Running)) → AllKnown tape_spans old fs → AllKnown tape_spans new fs
+  pub known_still : (fs : List (Instrumented TaskFuture)) → AllKnown tape_spans old fs → AllKnown tape_spans new fs
   known_still fs all = known_stays tape_spans old new fs kept all
 
-  pub ready_still : (lane : Lane) → dispatch_serving lane ≡ d → Ready tape_spans (λ s lane number. 0) (λ s. Unit {0}) old lane → Ready tape_spans (λ s lane number. 0) (λ s. Unit {0}) new lane
+  pub ready_still : (lane : Lane) → dispatch_serving lane ≡ d → ReadyToPoll tape_spans (λ s lane number. 0) (λ s. Unit {0}) old lane → ReadyToPoll tape_spans (λ s lane number. 0) (λ s. Unit {0}) new lane
   ready_still lane serves ready =
       let lent = refused tape_spans (λ s lane number. 0) (λ s. Unit {0}) (λ s t. t ≡ record s { requests = t.requests }) same_spans (λ s t is. refl) (λ s t is whole. tt) (Some (d, 0)) old new lane lane r (record { id = refl; name = refl; default = refl; live = refl }) in
       record {
@@ -115,7 +115,7 @@ module _ {K : Type 0} (takes : K → Request → K → Type 0) (d : ℕ) (sites 
     )
 
     -- tasks that stand wait on the tape, and the sink took what was spelled
-    pub waits_emptied : (k : ℕ) (ts : List UnfinishedTask) (fs : List (Instrumented Running)) → AllStand handles ts fs → BetweenPolls d sites k stage_before tape → AllCanBePolled d sites stage_before tape ts → WaitOnTape d sites k ts new lane fs
+    pub waits_emptied : (k : ℕ) (ts : List UnfinishedTask) (fs : List (Instrumented TaskFuture)) → AllStand handles ts fs → BetweenPolls d sites k stage_before tape → AllCanBePolled d sites stage_before tape ts → WaitOnTape d sites k ts new lane fs
     waits_emptied k ts fs stand between waiting = record {
       handles = handles;
       guards = guards;
@@ -132,26 +132,26 @@ module _ {K : Type 0} (takes : K → Request → K → Type 0) (d : ℕ) (sites 
 -- ---- one turn
 
 -- the subscriber is there still
-pub still_there : (d at : ℕ) (all last : List (Instrumented Running)) (world next : WorldValue TapeValue) (lane later : Lane) → dispatch_serving lane ≡ d → TakesTurn tape_spans (λ s. None) (λ s lane c. true) (λ s lane number. 0) (λ s. Unit {0}) DoesTape TouchesTape at all world lane last next later → d < length next.subscribers
+pub still_there : (d at : ℕ) (all last : List (Instrumented TaskFuture)) (world next : WorldValue TapeValue) (lane later : Lane) → dispatch_serving lane ≡ d → TakesTurn tape_spans (λ s. None) (λ s lane c. true) (λ s lane number. 0) (λ s. Unit {0}) DoesTape TouchesTape at all world lane last next later → d < length next.subscribers
 still_there d at all last world next lane later serves turn = (
     let there = turn.turned.ready.there in
-    let same : dispatch_serving later ≡ d = ap served_by turn.turned.default ∙ serves in
+    let same : dispatch_serving later ≡ d = ap dispatch_of_default turn.turned.default ∙ serves in
     omega (arith, there, same))
 
 module _ {K : Type 0} (takes : K → Request → K → Type 0) (d : ℕ) (sites : List Callsite) where
-  pub record TurnHandedOn (k : ℕ) (ts : List UnfinishedTask) (new : WorldValue TapeValue) (later : Lane) (fs : List (Instrumented Running)) (before after : K) : Type 0 where
+  pub record TurnHandedOn (k : ℕ) (ts : List UnfinishedTask) (new : WorldValue TapeValue) (later : Lane) (fs : List (Instrumented TaskFuture)) (before after : K) : Type 0 where
     pub t : UnfinishedTask
     pub rest : List UnfinishedTask
     pub is : ts ≡ t ∷ rest
     pub waits : WaitOnTape d sites (k + 1) (requeue rest (after_poll t)) new later fs
     pub taken : TakesAll takes (poll_requests sites k t) before after
 
-  hands_turn_on : (k : ℕ) (ts : List UnfinishedTask) (f : Instrumented Running) (fs : List (Instrumented Running)) (left : Option (Instrumented Running)) (world next new : WorldValue TapeValue) (lane later : Lane) (before after : K) → k < 2 ^ 63 → dispatch_serving lane ≡ d
-      → WaitOnTape d sites k ts world lane (f ∷ fs) → Turned tape_spans (λ s. None) (λ s lane c. true) (λ s lane number. 0) (λ s. Unit {0}) DoesTape TouchesTape (moment_of k) f world lane left next later → HandsOn takes d next new before after
+  hands_turn_on : (k : ℕ) (ts : List UnfinishedTask) (f : Instrumented TaskFuture) (fs : List (Instrumented TaskFuture)) (left : Option (Instrumented TaskFuture)) (world next new : WorldValue TapeValue) (lane later : Lane) (before after : K) → k < 2 ^ 63 → dispatch_serving lane ≡ d
+      → WaitOnTape d sites k ts world lane (f ∷ fs) → PollsTask tape_spans (λ s. None) (λ s lane c. true) (λ s lane number. 0) (λ s. Unit {0}) DoesTape TouchesTape (moment_of k) f world lane left next later → HandsOn takes d next new before after
       → TurnHandedOn k ts new later (queue_with fs left) before after
   hands_turn_on k [] f fs left world next new lane later before after few serves w turned handed = absurd w.stand
   hands_turn_on k (t ∷ rest) f fs left world next new lane later before after few serves w turned handed =
-      let u : UnfinishedTask = left_as t.number t.site f.inner in
+      let u : UnfinishedTask = unfinished_task t.number t.site f.inner in
       let same : u ≡ t = ap (λ (xs : List Step). let v : UnfinishedTask = record { number = t.number; site = t.site; steps = xs } in v) (sym w.stand.0.steps) in
       let s : TaskScene TapeValue = record { world = world; lane = lane; handles = w.handles; guards = w.guards } in
       let m : TaskScene TapeValue = record { world = next; lane = later; handles = w.handles; guards = w.guards ++ f.span.held ∷ [] } in
@@ -173,21 +173,21 @@ module _ {K : Type 0} (takes : K → Request → K → Type 0) (d : ℕ) (sites 
 
   -- ---- all turns so far
 
-  pub record TurnsSoFar (ts : List UnfinishedTask) (polls : ℕ) (world : WorldValue TapeValue) (lane : Lane) (fs : List (Instrumented Running)) (start now : K) : Type 0 where
+  pub record TurnsSoFar (ts : List UnfinishedTask) (polls : ℕ) (world : WorldValue TapeValue) (lane : Lane) (fs : List (Instrumented TaskFuture)) (start now : K) : Type 0 where
     pub left : List UnfinishedTask
     pub after : left_after polls ts ≡ left
     pub polled : polls + all_polls left ≡ all_polls ts
     pub waits : WaitOnTape d sites polls left world lane fs
     pub taken : TakesAll takes (turns_requests sites polls 0 ts) start now
 
-  pub record HandedSoFar (first fs : List (Instrumented Running)) (old world : WorldValue TapeValue) (before lane : Lane) (polls : ℕ) (start now : K) : Type 0 where
-    pub ready : Ready tape_spans (λ s lane number. 0) (λ s. Unit {0}) world lane
+  pub record HandedSoFar (first fs : List (Instrumented TaskFuture)) (old world : WorldValue TapeValue) (before lane : Lane) (polls : ℕ) (start now : K) : Type 0 where
+    pub ready : ReadyToPoll tape_spans (λ s lane number. 0) (λ s. Unit {0}) world lane
     pub serves : dispatch_serving lane ≡ d
     pub wait : AllWait tape_spans world (dispatch_serving lane) fs
     pub few : polls + polls_in fs ≡ polls_in first
     pub so_far : (ts : List UnfinishedTask) → WaitOnTape d sites 0 ts old before first → TurnsSoFar ts polls world lane fs start now
 
-  pub handed_first : (fs : List (Instrumented Running)) (world : WorldValue TapeValue) (lane : Lane) (start : K) → Ready tape_spans (λ s lane number. 0) (λ s. Unit {0}) world lane → dispatch_serving lane ≡ d → AllWait tape_spans world (dispatch_serving lane) fs
+  pub handed_first : (fs : List (Instrumented TaskFuture)) (world : WorldValue TapeValue) (lane : Lane) (start : K) → ReadyToPoll tape_spans (λ s lane number. 0) (λ s. Unit {0}) world lane → dispatch_serving lane ≡ d → AllWait tape_spans world (dispatch_serving lane) fs
       → HandedSoFar fs fs world world lane lane 0 start start
   handed_first fs world lane start ready serves wait = record {
     ready = ready;
@@ -197,8 +197,8 @@ module _ {K : Type 0} (takes : K → Request → K → Type 0) (d : ℕ) (sites 
     so_far = λ ts waits. record { left = ts; after = refl; polled = omega arith; waits = waits; taken = refl };
   }
 
-  turns_so_far : (ts : List UnfinishedTask) (f : Instrumented Running) (fs : List (Instrumented Running)) (left : Option (Instrumented Running)) (world next new : WorldValue TapeValue) (lane later : Lane) (polls : ℕ) (start before after : K) → polls < 2 ^ 63 → dispatch_serving lane ≡ d
-      → Turned tape_spans (λ s. None) (λ s lane c. true) (λ s lane number. 0) (λ s. Unit {0}) DoesTape TouchesTape (moment_of polls) f world lane left next later → HandsOn takes d next new before after
+  turns_so_far : (ts : List UnfinishedTask) (f : Instrumented TaskFuture) (fs : List (Instrumented TaskFuture)) (left : Option (Instrumented TaskFuture)) (world next new : WorldValue TapeValue) (lane later : Lane) (polls : ℕ) (start before after : K) → polls < 2 ^ 63 → dispatch_serving lane ≡ d
+      → PollsTask tape_spans (λ s. None) (λ s lane c. true) (λ s lane number. 0) (λ s. Unit {0}) DoesTape TouchesTape (moment_of polls) f world lane left next later → HandsOn takes d next new before after
       → TurnsSoFar ts polls world lane (f ∷ fs) start before → TurnsSoFar ts (polls + 1) new later (queue_with fs left) start after
   turns_so_far ts f fs left world next new lane later polls start before after few serves turned handed s =
       let one = hands_turn_on polls s.left f fs left world next new lane later before after few serves s.waits turned handed in
@@ -212,22 +212,22 @@ module _ {K : Type 0} (takes : K → Request → K → Type 0) (d : ℕ) (sites 
             (takes_after takes (turns_requests sites polls 0 ts) (poll_requests sites polls one.t) start before after s.taken one.taken);
       }
 
-  pub handed_more : (first all last : List (Instrumented Running)) (old world next new : WorldValue TapeValue) (before lane later : Lane) (polls at : ℕ) (start now then : K) → polls_in first < 2 ^ 60 → at ≡ moment_of polls → HandedSoFar first all old world before lane polls start now
+  pub handed_more : (first all last : List (Instrumented TaskFuture)) (old world next new : WorldValue TapeValue) (before lane later : Lane) (polls at : ℕ) (start now then : K) → polls_in first < 2 ^ 60 → at ≡ moment_of polls → HandedSoFar first all old world before lane polls start now
       → TakesTurn tape_spans (λ s. None) (λ s lane c. true) (λ s lane number. 0) (λ s. Unit {0}) DoesTape TouchesTape at all world lane last next later → HandsOn takes d next new now then → HandedSoFar first last old new before later (polls + 1) start then
   handed_more first all last old world next new before lane later polls at start now then bound moment h turn handed =
-      let T : ℕ → Type 0 = λ n. Turned tape_spans (λ s. None) (λ s lane c. true) (λ s lane number. 0) (λ s. Unit {0}) DoesTape TouchesTape n turn.f world lane turn.left next later in
+      let T : ℕ → Type 0 = λ n. PollsTask tape_spans (λ s. None) (λ s lane c. true) (λ s lane number. 0) (λ s. Unit {0}) DoesTape TouchesTape n turn.f world lane turn.left next later in
       let turned : T (moment_of polls) = subst T moment turn.turned in
       let r = only_requests takes d sites next new now then handed in
-      let serves : dispatch_serving later ≡ d = ap served_by turned.default ∙ h.serves in
+      let serves : dispatch_serving later ≡ d = ap dispatch_of_default turned.default ∙ h.serves in
       let few : polls < 2 ^ 63 = (let a = h.few in let b = bound in omega (arith, a, b)) in
       record {
         ready = ready_still d next new r later serves turned.ready;
         serves = serves;
         wait = subst (λ (n : ℕ). AllWait tape_spans new n last) (sym serves) (wait_still d next new r last (subst (λ (n : ℕ). AllWait tape_spans next n last) serves turn.wait));
         few = (let a = h.few in let b = one_poll_less tape_spans (λ s. None) (λ s lane c. true) (λ s lane number. 0) (λ s. Unit {0}) DoesTape TouchesTape at all last world next lane later turn in omega (arith, a, b));
-        so_far = λ ts waits. subst (λ (xs : List (Instrumented Running)). TurnsSoFar ts (polls + 1) new later xs start then) (sym turn.queue)
+        so_far = λ ts waits. subst (λ (xs : List (Instrumented TaskFuture)). TurnsSoFar ts (polls + 1) new later xs start then) (sym turn.queue)
             (turns_so_far ts turn.f turn.others turn.left world next new lane later polls start now then few h.serves turned handed
-            (subst (λ (xs : List (Instrumented Running)). TurnsSoFar ts polls world lane xs start now) turn.is (h.so_far ts waits)));
+            (subst (λ (xs : List (Instrumented TaskFuture)). TurnsSoFar ts polls world lane xs start now) turn.is (h.so_far ts waits)));
       }
 
   at_last : (ts : List UnfinishedTask) (polls : ℕ) (world : WorldValue TapeValue) (lane : Lane) (start now : K) (left : List UnfinishedTask) → polls + all_polls left ≡ all_polls ts → WaitOnTape d sites polls left world lane [] → TakesAll takes (turns_requests sites polls 0 ts) start now → HandsTurnsOn takes sites ts polls start now
@@ -236,10 +236,10 @@ module _ {K : Type 0} (takes : K → Request → K → Type 0) (d : ℕ) (sites 
       record { polled = is; taken = subst (λ (n : ℕ). TakesAll takes (turns_requests sites n 0 ts) start now) is taken }
   at_last ts polls world lane start now (t ∷ left) polled waits taken = absurd waits.stand
 
-  pub handed_all : (first fs : List (Instrumented Running)) (old world : WorldValue TapeValue) (before lane : Lane) (polls : ℕ) (start now : K) → fs ≡ [] → HandedSoFar first fs old world before lane polls start now → (ts : List UnfinishedTask) → WaitOnTape d sites 0 ts old before first
+  pub handed_all : (first fs : List (Instrumented TaskFuture)) (old world : WorldValue TapeValue) (before lane : Lane) (polls : ℕ) (start now : K) → fs ≡ [] → HandedSoFar first fs old world before lane polls start now → (ts : List UnfinishedTask) → WaitOnTape d sites 0 ts old before first
       → HandsTurnsOn takes sites ts polls start now
   handed_all first fs old world before lane polls start now none h ts waits =
-      let s = subst (λ (xs : List (Instrumented Running)). TurnsSoFar ts polls world lane xs start now) none (h.so_far ts waits) in
+      let s = subst (λ (xs : List (Instrumented TaskFuture)). TurnsSoFar ts polls world lane xs start now) none (h.so_far ts waits) in
       at_last ts polls world lane start now s.left s.polled s.waits s.taken
 
 -- ---- a tape attaches nothing, so no lane is full for it
@@ -252,9 +252,9 @@ guard_count : (n : ℕ) → length (no_guards n) ≡ n
 guard_count zero = refl
 guard_count (suc n) = (let e = guard_count n in omega (arith, e))
 
-pub full_never : (d polls at : ℕ) (all : List (Instrumented Running)) (old new : WorldValue TapeValue) (before later : Lane) (e : EnterError) → AllWait tape_spans old d all → at ≡ moment_of polls
+pub full_never : (d polls at : ℕ) (all : List (Instrumented TaskFuture)) (old new : WorldValue TapeValue) (before later : Lane) (e : EnterError) → AllWait tape_spans old d all → at ≡ moment_of polls
     → StopsInTurn tape_spans (λ s. None) (λ s lane c. true) (λ s id. false) DoesTape TouchesTape (λ s t. t ≡ s) at all old before e new later → e ≡ faults.Full → ⊥
 full_never d polls at all old new before later e wait moment turn is =
-    let waits = (subst (λ (xs : List (Instrumented Running)). AllWait tape_spans old d xs) turn.is wait).0 in
+    let waits = (subst (λ (xs : List (Instrumented TaskFuture)). AllWait tape_spans old d xs) turn.is wait).0 in
     let stopped = (turn.stops.stops 0 waits.site polls (turn.f.span ∷ []) (no_guards polls) moment refl (guard_count polls) waits.lone.site_is).stopped in
     absurd (true≢false (sym (stopped.full is).attaches))

@@ -9,9 +9,9 @@ use Rattle.trace_base.specs.Gate.{WorldValue, AreSame, IsFresh, cached_at, inter
 use Rattle.trace_base.specs.Spans.{entries_on}
 use Rattle.span_handles.specs.Worlds.{spans_in, no_spans}
 use Rattle.span_registry.specs.Registering.{RegistryValue}
-use Rattle.trace_tape.specs.Taping.{TapeValue, blank_tape}
+use Rattle.trace_tape.specs.Tapes.{TapeValue, blank_tape}
 use Rattle.trace_tasks.specs.Spelled.{tape_spans, IsNewTape}
-use Rattle.trace_tasks.specs.Turning.{served_by, dispatch_serving, Ready}
+use Rattle.trace_tasks.specs.Turning.{dispatch_of_default, dispatch_serving, ReadyToPoll}
 
 -- the one subscriber is the tape
 only_tape : (xs : List TapeValue) (tape : TapeValue) → AreSame (λ s t. t ≡ s) (tape ∷ []) xs → xs ≡ tape ∷ []
@@ -50,10 +50,10 @@ module _ (world : WorldValue TapeValue) (d : ℕ) (tape : TapeValue) (new : tape
     },
   )
 
-  pub ready : (lane : Lane) → lane.default ≡ Some d → Ready tape_spans (λ s lane number. 0) (λ s. Unit {0}) world lane
+  pub ready : (lane : Lane) → lane.default ≡ Some d → ReadyToPoll tape_spans (λ s lane number. 0) (λ s. Unit {0}) world lane
   unfolding below_at_first
   ready lane default =
-      let serving : dispatch_serving lane ≡ d = ap served_by default in
+      let serving : dispatch_serving lane ≡ d = ap dispatch_of_default default in
       record {
         default = default ∙ ap (λ (n : ℕ). Some n) (sym serving);
         there = (let c = same.count in omega (arith, c, serving, first));

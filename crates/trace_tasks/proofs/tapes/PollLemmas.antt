@@ -1,7 +1,7 @@
 -- A poll of a task over a tape.
 use Rattle.std.proofs.Common.{◌≡◌, ℕ, zero, suc, ◌<◌, List, [], ◌∷◌, ◌++◌, length, map, Bool, true, Option, Some, None, Result, Ok, Err, refl, sym, ap, subst, ◌∙◌, arith, slice_get, append_assoc}
 use Rattle.std.proofs.lemmas.List.{append-nil}
-use Rattle.trace_tasks.proofs.Common.{Memory, OpReply, Callsite, SubscriberCall, Records, Event, spans_after_call, WorldValue, cached_at, gate, Spans, Replaced, Handle, RecordsAt, RecordsOn, callsite_in, handle_of, now_there, Applies, Request, TapeValue, DoesTape, taped_after, on_first_lane, TouchesTape, AppliesTape, is_live, Step, steps_now, CallsIf, TellsAt, IsGranted, TaskScene, EventTold, Handled, Fields, values_of, values_by, UnfinishedTask, declared_ones, step_call, tape_spans, CarriesTape, IsDeclared, IsTested}
+use Rattle.trace_tasks.proofs.Common.{Memory, OpReply, Callsite, SubscriberCall, Records, Event, spans_after_call, WorldValue, cached_at, gate, Spans, Replaced, Handle, RecordsAt, RecordsOn, callsite_in, handle_of, now_there, Applies, Request, TapeValue, DoesTape, tape_after, on_first_lane, TouchesTape, AppliesTape, is_live, Step, steps_now, CallsIf, TellsAt, IsGranted, TaskScene, CarriesEvent, CarriesOnHandle, Fields, values_of, values_by, UnfinishedTask, declared_ones, step_call, tape_spans, CarriesTape, IsDeclared, StepsAreDeclared}
 use Rattle.otel_state.specs.declared.op.Op.TheVariants as ops
 use Rattle.trace_base.specs.declared.subscriber.Interest.TheVariants as interests
 use Rattle.trace_base.specs.declared.span.Parent.TheVariants as parent
@@ -53,7 +53,7 @@ adds_then d rs more s m t tape first second = record {
 
 -- a call that spells one request
 adds_call : (d : ℕ) (s t : TaskScene TapeValue) (tape : TapeValue) (c : SubscriberCall) (r : Request) → slice_get s.world.subscribers d ≡ Some tape → Replaced (λ a b. DoesTape a c b) s.world t.world d → t.lane ≡ s.lane → t.handles ≡ s.handles → t.guards ≡ s.guards
-    → spans_after_call tape.below.spans c ≡ tape.below.spans → taped_after tape c ≡ record tape { requests = tape.requests ++ r ∷ [] } → Adds d (r ∷ []) s t tape
+    → spans_after_call tape.below.spans c ≡ tape.below.spans → tape_after tape c ≡ record tape { requests = tape.requests ++ r ∷ [] } → Adds d (r ∷ []) s t tape
 adds_call d s t tape c r there did lane handles guards spans_stay spells =
     let one = one_call s.world t.world d tape c there did in
     record {
@@ -78,7 +78,7 @@ get_within (y ∷ xs) (suc n) x is = (let r = get_within xs n x is in omega (ari
 module _ (d : ℕ) (sites : List Callsite) (t : UnfinishedTask) (at : ℕ) where
   -- an event is let through, and spelled as it was given
   event_adds : (site : ℕ) (fields : Fields) (s m : TaskScene TapeValue) (tape : TapeValue) → slice_get s.world.subscribers d ≡ Some tape → s.world.sites ≡ sites → ((n : ℕ) → n < length sites → cached_at s.world.cached d n ≡ interests.Always)
-      → IsDeclared (slice_get sites site) fields → EventTold tape_spans (λ x. None) (λ x lane c. true) DoesTape TouchesTape d at site fields s m → Adds d (on_first_lane at (call.Event site request_parent.Contextual fields) ∷ []) s m tape
+      → IsDeclared (slice_get sites site) fields → CarriesEvent tape_spans (λ x. None) (λ x lane c. true) DoesTape TouchesTape d at site fields s m → Adds d (on_first_lane at (call.Event site request_parent.Contextual fields) ∷ []) s m tape
   event_adds site fields s m tape there same cached declared told = by_site (slice_get sites site) refl declared where
     by_site : (o : Option Callsite) → slice_get sites site ≡ o → IsDeclared o fields → Adds d (on_first_lane at (call.Event site request_parent.Contextual fields) ∷ []) s m tape
     by_site None is declared = absurd declared
@@ -99,7 +99,7 @@ module _ (d : ℕ) (sites : List Callsite) (t : UnfinishedTask) (at : ℕ) where
   the_handle a b e = cc e
 
   record_adds : (fields : Fields) (s m : TaskScene TapeValue) (tape : TapeValue) → slice_get s.world.subscribers d ≡ Some tape → s.world.sites ≡ sites → slice_get s.handles t.number ≡ Some (handle_of d t.number t.site) → (c : Callsite) → slice_get sites t.site ≡ Some c
-      → Handled tape_spans (λ x. None) (λ x lane c. true) DoesTape TouchesTape d at t.number (call.Record t.number (declared_ones (slice_get sites t.site) fields)) s m
+      → CarriesOnHandle tape_spans (λ x. None) (λ x lane c. true) DoesTape TouchesTape d at t.number (call.Record t.number (declared_ones (slice_get sites t.site) fields)) s m
       → Adds d (on_first_lane at (call.Record t.number (declared_ones (slice_get sites t.site) fields)) ∷ []) s m tape
   record_adds fields s m tape there same is c site_is done =
       let found : slice_get s.world.sites t.site ≡ Some c = ap (λ (xs : List Callsite). slice_get xs t.site) same ∙ site_is in
@@ -115,7 +115,7 @@ module _ (d : ℕ) (sites : List Callsite) (t : UnfinishedTask) (at : ℕ) where
       (ap (λ (g : Fields). let y : TapeValue = record tape { requests = tape.requests ++ on_first_lane at (call.Record t.number g) ∷ [] } in y) (named_back c fs (all_declared c fields) ∙ sym given_is))
 
   set_adds : (key : List ℕ) (value : _) (s m : TaskScene TapeValue) (tape : TapeValue) → slice_get s.world.subscribers d ≡ Some tape → slice_get s.handles t.number ≡ Some (handle_of d t.number t.site) → is_live tape.below.spans t.number ≡ true
-      → Handled tape_spans (λ x. None) (λ x lane c. true) DoesTape TouchesTape d at t.number (call.SetAttribute t.number key value) s m
+      → CarriesOnHandle tape_spans (λ x. None) (λ x lane c. true) DoesTape TouchesTape d at t.number (call.SetAttribute t.number key value) s m
       → Adds d (on_first_lane at (call.SetAttribute t.number key value) ∷ []) s m tape
   set_adds key value s m tape there is live done = by_answer done.did.1.0 done.did.1.1 (subst (λ (h : Handle). AppliesOn TouchesTape s.world m.world at (ops.SetAttribute (record { key = key; value = value })) h.held done.did.1.0)
       (the_handle done.handle (handle_of d t.number t.site) (sym done.is ∙ is)) done.did.1.2) where
@@ -140,7 +140,7 @@ module _ (d : ℕ) (sites : List Callsite) (t : UnfinishedTask) (at : ℕ) where
               guards = done.guards;
             }
 
-  pub steps_add : (c : Callsite) → slice_get sites t.site ≡ Some c → (steps : List Step) → IsTested sites steps → (s m : TaskScene TapeValue) (tape : TapeValue) → slice_get s.world.subscribers d ≡ Some tape → s.world.sites ≡ sites
+  pub steps_add : (c : Callsite) → slice_get sites t.site ≡ Some c → (steps : List Step) → StepsAreDeclared sites steps → (s m : TaskScene TapeValue) (tape : TapeValue) → slice_get s.world.subscribers d ≡ Some tape → s.world.sites ≡ sites
       → ((n : ℕ) → n < length sites → cached_at s.world.cached d n ≡ interests.Always) → slice_get s.handles t.number ≡ Some (handle_of d t.number t.site) → is_live tape.below.spans t.number ≡ true
       → CarriesTape d (map (λ x. on_first_lane at (step_call sites t x)) (steps_now steps)) s m → Adds d (map (λ x. on_first_lane at (step_call sites t x)) (steps_now steps)) s m tape
   steps_add c site_is [] tested s m tape there same cached is live did = adds_none d s m tape did there

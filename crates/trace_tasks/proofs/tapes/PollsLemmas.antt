@@ -1,10 +1,10 @@
 -- Polls over a tape spell their requests.
 use Rattle.std.proofs.Common.{◌≡◌, ℕ, zero, suc, ◌+◌, ◌-◌, ◌<◌, ◌^◌, List, [], ◌∷◌, ◌++◌, length, map, Bool, true, Option, Some, None, refl, sym, ap, subst, ◌∙◌, arith, slice_get, slice_set, append_assoc, ◌==◌, ◌&&◌, if◌then◌else◌, nat_lt}
 use Rattle.std.proofs.lemmas.List.{append-nil, length_push}
-use Rattle.trace_tasks.proofs.Common.{cond-true, Callsite, Lane, Enter, Exit, TryClose, with_span_entry, with_span_exit, cached_at, Span, Spans, span_at, entries_on, with_hold, without_hold, without_last, parent_to_release, Replaced, Chain, ended, closes, Handle, HeldSpan, ReplacedOn, handle_of, BeginsInside, Request, TapeValue, DoesTape, on_first_lane, is_opened, is_due, let_go, exit_requests, drop_requests, handles_of, one_more, TouchesTape, is_live, Step, steps_now, steps_left, TaskScene, Entered, Exited, UnfinishedTask, step_call, moment_of, drop_at_end, poll_requests, tape_spans, CarriesTape, IsTested, root_of_one_handle}
+use Rattle.trace_tasks.proofs.Common.{cond-true, Callsite, Lane, Enter, Exit, TryClose, with_span_entry, with_span_exit, cached_at, Span, Spans, span_at, entries_on, with_hold, without_hold, without_last, parent_to_release, Replaced, Chain, ended, closes, Handle, HeldSpan, ReplacedOn, handle_of, BeginsInside, Request, TapeValue, DoesTape, on_first_lane, is_entry_of, is_due, without_handle, exit_requests, drop_requests, handles_of, one_more, TouchesTape, is_live, Step, steps_now, steps_left, TaskScene, CarriesEnter, CarriesExit, UnfinishedTask, step_call, moment_of, drop_at_end, poll_requests, tape_spans, CarriesTape, StepsAreDeclared, root_of_one_handle}
 use Rattle.std.proofs.lemmas.Bool.{eq-eqb, lt-ltb}
 use Rattle.otel_state.specs.Stack.{last_passing}
-use Rattle.trace_tape.specs.declared.opened.Opened.{Opened}
+use Rattle.trace_tape.specs.declared.opened.OpenEntry.{OpenEntry}
 use Rattle.span_script.specs.declared.request.Call.TheVariants as call
 use Rattle.trace_tasks.specs.TapeTurns.{BetweenPolls, HeldOnce}
 use Rattle.trace_tasks.proofs.polls.EntryLemmas.{get_push}
@@ -62,14 +62,14 @@ held_live [] id site is = absurd (let e = ap (λ (x : Span). x.holds) is in omeg
 held_live (x ∷ made) zero site is = ap (λ (y : Span). y.holds + 1) is
 held_live (x ∷ made) (suc id) site is = held_live made id site is
 
-opened_is : (l n k : ℕ) → is_opened l n (record { lane = l; id = n; guard = k }) ≡ true
+opened_is : (l n k : ℕ) → is_entry_of l n (record { lane = l; id = n; guard = k }) ≡ true
 opened_is l n k = ap (λ (b : Bool). b && (n == n)) (eq-eqb l l refl) ∙ eq-eqb n n refl
 
 -- the one entry that is open is taken out
-last_is : (p : Opened → Bool) (o : Opened) → p o ≡ true → last_passing p (o ∷ []) ≡ Some o
+last_is : (p : OpenEntry → Bool) (o : OpenEntry) → p o ≡ true → last_passing p (o ∷ []) ≡ Some o
 last_is p o is = ap (λ (b : Bool). if b then Some o else None) is
 
-without_is : (p : Opened → Bool) (o : Opened) → p o ≡ true → without_last p (o ∷ []) ≡ []
+without_is : (p : OpenEntry → Bool) (o : OpenEntry) → p o ≡ true → without_last p (o ∷ []) ≡ []
 without_is p o is = ap (λ (b : Bool). if b then [] else o ∷ []) is
 
 few_more : (k : ℕ) → k < 2 ^ 63 → one_more k ≡ k + 1
@@ -77,7 +77,7 @@ few_more k few = cond-true {A = ℕ} (nat_lt k (2 ^ 64 - 1)) (k + 1) k (lt-ltb k
 
 -- ---- the entry, the steps and the exit
 
-module _ (d : ℕ) (sites : List Callsite) (k : ℕ) (t : UnfinishedTask) (few : k < 2 ^ 63) (c : Callsite) (site_is : slice_get sites t.site ≡ Some c) (tested : IsTested sites t.steps) where
+module _ (d : ℕ) (sites : List Callsite) (k : ℕ) (t : UnfinishedTask) (few : k < 2 ^ 63) (c : Callsite) (site_is : slice_get sites t.site ≡ Some c) (tested : StepsAreDeclared sites t.steps) where
   -- between the entry and the exit
   pub record Inside (s m : TaskScene TapeValue) (tape : TapeValue) (rs : List Request) : Type 0 where
     pub now : TapeValue
@@ -94,7 +94,7 @@ module _ (d : ℕ) (sites : List Callsite) (k : ℕ) (t : UnfinishedTask) (few :
     pub table : m.handles ≡ s.handles
     pub guarded : m.guards ≡ s.guards ++ Some (d, t.number) ∷ []
 
-  enters : (s e : TaskScene TapeValue) (tape : TapeValue) → BetweenPolls d sites k s tape → HeldOnce d s tape t → Entered tape_spans (λ x. None) (λ x lane c. true) DoesTape TouchesTape d (moment_of k) t.number s e → Inside s e tape (on_first_lane (moment_of k) (call.Enter t.number) ∷ [])
+  enters : (s e : TaskScene TapeValue) (tape : TapeValue) → BetweenPolls d sites k s tape → HeldOnce d s tape t → CarriesEnter tape_spans (λ x. None) (λ x lane c. true) DoesTape TouchesTape d (moment_of k) t.number s e → Inside s e tape (on_first_lane (moment_of k) (call.Enter t.number) ∷ [])
   enters s e tape between waits enter =
       let n : ℕ = t.number in
       let a : ℕ = moment_of k in
@@ -108,8 +108,8 @@ module _ (d : ℕ) (sites : List Callsite) (k : ℕ) (t : UnfinishedTask) (few :
         there = one.there;
         spans_are = one.spans_are;
         due = ap (λ (x : TapeValue). x.due) one.is ∙ between.no_due;
-        entries = ap (λ (x : TapeValue). x.entries) one.is ∙ ap (λ (xs : List Opened). xs ++ record { lane = s.lane.id; id = n; guard = tape.guards } ∷ []) between.no_entries
-            ∙ ap (λ (g : ℕ). let o : Opened = record { lane = s.lane.id; id = n; guard = g } in o ∷ []) between.guards;
+        entries = ap (λ (x : TapeValue). x.entries) one.is ∙ ap (λ (xs : List OpenEntry). xs ++ record { lane = s.lane.id; id = n; guard = tape.guards } ∷ []) between.no_entries
+            ∙ ap (λ (g : ℕ). let o : OpenEntry = record { lane = s.lane.id; id = n; guard = g } in o ∷ []) between.guards;
         guards = ap (λ (x : TapeValue). x.guards) one.is ∙ ap one_more between.guards ∙ few_more k few;
         spells = ap (λ (x : TapeValue). x.requests) one.is;
         holds = ap (λ (x : TapeValue). x.handles) one.is;
@@ -156,7 +156,7 @@ module _ (d : ℕ) (sites : List Callsite) (k : ℕ) (t : UnfinishedTask) (few :
     pub holds : now.handles ≡ tape.handles
     pub table : m.handles ≡ s.handles
 
-  leaves : (s e m : TaskScene TapeValue) (tape : TapeValue) → BetweenPolls d sites k s tape → HeldOnce d s tape t → (rs : List Request) → Inside s e tape rs → Exited tape_spans (λ x. None) (λ x lane c. true) DoesTape TouchesTape d (moment_of k) k e m
+  leaves : (s e m : TaskScene TapeValue) (tape : TapeValue) → BetweenPolls d sites k s tape → HeldOnce d s tape t → (rs : List Request) → Inside s e tape rs → CarriesExit tape_spans (λ x. None) (λ x lane c. true) DoesTape TouchesTape d (moment_of k) k e m
       → Outside s m tape (rs ++ on_first_lane (moment_of k) (call.Exit k) ∷ [])
   leaves s e m tape between waits rs inside exit =
       let n : ℕ = t.number in
@@ -166,9 +166,9 @@ module _ (d : ℕ) (sites : List Callsite) (k : ℕ) (t : UnfinishedTask) (few :
       let one = one_call e.world m.world d inside.now (Exit n a e.lane m.lane) inside.there r in
       let lane_same : m.lane ≡ e.lane = r.did.below.lane in
       let at_start : e.lane.id ≡ s.lane.id = ap (λ (l : Lane). l.id) inside.lane in
-      let o : Opened = record { lane = s.lane.id; id = n; guard = k } in
-      let p : Opened → Bool = is_opened e.lane.id n in
-      let passes : is_opened e.lane.id n o ≡ true = ap (λ (l : ℕ). is_opened l n o) at_start ∙ opened_is s.lane.id n k in
+      let o : OpenEntry = record { lane = s.lane.id; id = n; guard = k } in
+      let p : OpenEntry → Bool = is_entry_of e.lane.id n in
+      let passes : is_entry_of e.lane.id n o ≡ true = ap (λ (l : ℕ). is_entry_of l n o) at_start ∙ opened_is s.lane.id n k in
       let y : Spans = with_span_entry tape.below.spans n s.lane.id in
       let open_one : entries_on s.lane.id y.lanes ≡ n ∷ [] = entered_entries tape.below.spans n s.lane.id between.none_open in
       let spans_now : one.now.below.spans ≡ with_span_exit y n s.lane.id = one.spans_are ∙ ap (λ (x : Spans). with_span_exit x n e.lane.id) inside.spans_are ∙ ap (λ (l : ℕ). with_span_exit y n l) at_start in
@@ -179,14 +179,14 @@ module _ (d : ℕ) (sites : List Callsite) (k : ℕ) (t : UnfinishedTask) (few :
           sites_are = one.sites ∙ inside.sites_are;
           cached = λ i less. ap (λ x. cached_at x d i) (one.cached ∙ inside.cached) ∙ between.cached i less;
           no_due = ap (λ (x : TapeValue). x.due) one.is ∙ inside.due;
-          no_entries = ap (λ (x : TapeValue). x.entries) one.is ∙ ap (λ (xs : List Opened). without_last p xs) inside.entries ∙ without_is p o passes;
+          no_entries = ap (λ (x : TapeValue). x.entries) one.is ∙ ap (λ (xs : List OpenEntry). without_last p xs) inside.entries ∙ without_is p o passes;
           guards = ap (λ (x : TapeValue). x.guards) one.is ∙ inside.guards;
           guard_count = (let l = ap (λ (gs : List HeldSpan). length gs) (exit.guards ∙ inside.guarded) in let q = length_push s.guards (Some (d, n)) in let z = between.guard_count in omega (arith, l, q, z));
           none_open = ap (λ (l : Lane). entries_on l.id one.now.below.spans.lanes) (lane_same ∙ inside.lane) ∙ ap (λ (x : Spans). entries_on s.lane.id x.lanes) spans_now ∙ exited_entries y n s.lane.id open_one;
         };
         made = ap (λ (x : Spans). x.made) spans_now ∙ exited_made y n s.lane.id open_one ∙ ap (λ (made : List Span). without_hold made n) (entered_made tape.below.spans n s.lane.id between.none_open) ∙ back tape.below.spans.made n t.site waits.lone;
         spells = ap (λ (x : TapeValue). x.requests) one.is ∙ ap (λ (qs : List Request). qs ++ exit_requests a (last_passing p inside.now.entries)) inside.spells
-            ∙ ap (λ (o' : Option Opened). (tape.requests ++ rs) ++ exit_requests a o') (ap (λ (xs : List Opened). last_passing p xs) inside.entries ∙ last_is p o passes) ∙ append_assoc tape.requests rs (on_first_lane a (call.Exit k) ∷ []);
+            ∙ ap (λ (o' : Option OpenEntry). (tape.requests ++ rs) ++ exit_requests a o') (ap (λ (xs : List OpenEntry). last_passing p xs) inside.entries ∙ last_is p o passes) ∙ append_assoc tape.requests rs (on_first_lane a (call.Exit k) ∷ []);
         holds = ap (λ (x : TapeValue). x.handles) one.is ∙ inside.holds;
         table = exit.handles ∙ inside.table;
       }
@@ -222,8 +222,8 @@ module _ (d : ℕ) (sites : List Callsite) (k : ℕ) (t : UnfinishedTask) (few :
       let one = one_call e.world x.world d out.now (TryClose n a) out.between.there r in
       let once : handles_of out.now.handles n ≡ 1 = ap (λ (hs : List ℕ). handles_of hs n) out.holds ∙ waits.once in
       -- what the release is, since nothing is due
-      let let_it_go : one.now ≡ record (record (let_go out.now n a) { due = parent_to_release out.now.below.spans.made n }) { below = one.now.below } =
-      one.is ∙ ap (λ (b : Bool). let y : TapeValue = record (record (if b then out.now else let_go out.now n a) { due = parent_to_release out.now.below.spans.made n }) { below = one.now.below } in y) (ap (λ (o : Option ℕ). is_due o n) out.between.no_due) in
+      let let_it_go : one.now ≡ record (record (without_handle out.now n a) { due = parent_to_release out.now.below.spans.made n }) { below = one.now.below } =
+      one.is ∙ ap (λ (b : Bool). let y : TapeValue = record (record (if b then out.now else without_handle out.now n a) { due = parent_to_release out.now.below.spans.made n }) { below = one.now.below } in y) (ap (λ (o : Option ℕ). is_due o n) out.between.no_due) in
       let spans_now : one.now.below.spans.made ≡ without_hold out.now.below.spans.made n = ap (λ (y : Spans). y.made) one.spans_are in (
         one.now,
         subst (λ (y : TaskScene TapeValue). BetweenPolls d sites (k + 1) y one.now) (sym last) (record {

@@ -2,7 +2,7 @@
 use Rattle.std.proofs.Common.{◌≡◌, ℕ, zero, suc, ◌+◌, ◌<◌, ◌^◌, List, [], ◌∷◌, ◌++◌, length, Bool, true, Option, Some, None, refl, sym, ap, subst, ◌∙◌, arith, slice_get, append_assoc, slice_index_or}
 use Rattle.std.proofs.lemmas.List.{append-nil, length_push}
 use Rattle.std.proofs.lemmas.Option.{slice_get_within}
-use Rattle.trace_tasks.proofs.Common.{list_all, option_map_or, Callsite, Lane, SubscriberCall, NewSpan, with_new_span, WorldValue, cached_at, gate, Span, Spans, no_span, span_at, entries_on, parent_on, Replaced, spans_in, no_spans, Handle, handle_of, Request, TapeValue, DoesTape, on_first_lane, named_values, handles_of, TouchesTape, Step, steps_left, TaskScene, MakesGated, Made, Fields, declares, values_of, UnfinishedTask, requeue, tasks_at_first, makings, tape_spans, CarriesTape, IsDeclared, IsTested, AreTested, IsNewTape, Ready, root_of_one_handle, dispatch_serving, Task, Instrumented, Running, AreBegun}
+use Rattle.trace_tasks.proofs.Common.{list_all, option_map_or, Callsite, Lane, SubscriberCall, NewSpan, with_new_span, WorldValue, cached_at, gate, Span, Spans, no_span, span_at, entries_on, parent_on, Replaced, spans_in, no_spans, Handle, handle_of, Request, TapeValue, DoesTape, on_first_lane, named_values, handles_of, TouchesTape, Step, steps_left, TaskScene, MakesGated, CarriesNew, Fields, declares, values_of, UnfinishedTask, requeue, tasks_at_first, makings, tape_spans, CarriesTape, IsDeclared, StepsAreDeclared, TasksAreDeclared, IsNewTape, ReadyToPoll, root_of_one_handle, dispatch_serving, Task, Instrumented, TaskFuture, AreBegun}
 use Rattle.std.specs.Option.{option_map}
 use Rattle.trace_base.specs.declared.span.Parent.TheVariants as parent
 use Rattle.span_script.specs.declared.request.Call.TheVariants as call
@@ -16,9 +16,9 @@ use Rattle.trace_tasks.proofs.tapes.SpelledLemmas.{named_back, one_call}
 the_rest : (a b : List Step) → ◌≡◌ {A = Option (List Step)} (Some a) (Some b) → a ≡ b
 the_rest a b e = cc e
 
-tested_left : (sites : List Callsite) (steps rest : List Step) → IsTested sites steps → steps_left steps ≡ Some rest → IsTested sites rest
+tested_left : (sites : List Callsite) (steps rest : List Step) → StepsAreDeclared sites steps → steps_left steps ≡ Some rest → StepsAreDeclared sites rest
 tested_left sites [] rest tested is = absurd (cc is)
-tested_left sites (step.Yield ∷ steps) rest tested is = subst (λ (xs : List Step). IsTested sites xs) (the_rest steps rest is) tested
+tested_left sites (step.Yield ∷ steps) rest tested is = subst (λ (xs : List Step). StepsAreDeclared sites xs) (the_rest steps rest is) tested
 tested_left sites (step.Event site fields ∷ steps) rest tested is = tested_left sites steps rest tested.1 is
 tested_left sites (step.Record fields ∷ steps) rest tested is = tested_left sites steps rest tested is
 tested_left sites (step.SetAttribute key value ∷ steps) rest tested is = tested_left sites steps rest tested is
@@ -98,7 +98,7 @@ pub record MadeOne (d : ℕ) (sites : List Callsite) (i site : ℕ) (fields : Fi
   pub before : (n : ℕ) (h : Handle) → slice_get s.handles n ≡ Some h → slice_get m.handles n ≡ Some h
 
 make_spells : (d : ℕ) (sites : List Callsite) (i site : ℕ) (fields : Fields) (s m : TaskScene TapeValue) (tape : TapeValue) → OnlySpansMade d sites i s tape → IsDeclared (slice_get sites site) fields
-    → Made tape_spans (λ x. None) (λ x lane c. true) DoesTape TouchesTape d 0 site fields s m → MadeOne d sites i site fields s m tape
+    → CarriesNew tape_spans (λ x. None) (λ x lane c. true) DoesTape TouchesTape d 0 site fields s m → MadeOne d sites i site fields s m tape
 make_spells d sites i site fields s m tape making declared new =
     let between = making.between in
     let c : Callsite = new.callsite in
@@ -165,7 +165,7 @@ later_numbers : (j i : ℕ) (tasks : List Task) (t : UnfinishedTask) → t.numbe
 later_numbers j i [] t is less = tt
 later_numbers j i (x ∷ tasks) t is less = ((λ e. absurd (omega (arith, e, is, less))), later_numbers j (i + 1) tasks t is (omega (arith, less)))
 
-pub makings_spell : (d : ℕ) (sites : List Callsite) (i : ℕ) (tasks : List Task) (s m : TaskScene TapeValue) (tape : TapeValue) → OnlySpansMade d sites i s tape → AreTested sites tasks → CarriesTape d (makings tasks) s m → MadeAll d sites i tasks s m tape
+pub makings_spell : (d : ℕ) (sites : List Callsite) (i : ℕ) (tasks : List Task) (s m : TaskScene TapeValue) (tape : TapeValue) → OnlySpansMade d sites i s tape → TasksAreDeclared sites tasks → CarriesTape d (makings tasks) s m → MadeAll d sites i tasks s m tape
 makings_spell d sites i [] s m tape making tested did = record {
   now = tape;
   between = subst (λ (x : TaskScene TapeValue). BetweenPolls d sites 0 x tape) (sym did) making.between;
@@ -210,7 +210,7 @@ pub few_new : (world : WorldValue TapeValue) (d n : ℕ) (tape : TapeValue) → 
 few_new world d n tape new few = (let e = ap (λ (x : Spans). length x.made) (spans_there world d tape new) in let z = ap (λ (xs : List Span). length xs) new.no_spans in omega (arith, e, z, few))
 
 -- before the makings
-pub none_made : (d : ℕ) (old : WorldValue TapeValue) (lane : Lane) (tape : TapeValue) → dispatch_serving lane ≡ d → IsNewTape old d tape → Ready tape_spans (λ s lane number. 0) (λ s. Unit {0}) old lane → OnlySpansMade d old.sites 0 (record { world = old; lane = lane; handles = []; guards = [] }) tape
+pub none_made : (d : ℕ) (old : WorldValue TapeValue) (lane : Lane) (tape : TapeValue) → dispatch_serving lane ≡ d → IsNewTape old d tape → ReadyToPoll tape_spans (λ s lane number. 0) (λ s. Unit {0}) old lane → OnlySpansMade d old.sites 0 (record { world = old; lane = lane; handles = []; guards = [] }) tape
 none_made d old lane tape serves new ready = record {
   between = record {
     there = new.there;
@@ -228,7 +228,7 @@ none_made d old lane tape serves new ready = record {
 }
 
 -- tasks that were begun over a new tape spelled their makings
-pub begun_spells : (d : ℕ) (tasks : List Task) (old world : WorldValue TapeValue) (lane : Lane) (tape : TapeValue) (fs : List (Instrumented Running)) → dispatch_serving lane ≡ d → IsNewTape old d tape → Ready tape_spans (λ s lane number. 0) (λ s. Unit {0}) old lane → AreTested old.sites tasks
+pub begun_spells : (d : ℕ) (tasks : List Task) (old world : WorldValue TapeValue) (lane : Lane) (tape : TapeValue) (fs : List (Instrumented TaskFuture)) → dispatch_serving lane ≡ d → IsNewTape old d tape → ReadyToPoll tape_spans (λ s lane number. 0) (λ s. Unit {0}) old lane → TasksAreDeclared old.sites tasks
     → (b : AreBegun tape_spans (λ s. None) (λ s lane c. true) (λ s lane number. 0) (λ s. Unit {0}) DoesTape TouchesTape tasks lane old world fs)
     → MadeAll d old.sites 0 tasks (record { world = old; lane = lane; handles = []; guards = [] }) (record { world = world; lane = lane; handles = b.handles; guards = [] }) tape
 begun_spells d tasks old world lane tape fs serves new ready tested b =

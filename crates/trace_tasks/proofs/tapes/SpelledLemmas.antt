@@ -1,6 +1,6 @@
 -- What requests that are carried out over a tape spell.
 use Rattle.std.proofs.Common.{◌≡◌, ℕ, List, [], ◌∷◌, map, Bool, true, false, Option, Some, None, refl, sym, ap, ◌∙◌, slice_get, ◌&&◌, if◌then◌else◌, filter_map, is_some, position, bytes_eq, slice_index_or}
-use Rattle.trace_tasks.proofs.Common.{list_all, cons_option, Callsite, SubscriberCall, spans_after_call, place_of, WorldValue, Replaced, now_there, TapeValue, DoesTape, taped_after, field_name_at, named_values, Fields, declared_value, declares, values_of, declared_ones}
+use Rattle.trace_tasks.proofs.Common.{list_all, cons_option, Callsite, SubscriberCall, spans_after_call, place_of, WorldValue, Replaced, now_there, TapeValue, DoesTape, tape_after, field_name_at, named_values, Fields, declared_value, declares, values_of, declared_ones}
 use Rattle.std.specs.Option.{option_map}
 use Rattle.std.proofs.lemmas.Bool.{true≢false}
 use Rattle.std.specs.Cmp.Lexicographic.{same_text}
@@ -46,7 +46,7 @@ pub record After (old new : WorldValue TapeValue) (d : ℕ) (tape : TapeValue) (
   pub now : TapeValue
   pub there : slice_get new.subscribers d ≡ Some now
   pub spans_are : now.below.spans ≡ spans_after_call tape.below.spans call
-  pub is : now ≡ record (taped_after tape call) { below = now.below }
+  pub is : now ≡ record (tape_after tape call) { below = now.below }
   pub sites : new.sites ≡ old.sites
   pub cached : new.cached ≡ old.cached
 
@@ -60,7 +60,7 @@ one_call old new d tape call there r =
       now = r.later;
       there = now_there (λ (s t : TapeValue). DoesTape s call t) old new d r;
       spans_are = r.did.below.shows ∙ ap (λ (x : TapeValue). spans_after_call x.below.spans call) same;
-      is = r.did.tape ∙ ap (λ (x : TapeValue). let y : TapeValue = record (taped_after x call) { below = r.later.below } in y) same;
+      is = r.did.tape ∙ ap (λ (x : TapeValue). let y : TapeValue = record (tape_after x call) { below = r.later.below } in y) same;
       sites = ap (λ (w : WorldValue TapeValue). w.sites) r.others;
       cached = ap (λ (w : WorldValue TapeValue). w.cached) r.others;
     }

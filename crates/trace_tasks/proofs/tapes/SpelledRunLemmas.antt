@@ -3,7 +3,7 @@ use Rattle.std.proofs.Common.{◌≡◌, ℕ, zero, suc, ◌+◌, ◌<◌, ◌^�
 use Rattle.std.proofs.lemmas.Bool.{true≢false}
 use Rattle.std.proofs.lemmas.List.{append-nil}
 use Rattle.otel_base.specs.declared.enter_error.EnterError.TheVariants as faults
-use Rattle.trace_tasks.proofs.Common.{Callsite, Lane, WorldValue, Request, TapeValue, DoesTape, TouchesTape, steps_left, TaskScene, UnfinishedTask, poll_requests, after_poll, requeue, turns_requests, rounds_requests, tasks_at_first, makings, all_polls, flat_list, tape_spans, CarriesTape, AreTested, IsNewTape, KeepsOnTape, Ran, GaveUp, Ready, dispatch_serving, Task}
+use Rattle.trace_tasks.proofs.Common.{Callsite, Lane, WorldValue, Request, TapeValue, DoesTape, TouchesTape, steps_left, TaskScene, UnfinishedTask, poll_requests, after_poll, requeue, turns_requests, rounds_requests, tasks_at_first, makings, all_polls, flat_list, tape_spans, CarriesTape, TasksAreDeclared, IsNewTape, KeepsOnTape, RunsTasks, GaveUp, ReadyToPoll, dispatch_serving, Task}
 use Rattle.trace_tasks.specs.TapeTurns.{BetweenPolls, AllCanBePolled}
 use Rattle.trace_tasks.proofs.tapes.PollsLemmas.{poll_spells, split}
 use Rattle.trace_tasks.proofs.tapes.RoundsLemmas.{rounds_are_turns}
@@ -21,8 +21,8 @@ turns_spell d sites (suc n) k (t ∷ ts) s m tape few between all did =
     (rest.0, rest.1, rest.2 ∙ ap (λ (qs : List Request). qs ++ turns_requests sites n (k + 1) (requeue ts (after_poll t))) p.requests ∙ append_assoc tape.requests (poll_requests sites k t) (turns_requests sites n (k + 1) (requeue ts (after_poll t))))
 
 -- a run over a new tape leaves the flat list
-pub run_spells : (tasks : List Task) (old new : WorldValue TapeValue) (before later : Lane) (tape : TapeValue) (polls : ℕ) → IsNewTape old (dispatch_serving before) tape → Ready tape_spans (λ s lane number. 0) (λ s. Unit {0}) old before → AreTested old.sites tasks → all_polls (tasks_at_first 0 tasks) < 2 ^ 60
-    → Ran tape_spans (λ s. None) (λ s lane c. true) DoesTape TouchesTape old.sites tasks old new before later polls → KeepsOnTape (dispatch_serving before) (flat_list old.sites tasks) new
+pub run_spells : (tasks : List Task) (old new : WorldValue TapeValue) (before later : Lane) (tape : TapeValue) (polls : ℕ) → IsNewTape old (dispatch_serving before) tape → ReadyToPoll tape_spans (λ s lane number. 0) (λ s. Unit {0}) old before → TasksAreDeclared old.sites tasks → all_polls (tasks_at_first 0 tasks) < 2 ^ 60
+    → RunsTasks tape_spans (λ s. None) (λ s lane c. true) DoesTape TouchesTape old.sites tasks old new before later polls → KeepsOnTape (dispatch_serving before) (flat_list old.sites tasks) new
 run_spells tasks old new before later tape polls is_new ready tested few ran =
     let d : ℕ = dispatch_serving before in
     let ts : List UnfinishedTask = tasks_at_first 0 tasks in

@@ -15,12 +15,12 @@ returns-then-is_empty c = record {
 
 pub returns-in_ok-push-in-Err : goal.returns-in_ok-push-in-Err
 returns-in_ok-push-in-Err c =
-    let i : Ignored = record { piece = c.args.at + 1; text = c.from.result; fault = c.in-Err.fault } in
+    let i : Ignored = record { piece = c.args.at + 1; text = c.in_ok-from_str-in-Err.field-0; fault = c.in-Err.fault } in
     record {
       directives = [];
       ignored = i ∷ [];
       reads = reads_ignored c.args.patterns (c.args.at + 1) c.args.piece.now i (sym c.if-is_empty.ensures)
-          (record { numbered = refl; text = c.from.ensures ∙ c.in_ok-from_str-in-Err.ensures.ok; fault = c.in-Err.ensures.fault; no_memory = sym c.is_memory.ensures ∙ c.if-is_memory.false });
+          (record { numbered = refl; text = c.in_ok-from_str-in-Err.ensures.ok; fault = c.in-Err.ensures.fault; no_memory = sym c.is_memory.ensures ∙ c.if-is_memory.false });
       added = sym (append-nil c.args.directives.now.items);
       added_ignored = c.in_ok-push-in-Err.ensures.items;
     }

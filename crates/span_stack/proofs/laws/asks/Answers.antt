@@ -14,7 +14,7 @@ returns c = record {
       (read_two (λ before later. RecordsPart before call later) base_recorded no_recording (λ s t d. base_part s.layer.inner.core call t.layer.inner.core d.0.0) (inner_worlds (inner_worlds old)) (inner_worlds (inner_worlds new)) dispatch
       (c.of_stack.ensures.asks old new dispatch call r).inner);
   filter = λ old new dispatch call r. kept_place filter_in_place None (λ s t e. ap (λ (l : Layer FilterWithRoom). option_map plain_filter l.inner) e) old new dispatch (c.of_stack.ensures.asks old new dispatch call r).filter;
-  counter = λ old new dispatch call r. sym (seen_two base_counter None new dispatch)
+  counting_filter = λ old new dispatch call r. sym (seen_two base_counter None new dispatch)
       ∙ kept_place base_counter None (λ s t d. ap (λ (o : Option FilterWithRoom). plain_counter o) d.0.1) (inner_worlds (inner_worlds old)) (inner_worlds (inner_worlds new)) dispatch (c.of_stack.ensures.asks old new dispatch call r).inner
       ∙ seen_two base_counter None old dispatch;
   measures = λ old new dispatch call r. sym (seen_below waiting_measures [] new dispatch)

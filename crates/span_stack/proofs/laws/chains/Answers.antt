@@ -12,7 +12,7 @@ returns c = record {
       along_four (λ x y before later. RecordsChain at (Some id) x y before later) (seen_two base_spans no_spans old dispatch) (seen_two base_spans no_spans new dispatch) (seen_two base_recorded no_recording old dispatch) (seen_two base_recorded no_recording new dispatch)
       (base_chain at (inner_worlds (inner_worlds old)) (inner_worlds (inner_worlds new)) dispatch id (c.of_stack.ensures.chains old new dispatch at id r).inner);
   filter = λ old new dispatch at id r. (c.of_stack.ensures.chains old new dispatch at id r).filter;
-  counter = λ old new dispatch at id r. sym (seen_two base_counter None new dispatch)
+  counting_filter = λ old new dispatch at id r. sym (seen_two base_counter None new dispatch)
       ∙ kept_place base_counter None (λ s t d. chain_keeps base_spans BaseDoes base_counter counter_kept at (Some id) s t d) (inner_worlds (inner_worlds old)) (inner_worlds (inner_worlds new)) dispatch (c.of_stack.ensures.chains old new dispatch at id r).inner
       ∙ seen_two base_counter None old dispatch;
   measures = λ old new dispatch at id r. sym (seen_below waiting_measures [] new dispatch) ∙ (c.of_stack.ensures.chains old new dispatch at id r).measures ∙ seen_below waiting_measures [] old dispatch;

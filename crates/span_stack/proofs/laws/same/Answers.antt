@@ -11,7 +11,7 @@ returns c = record {
       ∙ kept_place base_recorded no_recording base_same (inner_worlds (inner_worlds old)) (inner_worlds (inner_worlds new)) dispatch (c.of_stack.ensures.same old new dispatch r).inner
       ∙ seen_two base_recorded no_recording old dispatch;
   filter = λ old new dispatch r. (c.of_stack.ensures.same old new dispatch r).filter;
-  counter = λ old new dispatch r. sym (seen_two base_counter None new dispatch)
+  counting_filter = λ old new dispatch r. sym (seen_two base_counter None new dispatch)
       ∙ kept_place base_counter None counter_same (inner_worlds (inner_worlds old)) (inner_worlds (inner_worlds new)) dispatch (c.of_stack.ensures.same old new dispatch r).inner
       ∙ seen_two base_counter None old dispatch;
   measures = λ old new dispatch r. sym (seen_below waiting_measures [] new dispatch) ∙ (c.of_stack.ensures.same old new dispatch r).measures ∙ seen_below waiting_measures [] old dispatch;

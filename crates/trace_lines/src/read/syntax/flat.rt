@@ -15,16 +15,16 @@ ghost use Rattle.trace_lines.specs.reading.Left.{value_data};
 ghost use Rattle.trace_lines.specs.reading.Placed.{FindsMember, FitsIn};
 
 use crate::read::plain::Plain;
-use crate::read::syntax::scan::{DEEPEST, MAX_ITEMS, behind, text, value};
+use crate::read::syntax::scan::{MAX_DEPTH, MAX_ITEMS, behind, text, value};
 use crate::read::syntax::value::Value;
 use std::alloc::Global;
 use std::cmp::Ordering;
 
 // The room that most objects need.
-const USUAL: usize = 8;
+const USUAL_MEMBERS: usize = 8;
 
 // The most members of an object. One that has more is read as a tree.
-const MOST_MEMBERS: u32 = 32;
+const MAX_MEMBERS: u32 = 32;
 
 /// Whether bytes are known to be UTF-8.
 pub fn is_utf8(bytes: &[u8]) -> bool
@@ -36,7 +36,7 @@ pub fn is_utf8(bytes: &[u8]) -> bool
 // A member, and what stands behind it.
 fn member(bytes: &[u8]) -> Option<((&[u8], Plain<'_>), &[u8])>
     ensures { IfSome result (λ r. (inner : List ℕ) × (bytes.now ≡ quoted r.0.0.now ++ 58 ∷ inner)
-        × BeginsWithValue DEEPEST inner (plain_data r.0.1) r.1.now) }
+        × BeginsWithValue MAX_DEPTH inner (plain_data r.0.1) r.1.now) }
 {
     let (name, colon) = text(bytes)?;
     let inner = behind(colon, b':')?;
@@ -51,15 +51,15 @@ pub(crate) fn members<'a>(alloc: Global, line: &'a [u8]) -> Option<Vec<(&'a [u8]
     if !is_utf8(line) {
         return None;
     }
-    let mut members = Vec::with_capacity(alloc, USUAL).ok()?;
+    let mut members = Vec::with_capacity(alloc, USUAL_MEMBERS).ok()?;
     let mut rest = behind(line, b'{')?;
-    for _ in 0..MOST_MEMBERS {
+    for _ in 0..MAX_MEMBERS {
         let (named, after) = member(rest)?;
-        place(&mut members, named)?;
+        insert_member(&mut members, named)?;
         match behind(after, b',') {
             Some(more) => rest = more,
             None => {
-                closes(after, b'}')?;
+                expect_bracket(after, b'}')?;
                 return Some(members);
             }
         }
@@ -74,15 +74,15 @@ pub(crate) fn items<'a>(alloc: Global, text: &'a [u8]) -> Option<Vec<Value<'a>>>
     if !is_utf8(text) {
         return None;
     }
-    let mut values = Vec::with_capacity(alloc, USUAL).ok()?;
+    let mut values = Vec::with_capacity(alloc, USUAL_MEMBERS).ok()?;
     let mut rest = behind(text, b'[')?;
     for _ in 0..MAX_ITEMS {
         let (plain, after) = value(rest)?;
-        keep(&mut values, Value::Plain(plain))?;
+        add_item(&mut values, Value::Plain(plain))?;
         match behind(after, b',') {
             Some(more) => rest = more,
             None => {
-                closes(after, b']')?;
+                expect_bracket(after, b']')?;
                 return Some(values);
             }
         }
@@ -91,7 +91,7 @@ pub(crate) fn items<'a>(alloc: Global, text: &'a [u8]) -> Option<Vec<Value<'a>>>
 }
 
 // Adds an item. None where there is no memory.
-fn keep<'a>(values: &mut Vec<Value<'a>>, value: Value<'a>) -> Option<()>
+fn add_item<'a>(values: &mut Vec<Value<'a>>, value: Value<'a>) -> Option<()>
     ensures { IfSome result (λ _. values.new.items ≡ values.old.items ++ value.entry ∷ []) }
 {
     values.push(value).ok()?;
@@ -99,18 +99,18 @@ fn keep<'a>(values: &mut Vec<Value<'a>>, value: Value<'a>) -> Option<()>
 }
 
 /// That nothing stands behind a value.
-pub(crate) fn ends(rest: &[u8]) -> Option<()>
+pub(crate) fn expect_end(rest: &[u8]) -> Option<()>
     ensures { IfSome result (λ _. rest.now ≡ []) }
 {
     if rest.is_empty() { Some(()) } else { None }
 }
 
 /// That a bracket stands there, and nothing behind it.
-pub fn closes(rest: &[u8], bracket: u8) -> Option<()>
+pub fn expect_bracket(rest: &[u8], bracket: u8) -> Option<()>
     ensures { IfSome result (λ _. rest.now ≡ bracket ∷ []) }
 {
     let end = behind(rest, bracket)?;
-    ends(end)?;
+    expect_end(end)?;
     Some(())
 }
 
@@ -149,7 +149,10 @@ fn place_for(members: &[(&[u8], Plain<'_>)], name: &[u8]) -> Option<usize>
 }
 
 // Puts a member in its place. None where its name is there, or there is no memory.
-fn place<'a>(members: &mut Vec<(&'a [u8], Plain<'a>)>, named: (&'a [u8], Plain<'a>)) -> Option<()>
+fn insert_member<'a>(
+    members: &mut Vec<(&'a [u8], Plain<'a>)>,
+    named: (&'a [u8], Plain<'a>),
+) -> Option<()>
     ensures { IfSome result (λ _.
         members_of members.new.items ≡ put named.entry.0.now (plain_data named.entry.1) (members_of members.old.items)) }
 {

@@ -27,7 +27,7 @@ pub enum Object<'a> {
 }
 
 /// A whole number up to the greatest.
-pub(crate) fn within(greatest: u64, number: u64) -> Result<u64, LineError>
+pub(crate) fn at_most(greatest: u64, number: u64) -> Result<u64, LineError>
     ensures { Gives (λ n. n) result (at_most greatest number) }
 {
     if number <= greatest {
@@ -121,7 +121,7 @@ impl<'a> Object<'a> {
     pub(crate) fn whole_to(&mut self, greatest: u64, name: &str) -> Result<u64, LineError>
         ensures { Gives (λ n. (n, members_left self.new)) result (whole_to greatest name.now (members_left self.old)) }
     {
-        within(greatest, self.whole(name)?)
+        at_most(greatest, self.whole(name)?)
     }
 
     /// Takes a text, to be kept.

@@ -9,7 +9,7 @@ use crate::read::plain::Plain;
 use crate::write::escape::plain_run;
 
 /// How deep a value may nest.
-pub const DEEPEST: u32 = 16;
+pub const MAX_DEPTH: u32 = 16;
 
 // The most items that are taken of an array, and members of an object.
 pub(crate) const MAX_ITEMS: u32 = 65_536;
@@ -245,9 +245,9 @@ fn past_members(bytes: &[u8], deep: u32) -> Option<&[u8]>
 
 // An array or an object, and what stands behind it.
 fn nested_value(bytes: &[u8]) -> Option<(Plain<'_>, &[u8])>
-    ensures { IfSome result (λ r. BeginsWithValue DEEPEST bytes.now (plain_data r.0) r.1.now) }
+    ensures { IfSome result (λ r. BeginsWithValue MAX_DEPTH bytes.now (plain_data r.0) r.1.now) }
 {
-    let rest = past_nested(bytes, DEEPEST)?;
+    let rest = past_nested(bytes, MAX_DEPTH)?;
     let front = bytes.len() - rest.len();
     let words = str::from_utf8(&bytes[..front]).ok()?;
     Some((Plain::Nested(words), rest))
@@ -257,7 +257,7 @@ fn nested_value(bytes: &[u8]) -> Option<(Plain<'_>, &[u8])>
 #[inline(always)]
 #[tactic(auto, using(crate::proofs::readings::CompactLemmas::leaf_begins))]
 pub fn value(bytes: &[u8]) -> Option<(Plain<'_>, &[u8])>
-    ensures { IfSome result (λ r. BeginsWithValue DEEPEST bytes.now (plain_data r.0) r.1.now) }
+    ensures { IfSome result (λ r. BeginsWithValue MAX_DEPTH bytes.now (plain_data r.0) r.1.now) }
 {
     match leaf(bytes) {
         Some((plain, rest)) => Some((plain, rest)),

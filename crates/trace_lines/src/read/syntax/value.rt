@@ -97,7 +97,7 @@ fn trees_of<'a>(alloc: Global, trees: Vec<Json>) -> Result<Vec<Value<'a>>, LineE
 }
 
 // The array that a text is, as a tree.
-fn array_of_tree<'a>(alloc: Global, text: &str) -> Result<Vec<Value<'a>>, LineError>
+fn array_by_tree<'a>(alloc: Global, text: &str) -> Result<Vec<Value<'a>>, LineError>
     ensures { Gives (λ v. items value_data v.items) result (option_and_then as_array (line_value text.now)) }
 {
     match value_of(alloc, text.as_bytes())? {
@@ -112,6 +112,6 @@ fn array_of_text<'a>(alloc: Global, text: &'a str) -> Result<Vec<Value<'a>>, Lin
 {
     match flat::items(alloc, text.as_bytes()) {
         Some(values) => Ok(values),
-        None => array_of_tree(alloc, text),
+        None => array_by_tree(alloc, text),
     }
 }

@@ -1,5 +1,5 @@
 use Rattle.std.proofs.Common.{rules, ap, sym, subst, length, ◌∙◌}
-use Rattle.span_script.specs.Admission.{opening_read, IsUnread}
+use Rattle.span_script.specs.Admission.{opening_read, IsOpenError}
 use Rattle.trace_records.specs.Scripts.{takes_lanes}
 use Rattle.trace_records.proofs.LinesLemmas.{not_settings, not_read, too_many, opens}
 use Rattle.trace_records.proofs.line.open_line.Goals as goal
@@ -23,7 +23,7 @@ returns-else-takes_lanes c = (
 pub returns-in-Err-Directive : goal.returns-in-Err-Directive
 returns-in-Err-Directive c = (
   (let found = not_read c.args.most_lanes c.args.line.now c.in-Ok.settings c.in-Err-Directive.counting c.in-Err-Directive.piece c.in-Ok.ensures.ok
-      (subst (IsUnread (opening_read c.in-Ok.settings.filter c.in-Ok.settings.counting)) c.in-Err-Directive.field-0-is c.in-Err-Directive.ensures.refused) in
+      (subst (IsOpenError (opening_read c.in-Ok.settings.filter c.in-Ok.settings.counting)) c.in-Err-Directive.field-0-is c.in-Err-Directive.ensures.refused) in
       let counting = c.in-Err-Directive.counting-is in
       let piece = c.in-Err-Directive.piece-is in
       cc),

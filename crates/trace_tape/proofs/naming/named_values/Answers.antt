@@ -1,7 +1,7 @@
 -- One pair more.
 use Rattle.std.proofs.Common.{◌≡◌, ◌<◌, ℕ, List, ◌++◌, ◌∷◌, [], length, map, take, ap, sym, ◌∙◌}
 use Rattle.trace_base.specs.declared.field.Value.{Value}
-use Rattle.trace_tape.specs.Taping.{field_name_at}
+use Rattle.trace_tape.specs.Tapes.{field_name_at}
 use Rattle.trace_tape.proofs.ItemsLemmas.{map_more}
 use Rattle.trace_tape.proofs.naming.named_values.Goals as goal
 

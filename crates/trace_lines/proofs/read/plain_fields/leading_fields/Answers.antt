@@ -1,6 +1,6 @@
 use Rattle.std.proofs.Common.{◌≡◌, ◌+◌, ◌++◌, List, ℕ, [], ◌∷◌, Some, ap, subst, sym, ◌∙◌, arith, rules}
 use Rattle.std.specs.Str.{IsUtf8}
-use Rattle.trace_lines.proofs.Common.{array, no_items, plain_data, field_data, DEEPEST}
+use Rattle.trace_lines.proofs.Common.{array, no_items, plain_data, field_data, MAX_DEPTH}
 use Rattle.trace_lines.proofs.texts.FieldsLemmas.{field_more}
 use Rattle.trace_lines.proofs.readings.CompactLemmas.{Pair, AllRead-push, items_first, items_on, items_text_end, array_front, read_items}
 use Rattle.trace_lines.proofs.read.plain_fields.leading_fields.Goals as goal
@@ -9,7 +9,7 @@ pub returns-in-Some : goal.returns-in-Some
 returns-in-Some c = record {
   fields = (
     array no_items,
-    array_front (DEEPEST + 1) c.args.bytes.now c.in_ok-first.first.now c.in-Some.end.now [] tt c.in_ok-first.ensures c.in-Some.ensures,
+    array_front (MAX_DEPTH + 1) c.args.bytes.now c.in_ok-first.first.now c.in-Some.end.now [] tt c.in_ok-first.ensures c.in-Some.ensures,
     ap (λ fs. Some fs) (sym c.new.ensures),
   );
   utf8 = search rules;
@@ -38,14 +38,14 @@ returns-in-None c =
     let b = c.in_ok-name.ensures in
     let d = plain_data c.in_ok-name.plain in
     let p : Pair = (b.0, field_data c.in_ok-name.name.now d) in
-    let kept = field_more ps b.0 d c.in_ok-name.name.now c.loop.fields.items c.keep.new.fields.items c.loop.invariant.3 c.in_ok-keep.ensures in
+    let kept = field_more ps b.0 d c.in_ok-name.name.now c.loop.fields.items c.add_field.new.fields.items c.loop.invariant.3 c.in_ok-add_field.ensures in
     let end = c.in_ok-end-in-None.end.now in
     let closed = sym c.as_bytes-in-None.ensures.value ∙ c.in_ok-end-in-None.ensures in
     let text = items_text_end c.behind_ascii-rest.result.now c.loop.rest.now c.in_ok-name.after.now end ps p c.loop.invariant.2 b.1 closed in
     record {
       fields = (
         array (read_items (ps ++ p ∷ [])),
-        array_front (DEEPEST + 1) c.args.bytes.now c.in_ok-first.first.now end (ps ++ p ∷ []) (AllRead-push (DEEPEST + 1) ps p c.loop.invariant.1 b.2) c.in_ok-first.ensures (sym c.behind_ascii-rest.ensures ∙ text),
+        array_front (MAX_DEPTH + 1) c.args.bytes.now c.in_ok-first.first.now end (ps ++ p ∷ []) (AllRead-push (MAX_DEPTH + 1) ps p c.loop.invariant.1 b.2) c.in_ok-first.ensures (sym c.behind_ascii-rest.ensures ∙ text),
         kept ∙ ap (λ fs. Some fs) (sym c.from.ensures),
       );
       utf8 = search rules;
@@ -60,8 +60,8 @@ loop-preserved c =
     let utf8 : IsUtf8 c.behind_ascii-rest-in-Some-behind.result.now = search rules in
     let more = sym c.as_bytes.ensures.value ∙ c.in-Some-behind.ensures ∙ ap (λ (l : List ℕ). 44 ∷ l) (sym c.behind_ascii-rest-in-Some-behind.ensures) in (
       ps ++ p ∷ [],
-      AllRead-push (DEEPEST + 1) ps p c.loop.invariant.1 b.2,
+      AllRead-push (MAX_DEPTH + 1) ps p c.loop.invariant.1 b.2,
       items_on c.behind_ascii-rest.result.now c.loop.rest.now c.in_ok-name.after.now c.behind_ascii-rest-in-Some-behind.result.now ps p c.loop.invariant.2 b.1 more,
-      field_more ps b.0 d c.in_ok-name.name.now c.loop.fields.items c.keep.new.fields.items c.loop.invariant.3 c.in_ok-keep.ensures,
+      field_more ps b.0 d c.in_ok-name.name.now c.loop.fields.items c.add_field.new.fields.items c.loop.invariant.3 c.in_ok-add_field.ensures,
       utf8,
     )

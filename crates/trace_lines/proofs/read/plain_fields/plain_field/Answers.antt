@@ -1,5 +1,5 @@
 use Rattle.std.proofs.Common.{◌≡◌, ◌++◌, List, ℕ, [], ◌∷◌, ap, sym, ◌∙◌, arith}
-use Rattle.trace_lines.proofs.Common.{compact_text, plain_data, DEEPEST}
+use Rattle.trace_lines.proofs.Common.{compact_text, plain_data, MAX_DEPTH}
 use Rattle.trace_lines.proofs.readings.CompactLemmas.{quoted_text}
 use Rattle.trace_lines.proofs.texts.FieldsLemmas.{value_front, field_front, pair_begins}
 use Rattle.trace_lines.proofs.read.plain_fields.plain_field.Goals as goal
@@ -29,5 +29,5 @@ behind_ascii-requires c =
 pub returns : goal.returns
 returns c =
     rw (c.between-name.ensures, c.behind_ascii.ensures)
-    (pair_begins DEEPEST c.args.field.now c.in_ok-inner.inner.now c.in_ok-words.comma.now c.in_ok-more.more.now c.in_ok-plain.end.now c.in_ok-rest.rest.now c.in_ok-words.words.now (plain_data c.in_ok-plain.plain)
+    (pair_begins MAX_DEPTH c.args.field.now c.in_ok-inner.inner.now c.in_ok-words.comma.now c.in_ok-more.more.now c.in_ok-plain.end.now c.in_ok-rest.rest.now c.in_ok-words.words.now (plain_data c.in_ok-plain.plain)
     (sym c.as_bytes.ensures.value ∙ c.in_ok-inner.ensures) (quoted_text c.in_ok-inner.inner.now c.in_ok-words.words.now c.in_ok-words.comma.now c.in_ok-words.ensures.text c.in_ok-words.ensures.plain) c.in_ok-more.ensures c.in_ok-plain.ensures c.in_ok-rest.ensures)

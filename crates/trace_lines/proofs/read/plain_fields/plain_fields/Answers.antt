@@ -8,4 +8,4 @@ pub returns : goal.returns
 returns c =
     let b = c.in_ok-fields.ensures.fields in
     let utf8 : IsUtf8 c.args.array.now = search rules in
-    ap (option_and_then fields_of) (whole_text_read 18 c.args.array.now _ c.in_ok-fields.end.now b.0 utf8 (omega arith) (sym c.as_bytes.ensures.value) c.in_ok-ends.ensures b.1) ∙ b.2
+    ap (option_and_then fields_of) (whole_text_read 18 c.args.array.now _ c.in_ok-fields.end.now b.0 utf8 (omega arith) (sym c.as_bytes.ensures.value) c.in_ok-expect_end.ensures b.1) ∙ b.2

@@ -18,9 +18,9 @@ pub clone_handle-copy-requires-clause-few_holds : goal.clone_handle-copy-require
 clone_handle-copy-requires-clause-few_holds c = needs_few _ _ _ _ (parts_of c.self.inside) c.self.invariant c.args.handle c.in-Some.span.now (search rules) (search rules) (search rules)
 
 pub invariant_of-self-2 : goal.invariant_of-self-2
-invariant_of-self-2 c = keeps_cloned _ _ _ _ _ (parts_of c.self.inside) c.clone_handle-copy.new.world _ c.calls.ensures c.keep.new.self.items c.args.at c.args.place c.len-number.result (search rules) c.self.invariant
+invariant_of-self-2 c = keeps_cloned _ _ _ _ _ (parts_of c.self.inside) c.clone_handle-copy.new.world _ c.calls.ensures c.push_reserved.new.self.items c.args.at c.args.place c.len-number.result (search rules) c.self.invariant
     c.args.handle c.in-Some.span.now c.clone_handle-copy.result c.is_some-enabled.result (search rules) c.clone_handle-copy.ensures.value (search rules) (search rules) c.clone_handle-copy.ensures.did
 
 pub returns : goal.returns
-returns c = by_view c.args.at c.args.place (call.Clone c.args.handle) _ _ _ _ c.self.view_is (λ t fits. serves_cloned _ _ _ _ _ (parts_of c.self.inside) c.clone_handle-copy.new.world _ c.calls.ensures c.keep.new.self.items c.args.at c.args.place c.len-number.result (search rules) c.self.invariant
+returns c = by_view c.args.at c.args.place (call.Clone c.args.handle) _ _ _ _ c.self.view_is (λ t fits. serves_cloned _ _ _ _ _ (parts_of c.self.inside) c.clone_handle-copy.new.world _ c.calls.ensures c.push_reserved.new.self.items c.args.at c.args.place c.len-number.result (search rules) c.self.invariant
     c.args.handle c.in-Some.span.now c.clone_handle-copy.result c.is_some-enabled.result (search rules) c.clone_handle-copy.ensures.value (search rules) (search rules) c.clone_handle-copy.ensures.did t fits)

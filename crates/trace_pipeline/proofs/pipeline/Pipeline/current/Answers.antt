@@ -7,11 +7,11 @@ use Rattle.trace_pipeline.proofs.Common.{within_view, has_own, own_lane, own_the
 use Rattle.trace_pipeline.proofs.pipeline.Pipeline.current.Goals as goal
 
 pub invariant_of-self-2 : goal.invariant_of-self-2
-invariant_of-self-2 c = keeps_current _ _ _ _ _ (parts_of c.self.inside) c.current-span.new.world _ c.calls.ensures c.keep.new.self.items c.args.at c.args.place c.len-number.result (search rules)
+invariant_of-self-2 c = keeps_current _ _ _ _ _ (parts_of c.self.inside) c.current-span.new.world _ c.calls.ensures c.push_reserved.new.self.items c.args.at c.args.place c.len-number.result (search rules)
     c.index-on.result.now (within_view _ _ c.self.inside.lanes.items c.args.place c.self.view_is refl c.requires) (search rules) c.self.invariant c.current-span.result c.is_some-enabled.result (search rules) (search rules) c.current-span.ensures.value
 
 pub returns : goal.returns
-returns c = by_view c.args.at c.args.place call.Current _ _ _ _ c.self.view_is (λ t stands. serves_current _ _ _ _ _ (parts_of c.self.inside) c.current-span.new.world _ c.calls.ensures c.keep.new.self.items c.args.at c.args.place c.len-number.result (search rules)
+returns c = by_view c.args.at c.args.place call.Current _ _ _ _ c.self.view_is (λ t stands. serves_current _ _ _ _ _ (parts_of c.self.inside) c.current-span.new.world _ c.calls.ensures c.push_reserved.new.self.items c.args.at c.args.place c.len-number.result (search rules)
     c.index-on.result.now (within_view _ _ c.self.inside.lanes.items c.args.place c.self.view_is refl c.requires) (search rules) c.self.invariant c.current-span.result c.is_some-enabled.result (search rules) (search rules) c.current-span.ensures.value t stands)
 
 pub current-span-requires-clause-own : goal.current-span-requires-clause-own

@@ -32,8 +32,8 @@ returns-in-Err c = record {
 
 pub invariant_of-self-2 : goal.invariant_of-self-2
 invariant_of-self-2 c = keeps_entered _ _ _ _ _ (parts_of c.self.inside) c.open_entry.new.world _ c.calls.ensures c.args.at c.args.place c.index_mut.result.now c.open_entry.new.lane (within_view _ _ c.self.inside.lanes.items c.args.place c.self.view_is refl c.requires) c.index_mut.ensures.value
-    c.args.handle c.len-guard.result c.args.owns c.in-Some.span.now c.in-Ok.entry c.keep.new.self.items (search rules) c.in-Ok.ensures.value (search rules) (search rules) (record { contexts = c.self.inside.contexts.contexts.items; attaches = c.skip.new.self.items }) refl (search rules) c.in-Ok.ensures.did c.in-Ok.ensures.none c.self.invariant (λ t stands line there is. meets_not _ _ _ _ _ (λ s id known. filtered_activates s.layer.inner _ _ _ (layer_activates s.inner.inner.layer.inner.core.settings.activation id s.inner.inner.layer.inner.core.spans known)) (parts_of c.self.inside) c.args.at c.args.place c.index_mut.result.now (within_view _ _ c.self.inside.lanes.items c.args.place c.self.view_is refl c.requires) c.index_mut.ensures.value c.args.handle c.in-Some.span.now (search rules) c.self.invariant t stands line there is (λ meets. true≢false (sym (c.in-Ok.ensures.full_refused meets))))
+    c.args.handle c.len-guard.result c.args.owns c.in-Some.span.now c.in-Ok.entry c.push_reserved.new.self.items (search rules) c.in-Ok.ensures.value (search rules) (search rules) (record { contexts = c.self.inside.contexts.contexts.items; attaches = c.skip.new.self.items }) refl (search rules) c.in-Ok.ensures.did c.in-Ok.ensures.none c.self.invariant (λ t stands line there is. meets_not _ _ _ _ _ (λ s id known. filtered_activates s.layer.inner _ _ _ (layer_activates s.inner.inner.layer.inner.core.settings.activation id s.inner.inner.layer.inner.core.spans known)) (parts_of c.self.inside) c.args.at c.args.place c.index_mut.result.now (within_view _ _ c.self.inside.lanes.items c.args.place c.self.view_is refl c.requires) c.index_mut.ensures.value c.args.handle c.in-Some.span.now (search rules) c.self.invariant t stands line there is (λ meets. true≢false (sym (c.in-Ok.ensures.full_refused meets))))
 
 pub returns : goal.returns
 returns c = by_view_opens c.args.at c.args.place c.args.handle c.args.owns _ _ _ _ c.self.view_is (λ t stands. serves_entered _ _ _ _ _ (parts_of c.self.inside) c.open_entry.new.world _ c.calls.ensures c.args.at c.args.place c.index_mut.result.now c.open_entry.new.lane (within_view _ _ c.self.inside.lanes.items c.args.place c.self.view_is refl c.requires) c.index_mut.ensures.value
-    c.args.handle c.len-guard.result c.args.owns c.in-Some.span.now c.in-Ok.entry c.keep.new.self.items (search rules) c.in-Ok.ensures.value (search rules) (search rules) (record { contexts = c.self.inside.contexts.contexts.items; attaches = c.skip.new.self.items }) refl (search rules) c.in-Ok.ensures.did c.in-Ok.ensures.none c.self.invariant (λ t stands line there is. meets_not _ _ _ _ _ (λ s id known. filtered_activates s.layer.inner _ _ _ (layer_activates s.inner.inner.layer.inner.core.settings.activation id s.inner.inner.layer.inner.core.spans known)) (parts_of c.self.inside) c.args.at c.args.place c.index_mut.result.now (within_view _ _ c.self.inside.lanes.items c.args.place c.self.view_is refl c.requires) c.index_mut.ensures.value c.args.handle c.in-Some.span.now (search rules) c.self.invariant t stands line there is (λ meets. true≢false (sym (c.in-Ok.ensures.full_refused meets)))) t stands)
+    c.args.handle c.len-guard.result c.args.owns c.in-Some.span.now c.in-Ok.entry c.push_reserved.new.self.items (search rules) c.in-Ok.ensures.value (search rules) (search rules) (record { contexts = c.self.inside.contexts.contexts.items; attaches = c.skip.new.self.items }) refl (search rules) c.in-Ok.ensures.did c.in-Ok.ensures.none c.self.invariant (λ t stands line there is. meets_not _ _ _ _ _ (λ s id known. filtered_activates s.layer.inner _ _ _ (layer_activates s.inner.inner.layer.inner.core.settings.activation id s.inner.inner.layer.inner.core.spans known)) (parts_of c.self.inside) c.args.at c.args.place c.index_mut.result.now (within_view _ _ c.self.inside.lanes.items c.args.place c.self.view_is refl c.requires) c.index_mut.ensures.value c.args.handle c.in-Some.span.now (search rules) c.self.invariant t stands line there is (λ meets. true≢false (sym (c.in-Ok.ensures.full_refused meets)))) t stands)

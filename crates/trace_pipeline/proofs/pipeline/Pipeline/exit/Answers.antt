@@ -30,8 +30,8 @@ close_entry-requires-clause-still c = exit_still _ _ _ _ (parts_of c.self.inside
 
 pub invariant_of-self-2 : goal.invariant_of-self-2
 invariant_of-self-2 c = keeps_exited _ _ _ _ _ (parts_of c.self.inside) c.close_entry.new.world _ c.calls.ensures c.args.at c.args.place c.index_mut.result.now c.close_entry.new.lane (within_view _ _ c.self.inside.lanes.items c.args.place c.self.view_is refl c.requires) c.index_mut.ensures.value
-    c.args.guard c.in_ok-open.open (spent_entry c.self.inside.guards.items c.args.guard c.args.place c.in_ok-open.open c.in_ok-open.ensures.value).0 (spent_entry c.self.inside.guards.items c.args.guard c.args.place c.in_ok-open.open c.in_ok-open.ensures.value).2 c.take_on.new.self.items c.in_ok-open.ensures.spent c.at-span.result.now (guard_entry _ _ _ _ (parts_of c.self.inside) c.self.invariant c.args.guard c.in_ok-open.open (spent_entry c.self.inside.guards.items c.args.guard c.args.place c.in_ok-open.open c.in_ok-open.ensures.value).0 c.at-span.result.now c.at-span.ensures) c.close_entry.ensures.did c.close_entry.ensures.none (spent_entry c.self.inside.guards.items c.args.guard c.args.place c.in_ok-open.open c.in_ok-open.ensures.value).1 c.self.invariant
+    c.args.guard c.in_ok-open.open (spent_entry c.self.inside.guards.items c.args.guard c.args.place c.in_ok-open.open c.in_ok-open.ensures.value).0 (spent_entry c.self.inside.guards.items c.args.guard c.args.place c.in_ok-open.open c.in_ok-open.ensures.value).2 c.take_on_lane.new.self.items c.in_ok-open.ensures.spent c.at-span.result.now (guard_entry _ _ _ _ (parts_of c.self.inside) c.self.invariant c.args.guard c.in_ok-open.open (spent_entry c.self.inside.guards.items c.args.guard c.args.place c.in_ok-open.open c.in_ok-open.ensures.value).0 c.at-span.result.now c.at-span.ensures) c.close_entry.ensures.did c.close_entry.ensures.none (spent_entry c.self.inside.guards.items c.args.guard c.args.place c.in_ok-open.open c.in_ok-open.ensures.value).1 c.self.invariant
 
 pub returns : goal.returns
 returns c = by_view c.args.at c.args.place (call.Exit c.args.guard) _ _ _ _ c.self.view_is (λ t stands. serves_exited _ _ _ _ _ (parts_of c.self.inside) c.close_entry.new.world _ c.calls.ensures c.args.at c.args.place c.index_mut.result.now c.close_entry.new.lane (within_view _ _ c.self.inside.lanes.items c.args.place c.self.view_is refl c.requires) c.index_mut.ensures.value
-    c.args.guard c.in_ok-open.open (spent_entry c.self.inside.guards.items c.args.guard c.args.place c.in_ok-open.open c.in_ok-open.ensures.value).0 (spent_entry c.self.inside.guards.items c.args.guard c.args.place c.in_ok-open.open c.in_ok-open.ensures.value).2 c.take_on.new.self.items c.in_ok-open.ensures.spent c.at-span.result.now (guard_entry _ _ _ _ (parts_of c.self.inside) c.self.invariant c.args.guard c.in_ok-open.open (spent_entry c.self.inside.guards.items c.args.guard c.args.place c.in_ok-open.open c.in_ok-open.ensures.value).0 c.at-span.result.now c.at-span.ensures) c.close_entry.ensures.did c.close_entry.ensures.none (spent_entry c.self.inside.guards.items c.args.guard c.args.place c.in_ok-open.open c.in_ok-open.ensures.value).1 c.self.invariant t stands)
+    c.args.guard c.in_ok-open.open (spent_entry c.self.inside.guards.items c.args.guard c.args.place c.in_ok-open.open c.in_ok-open.ensures.value).0 (spent_entry c.self.inside.guards.items c.args.guard c.args.place c.in_ok-open.open c.in_ok-open.ensures.value).2 c.take_on_lane.new.self.items c.in_ok-open.ensures.spent c.at-span.result.now (guard_entry _ _ _ _ (parts_of c.self.inside) c.self.invariant c.args.guard c.in_ok-open.open (spent_entry c.self.inside.guards.items c.args.guard c.args.place c.in_ok-open.open c.in_ok-open.ensures.value).0 c.at-span.result.now c.at-span.ensures) c.close_entry.ensures.did c.close_entry.ensures.none (spent_entry c.self.inside.guards.items c.args.guard c.args.place c.in_ok-open.open c.in_ok-open.ensures.value).1 c.self.invariant t stands)

@@ -28,11 +28,11 @@ returns-in_err-span c = record {
 }
 
 pub invariant_of-self-2 : goal.invariant_of-self-2
-invariant_of-self-2 c = keeps_new _ _ _ _ _ (parts_of c.self.inside) c.make_if.new.world _ c.calls.ensures c.keep.new.self.items c.args.at c.args.place c.len-number.result (search rules) c.self.invariant
+invariant_of-self-2 c = keeps_new _ _ _ _ _ (parts_of c.self.inside) c.make_if.new.world _ c.calls.ensures c.push_reserved.new.self.items c.args.at c.args.place c.len-number.result (search rules) c.self.invariant
     c.args.parent _ c.in-Some.found.0 c.args.site (search rules) c.in-Some.found.1.now (search rules) (found_parent c.reserve.new.self.items c.self.inside.handles.items c.args.parent c.parent_for.result (Some c.in-Some-parent_for.parent) (search rules) c.parent_for.ensures c.in-Some-parent_for.is) c.args.fields c.in-Some-2.values (search rules) c.in_ok-span.span c.index-on.result.now (within_view _ _ c.self.inside.lanes.items c.args.place c.self.view_is refl c.requires) (search rules) (search rules) c.admits-enabled.result (λ f callsite in_force at. c.admits-enabled.ensures.served c.self.inside.dispatch f callsite (own_serves _ _ c.self.inside.world.global (own_lane _ _ _ _ (parts_of c.self.inside) c.self.invariant c.args.place c.index-on.result.now (within_view _ _ c.self.inside.lanes.items c.args.place c.self.view_is refl c.requires) (search rules))) in_force at) c.in_ok-span.ensures.ok
 
 pub returns : goal.returns
-returns c = by_view c.args.at c.args.place (call.New c.args.site c.args.parent c.args.fields) _ _ _ _ c.self.view_is (λ t stands. serves_new _ _ _ _ _ (parts_of c.self.inside) c.make_if.new.world _ c.calls.ensures c.keep.new.self.items c.args.at c.args.place c.len-number.result (search rules) c.self.invariant
+returns c = by_view c.args.at c.args.place (call.New c.args.site c.args.parent c.args.fields) _ _ _ _ c.self.view_is (λ t stands. serves_new _ _ _ _ _ (parts_of c.self.inside) c.make_if.new.world _ c.calls.ensures c.push_reserved.new.self.items c.args.at c.args.place c.len-number.result (search rules) c.self.invariant
     c.args.parent _ c.in-Some.found.0 c.args.site (search rules) c.in-Some.found.1.now (search rules) (found_parent c.reserve.new.self.items c.self.inside.handles.items c.args.parent c.parent_for.result (Some c.in-Some-parent_for.parent) (search rules) c.parent_for.ensures c.in-Some-parent_for.is) c.args.fields c.in-Some-2.values (search rules) c.in_ok-span.span c.index-on.result.now (within_view _ _ c.self.inside.lanes.items c.args.place c.self.view_is refl c.requires) (search rules) (search rules) c.admits-enabled.result (λ f callsite in_force at. c.admits-enabled.ensures.served c.self.inside.dispatch f callsite (own_serves _ _ c.self.inside.world.global (own_lane _ _ _ _ (parts_of c.self.inside) c.self.invariant c.args.place c.index-on.result.now (within_view _ _ c.self.inside.lanes.items c.args.place c.self.view_is refl c.requires) (search rules))) in_force at) c.in_ok-span.ensures.ok t stands)
 
 pub returns-in_default-2 : goal.returns-in_default-2

@@ -23,11 +23,11 @@ returns-then-is_borrowed c =
     serves_refusal _ _ _ _ _ (λ t stands. by_view_refused c.args.at c.args.place (call.OrCurrent c.args.handle) _ _ _ c.self.view_is (λ t stands. refuses_in_use _ c.self.inside.handles.items refl c.args.handle named.0 named.1 (search rules) c.args.at c.args.place t stands) t stands) (search rules) refl
 
 pub invariant_of-self-2 : goal.invariant_of-self-2
-invariant_of-self-2 c = keeps_exchanged _ _ _ _ _ (parts_of c.self.inside) c.or_current-span.new.world _ c.calls.ensures c.keep.new.self.items c.args.at c.args.place c.len-number.result (search rules)
+invariant_of-self-2 c = keeps_exchanged _ _ _ _ _ (parts_of c.self.inside) c.or_current-span.new.world _ c.calls.ensures c.push_reserved.new.self.items c.args.at c.args.place c.len-number.result (search rules)
     c.index-on.result.now (within_view _ _ c.self.inside.lanes.items c.args.place c.self.view_is refl c.requires) (search rules) c.self.invariant c.args.handle c.in-Some.span c.or_current-span.result (search rules) (search rules) c.is_some-enabled.result (search rules) (search rules) c.or_current-span.ensures.enabled c.or_current-span.ensures.disabled
 
 pub returns : goal.returns
-returns c = by_view c.args.at c.args.place (call.OrCurrent c.args.handle) _ _ _ _ c.self.view_is (λ t stands. serves_exchanged _ _ _ _ _ (parts_of c.self.inside) c.or_current-span.new.world _ c.calls.ensures c.keep.new.self.items c.args.at c.args.place c.len-number.result (search rules)
+returns c = by_view c.args.at c.args.place (call.OrCurrent c.args.handle) _ _ _ _ c.self.view_is (λ t stands. serves_exchanged _ _ _ _ _ (parts_of c.self.inside) c.or_current-span.new.world _ c.calls.ensures c.push_reserved.new.self.items c.args.at c.args.place c.len-number.result (search rules)
     c.index-on.result.now (within_view _ _ c.self.inside.lanes.items c.args.place c.self.view_is refl c.requires) (search rules) c.self.invariant c.args.handle c.in-Some.span c.or_current-span.result (search rules) (search rules) c.is_some-enabled.result (search rules) (search rules) c.or_current-span.ensures.enabled c.or_current-span.ensures.disabled t stands)
 
 pub or_current-span-requires-clause-own : goal.or_current-span-requires-clause-own

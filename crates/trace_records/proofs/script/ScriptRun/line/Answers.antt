@@ -1,7 +1,7 @@
 -- The settings line opens the run, and a request that is answered is one effect more.
 use Rattle.std.proofs.Common.{◌≡◌, ◌++◌, List, [], ◌∷◌, refl, sym, ap, subst, map, ◌∙◌}
 use Rattle.otel_base.specs.declared.record.Record.{Record}
-use Rattle.span_script.specs.Fits.{State}
+use Rattle.span_script.specs.Fits.{PipelineState}
 use Rattle.trace_records.specs.declared.finished.FinishedSpans.{FinishedSpans}
 use Rattle.trace_records.specs.Lines.{AnswersRequest, OpensLine, AnswersLine}
 use Rattle.trace_records.specs.Following.{IsRunning}
@@ -14,7 +14,7 @@ returns-in-Ok g c lines follows =
     let now : FinishedSpans g.row.K.Denot = record { spans = c.args.self.now.finished.spans; lanes = c.args.self.now.finished.lanes; lane_count = c.in-Ok.field-0.lane_count; open_spans = c.args.self.now.finished.open_spans } in
     let same : c.in-Ok.field-0.pipeline ≡ c.in-Ok.pipeline = (let whole = c.in-Ok.field-0-is in let part = c.in-Ok.pipeline-is in cc) in
     rw (c.go_on.ensures, c.in-Ok.pipeline-is)
-    (subst (λ (k : State). IsRunning g.K.Kept.of_record c.args.most_lanes (lines ++ c.args.line.now ∷ []) c.in_ok-number.number k now) same
+    (subst (λ (k : PipelineState). IsRunning g.K.Kept.of_record c.args.most_lanes (lines ++ c.args.line.now ∷ []) c.in_ok-number.number k now) same
     (opened_on g.K.Kept.of_record c.args.most_lanes lines c.args.self.now.lines c.in_ok-number.number c.args.self.now.finished now c.args.line.now c.in-Ok.field-0
     (rw c.in-Opening.is at follows) sum.1 (sym c.is_blank.ensures ∙ c.if-is_blank.false)
     (subst (OpensLine c.args.most_lanes c.args.line.now) c.in-Ok.is c.in_ok-pipeline-in-Opening.ensures) refl refl refl))

@@ -1,6 +1,6 @@
 use Rattle.std.proofs.Common.{◌≡◌, ◌++◌, [], ◌∷◌, Some, refl, ap, sym, ◌∙◌, arith, rules}
 use Rattle.std.specs.Str.{IsUtf8}
-use Rattle.trace_lines.proofs.Common.{no_members, put, plain_data, members_of, DEEPEST}
+use Rattle.trace_lines.proofs.Common.{no_members, put, plain_data, members_of, MAX_DEPTH}
 use Rattle.trace_lines.proofs.readings.CompactLemmas.{Named, AllNamed-push, held_push, members_first, members_on, members_text_end, object_read}
 use Rattle.trace_lines.proofs.read.syntax.flat.members.Goals as goal
 
@@ -16,9 +16,9 @@ returns-in-None c =
     let b = m.2 in
     let n : Named = (c.in_ok-named.named.0.now, (b.0, plain_data c.in_ok-named.named.1)) in
     let placed = c.in_ok-place.ensures ∙ ap (put n.0 n.1.1) c.loop.invariant.3 ∙ sym (held_push ns n no_members) in
-    let text = members_text_end c.in_ok-rest.rest.now c.loop.rest.now (58 ∷ m.0) m.0 c.in_ok-named.after.now [] ns n c.loop.invariant.2 m.1 refl b.1 c.in_ok-closes-in-None.ensures in
+    let text = members_text_end c.in_ok-rest.rest.now c.loop.rest.now (58 ∷ m.0) m.0 c.in_ok-named.after.now [] ns n c.loop.invariant.2 m.1 refl b.1 c.in_ok-expect_bracket-in-None.ensures in
     let utf8 : IsUtf8 c.args.line.now = search rules in
-    object_read DEEPEST c.args.line.now c.in_ok-rest.rest.now (ns ++ n ∷ []) utf8 (omega arith) (AllNamed-push DEEPEST ns n c.loop.invariant.1 b.2) c.in_ok-rest.ensures text
+    object_read MAX_DEPTH c.args.line.now c.in_ok-rest.rest.now (ns ++ n ∷ []) utf8 (omega arith) (AllNamed-push MAX_DEPTH ns n c.loop.invariant.1 b.2) c.in_ok-rest.ensures text
     ∙ ap (λ ms. Some ms) (sym placed)
 
 pub loop-preserved : goal.loop-preserved
@@ -28,7 +28,7 @@ loop-preserved c =
     let b = m.2 in
     let n : Named = (c.in_ok-named.named.0.now, (b.0, plain_data c.in_ok-named.named.1)) in (
       ns ++ n ∷ [],
-      AllNamed-push DEEPEST ns n c.loop.invariant.1 b.2,
+      AllNamed-push MAX_DEPTH ns n c.loop.invariant.1 b.2,
       members_on c.in_ok-rest.rest.now c.loop.rest.now (58 ∷ m.0) m.0 c.in_ok-named.after.now c.in-Some.more.now ns n c.loop.invariant.2 m.1 refl b.1 c.in-Some.ensures,
       c.in_ok-place.ensures ∙ ap (put n.0 n.1.1) c.loop.invariant.3 ∙ sym (held_push ns n no_members),
     )

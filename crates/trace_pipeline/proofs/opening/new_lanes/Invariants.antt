@@ -1,6 +1,6 @@
 -- The lanes so far have the ids and names of those that were passed, no contexts, and the subscriber for their own.
 use Rattle.std.proofs.Common.{◌≡◌, ◌++◌, map, [], Some}
-use Rattle.trace_pipeline.proofs.opening.lanes.Given as goal
+use Rattle.trace_pipeline.proofs.opening.new_lanes.Given as goal
 
 abbrev pub invariant-loop-id : goal.invariant-loop-id
 invariant-loop-id l = record {

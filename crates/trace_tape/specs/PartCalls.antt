@@ -12,22 +12,22 @@ use Rattle.otel_state.specs.States.{is_growing}
 use Rattle.otel_layer.specs.Parts.{PartCall, Applies, GivesContext, StaysStack}
 use Rattle.span_script.specs.declared.request.Call.TheVariants as call
 use Rattle.span_script.specs.declared.request.Request.{Request}
-use Rattle.trace_tape.specs.Taping.{TapeValue, on_first_lane}
+use Rattle.trace_tape.specs.Tapes.{TapeValue, on_first_lane}
 
 -- an op is replied to, and spelled if it is an attribute
-abbrev pub taped_reply : Op → OpReply
-taped_reply (ops.SetParent context) = replies.Parent (Ok tt)
-taped_reply _ = replies.Done
+abbrev pub tape_reply : Op → OpReply
+tape_reply (ops.SetParent context) = replies.Parent (Ok tt)
+tape_reply _ = replies.Done
 
-abbrev pub spelled_op : ℕ → ℕ → Op → List Request
-spelled_op id at (ops.SetAttribute pair) = on_first_lane at (call.SetAttribute id pair.key pair.value) ∷ []
-spelled_op id at _ = []
+abbrev pub op_requests : ℕ → ℕ → Op → List Request
+op_requests id at (ops.SetAttribute pair) = on_first_lane at (call.SetAttribute id pair.key pair.value) ∷ []
+op_requests id at _ = []
 
 -- an op of a span that is live or isn't
 abbrev pub AppliesTape : Bool → TapeValue → ℕ → ℕ → Op → Option (Result OpReply Memory) → TapeValue → Type 0
 AppliesTape false s id at op answer t = (answer ≡ None) × (t ≡ s)
 AppliesTape true s id at op None t = ⊥
-AppliesTape true s id at op (Some (Ok reply)) t = (reply ≡ taped_reply op) × (t ≡ record s { requests = s.requests ++ spelled_op id at op })
+AppliesTape true s id at op (Some (Ok reply)) t = (reply ≡ tape_reply op) × (t ≡ record s { requests = s.requests ++ op_requests id at op })
 AppliesTape true s id at op (Some (Err memory)) t = IsTrue (is_growing op) × (t ≡ s)
 
 abbrev pub is_live : Spans → ℕ → Bool

@@ -9,7 +9,7 @@ use Rattle.trace_base.specs.declared.span.Parent.TheVariants as parent
 use Rattle.trace_base.specs.Spans.{without_last, parent_to_release}
 use Rattle.trace_base.specs.Calls.{SubscriberCall, NewSpan, Records, Follows, Event, Enter, Exit, CloneSpan, TryClose}
 use Rattle.span_registry.specs.Registering.{RegistryValue, DoesRegistry}
-use Rattle.trace_tape.specs.declared.opened.Opened.{Opened}
+use Rattle.trace_tape.specs.declared.opened.OpenEntry.{OpenEntry}
 use Rattle.span_script.specs.declared.request.Call.{Call}
 use Rattle.span_script.specs.declared.request.Call.TheVariants as call
 use Rattle.span_script.specs.declared.request.RequestParent.{RequestParent}
@@ -27,7 +27,7 @@ pub record TapeValue : Type 0 where
   pub below : RegistryValue
   pub handles : List ℕ
   pub due : Option ℕ
-  pub entries : List Opened
+  pub entries : List OpenEntry
   pub guards : ℕ
   pub requests : List Request
 
@@ -55,19 +55,19 @@ abbrev pub one_more : ℕ → ℕ
 one_more n = if nat_lt n (2 ^ 64 - 1) then n + 1 else n
 
 -- one handle more; of a span whose handles are all gone nothing can be named any more
-abbrev pub held_more : ℕ → ℕ
-held_more n = if nat_lt 0 n then one_more n else 0
+abbrev pub one_more_handle : ℕ → ℕ
+one_more_handle n = if nat_lt 0 n then one_more n else 0
 
 -- how many handles a span has
 abbrev pub handles_of : List ℕ → ℕ → ℕ
 handles_of handles id = slice_index_or handles id 0
 
 -- the entry is of the span on the lane
-abbrev pub is_opened : ℕ → ℕ → Opened → Bool
-is_opened lane id opened = opened.lane == lane && opened.id == id
+abbrev pub is_entry_of : ℕ → ℕ → OpenEntry → Bool
+is_entry_of lane id opened = opened.lane == lane && opened.id == id
 
 -- an exit of the guard of an entry, if there is one
-abbrev pub exit_requests : ℕ → Option Opened → List Request
+abbrev pub exit_requests : ℕ → Option OpenEntry → List Request
 exit_requests at None = []
 exit_requests at (Some opened) = on_first_lane at (call.Exit opened.guard) ∷ []
 
@@ -76,8 +76,8 @@ abbrev pub drop_requests : ℕ → ℕ → ℕ → List Request
 drop_requests at id handles = if handles == 1 then on_first_lane at (call.Drop id) ∷ [] else []
 
 -- a handle of a span goes
-abbrev pub let_go : TapeValue → ℕ → ℕ → TapeValue
-let_go s id at = record s {
+abbrev pub without_handle : TapeValue → ℕ → ℕ → TapeValue
+without_handle s id at = record s {
   handles = slice_set s.handles id (handles_of s.handles id - 1);
   requests = s.requests ++ drop_requests at id (handles_of s.handles id);
 }
@@ -87,45 +87,45 @@ abbrev pub is_due : Option ℕ → ℕ → Bool
 is_due None id = false
 is_due (Some due) id = due == id
 
-abbrev pub release : TapeValue → ℕ → ℕ → TapeValue
-release s id at = if is_due s.due id then s else let_go s id at
+abbrev pub after_release : TapeValue → ℕ → ℕ → TapeValue
+after_release s id at = if is_due s.due id then s else without_handle s id at
 
 -- what a call makes of a tape, beside its registry
-abbrev pub taped_after : TapeValue → SubscriberCall → TapeValue
-taped_after s (NewSpan lane at parent site callsite values) = record s {
+abbrev pub tape_after : TapeValue → SubscriberCall → TapeValue
+tape_after s (NewSpan lane at parent site callsite values) = record s {
   handles = s.handles ++ 1 ∷ [];
   requests = s.requests ++ on_first_lane at (call.New site (spelled_parent parent) (named_values callsite values)) ∷ [];
 }
-taped_after s (Records id at callsite values) = record s { requests = s.requests ++ on_first_lane at (call.Record id (named_values callsite values)) ∷ [] }
-taped_after s (Follows id from at) = record s { requests = s.requests ++ on_first_lane at (call.Follows id from) ∷ [] }
-taped_after s (Event lane at parent site callsite values) = record s {
+tape_after s (Records id at callsite values) = record s { requests = s.requests ++ on_first_lane at (call.Record id (named_values callsite values)) ∷ [] }
+tape_after s (Follows id from at) = record s { requests = s.requests ++ on_first_lane at (call.Follows id from) ∷ [] }
+tape_after s (Event lane at parent site callsite values) = record s {
   requests = s.requests ++ on_first_lane at (call.Event site (spelled_parent parent) (named_values callsite values)) ∷ [];
 }
-taped_after s (Enter id at before later) = record s {
+tape_after s (Enter id at before later) = record s {
   entries = s.entries ++ record { lane = before.id; id = id; guard = s.guards } ∷ [];
   guards = one_more s.guards;
   requests = s.requests ++ on_first_lane at (call.Enter id) ∷ [];
 }
-taped_after s (Exit id at before later) = record s {
-  entries = without_last (is_opened before.id id) s.entries;
-  requests = s.requests ++ exit_requests at (last_passing (is_opened before.id id) s.entries);
+tape_after s (Exit id at before later) = record s {
+  entries = without_last (is_entry_of before.id id) s.entries;
+  requests = s.requests ++ exit_requests at (last_passing (is_entry_of before.id id) s.entries);
 }
-taped_after s (CloneSpan id) = record s { handles = slice_set s.handles id (held_more (handles_of s.handles id)) }
-taped_after s (TryClose id at) = record (release s id at) { due = parent_to_release s.below.spans.made id }
+tape_after s (CloneSpan id) = record s { handles = slice_set s.handles id (one_more_handle (handles_of s.handles id)) }
+tape_after s (TryClose id at) = record (after_release s id at) { due = parent_to_release s.below.spans.made id }
 
 -- a call is the registry's, and spells its requests
 pub record DoesTape (old : TapeValue) (call : SubscriberCall) (new : TapeValue) : Type 0 where
   pub below : DoesRegistry old.below call new.below
-  pub tape : new ≡ record (taped_after old call) { below = new.below }
+  pub tape : new ≡ record (tape_after old call) { below = new.below }
 
 -- ---- the room that requests may need which take none
 
-abbrev pub is_held : ℕ → Bool
-is_held n = nat_lt 0 n
+abbrev pub has_handles : ℕ → Bool
+has_handles n = nat_lt 0 n
 
 -- an exit for each open entry, and a drop for each span with a handle
-abbrev pub requests_owed : List ℕ → List Opened → ℕ
-requests_owed handles entries = length entries + count_by is_held handles
+abbrev pub requests_owed : List ℕ → List OpenEntry → ℕ
+requests_owed handles entries = length entries + count_by has_handles handles
 
 -- no span was made and nothing spelled
 abbrev pub blank_tape : RegistryValue → TapeValue

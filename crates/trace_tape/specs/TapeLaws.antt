@@ -4,7 +4,7 @@ use Rattle.std.proofs.Common.{subst}
 use Rattle.trace_base.specs.Calls.{SubscriberCall}
 use Rattle.trace_base.specs.lanes.Contexts.{CallLanes}
 use Rattle.span_registry.specs.Registering.{registry_lanes}
-use Rattle.trace_tape.specs.Taping.{TapeValue, DoesTape}
+use Rattle.trace_tape.specs.Tapes.{TapeValue, DoesTape}
 
 pub tape_same : (s t : TapeValue) (call : SubscriberCall) (u : TapeValue) → t ≡ s → DoesTape t call u → DoesTape s call u
 tape_same s t call u h d = subst (λ (x : TapeValue). DoesTape x call u) h d

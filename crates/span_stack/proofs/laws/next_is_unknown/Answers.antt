@@ -3,7 +3,7 @@ use Rattle.std.proofs.Common.{◌≡◌, None, length, sym}
 use Rattle.span_stack.proofs.Common.{Spans, no_spans, Recording, no_recording, data_at, Stacks, stack_recording}
 use Rattle.span_stack.proofs.hooks.CountersLemmas.{base_next}
 use Rattle.span_stack.proofs.worlds.ViewsLemmas.{see, along_two}
-use Rattle.span_stack.proofs.laws.next.Goals as goal
+use Rattle.span_stack.proofs.laws.next_is_unknown.Goals as goal
 
 pub returns : goal.returns
 returns c = λ world dispatch s there whole.

@@ -1,7 +1,7 @@
 use Rattle.std.proofs.Common.{◌≡◌, ◌++◌, [], ◌∷◌, rules}
 use Rattle.trace_lines.proofs.Common.{escape}
 use Rattle.trace_lines.proofs.texts.AddsLemmas.{quoted_added}
-use Rattle.trace_lines.proofs.write.pieces.add_text.Goals as goal
+use Rattle.trace_lines.proofs.write.pieces.add_with_escapes.Goals as goal
 
 pub returns : goal.returns
 returns c =

@@ -4,8 +4,8 @@ use Rattle.std.proofs.lemmas.Bool.{true≢false}
 use Rattle.trace_tasks.proofs.Common.{Holds}
 use Rattle.futures.specs.declared.task.context.Context.{Context}
 use Rattle.trace_tasks.proofs.polls.StepsSoFarLemmas.{IsAct, act_or, polling_more, lent_more, called_more, polling_first, polled_wants}
-use Rattle.trace_tasks.proofs.running.RunningTracedFuture.poll_in.Goals as goal
-use Rattle.trace_tasks.proofs.running.RunningTracedFuture.poll_in.Goals.{in-Yield, in_default-matches}
+use Rattle.trace_tasks.proofs.running.TaskFutureTracedFuture.poll_in.Goals as goal
+use Rattle.trace_tasks.proofs.running.TaskFutureTracedFuture.poll_in.Goals.{in-Yield, in_default-matches}
 
 pub returns-then-matches-clause-context : goal.returns-then-matches-clause-context
 returns-then-matches-clause-context g c = λ fact h. c.yield_now.ensures.kept fact (subst (λ (x : Context). Holds x fact) (sym c.loop-step.invariant.same_cx) h)

@@ -1,16 +1,16 @@
 -- A record is all that is gone.
 use Rattle.std.proofs.Common.{refl, ap, None}
-use Rattle.span_stack.proofs.Common.{no_recording, stack_recording, counting_filter, stack_interest, without_first}
+use Rattle.span_stack.proofs.Common.{no_recording, stack_recording, stack_counting_filter, stack_interest, without_first}
 use Rattle.span_stack.proofs.worlds.FreshInterestsLemmas.{fresh_later}
 use Rattle.span_stack.proofs.hooks.TakenRecordsLemmas.{one_less, taken_recorded, taken_counts_by, whole_left}
 use Rattle.span_stack.proofs.worlds.ViewsLemmas.{leave_alike, kept_place, read_two}
-use Rattle.span_stack.proofs.laws.takes.Goals as goal
+use Rattle.span_stack.proofs.laws.takes_record.Goals as goal
 
 pub returns-clause-recording : goal.returns-clause-recording
 returns-clause-recording c = λ old new dispatch r. read_two one_less stack_recording no_recording taken_recorded old new dispatch r
 
-pub returns-clause-counter : goal.returns-clause-counter
-returns-clause-counter c = λ old new dispatch r. kept_place counting_filter None taken_counts_by old new dispatch r
+pub returns-clause-counting_filter : goal.returns-clause-counting_filter
+returns-clause-counting_filter c = λ old new dispatch r. kept_place stack_counting_filter None taken_counts_by old new dispatch r
 
 pub returns-clause-current : goal.returns-clause-current
 returns-clause-current c = λ old new dispatch r. fresh_later stack_interest _ (λ s t e. ap stack_interest e) old new dispatch r

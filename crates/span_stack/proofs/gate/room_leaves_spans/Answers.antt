@@ -1,5 +1,5 @@
 -- By the subscriber's laws.
-use Rattle.span_stack.proofs.gate.room.Goals as goal
+use Rattle.span_stack.proofs.gate.room_leaves_spans.Goals as goal
 
 pub returns : goal.returns
 returns g c = λ s t h. record {

@@ -1,5 +1,0 @@
-use Rattle.std.proofs.Common.{ℕ, List, ◌∷◌, ◌∙◌, ap}
-use Rattle.trace_lines.proofs.read.syntax.flat.closes.Goals as goal
-
-pub returns : goal.returns
-returns c = c.in_ok-end.ensures ∙ ap (λ (l : List ℕ). c.args.bracket ∷ l) c.in_ok-ends.ensures
