@@ -82,7 +82,7 @@ OTHERS = {
     },
     "reload_handle": {"Handle::new": "the handle that `reload::Layer::new` answers"},
     "otel_base": {
-        "ContextGuard": "`opentelemetry::ContextGuard`",
+        "Attached": "`opentelemetry::ContextGuard`",
         "Context::empty": "`opentelemetry::Context::new`",
         "Context::span_context": "`opentelemetry::trace::TraceContextExt::span`, and its `span_context`",
         "ContextStack::attach": "`opentelemetry::Context::attach`",

@@ -1,6 +1,6 @@
 //! All that is written of the records of a script.
 ghost use Rattle.std.specs.Prelude.{◌≡◌, ◌<◌, ◌≤◌, ◌++◌, All, length, map, IfOk, OnOk};
-ghost use Rattle.trace_batch.specs.declared.relay.TheConstants.{MOST_LANES};
+ghost use Rattle.trace_batch.specs.declared.relay.TheConstants.{MAX_LANES};
 ghost use Rattle.batch_lines.specs.Texts.{IsMergeOf, TellsBatches, batch_text, batch_lines, batches_end_text};
 
 use crate::line::{add_batch, add_end};
@@ -46,7 +46,7 @@ fn send_all<H: Threads + Wait + Sync, T: Turnstile + Sync>(
 ) -> Result<Vec<Sent>, Memory>
     requires lanes { length lanes.now ≡ length records.items }
     requires each { All (λ lane. lane < lane_count) lanes.now }
-    requires few { lane_count ≤ MOST_LANES }
+    requires few { lane_count ≤ MAX_LANES }
     ensures { IfOk result (λ sent. IsMergeOf records.items lanes.now sent.items) }
 {
     let lists = lane_lists(alloc, records, lanes, lane_count)?;
@@ -85,7 +85,7 @@ pub fn batches_text<H: Threads + Wait + Sync, T: Turnstile + Sync>(
     requires size { 0 < size }
     requires lanes { length lanes.now ≡ length records.items }
     requires each { All (λ lane. lane < lane_count) lanes.now }
-    requires few { lane_count ≤ MOST_LANES }
+    requires few { lane_count ≤ MAX_LANES }
     ensures { IfOk result (λ text. TellsBatches size records.items lanes.now open_spans text.items) }
 {
     let count = records.len() as u64;

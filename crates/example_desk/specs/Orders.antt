@@ -1,6 +1,6 @@
 -- Orders at a desk: what its functions leave behind, and what an order makes of the stack, with the moment of each call.
 use Rattle.std.specs.Prelude.{◌≡◌, ◌+◌, ◌⊎◌, ℕ, Bool, true, false, List, [], ◌∷◌, Result}
-use Rattle.traced_futures.specs.Programs.{Lane, Current, Ghosts, WorldValue, Handle, as_parent, MakesAndCloses, EntersAndExits, TellsIfAnswered, TellsWhen, StandsAlone, StandsWith, Ends, Instrumented, Plain, PollsOnce, KeepsFuture, RunsUnder}
+use Rattle.traced_futures.specs.Programs.{Lane, Current, Ghosts, WorldValue, Handle, as_parent, MakesAndCloses, EntersAndExits, TellsIfAnswered, TellsWhen, StandsAlone, StandsWith, RestoresAndDid, Instrumented, Plain, PollsOnce, KeepsFuture, RunsUnder}
 use Rattle.traced_layer.specs.Programs.{Context, AsksParent, PartCall}
 use Rattle.example_desk.specs.declared.desk.Desk.{Desk}
 use Rattle.example_desk.specs.declared.given.Given.{Given}
@@ -24,7 +24,7 @@ module _ {S : Type 0} (sub : Ghosts S) (most : ℕ) (lanes : Desk S → List Lan
 
 -- the same so long after an order came, where all is as it was, and what was done if the result is Ok
 abbrev pub Leaves : {S E : Type 0} → Ghosts S → Given → ℕ → (Desk S → List Lane) → Desk S → Desk S → Result (Unit {0}) E → (Ghosts S → Given → Desk S → Desk S → Type 0) → Type 0
-Leaves sub given after lanes old new result does = Ends sub (given.at + after) 5 old.world (lanes old) new.world (lanes new) result (does sub given old new)
+Leaves sub given after lanes old new result does = RestoresAndDid sub (given.at + after) 5 old.world (lanes old) new.world (lanes new) result (does sub given old new)
 
 -- the same where a payment was asked for on the front lane: the other one is left alone
 abbrev pub KeepsPayment : {S T : Type 0} → Ghosts S → ℕ → Instrumented T → Desk S → Instrumented T → Desk S → Type 0

@@ -11,7 +11,7 @@ use Rattle.trace_base.proofs.EntryLemmas.{count_push}
 use Rattle.span_handles.specs.Handles.{HeldSpan, ReplacedOn}
 use Rattle.span_handles.specs.Entries.{BeginsInside}
 use Rattle.span_futures.specs.declared.instrument.Instrumented.{Instrumented}
-use Rattle.span_futures.specs.Polls.{Polled, CannotEnter, IsInside}
+use Rattle.span_futures.specs.Polls.{PollResult, CannotEnter, PollsInside}
 use Rattle.span_futures.specs.Lent.{all_kept}
 use Rattle.explain_stack.specs.Order.{Stands}
 use Rattle.explain_stack.specs.Puts.{PollsUnder}
@@ -47,10 +47,10 @@ module _ {S : Type 0} (spans : S → Spans) (attaches : S → Bool) (kept : S �
 
   -- a poll under a span of a future that leaves the world and the lane as they are
   pub polled_stands : (same : S → S → Type 0) → ((s t : S) → same s t → spans t ≡ spans s) → ((s t : S) → same s t → kept t ≡ kept s) → ((s t : S) → same s t → is_whole s → is_whole t)
-      → (activates : S → ℕ → Bool) {T A : Type 0} (polls : T → WorldValue S → Lane → ℕ → Polled A → T → WorldValue S → Lane → Type 0)
-      → ((f : T) (w : WorldValue S) (l : Lane) (at : ℕ) (r : Polled A) (g : T) (v : WorldValue S) (m : Lane) → polls f w l at r g v m → (v ≡ w) × (m ≡ l))
-      → (future next : Instrumented T) (old new : WorldValue S) (before later other : Lane) (at : ℕ) (r : Polled A)
-      → CannotEnter same activates future old before r next new later ⊎ IsInside does activates polls future old before at r next new later
+      → (activates : S → ℕ → Bool) {T A : Type 0} (polls : T → WorldValue S → Lane → ℕ → PollResult A → T → WorldValue S → Lane → Type 0)
+      → ((f : T) (w : WorldValue S) (l : Lane) (at : ℕ) (r : PollResult A) (g : T) (v : WorldValue S) (m : Lane) → polls f w l at r g v m → (v ≡ w) × (m ≡ l))
+      → (future next : Instrumented T) (old new : WorldValue S) (before later other : Lane) (at : ℕ) (r : PollResult A)
+      → CannotEnter same activates future old before r next new later ⊎ PollsInside does activates polls future old before at r next new later
       → Stands spans kept is_whole dispatch span_count site_count old before other → Stands spans kept is_whole dispatch span_count site_count new later other
   polled_stands same same_spans same_kept same_whole activates polls leaves future next old new before later other at r (inl refused) stands =
       lane_left spans kept is_whole dispatch span_count site_count new before later other refused.lane_same
@@ -60,9 +60,9 @@ module _ {S : Type 0} (spans : S → Spans) (attaches : S → Bool) (kept : S �
       inside_stands at future.span.held old inside.world inside.left_world new before inside.lane inside.left_lane later other inside.entered same_world.0 same_world.1 inside.exited inside.none stands
 
 -- a poll, and a disabled handle that is closed
-pub polls_under : {S T A : Type 0} (same : S → S → Type 0) (does : S → SubscriberCall → S → Type 0) (activates : S → ℕ → Bool) (polls : T → WorldValue S → Lane → ℕ → Polled A → T → WorldValue S → Lane → Type 0) (at : ℕ) (given future next : Instrumented T) (old left new : WorldValue S) (before later : Lane) (r : Polled A) (closes : ℕ → S → S → Type 0) (closed : HeldSpan)
+pub polls_under : {S T A : Type 0} (same : S → S → Type 0) (does : S → SubscriberCall → S → Type 0) (activates : S → ℕ → Bool) (polls : T → WorldValue S → Lane → ℕ → PollResult A → T → WorldValue S → Lane → Type 0) (at : ℕ) (given future next : Instrumented T) (old left new : WorldValue S) (before later : Lane) (r : PollResult A) (closes : ℕ → S → S → Type 0) (closed : HeldSpan)
     → future ≡ given → closed ≡ None → ReplacedOn closes left new closed
-    → CannotEnter same activates future old before r next left later ⊎ IsInside does activates polls future old before at r next left later
+    → CannotEnter same activates future old before r next left later ⊎ PollsInside does activates polls future old before at r next left later
     → PollsUnder same does activates polls given old before at r new later
 polls_under {S} {T} same does activates polls at given future next old left new before later r closes closed is none did polled =
     subst (λ (f : Instrumented T). PollsUnder same does activates polls f old before at r new later) is

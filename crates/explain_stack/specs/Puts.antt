@@ -7,7 +7,7 @@ use Rattle.trace_base.specs.Calls.{SubscriberCall}
 use Rattle.span_handles.specs.Worlds.{Chain}
 use Rattle.span_handles.specs.Handles.{Handle, HeldSpan, ReplacedOn, IsCurrent, same_held}
 use Rattle.span_futures.specs.declared.instrument.Instrumented.{Instrumented}
-use Rattle.span_futures.specs.Polls.{Polled, CannotEnter, IsInside}
+use Rattle.span_futures.specs.Polls.{PollResult, CannotEnter, PollsInside}
 
 -- the span of a handle is released at a moment, and its parents behind it where it closes
 abbrev pub ClosesHeld : {S : Type 0} → (S → Spans) → (S → SubscriberCall → S → Type 0) → ℕ → WorldValue S → WorldValue S → HeldSpan → Type 0
@@ -22,7 +22,7 @@ pub record PutsAround {S : Type 0} (spans : S → Spans) (does : S → Subscribe
   pub closed : ClosesHeld spans does at between new current.held
 
 -- a future is polled under its span, where this can be entered
-pub record PollsUnder {S T A : Type 0} (same : S → S → Type 0) (does : S → SubscriberCall → S → Type 0) (activates : S → ℕ → Bool) (polls : T → WorldValue S → Lane → ℕ → Polled A → T → WorldValue S → Lane → Type 0)
-    (future : Instrumented T) (old : WorldValue S) (before : Lane) (at : ℕ) (result : Polled A) (new : WorldValue S) (later : Lane) : Type 0 where
+pub record PollsUnder {S T A : Type 0} (same : S → S → Type 0) (does : S → SubscriberCall → S → Type 0) (activates : S → ℕ → Bool) (polls : T → WorldValue S → Lane → ℕ → PollResult A → T → WorldValue S → Lane → Type 0)
+    (future : Instrumented T) (old : WorldValue S) (before : Lane) (at : ℕ) (result : PollResult A) (new : WorldValue S) (later : Lane) : Type 0 where
   pub next : Instrumented T
-  pub did : CannotEnter same activates future old before result next new later ⊎ IsInside does activates polls future old before at result next new later
+  pub did : CannotEnter same activates future old before result next new later ⊎ PollsInside does activates polls future old before at result next new later

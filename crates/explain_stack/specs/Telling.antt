@@ -4,7 +4,7 @@ use Rattle.futures.specs.declared.task.Poll.TheVariants.{Ready, Pending}
 use Rattle.otel_base.specs.declared.enter_error.EnterError.TheVariants as errors
 use Rattle.otel_base.specs.declared.status.Status.{Status}
 use Rattle.otel_base.specs.declared.status.Status.TheVariants as status
-use Rattle.span_futures.specs.Polls.{Polled}
+use Rattle.span_futures.specs.Polls.{PollResult}
 
 -- that a call was made, or refused
 abbrev pub done_line : Bool → List ℕ
@@ -12,7 +12,7 @@ done_line true = codes "  done\n"
 done_line false = codes "  refused\n"
 
 -- what a poll answers that had memory
-abbrev pub polled_line : Polled Bool → List ℕ
+abbrev pub polled_line : PollResult Bool → List ℕ
 polled_line (Ok Pending) = codes "  pending\n"
 polled_line (Ok (Ready true)) = codes "  ready, served true\n"
 polled_line (Ok (Ready false)) = codes "  ready, served false\n"
@@ -20,7 +20,7 @@ polled_line (Err errors.Full) = codes "  full\n"
 polled_line (Err errors.Memory) = []
 
 -- the same of a poll that may have been refused
-abbrev pub answer_line : Option (Polled Bool) → List ℕ
+abbrev pub answer_line : Option (PollResult Bool) → List ℕ
 answer_line None = done_line false
 answer_line (Some polled) = polled_line polled
 

@@ -13,7 +13,7 @@ use Rattle.span_handles.specs.Worlds.{Replaced, spans_in, no_spans}
 use Rattle.span_handles.specs.Handles.{HeldSpan, Handle, MakesIf, ReplacedIf, ReplacedOn}
 use Rattle.span_handles.specs.Knowing.{KeepsKnown}
 use Rattle.span_handles.proofs.ChangedSubscriberLemmas.{seen_before, seen_later}
-use Rattle.span_futures.specs.Calling.{CallsBy}
+use Rattle.span_futures.specs.Calling.{ChangesUpTo}
 use Rattle.span_futures.specs.Lent.{KeepsLent}
 use Rattle.span_futures.proofs.CallsLemmas.{called_same, called_once, calls_none, calls_one}
 use Rattle.span_futures.proofs.Inside.{keeps_nothing}
@@ -79,12 +79,12 @@ module _ {S : Type 0} (spans : S → Spans) (kept : S → ℕ → ℕ → ℕ) (
 
 -- the calls that it came to
 module _ {S : Type 0} (does : S → SubscriberCall → S → Type 0) (besides : ℕ → S → S → Type 0) (same : S → S → Type 0) (same_refl : (s : S) → same s s) (same_trans : (s t u : S) → same s t → same t u → same s u) where
-  pub made_calls : (spans : S → Spans) (old new : WorldValue S) (lane : Lane) (at : ℕ) (parent : Parent) (site : ℕ) (values : ValueSet) (dispatch : Option ℕ) (handle : Handle) → MakesIf spans does old new lane at parent site values dispatch handle → CallsBy does besides same at old new
-  made_calls spans old new lane at parent site values None handle made = subst (λ (w : WorldValue S). CallsBy does besides same at old w) (sym made.1) (calls_none does besides same same_refl same_trans at old)
+  pub made_calls : (spans : S → Spans) (old new : WorldValue S) (lane : Lane) (at : ℕ) (parent : Parent) (site : ℕ) (values : ValueSet) (dispatch : Option ℕ) (handle : Handle) → MakesIf spans does old new lane at parent site values dispatch handle → ChangesUpTo does besides same at old new
+  made_calls spans old new lane at parent site values None handle made = subst (λ (w : WorldValue S). ChangesUpTo does besides same at old w) (sym made.1) (calls_none does besides same same_refl same_trans at old)
   made_calls spans old new lane at parent site values (Some d) handle made =
       let call : SubscriberCall = NewSpan lane at parent site made.callsite values in
       calls_one does besides same same_refl same_trans at (λ s t. (made.id ≡ length (spans s).made) × does s call t) old new d (λ s t did. called_once does besides same same_refl same_trans at s call t (omega arith) did.1) made.made
 
-  pub unmade_calls : (at : ℕ) (old new : WorldValue S) (dispatch : Option ℕ) → ReplacedIf same old new dispatch → CallsBy does besides same at old new
-  unmade_calls at old new None left = subst (λ (w : WorldValue S). CallsBy does besides same at old w) (sym left) (calls_none does besides same same_refl same_trans at old)
+  pub unmade_calls : (at : ℕ) (old new : WorldValue S) (dispatch : Option ℕ) → ReplacedIf same old new dispatch → ChangesUpTo does besides same at old new
+  unmade_calls at old new None left = subst (λ (w : WorldValue S). ChangesUpTo does besides same at old w) (sym left) (calls_none does besides same same_refl same_trans at old)
   unmade_calls at old new (Some d) left = calls_one does besides same same_refl same_trans at same old new d (λ s t is. called_same does besides same same_refl same_trans at s t is) left

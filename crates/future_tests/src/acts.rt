@@ -4,7 +4,7 @@ ghost use Rattle.trace_base.specs.declared.span.Parent.TheVariants as parent;
 ghost use Rattle.trace_base.specs.Conditions.{HasFewHolds};
 ghost use Rattle.trace_base.specs.Gate.{IsInWorld, dispatch_on};
 ghost use Rattle.span_handles.specs.Handles.{IsKnown, HasOn, MayMakeIf};
-ghost use Rattle.span_futures.specs.Calling.{CallsBy};
+ghost use Rattle.span_futures.specs.Calling.{ChangesUpTo};
 ghost use Rattle.span_futures.specs.Lent.{HasAll, KeepsLent, more_parts};
 ghost use Rattle.span_futures.specs.Polls.{IfEnded};
 ghost use Rattle.future_tests.specs.Carrying.{site_stays};
@@ -151,7 +151,7 @@ fn make_here<S: Stack>(
         (dispatch_on lane.now.default world.old.global) }
     ensures known { IfOk result (λ handle. IsKnown S.spans world.new handle.held) }
     ensures keeps { KeepsLent S.spans S.kept S.is_whole world.old world.new lane.now lane.now }
-    ensures moments { CallsBy S.does (λ at s t. ⊥) S.same_but_room at world.old world.new }
+    ensures moments { ChangesUpTo S.does (λ at s t. ⊥) S.same_but_room at world.old world.new }
 {
     let span = Span::new(world, lane, at, site, values)?;
     Ok(span)
@@ -219,7 +219,7 @@ fn enter_for_good<S: Stack>(
     requires whole { HasAll S.is_whole world.old }
     requires few_holds { HasOn (λ s id. HasFewHolds (S.spans s).made id) world.old span.now.held }
     ensures keeps { KeepsLent S.spans S.kept S.is_whole world.old world.new lane.old lane.new }
-    ensures moments { CallsBy S.does (λ at s t. ⊥) S.same_but_room at world.old world.new }
+    ensures moments { ChangesUpTo S.does (λ at s t. ⊥) S.same_but_room at world.old world.new }
     ensures known { IsKnown S.spans world.new span.now.held }
 {
     match span.open_entry(world, lane, at) {

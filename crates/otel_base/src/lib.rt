@@ -25,7 +25,7 @@ pub use memory::Memory;
 pub use noop::NoopTracer;
 pub use record::{Link, Moment, OtelEvent, Record, SpanBuilder, SpanKind};
 pub use recorder::Recorder;
-pub use stack::{ContextGuard, ContextStack};
+pub use stack::{Attached, ContextStack};
 pub use status::Status;
 pub use text::Text;
 pub use tracer::Tracer;

@@ -14,11 +14,11 @@ pub const MAX_CONTEXTS: usize = 65_534;
 
 /// What an attach gives, and what its detach takes: `opentelemetry::ContextGuard`, which isn't spent by itself.
 /// It has to be spent, by `ContextStack::detach` or by `discard`.
-pub struct ContextGuard {
+pub struct Attached {
     number: u64,
 }
 
-impl Model for ContextGuard {
+impl Model for Attached {
     ghost use Rattle.std.specs.Prelude.{ℕ};
 
     ghost Value = { ℕ };
@@ -26,10 +26,10 @@ impl Model for ContextGuard {
     ghost view = { λ a. a.number };
 }
 
-impl ContextGuard {
+impl Attached {
     /// Spends it and leaves its context attached for good.
     pub fn discard(self) {
-        let ContextGuard { number: _ } = self;
+        let Attached { number: _ } = self;
     }
 }
 
@@ -62,7 +62,7 @@ impl ContextStack {
     }
 
     /// Attaches a context above all others. It is `Full` exactly where 65,534 are live.
-    pub fn attach(&mut self, context: Context) -> Result<ContextGuard, EnterError>
+    pub fn attach(&mut self, context: Context) -> Result<Attached, EnterError>
         ensures ok { IfOk result (λ number. self.new.live ≡ self.old.live ++ (number, context) ∷ []) }
         ensures number { IfOk result (λ number. has_number number self.old.live ≡ false) }
         ensures holds { IfOk result (λ number. has_number number self.new.live ≡ true) }
@@ -81,7 +81,7 @@ impl ContextStack {
             return Err(EnterError::Memory);
         };
         self.items.push((number, context))?;
-        Ok(ContextGuard { number })
+        Ok(Attached { number })
     }
 
     /// Sees to it that the next attach has the memory it needs, whatever is detached until then. It is `Full` exactly
@@ -103,13 +103,13 @@ impl ContextStack {
     }
 
     /// Detaches the context of one attach, whichever stand above it. The cost is that of passing those.
-    pub fn detach(&mut self, attached: ContextGuard)
+    pub fn detach(&mut self, attached: Attached)
         requires { has_number attached self.old.live ≡ true }
         ensures live { self.new.live ≡ without_number attached self.old.live }
         ensures ready { IsReadyToAttach self.old → IsReadyToAttach self.new }
         ensures room { self.old.room ≤ self.new.room }
     {
-        let ContextGuard { number } = attached;
+        let Attached { number } = attached;
         let at = index_of(self.items.as_slice(), number);
         self.items.remove(at);
     }

@@ -4,7 +4,7 @@ use Rattle.std.specs.Prelude.{min, max}
 use Rattle.otel_layer.proofs.Common.{empty_context, remove_entry, and_parts, and_from, cond-true, Context, ids_of, Lane, AreAttached, attached_as, Op, LayerSettings, last_passing, SpanData, Room, HasRoom, after_op, data_at, knows_span, update, with_op, start_context, ids_at, is_id, RoomFor, Core, context_at, is_token, is_attached_as, keeps_as, kept_by, StartsIf, StartsSpan, StartsIfSome, parent_source, lane_context, context_from, new_span_data, MakesSpan, DetachesOwnContext, EntersLane, EntersSpan, ExitsSpan, ClosesSpan, IfKnown, with_moment, last_passes, last_counted}
 use Rattle.std.proofs.lemmas.Bool.{eq-eqb, true≢false}
 use Rattle.otel_base.specs.Tracer.{TracerCall}
-use Rattle.otel_base.specs.declared.stack.ContextGuard.{ContextGuard}
+use Rattle.otel_base.specs.declared.stack.Attached.{Attached}
 use Rattle.trace_base.specs.declared.callsite.Callsite.{Callsite}
 use Rattle.trace_base.specs.declared.field.ValueSet.{ValueSet}
 use Rattle.trace_base.specs.declared.span.Parent.{Parent}
@@ -56,7 +56,7 @@ with_started tracer spans c = record c { tracer = tracer; spans = spans }
 pub same_started : {T : Type 0} (c : Core T) (tracer : T) (spans : List (ℕ × SpanData)) → tracer ≡ c.tracer → spans ≡ c.spans → with_started tracer spans c ≡ c
 same_started {T} c tracer spans s xs = ap (λ (x : T). with_started x spans c) s ∙ ap (λ (ys : List (ℕ × SpanData)). with_started c.tracer ys c) xs
 
-pub enters_active : {T : Type 0} (does : T → TracerCall → T → Type 0) (c d : Core T) (id at : ℕ) (before later : Lane) (tracer : T) (spans : List (ℕ × SpanData)) (own : Context) (attached : ContextGuard)
+pub enters_active : {T : Type 0} (does : T → TracerCall → T → Type 0) (c d : Core T) (id at : ℕ) (before later : Lane) (tracer : T) (spans : List (ℕ × SpanData)) (own : Context) (attached : Attached)
     → c.settings.activation ≡ true → EntersKnown does id at c.spans c.tracer tracer spans own → AttachesContext own before later (Some attached)
     → d ≡ with_token (record { lane = later.id; id = id; attached = Some attached }) (with_started tracer spans c) → EntersSpan does c id at before later d
 enters_active {T} does c d id at before later tracer spans own attached active enters lane rest =

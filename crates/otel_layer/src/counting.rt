@@ -107,7 +107,7 @@ impl<T: Drop, F: Drop> Discard for FilteredOpenTelemetryLayer<T, F> {
 
 /// The layer inside shows itself.
 impl<T: Tracer, F: Filter> OtelPart for FilteredOpenTelemetryLayer<T, F> {
-    ghost has = { λ s. true };
+    ghost has_layer = { λ s. true };
 
     ghost span_data = { λ s. Some s.inner.core.spans };
 

@@ -26,7 +26,7 @@ use trace_base::subscriber::Subscriber;
 /// `tracing_opentelemetry` makes.
 pub trait OtelPart {
     /// Whether it has a layer.
-    ghost has: { Self → Bool };
+    ghost has_layer: { Self → Bool };
 
     /// What the spans that the layer knows have come to, where that is told.
     ghost span_data: { Self → Option (List (ℕ × SpanData)) };
@@ -39,7 +39,7 @@ pub trait OtelPart {
 
     /// Whether it has a layer.
     fn has_otel(&self) -> bool
-        ensures { result ≡ has self.now };
+        ensures { result ≡ has_layer self.now };
 
     /// Applies an op from outside to a span, and answers it; none exactly where there is no layer or the layer doesn't
     /// know the span. A layer that hears every call of its subscriber knows just the spans that are live (`live` of
@@ -55,12 +55,12 @@ pub trait OtelPart {
         ensures { touches self.old (GivesContext id at result) self.new };
 
     /// Without a layer nothing is answered, and nothing changes.
-    ghost none: { (s : Self) (call : PartCall) (t : Self) → touches s call t → has s ≡ false → IsUnanswered call × (t ≡ s) };
+    ghost none: { (s : Self) (call : PartCall) (t : Self) → touches s call t → has_layer s ≡ false → IsUnanswered call × (t ≡ s) };
 
     /// What is told is told again after a call, as the call makes it.
     ghost tells: { (s : Self) (call : PartCall) (t : Self) → touches s call t → AnswersCallIf (span_data s) call (span_data t) };
 
-    ghost keeps_has: { (s : Self) (call : PartCall) (t : Self) → touches s call t → has t ≡ has s };
+    ghost keeps_has: { (s : Self) (call : PartCall) (t : Self) → touches s call t → has_layer t ≡ has_layer s };
 }
 
 /// A layer that calls from outside leave whole, with the same spans and entries.
@@ -80,7 +80,7 @@ pub trait OtelSubscriber: Subscriber + OtelPart {
 }
 
 impl<T: Tracer> OtelPart for OpenTelemetryLayer<T> {
-    ghost has = { λ s. true };
+    ghost has_layer = { λ s. true };
 
     ghost span_data = { λ s. Some s.core.spans };
 
@@ -130,7 +130,7 @@ impl WithoutOtel for MetricsLayer {}
 impl<L> WithoutOtel for reload::Layer<L> {}
 
 impl<P: WithoutOtel> OtelPart for P {
-    ghost has = { λ s. false };
+    ghost has_layer = { λ s. false };
 
     ghost span_data = { λ s. None };
 
@@ -172,24 +172,24 @@ impl<S: Subscriber + WithoutOtel> OtelSubscriber for S {
 
 /// The outer part is asked first.
 impl<L: Layer + OtelPart, S: Subscriber + OtelPart> OtelPart for Layered<L, S> {
-    ghost has = { λ s. L.has s.layer || S.has s.inner };
+    ghost has_layer = { λ s. L.has_layer s.layer || S.has_layer s.inner };
 
-    ghost span_data = { λ s. if L.has s.layer then L.span_data s.layer else S.span_data s.inner };
+    ghost span_data = { λ s. if L.has_layer s.layer then L.span_data s.layer else S.span_data s.inner };
 
-    ghost touches = { λ s call t. TouchesFirst (L.has s.layer) L.touches S.touches s.layer s.inner call t.layer t.inner };
+    ghost touches = { λ s call t. TouchesFirst (L.has_layer s.layer) L.touches S.touches s.layer s.inner call t.layer t.inner };
 
     ghost can_start = { λ s. L.can_start s.layer × S.can_start s.inner };
 
     ghost none = { λ s call t d h.
-        let n = first_none L.has S.has L.touches S.touches s.layer s.inner call t.layer t.inner L.none S.none d h in
+        let n = first_none L.has_layer S.has_layer L.touches S.touches s.layer s.inner call t.layer t.inner L.none S.none d h in
         (n.0, layered_is s t n.1 n.2) };
 
     ghost tells = { λ s call t d.
-        first_tells L.has S.has L.touches S.touches L.keeps_has L.span_data S.span_data L.tells S.tells
+        first_tells L.has_layer S.has_layer L.touches S.touches L.keeps_has L.span_data S.span_data L.tells S.tells
         s.layer s.inner call t.layer t.inner d };
 
     ghost keeps_has = { λ s call t d.
-        first_has L.has S.has L.touches S.touches L.keeps_has s.layer s.inner call t.layer t.inner S.keeps_has d };
+        first_has L.has_layer S.has_layer L.touches S.touches L.keeps_has s.layer s.inner call t.layer t.inner S.keeps_has d };
 
     fn has_otel(&self) -> bool {
         self.layer().has_otel() || self.inner().has_otel()
@@ -214,7 +214,7 @@ impl<L: Layer + OtelPart, S: Subscriber + OtelPart> OtelPart for Layered<L, S> {
 
 impl<L: OtelLayer, S: OtelSubscriber> OtelSubscriber for Layered<L, S> {
     ghost stays = { λ s call t d.
-        let both = first_stay (L.has s.layer) L.touches S.touches L.seen L.kept L.attaches L.is_whole S.spans S.kept S.attaches S.is_whole
+        let both = first_stay (L.has_layer s.layer) L.touches S.touches L.seen L.kept L.attaches L.is_whole S.spans S.kept S.attaches S.is_whole
         s.layer s.inner call t.layer t.inner (L.stays s.layer call t.layer) (S.stays s.inner call t.inner) d in
         record {
           spans_same = both.1.spans_same;

@@ -1,7 +1,7 @@
 -- Statuses are in a total order, so the greatest of more is no less.
-use Rattle.std.proofs.Common.{◌≡◌, ℕ, List, [], ◌∷◌, Bool, true, false, refl, sym, ap, ◌∙◌}
+use Rattle.std.proofs.Common.{◌≡◌, ℕ, List, [], ◌∷◌, Bool, true, false, cond, Some, refl, sym, ap, ◌∙◌}
 use Rattle.std.specs.Prelude.{fold, flat_map, if◌then◌else◌}
-use Rattle.std.specs.Ordering.{ordering_reverse, is_le, is_lt, ord_max, nat_cmp}
+use Rattle.std.specs.Ordering.{ordering_reverse, is_some_and, is_le, is_lt, is_ge, ord_max, partial_ge, as_partial_cmp, nat_cmp}
 use Rattle.std.specs.declared.cmp.Ordering.{Ordering}
 use Rattle.std.specs.declared.cmp.Ordering.TheVariants.{Less, Equal, Greater}
 use Rattle.std.specs.Cmp.{IsTotalOrder}
@@ -72,3 +72,12 @@ never_falls ops more =
     ap (λ (s : Status). is_le (status_cmp (status_of ops) s))
     (ap (λ (w : List Status). greatest_status Unset w) (flat_map-append (λ op. statuses_written (deed op.op)) ops more) ∙ fold-append (ord_max status_cmp) Unset (flat_map (λ op. statuses_written (deed op.op)) ops) (flat_map (λ op. statuses_written (deed op.op)) more))
     ∙ at_most_greatest status_total (status_of ops) (status_of ops) (flat_map (λ op. statuses_written (deed op.op)) more) (at_most_itself status_total (status_of ops))
+
+-- a status that is less leaves the one before
+pub less_leaves : (before s : Status) → partial_ge (as_partial_cmp status_cmp) s before ≡ false → before ≡ ord_max status_cmp before s
+less_leaves before s h = by_order (status_cmp s before) h
+  where
+    by_order : (o : Ordering) → is_some_and is_ge (Some o) ≡ false → before ≡ cond (is_lt o) before s
+    by_order Less h = refl
+    by_order Equal h = cc
+    by_order Greater h = cc

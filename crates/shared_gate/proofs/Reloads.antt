@@ -2,10 +2,10 @@
 use Rattle.std.proofs.Common.{◌≡◌, ℕ, ◌+◌, ◌<◌, ◌≤◌, List, [], ◌∷◌, ◌++◌, length, Some, slice_get, ap, sym, subst, ◌∙◌, arith, length-append}
 use Rattle.shared_value.proofs.Lists.{get_last}
 use Rattle.shared_gate.specs.Order.{Texts}
-use Rattle.shared_gate.specs.Gates.{GateValue, IsFrom}
+use Rattle.shared_gate.specs.Gates.{GateValue, WillAnswerFrom}
 
 pub from_note : (before note : Texts) (text : List ℕ) (number : ℕ) (g h : GateValue) → number ≡ length before → note ≡ before ++ text ∷ []
-    → g.number ≤ h.number → length note ≤ h.number + 1 → (g.number < length note → h.texts ≡ note) → IsFrom number text h
+    → g.number ≤ h.number → length note ≤ h.number + 1 → (g.number < length note → h.texts ≡ note) → WillAnswerFrom number text h
 from_note before note text number g h is told later past begins =
     let long : length note ≡ length before + 1 = ap length told ∙ length-append before (text ∷ []) in
     record {

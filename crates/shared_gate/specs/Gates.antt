@@ -14,7 +14,7 @@ pub record GateValue : Type 0 where
   pub number : ℕ
 
 -- A writer, or a note of it: whose it is, and all texts that were put in force until then.
-pub record Written : Type 0 where
+pub record GateWriterValue : Type 0 where
   pub table : TableId
   pub texts : Texts
 
@@ -26,11 +26,11 @@ pub record AnswersByText (texts : Texts) (answer : Admission) (c : Callsite) (le
   pub is : answer.yes ≡ gate_rule (fixed_text_filter text) (levels_of_reload answer.reload levels) c
 
 -- a new gate of this writer, which has seen the opening text
-abbrev pub IsOpening : TableId → List ℕ → GateValue → Type 0
-IsOpening table text g = (g.table ≡ table) × (g.texts ≡ text ∷ []) × (g.number ≡ 0)
+abbrev pub IsNewGate : TableId → List ℕ → GateValue → Type 0
+IsNewGate table text g = (g.table ≡ table) × (g.texts ≡ text ∷ []) × (g.number ≡ 0)
 
 -- from now on a gate answers by texts from a number on, and under that number by this text
-pub record IsFrom (number : ℕ) (text : List ℕ) (g : GateValue) : Type 0 where
+pub record WillAnswerFrom (number : ℕ) (text : List ℕ) (g : GateValue) : Type 0 where
   pub later : number ≤ g.number
   pub same : g.number ≡ number → slice_get g.texts number ≡ Some text
 

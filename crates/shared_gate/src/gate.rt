@@ -2,11 +2,11 @@
 ghost use Rattle.std.specs.Prelude.{◌≡◌, ℕ, List, ◌+◌, ◌<◌, ◌≤◌, [], ◌∷◌, length, vec_len, vec_capacity, All, IsOk, IfOk};
 ghost use mathlib.Core.List.{IsPrefix};
 ghost use Rattle.atomic_table.specs.Seated.{TableId};
-ghost use Rattle.value_reader.specs.Knowing.{IsNew};
+ghost use Rattle.value_reader.specs.Knowing.{IsNewReader};
 ghost use Rattle.event_gate.specs.Rules.{GivesGate};
 ghost use Rattle.shared_gate.specs.Order.{opening_of};
-ghost use Rattle.shared_gate.specs.Gates.{AnswersByText, IsOpening};
-ghost use Rattle.shared_gate.specs.declared.writer.TheConstants.{MOST_GATES};
+ghost use Rattle.shared_gate.specs.Gates.{AnswersByText, IsNewGate};
+ghost use Rattle.shared_gate.specs.declared.writer.TheConstants.{MAX_GATES};
 
 use crate::note::GateNote;
 use crate::writer::GateWriter;
@@ -40,10 +40,10 @@ impl SharedGate {
         text: &str,
         readers: u64,
     ) -> Result<(GateWriter, Vec<SharedGate>), GateError>
-        requires { (0 < readers) × (readers ≤ MOST_GATES) }
+        requires { (0 < readers) × (readers ≤ MAX_GATES) }
         ensures opening { IfOk result (λ r. r.0.texts ≡ text.now ∷ []) }
         ensures count { IfOk result (λ r. vec_len r.1 ≡ readers) }
-        ensures gates { IfOk result (λ r. All (IsOpening r.0.table text.now) r.1.items) }
+        ensures gates { IfOk result (λ r. All (IsNewGate r.0.table text.now) r.1.items) }
         ensures refused { GivesGate text.now result }
     {
         let filter = TextFilter::read(alloc, text)?;
@@ -109,8 +109,8 @@ fn gates_of(
     requires count { vec_len readers ≡ count }
     requires none { (room.items ≡ []) × (vec_capacity room ≡ count) }
     ensures count { vec_len result ≡ count }
-    ensures gates { (table : TableId) (text : List ℕ) → All (IsNew table text) readers.items
-        → All (IsOpening table text) result.items }
+    ensures gates { (table : TableId) (text : List ℕ) → All (IsNewReader table text) readers.items
+        → All (IsNewGate table text) result.items }
 {
     let mut readers = readers;
     let mut gates = room;

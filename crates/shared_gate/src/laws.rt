@@ -1,6 +1,6 @@
 //! What a gate answers once it has learnt of a reload.
 ghost use Rattle.std.specs.Prelude.{◌≡◌, ℕ, List, IfOk};
-ghost use Rattle.shared_gate.specs.Gates.{IsFrom, AnswersFrom, AnswersByText};
+ghost use Rattle.shared_gate.specs.Gates.{WillAnswerFrom, AnswersFrom, AnswersByText};
 
 use crate::gate::SharedGate;
 use crate::writer::GateWriter;
@@ -21,7 +21,7 @@ pub fn ask_after_reload<R: Wait>(
     requires { gate.old.table ≡ writer.old.table }
     ensures answers { IfOk result (λ r. AnswersFrom r.0 text.now r.1 c.now levels.now) }
     ensures by_text { IfOk result (λ r. AnswersByText gate.new.texts r.1 c.now levels.now) }
-    ensures from { IfOk result (λ r. IsFrom r.0 text.now gate.new) }
+    ensures from { IfOk result (λ r. WillAnswerFrom r.0 text.now gate.new) }
 {
     let number = reload_and_learn(rt, writer, gate, text)?;
     Ok((number, ask_again(gate, c, levels)))
@@ -29,11 +29,11 @@ pub fn ask_after_reload<R: Wait>(
 
 /// A gate that answers by texts from a number on does so at each question, whatever is put in force meanwhile.
 pub fn ask_again(gate: &mut SharedGate, c: &Callsite, levels: &Levels) -> Admission
-    ensures answers { (number : ℕ) (text : List ℕ) → IsFrom number text gate.old
+    ensures answers { (number : ℕ) (text : List ℕ) → WillAnswerFrom number text gate.old
         → AnswersFrom number text result c.now levels.now }
     ensures by_text { AnswersByText gate.new.texts result c.now levels.now }
-    ensures from { (number : ℕ) (text : List ℕ) → IsFrom number text gate.old
-        → IsFrom number text gate.new }
+    ensures from { (number : ℕ) (text : List ℕ) → WillAnswerFrom number text gate.old
+        → WillAnswerFrom number text gate.new }
 {
     gate.enabled(c, levels)
 }
@@ -45,7 +45,7 @@ fn reload_and_learn<R: Wait>(
     text: &str,
 ) -> Result<u64, GateError>
     requires { gate.old.table ≡ writer.old.table }
-    ensures { IfOk result (λ number. IsFrom number text.now gate.new) }
+    ensures { IfOk result (λ number. WillAnswerFrom number text.now gate.new) }
 {
     let number = writer.reload(rt, text)?;
     let Ok(note) = writer.tell() else {

@@ -12,9 +12,9 @@ pub struct GateNote {
 }
 
 impl Model for GateNote {
-    ghost use Rattle.shared_gate.specs.Gates.{Written};
+    ghost use Rattle.shared_gate.specs.Gates.{GateWriterValue};
 
-    ghost Value = { Written };
+    ghost Value = { GateWriterValue };
 
     ghost view = { λ n. record { table = n.note.table; texts = n.note.values } };
 }

@@ -5,13 +5,13 @@ ghost use Rattle.event_gate.specs.Rules.{GivesGate};
 use crate::note::GateNote;
 use event_gate::{GateError, TextFilter};
 use otel_base::memory::Memory;
-use shared_value::{MOST_READERS, ValueWriter};
+use shared_value::{MAX_READERS, ValueWriter};
 use std::alloc::Global;
 use std::marker::Model;
 use std::sync::Wait;
 
 /// How many gates a writer may have.
-pub const MOST_GATES: u64 = MOST_READERS;
+pub const MAX_GATES: u64 = MAX_READERS;
 
 /// Puts texts in force for all gates that were made with it. It can't be dropped: end it.
 pub struct GateWriter {
@@ -20,9 +20,9 @@ pub struct GateWriter {
 }
 
 impl Model for GateWriter {
-    ghost use Rattle.shared_gate.specs.Gates.{Written};
+    ghost use Rattle.shared_gate.specs.Gates.{GateWriterValue};
 
-    ghost Value = { Written };
+    ghost Value = { GateWriterValue };
 
     ghost view = { λ w. record { table = w.writer.table; texts = w.writer.values } };
 }
@@ -42,7 +42,7 @@ impl GateWriter {
         Ok(self.writer.replace(rt, filter)?)
     }
 
-    /// A note of all that was put in force. `Memory` too where `NOTES` notes of `shared_value` are there.
+    /// A note of all that was put in force. `Memory` too where `MAX_NOTES` notes of `shared_value` are there.
     pub fn tell(&mut self) -> Result<GateNote, Memory>
         ensures same { self.new ≡ self.old }
         ensures told { IfOk result (λ n. (n.table ≡ self.old.table) × (n.texts ≡ self.old.texts)) }

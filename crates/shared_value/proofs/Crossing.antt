@@ -11,9 +11,9 @@ use Rattle.left_right.specs.declared.Absorb as Absorb
 use Rattle.std.specs.declared.alloc.Global.{Global}
 use Rattle.std.specs.declared.sync.Arc.{Arc}
 use Rattle.value_reader.specs.declared.numbered.Numbered.{Numbered}
-use Rattle.value_reader.specs.declared.numbered.Shown.{Shown}
+use Rattle.value_reader.specs.declared.numbered.InPlace.{InPlace}
 use Rattle.value_reader.specs.contracts.numbered.Numbered as numbered_row
-use Rattle.value_reader.specs.contracts.numbered.Shown as shown_row
+use Rattle.value_reader.specs.contracts.numbered.InPlace as shown_row
 use Rattle.value_reader.specs.contracts.order.View as view_row
 use Rattle.value_reader.specs.contracts.order.InOrder as in_order_row
 use Rattle.value_reader.specs.contracts.reader.Origin as origin
@@ -21,7 +21,7 @@ use Rattle.value_reader.proofs.Crossing.{last_row, last_send, shown_send, shown_
 use Rattle.shared_value.specs.contracts.writer.ValueWriter as writer
 use Rattle.shared_value.specs.contracts.writer.ValueWriter.TheInside as writer_inside
 
-pub writer_send : (F : RattleType) (g : Absorb.Ghosts (Shown F.Denot) (Arc (Numbered F.Denot) Global) (Numbered F.Denot)) → IsSend F → IsSync F → IsSend (writer.the_row F g)
+pub writer_send : (F : RattleType) (g : Absorb.Ghosts (InPlace F.Denot) (Arc (Numbered F.Denot) Global) (Numbered F.Denot)) → IsSend F → IsSync F → IsSend (writer.the_row F g)
 writer_send F g s y = view_send (writer_inside.the_row F g) _ _ _ _ (recorded_send (writer_inside.the_field F g).row _ _ (writer_inside.the_type F g).to_one (struct_send (shape (writer_inside.the_type F g)) (
   global.the_field_send,
   (

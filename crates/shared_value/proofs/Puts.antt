@@ -1,7 +1,7 @@
 -- What the writer has put in place.
 use Rattle.std.proofs.Common.{◌≡◌, ◌+◌, Result, Ok, Err, MatchResult, List, [], ◌∷◌, ◌++◌, fold, refl, ap, sym, subst, ◌∙◌, arith}
 use Rattle.value_reader.specs.declared.numbered.Numbered.{Numbered}
-use Rattle.value_reader.specs.declared.numbered.Shown.{Shown}
+use Rattle.value_reader.specs.declared.numbered.InPlace.{InPlace}
 use Rattle.value_reader.specs.declared.order.View.{View}
 use Rattle.value_reader.specs.Order.{in_place, EndsWith}
 use Rattle.shared_value.specs.Puts.{Put, IsPut}
@@ -9,7 +9,7 @@ use Rattle.shared_value.proofs.Lists.{prefix_whole}
 use Rattle.shared_value.proofs.Steps.{ends_more}
 
 -- the value that was put last stands behind all others, which the writer had seen
-pub put_behind : {A : Type 0} (v w : View A) (s s' : Shown A) (t : Numbered A) → EndsWith v.seen (in_place s) → t.number ≡ (in_place s).number + 1 → in_place s' ≡ t → Put v s s' w → IsPut v t.value w s'
+pub put_behind : {A : Type 0} (v w : View A) (s s' : InPlace A) (t : Numbered A) → EndsWith v.seen (in_place s) → t.number ≡ (in_place s).number + 1 → in_place s' ≡ t → Put v s s' w → IsPut v t.value w s'
 put_behind {A} v w s s' t writer next is put =
     let whole : v.seen ≡ put.values = prefix_whole v.seen put.values put.begins (omega (arith, writer.count, put.ends.count)) in
     let number = ap (λ (u : Numbered A). u.number) is ∙ next in

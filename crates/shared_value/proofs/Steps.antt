@@ -6,9 +6,9 @@ use lib.ListN.{get_elem?}
 use Rattle.crossbeam_utils.specs.Register.{TurnsAt, Forks, Merges}
 use Rattle.atomic_table.proofs.Lists.{at_set}
 use Rattle.value_reader.specs.declared.numbered.Numbered.{Numbered}
-use Rattle.value_reader.specs.declared.numbered.Shown.{Shown}
+use Rattle.value_reader.specs.declared.numbered.InPlace.{InPlace}
 use Rattle.value_reader.specs.declared.order.View.{View}
-use Rattle.value_reader.specs.Order.{view_of, newcomer, in_place, EndsWith, IsKept}
+use Rattle.value_reader.specs.Order.{view_of, newcomer, in_place, EndsWith, KeepsOrder}
 use Rattle.value_reader.proofs.Lists.{prefix_self}
 use Rattle.value_reader.proofs.Steps.{each_set, each_more, none_begins}
 use Rattle.shared_value.specs.Puts.{Put}
@@ -22,17 +22,17 @@ ends_more values t u ends next = record {
       subst (λ (n : ℕ). slice_get (values ++ u.value ∷ []) n ≡ Some u.value) len (get_last values u.value);
 }
 
-starts : {A : Type 0} (s : Shown A) → (in_place s).number ≡ 0 → IsKept s (newcomer ∷ [])
+starts : {A : Type 0} (s : InPlace A) → (in_place s).number ≡ 0 → KeepsOrder s (newcomer ∷ [])
 starts s none = record {
   values = [];
   ends = record { count = sym none; last = λ k is. absurd (omega (arith, none, is)) };
   each = each_more [] [] newcomer (λ j u e. absurd cc) (none_begins _);
 }
 
-pub starts_with : {A : Type 0} (s : Shown A) (t : Numbered A) → in_place s ≡ t → t.number ≡ 0 → IsKept s (newcomer ∷ [])
+pub starts_with : {A : Type 0} (s : InPlace A) (t : Numbered A) → in_place s ≡ t → t.number ≡ 0 → KeepsOrder s (newcomer ∷ [])
 starts_with {A} s t is none = starts s (ap (λ (u : Numbered A). u.number) is ∙ none)
 
-puts : {A : Type 0} (seat : ℕ) (v : View A) (s next : Shown A) → (in_place next).number ≡ (in_place s).number + 1 → TurnsAt IsKept seat v s next Put
+puts : {A : Type 0} (seat : ℕ) (v : View A) (s next : InPlace A) → (in_place next).number ≡ (in_place s).number + 1 → TurnsAt KeepsOrder seat v s next Put
 puts seat v s next number views k at =
     let value = (in_place next).value in let more = k.values ++ value ∷ [] in (
       view_of more,
@@ -44,14 +44,14 @@ puts seat v s next number views k at =
       record { values = k.values; begins = k.each seat v at; ends = k.ends; put = refl },
     )
 
-pub puts_next : {A : Type 0} (seat : ℕ) (v : View A) (s next : Shown A) (t : Numbered A) → in_place next ≡ t → t.number ≡ (in_place s).number + 1 → TurnsAt IsKept seat v s next Put
+pub puts_next : {A : Type 0} (seat : ℕ) (v : View A) (s next : InPlace A) (t : Numbered A) → in_place next ≡ t → t.number ≡ (in_place s).number + 1 → TurnsAt KeepsOrder seat v s next Put
 puts_next {A} seat v s next t is number = puts seat v s next (ap (λ (u : Numbered A). u.number) is ∙ number)
 
-pub forks : {A : Type 0} (seat : ℕ) (v : View A) → Forks IsKept seat v v v
+pub forks : {A : Type 0} (seat : ℕ) (v : View A) → Forks KeepsOrder seat v v v
 forks seat v s views k at = let here = k.each seat v at in
     record { values = k.values; ends = k.ends; each = each_more k.values (set views seat v) v (each_set k.values views seat v k.each here) here }
 
-pub merges : {A : Type 0} (seat : ℕ) (v : View A) (other : ℕ) (w : View A) → Merges IsKept seat v other w w newcomer
+pub merges : {A : Type 0} (seat : ℕ) (v : View A) (other : ℕ) (w : View A) → Merges KeepsOrder seat v other w w newcomer
 merges seat v other w s views k at apart there =
     let told : IsPrefix w.seen k.values = ⊎_elim (λ (t : (other ≡ seat) × (w ≡ w)). absurd (apart t.0)) (λ (t : (other ≢ seat) × (get_elem? views other ≡ some w)). k.each other w t.1) (at_set views seat other w w there) in
     record { values = k.values; ends = k.ends; each = each_set k.values (set views seat w) other newcomer (each_set k.values views seat w k.each told) (none_begins k.values) }

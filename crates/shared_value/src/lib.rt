@@ -8,6 +8,6 @@ mod making;
 mod order;
 pub mod writer;
 
-pub use making::{MOST_READERS, share};
+pub use making::{MAX_READERS, share};
 pub use value_reader::{ValueNote, ValueReader};
 pub use writer::ValueWriter;

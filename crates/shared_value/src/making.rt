@@ -3,21 +3,21 @@ ghost use Rattle.std.specs.Prelude.{◌≡◌, ◌<◌, ◌≤◌, ◌+◌, [], 
 ghost use Rattle.std.specs.Arc.{arc_value};
 ghost use Rattle.left_right.specs.Sides.{view};
 ghost use Rattle.value_reader.specs.Order.{in_place};
-ghost use Rattle.value_reader.specs.Knowing.{IsNew, IsFirst};
-ghost use Rattle.shared_value.specs.declared.making.TheConstants.{MOST_READERS};
+ghost use Rattle.value_reader.specs.Knowing.{IsNewReader, IsFirst};
+ghost use Rattle.shared_value.specs.declared.making.TheConstants.{MAX_READERS};
 
 use crate::order::OrderedWriter;
-use crate::writer::{NOTES, ValueWriter};
+use crate::writer::{MAX_NOTES, ValueWriter};
 use left_right::writer::Writer;
 use std::alloc::{AllocError, Global};
 use std::snapshot::Snapshot;
 use std::sync::Arc;
-use value_reader::numbered::{Numbered, Shown};
+use value_reader::numbered::{Numbered, InPlace};
 use value_reader::order::OrderedFactory;
 use value_reader::reader::{Origin, ValueReader};
 
 /// How many readers a writer may have.
-pub const MOST_READERS: u64 = 64;
+pub const MAX_READERS: u64 = 64;
 
 /// Puts a first value in place, which has number 0, and makes its writer and so many readers.
 #[tactic(auto, using(crate::proofs::Firsts::all_first))]
@@ -26,10 +26,10 @@ pub fn share<T: Drop>(
     first: T,
     readers: u64,
 ) -> Result<(ValueWriter<T>, Vec<ValueReader<T>>), AllocError>
-    requires { (0 < readers) × (readers ≤ MOST_READERS) }
+    requires { (0 < readers) × (readers ≤ MAX_READERS) }
     ensures first { IfOk result (λ r. r.0.values ≡ first ∷ []) }
     ensures count { IfOk result (λ r. vec_len r.1 ≡ readers) }
-    ensures readers { IfOk result (λ r. All (IsNew r.0.table first) r.1.items) }
+    ensures readers { IfOk result (λ r. All (IsNewReader r.0.table first) r.1.items) }
 {
     let last = Numbered::first(alloc, first)?;
     let copies = copies_of(alloc, &last, readers)?;
@@ -71,17 +71,17 @@ fn writer_of<T: Drop>(
     readers: u64,
 ) -> Result<OrderedWriter<T>, AllocError>
     requires number { (arc_value last.now).number ≡ 0 }
-    requires readers { (0 < readers) × (readers ≤ MOST_READERS) }
+    requires readers { (0 < readers) × (readers ≤ MAX_READERS) }
     ensures { IfOk result (λ w. (in_place w.desk.shown.value ≡ arc_value last.now)
         × ((view w.desk.place).seen ≡ [])) }
 {
-    let first = Shown {
+    let first = InPlace {
         last: Arc::try_clone(last)?,
     };
-    let second = Shown {
+    let second = InPlace {
         last: Arc::try_clone(last)?,
     };
-    Writer::new(alloc, first, second, (readers + NOTES) as usize)
+    Writer::new(alloc, first, second, (readers + MAX_NOTES) as usize)
 }
 
 // Readers that know the first value.
@@ -97,7 +97,7 @@ fn readers_of<T: Drop>(
     requires count { vec_len copies ≡ readers }
     requires none { (room.items ≡ []) × (vec_capacity room ≡ readers) }
     ensures count { vec_len result ≡ readers }
-    ensures readers { All (IsNew (arc_value origin.now.home.value.board).shared.table_id origin.now.first.value) result.items }
+    ensures readers { All (IsNewReader (arc_value origin.now.home.value.board).shared.table_id origin.now.first.value) result.items }
 {
     let mut copies = copies;
     let mut made = room;

@@ -4,16 +4,16 @@ use crossbeam_utils::rule::Outcome;
 use left_right::writer::Writer;
 use std::alloc::Global;
 use std::sync::Arc;
-use value_reader::numbered::{Numbered, Shown};
+use value_reader::numbered::{Numbered, InPlace};
 use value_reader::order::{InOrder, View};
 
 /// A writer of `left_right` that keeps to the order.
-pub(crate) type OrderedWriter<T> = Writer<Shown<T>, Arc<Numbered<T>, Global>, View<T>, InOrder>;
+pub(crate) type OrderedWriter<T> = Writer<InPlace<T>, Arc<Numbered<T>, Global>, View<T>, InOrder>;
 
 /// The writer puts a value in place.
 pub(crate) struct Puts;
 
-impl<T: Drop> Outcome<Shown<T>, View<T>> for Puts {
+impl<T: Drop> Outcome<InPlace<T>, View<T>> for Puts {
     ghost use Rattle.shared_value.specs.Puts.{Put};
 
     ghost then = { Put };

@@ -12,17 +12,17 @@ use std::alloc::{AllocError, Global};
 use std::marker::Model;
 use std::sync::{Arc, Wait};
 use value_reader::note::ValueNote;
-use value_reader::numbered::{Numbered, Shown};
+use value_reader::numbered::{Numbered, InPlace};
 use value_reader::order::OrderedReader;
 use value_reader::reader::Origin;
 
 /// How many notes may be there at once.
-pub const NOTES: u64 = 64;
+pub const MAX_NOTES: u64 = 64;
 
 /// Puts values in place for all readers that were made with it. It can't be dropped: end it.
 pub struct ValueWriter<T: Drop>
 where
-    Shown<T>: Absorb<Arc<Numbered<T>, Global>, State = Numbered<T>>,
+    InPlace<T>: Absorb<Arc<Numbered<T>, Global>, State = Numbered<T>>,
 {
     pub(crate) alloc: Global,
     pub(crate) origin: Origin<T>,
@@ -31,14 +31,14 @@ where
 
 impl<T: Drop> Model for ValueWriter<T>
 where
-    Shown<T>: Absorb<Arc<Numbered<T>, Global>, State = Numbered<T>>,
+    InPlace<T>: Absorb<Arc<Numbered<T>, Global>, State = Numbered<T>>,
 {
     ghost use Rattle.std.specs.Prelude.{◌∷◌};
     ghost use Rattle.std.specs.Arc.{arc_value};
     ghost use Rattle.value_reader.specs.Order.{in_place};
-    ghost use Rattle.value_reader.specs.Knowing.{Written, IsLast};
+    ghost use Rattle.value_reader.specs.Knowing.{WriterValue, IsLast};
 
-    ghost Value = { Written T };
+    ghost Value = { WriterValue T };
 
     ghost view = { λ w. record { table = (arc_value w.origin.home.value.board).shared.table_id; values = w.origin.first.value ∷ w.writer.desk.place.me.0.client.seen } };
 
@@ -71,13 +71,13 @@ impl<T: Drop> ValueWriter<T> {
         put.and(Ok(number))
     }
 
-    /// A note of all that was put in place. An error too where `NOTES` notes are there.
+    /// A note of all that was put in place. An error too where `MAX_NOTES` notes are there.
     pub fn tell(&mut self) -> Result<ValueNote<T>, AllocError>
         ensures same { self.new ≡ self.old }
         ensures told { IfOk result (λ n. (n.table ≡ self.old.table) × (n.values ≡ self.old.values)) }
     {
         let last = Arc::try_clone(&self.writer.published().last)?;
-        let reader = reader_told(&mut self.writer)?;
+        let reader = informed_reader(&mut self.writer)?;
         Ok(ValueNote::new(&self.origin, reader, last))
     }
 
@@ -111,7 +111,7 @@ fn put_next<T: Drop, R: Wait>(
 }
 
 // A reader that has seen what the writer has.
-fn reader_told<T: Drop>(writer: &mut OrderedWriter<T>) -> Result<OrderedReader<T>, AllocError>
+fn informed_reader<T: Drop>(writer: &mut OrderedWriter<T>) -> Result<OrderedReader<T>, AllocError>
     ensures kept { (view writer.new.desk.place ≡ view writer.old.desk.place)
         × (writer.new.desk.shown ≡ writer.old.desk.shown) }
     ensures told { IfOk result (λ r. view r.place ≡ view writer.old.desk.place) }

@@ -10,19 +10,19 @@ pub data WorldChange : Type 0 where
   Beside : (at : ℕ) → WorldChange
 
 -- the moment of a call, if it has one, is at most this
-abbrev pub IsCallBy : ℕ → SubscriberCall → Type 0
-IsCallBy last (NewSpan lane at parent site callsite values) = at ≤ last
-IsCallBy last (Records id at callsite values) = at ≤ last
-IsCallBy last (Follows id from at) = at ≤ last
-IsCallBy last (Event lane at parent site callsite values) = at ≤ last
-IsCallBy last (Enter id at before later) = at ≤ last
-IsCallBy last (Exit id at before later) = at ≤ last
-IsCallBy last (CloneSpan id) = Unit {0}
-IsCallBy last (TryClose id at) = at ≤ last
+abbrev pub IsCallUpTo : ℕ → SubscriberCall → Type 0
+IsCallUpTo last (NewSpan lane at parent site callsite values) = at ≤ last
+IsCallUpTo last (Records id at callsite values) = at ≤ last
+IsCallUpTo last (Follows id from at) = at ≤ last
+IsCallUpTo last (Event lane at parent site callsite values) = at ≤ last
+IsCallUpTo last (Enter id at before later) = at ≤ last
+IsCallUpTo last (Exit id at before later) = at ≤ last
+IsCallUpTo last (CloneSpan id) = Unit {0}
+IsCallUpTo last (TryClose id at) = at ≤ last
 
-abbrev pub IsBy : ℕ → WorldChange → Type 0
-IsBy last (Calls call) = IsCallBy last call
-IsBy last (Beside at) = at ≤ last
+abbrev pub IsChangeUpTo : ℕ → WorldChange → Type 0
+IsChangeUpTo last (Calls call) = IsCallUpTo last call
+IsChangeUpTo last (Beside at) = at ≤ last
 
 -- what a change makes of a subscriber
 abbrev pub DoesChange : {S : Type 0} → (S → SubscriberCall → S → Type 0) → (ℕ → S → S → Type 0) → S → WorldChange → S → Type 0
@@ -35,12 +35,12 @@ DoesAll does besides same s [] t = same s t
 DoesAll {S} does besides same s (change ∷ changes) t = (m : S) × (n : S) × same s m × DoesChange does besides m change n × DoesAll does besides same n changes t
 
 -- some changes, none of a later moment than this, and nothing else made one subscriber of another
-pub record IsCalledBy {S : Type 0} (does : S → SubscriberCall → S → Type 0) (besides : ℕ → S → S → Type 0) (same : S → S → Type 0) (last : ℕ) (s t : S) : Type 0 where
+pub record IsChangedUpTo {S : Type 0} (does : S → SubscriberCall → S → Type 0) (besides : ℕ → S → S → Type 0) (same : S → S → Type 0) (last : ℕ) (s t : S) : Type 0 where
   pub changes : List WorldChange
-  pub moments : All (IsBy last) changes
+  pub moments : All (IsChangeUpTo last) changes
   pub runs : DoesAll does besides same s changes t
 
 -- Each subscriber of a world is there later on, as such changes made it. Of subscribers that came nothing is said.
-abbrev pub CallsBy : {S : Type 0} → (S → SubscriberCall → S → Type 0) → (ℕ → S → S → Type 0) → (S → S → Type 0) → ℕ → WorldValue S → WorldValue S → Type 0
-CallsBy {S} does besides same last old new = (dispatch : ℕ) (s : S) → slice_get old.subscribers dispatch ≡ Some s
-    → (t : S) × (slice_get new.subscribers dispatch ≡ Some t) × IsCalledBy does besides same last s t
+abbrev pub ChangesUpTo : {S : Type 0} → (S → SubscriberCall → S → Type 0) → (ℕ → S → S → Type 0) → (S → S → Type 0) → ℕ → WorldValue S → WorldValue S → Type 0
+ChangesUpTo {S} does besides same last old new = (dispatch : ℕ) (s : S) → slice_get old.subscribers dispatch ≡ Some s
+    → (t : S) × (slice_get new.subscribers dispatch ≡ Some t) × IsChangedUpTo does besides same last s t

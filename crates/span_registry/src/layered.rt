@@ -16,7 +16,7 @@ use trace_base::field::ValueSet;
 use trace_base::lane::Lane;
 use trace_base::layer::Layer;
 use trace_base::level::LevelFilter;
-use trace_base::span::{CloseReply, Id, Parent};
+use trace_base::span::{Closing, Id, Parent};
 use trace_base::subscriber::{Interest, Subscriber};
 
 /// A layer over a subscriber; `tracing_subscriber::layer::Layered`. At a call the layer takes its memory, the subscriber
@@ -264,7 +264,7 @@ impl<L: Layer, S: Subscriber> Subscriber for Layered<L, S> {
         self.inner.clone_span(id);
     }
 
-    fn try_close(&mut self, id: Id, at: u64) -> CloseReply {
+    fn try_close(&mut self, id: Id, at: u64) -> Closing {
         let closing = self.inner.try_close(id, at);
         if closing.closed {
             self.layer.on_close(id, at);

@@ -21,7 +21,7 @@ use trace_base::discard::Discard;
 use trace_base::field::ValueSet;
 use trace_base::lane::Lane;
 use trace_base::level::LevelFilter;
-use trace_base::span::{CloseReply, Id, Parent};
+use trace_base::span::{Closing, Id, Parent};
 use trace_base::subscriber::{Interest, Subscriber};
 
 /// The spans that are live, with their holds, and the entries that are open on each lane;
@@ -93,7 +93,7 @@ impl Registry {
     }
 
     /// Releases one hold of a span, and answers the parent that is to be released next: none at the end of the chain.
-    pub fn release_hold(&mut self, id: Id) -> Option<Id>
+    pub fn next_closed(&mut self, id: Id) -> Option<Id>
         requires { HasOwnHold self.old.spans id }
         ensures value { result ≡ parent_to_release self.old.spans.made id }
         ensures spans { self.new.spans ≡ record self.old.spans { made = without_hold self.old.spans.made id } }
@@ -234,7 +234,7 @@ impl Subscriber for Registry {
         self.table.hold(id);
     }
 
-    fn try_close(&mut self, id: Id, _at: u64) -> CloseReply {
+    fn try_close(&mut self, id: Id, _at: u64) -> Closing {
         self.table.release(id)
     }
 

@@ -8,7 +8,7 @@ use otel_base::memory::Memory;
 use std::alloc::Global;
 use std::marker::Model;
 use trace_base::callsite::SiteId;
-use trace_base::span::{CloseReply, Id};
+use trace_base::span::{Closing, Id};
 
 // So many slots there are at most, since a place is counted in four bytes.
 const MAX_SLOTS: usize = 4_294_967_295;
@@ -181,7 +181,7 @@ impl Table {
     }
 
     // One hold less; with the last one the span closes, and its slot is free.
-    pub(crate) fn release(&mut self, id: Id) -> CloseReply
+    pub(crate) fn release(&mut self, id: Id) -> Closing
         requires { IsLive self.old.made id }
         ensures made { self.new ≡ record self.old { made = without_hold self.old.made id } }
         ensures closed { result.closed ≡ ((span_at self.old.made id).holds == 1) }
@@ -193,7 +193,7 @@ impl Table {
         let slot = &mut self.slots[place];
         slot.holds -= 1;
         if slot.holds > 0 {
-            return CloseReply {
+            return Closing {
                 closed: false,
                 next: None,
             };
@@ -203,7 +203,7 @@ impl Table {
         let Ok(()) = self.free.push(place) else {
             unreachable!()
         };
-        CloseReply { closed: true, next }
+        Closing { closed: true, next }
     }
 }
 

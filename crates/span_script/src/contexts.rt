@@ -1,5 +1,5 @@
 //! The guards of attaches.
-use otel_base::stack::ContextGuard;
+use otel_base::stack::Attached;
 use trace_base::discard::Discard;
 
 /// What the guard of an attach keeps.
@@ -7,7 +7,7 @@ pub struct AttachGuard {
     /// The place of its lane.
     pub place: u64,
     /// What was attached there.
-    pub attached: ContextGuard,
+    pub attached: Attached,
 }
 
 /// Its context stays attached for good.

@@ -30,10 +30,10 @@ pub fn calls<L: Layer, S: Subscriber>()
 
 /// Through a part that has no OpenTelemetry layer, so is a call from outside; and that part stays as it is.
 pub fn asks<L: OtelLayer, S: OtelSubscriber>()
-    ensures call { Never L.has → (old new : WorldValue (Layered L S)) (dispatch : ℕ) (call : PartCall)
+    ensures call { Never L.has_layer → (old new : WorldValue (Layered L S)) (dispatch : ℕ) (call : PartCall)
         → Replaced (λ s t. ⟦<Layered<L, S> as OtelPart>⟧.touches s call t) old new dispatch
         → Replaced (λ s t. S.touches s call t) (inner_worlds old) (inner_worlds new) dispatch }
-    ensures outer { Never L.has → (old new : WorldValue (Layered L S)) (dispatch : ℕ) (call : PartCall)
+    ensures outer { Never L.has_layer → (old new : WorldValue (Layered L S)) (dispatch : ℕ) (call : PartCall)
         → Replaced (λ s t. ⟦<Layered<L, S> as OtelPart>⟧.touches s call t) old new dispatch
         → Replaced (λ s t. t.layer ≡ s.layer) old new dispatch }
 {}

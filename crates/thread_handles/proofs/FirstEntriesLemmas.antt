@@ -4,7 +4,7 @@ use Rattle.std.proofs.lemmas.Bool.Decides.{nat_tests}
 use Rattle.trace_threads.specs.declared.history.Entry.{Entry}
 use Rattle.trace_threads.specs.declared.history.HandleAct.{HandleAct}
 use Rattle.trace_threads.specs.declared.history.HandleAct.TheVariants.{Clone, Release}
-use Rattle.trace_threads.specs.History.{Sum, start, entry, has, sum_after, may_do, is_legal, IsLegal, entries_by}
+use Rattle.trace_threads.specs.History.{HistoryState, start, entry, has, sum_after, may_do, is_legal, IsLegal, entries_by}
 use Rattle.trace_threads.proofs.histories.HoldersLemmas.{both, has_back, in_without}
 use Rattle.trace_threads.proofs.histories.HistoriesLemmas.{tested}
 use Rattle.thread_script.specs.Asks.{Ask, ask, FollowsAsks, clones_asked, numbers_from, clone_entries, opening_from}
@@ -25,7 +25,7 @@ none_after : (k : ℕ) (e : Entry) (es : List Entry) → entries_by k (e ∷ es)
 none_after k e es none = tail_case k e es (e.caller == k) refl none
 
 -- where no held handle makes an entry, there is none
-quiet : (s : Sum) (es : List Entry) → is_legal s es ≡ true → ((k : ℕ) → has k s.held ≡ true → entries_by k es ≡ []) → es ≡ []
+quiet : (s : HistoryState) (es : List Entry) → is_legal s es ≡ true → ((k : ℕ) → has k s.held ≡ true → entries_by k es ≡ []) → es ≡ []
 quiet s [] l q = refl
 quiet s (e ∷ es) l q = absurd (own_entry e es (q e.caller (tested s e (both _ _ l).0).held))
 
@@ -38,10 +38,10 @@ follows_nothing k last [] f = refl
 follows_nothing k last (e ∷ es) f = nothing_case k last e es (e.caller == k) refl f (λ g. follows_nothing k e.at es g)
 
 -- who is held is handle 0, or makes no entry
-abbrev Silent : Sum → List Entry → Type 0
+abbrev Silent : HistoryState → List Entry → Type 0
 Silent s log = (k : ℕ) → has k s.held ≡ true → (k ≡ 0) ⊎ (entries_by k log ≡ [])
 
-by_first : (s : Sum) (e : Entry) (es : List Entry) → is_legal s (e ∷ es) ≡ true → Silent s (e ∷ es) → e.caller ≡ 0
+by_first : (s : HistoryState) (e : Entry) (es : List Entry) → is_legal s (e ∷ es) ≡ true → Silent s (e ∷ es) → e.caller ≡ 0
 by_first s e es l q = ⊎_elim (λ (z : e.caller ≡ 0). z) (λ (none : entries_by e.caller (e ∷ es) ≡ []). absurd (own_entry e es none)) (q e.caller (tested s e (both _ _ l).0).held)
 
 follows_first : (asks : List Ask) (last : ℕ) (e : Entry) (es : List Entry) → e.caller ≡ 0 → FollowsAsks 0 last asks (e ∷ es) → NextIs 0 last asks e es
@@ -62,19 +62,19 @@ entry_is e made a what is c w t =
     (λ i. entry (c i) (same i) (does i))
 
 -- a release of handle 0, and nothing after it
-last_at : (s : Sum) (made : ℕ) (es : List Entry) → is_legal s (entry 0 made Release ∷ es) ≡ true → Silent s (entry 0 made Release ∷ es) → entries_by 0 es ≡ [] → es ≡ []
+last_at : (s : HistoryState) (made : ℕ) (es : List Entry) → is_legal s (entry 0 made Release ∷ es) ≡ true → Silent s (entry 0 made Release ∷ es) → entries_by 0 es ≡ [] → es ≡ []
 last_at s made es l q none =
     quiet (sum_after s (entry 0 made Release)) es (both _ _ l).1
     (λ k at. ⊎_elim (λ (z : k ≡ 0). ap (λ (n : ℕ). entries_by n es) z ∙ none) (λ (r : entries_by k (entry 0 made Release ∷ es) ≡ []). none_after k (entry 0 made Release) es r) (q k (in_without k 0 s.held at)))
 
-Begins : Sum → ℕ → List ℕ → List Entry → Type 0
+Begins : HistoryState → ℕ → List ℕ → List Entry → Type 0
 Begins s made ns log = (log ≡ opening_from made (s.clones + 1) (length ns)) × (ns ≡ numbers_from (s.clones + 1) (length ns))
 
-next_number : (s : Sum) (c n : ℕ) → may_do s c (Clone n) ≡ true → n ≡ s.clones + 1
+next_number : (s : HistoryState) (c n : ℕ) → may_do s c (Clone n) ≡ true → n ≡ s.clones + 1
 next_number s c n m = grind (arith, nat_tests)
 
 -- a clone by handle 0 of one that makes no entry
-clone_at : (s : Sum) (made n : ℕ) (ns : List ℕ) (es : List Entry) → is_legal s (entry 0 made (Clone n) ∷ es) ≡ true → Silent s (entry 0 made (Clone n) ∷ es) → entries_by n (entry 0 made (Clone n) ∷ es) ≡ []
+clone_at : (s : HistoryState) (made n : ℕ) (ns : List ℕ) (es : List Entry) → is_legal s (entry 0 made (Clone n) ∷ es) ≡ true → Silent s (entry 0 made (Clone n) ∷ es) → entries_by n (entry 0 made (Clone n) ∷ es) ≡ []
     → Silent (sum_after s (entry 0 made (Clone n))) es
 clone_at s made n ns es l q none k at =
     ⊎_elim
@@ -82,7 +82,7 @@ clone_at s made n ns es l q none k at =
     (λ (same : n ≡ k). inr (ap (λ (j : ℕ). entries_by j es) (sym same) ∙ none_after n (entry 0 made (Clone n)) es none))
     (has_back k n s.held at)
 
-alone : (s : Sum) (made : ℕ) (ns : List ℕ) (log : List Entry) → is_legal s log ≡ true → Silent s log → ((n : ℕ) → has n ns ≡ true → entries_by n log ≡ []) → FollowsAsks 0 made (clones_asked made ns ++ ask made Release ∷ []) log → Begins s made ns log
+alone : (s : HistoryState) (made : ℕ) (ns : List ℕ) (log : List Entry) → is_legal s log ≡ true → Silent s log → ((n : ℕ) → has n ns ≡ true → entries_by n log ≡ []) → FollowsAsks 0 made (clones_asked made ns ++ ask made Release ∷ []) log → Begins s made ns log
 unfolding Begins
 alone s made [] [] l q quiets f = absurd cc
 alone s made [] (e ∷ es) l q quiets f =

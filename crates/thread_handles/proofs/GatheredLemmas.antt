@@ -13,7 +13,7 @@ use Rattle.trace_threads.specs.declared.history.Entry.{Entry}
 use Rattle.trace_threads.specs.declared.history.HandleAct.{HandleAct}
 use Rattle.trace_threads.specs.declared.history.HandleAct.TheVariants.{Clone, Call, Join, Release}
 use Rattle.trace_threads.specs.declared.handle.Released.{Released}
-use Rattle.trace_threads.specs.History.{Sum, start, entry, sum_after, may, is_legal, sum_of, sum, clones_after, IsLegal, is_closed, entries_by, ends_handle, has_end}
+use Rattle.trace_threads.specs.History.{HistoryState, start, entry, sum_after, may, is_legal, sum_of, sum, clones_after, IsLegal, is_closed, entries_by, ends_handle, has_end}
 use Rattle.trace_threads.specs.Shared.{content_of}
 use Rattle.trace_threads.specs.Turns.{entries}
 use Rattle.trace_threads.specs.Handles.{ReleasedHandle, ClosedAs}
@@ -23,7 +23,7 @@ use Rattle.trace_threads.proofs.histories.HistoriesLemmas.{Numbered, numbered, n
 use Rattle.thread_script.specs.Asks.{Ask, FollowsAsks, clone_entries, opening_from, DoesAll}
 use Rattle.thread_handles.specs.declared.gather.Ended.{Ended}
 use Rattle.thread_handles.specs.Works.{IsLeft}
-use Rattle.thread_handles.specs.Gathers.{or_else, GathersReleases, IsEnded}
+use Rattle.thread_handles.specs.Gathers.{first_some, GathersReleases, IsEnded}
 use Rattle.thread_handles.proofs.AsksLemmas.{NextIs, by_append, follows_more}
 
 -- ---- ends
@@ -56,11 +56,11 @@ same_whole made p q r l c =
     let none : r.0 ≡ [] = nothing_follows made p r.0 (subst (IsLegal made) (sym r.1) l) c in
     sym (append-nil p) ∙ ap (λ (l : List Entry). p ++ l) (sym none) ∙ r.1
 
-later_closes : (making : Making) (p q : List Entry) (c d : Closing) → IsPrefix p q → IsLegal making.made_at q → ClosedAs making p c → ClosedAs making q d → ClosedAs making q (or_else c d)
+later_closes : (making : Making) (p q : List Entry) (c d : Closing) → IsPrefix p q → IsLegal making.made_at q → ClosedAs making p c → ClosedAs making q d → ClosedAs making q (first_some c d)
 later_closes making p q None d r l x y = y
 later_closes making p q (Some last) d r l x y = subst (λ (log : List Entry). ClosedAs making log (Some last)) (same_whole making.made_at p q r l x.2) x
 
-earlier_closes : (making : Making) (p q : List Entry) (c d : Closing) → IsPrefix q p → IsLegal making.made_at p → ClosedAs making p c → ClosedAs making q d → ClosedAs making p (or_else c d)
+earlier_closes : (making : Making) (p q : List Entry) (c d : Closing) → IsPrefix q p → IsLegal making.made_at p → ClosedAs making p c → ClosedAs making q d → ClosedAs making p (first_some c d)
 earlier_closes making p q (Some last) d r l x y = x
 earlier_closes making p q None None r l x y = x
 earlier_closes making p q None (Some last) r l x y =
@@ -70,7 +70,7 @@ earlier_closes making p q None (Some last) r l x y =
 -- ---- one release more
 
 module _ (span : TableId) (making : Making) (count n : ℕ) (parts : ℕ → List Ask) (r o u : Released) (g : GathersReleases span making count n parts r) (left : IsLeft (n + 1) (parts n) span making o) (same_span : u.pass.span ≡ span) (same_origin : u.pass.view.origin ≡ making)
-    (legal : IsLegal making.made_at (entries u.pass.view.seen)) (ours : IsPrefix r.pass.view.seen u.pass.view.seen) (theirs : IsPrefix o.pass.view.seen u.pass.view.seen) (closes : u.closed ≡ or_else r.closed o.closed) where
+    (legal : IsLegal making.made_at (entries u.pass.view.seen)) (ours : IsPrefix r.pass.view.seen u.pass.view.seen) (theirs : IsPrefix o.pass.view.seen u.pass.view.seen) (closes : u.closed ≡ first_some r.closed o.closed) where
   our_log : IsPrefix (entries r.pass.view.seen) (entries u.pass.view.seen)
   our_log = prefix_entries r.pass.view.seen u.pass.view.seen ours
 
@@ -92,7 +92,7 @@ module _ (span : TableId) (making : Making) (count n : ℕ) (parts : ℕ → Lis
       (λ (e : w ≡ n). subst (λ (v : ℕ). has_end (v + 1) list ≡ true) (sym e) new)
       (λ (apart : w ≢ n). old w (grind (arith, low, apart)))
 
-  closed_by : (list : List Entry) → ClosedAs making list (or_else r.closed o.closed) → ClosedAs making list u.closed
+  closed_by : (list : List Entry) → ClosedAs making list (first_some r.closed o.closed) → ClosedAs making list u.closed
   closed_by list c = subst (ClosedAs making list) (sym closes) c
 
   theirs_longer : IsPrefix g.longest (entries o.pass.view.seen) → GathersReleases span making count (n + 1) parts u
@@ -174,7 +174,7 @@ no_clone n (Join m) p = refl
 no_clone n Release p = refl
 
 -- where nobody who has a number makes a handle, there are no more
-clones_stay : (s : Sum) (log : List Entry) → Numbered s → is_legal s log ≡ true → ((k : ℕ) → k ≤ s.clones → plain (entries_by k log) ≡ true) → (sum_of s log).clones ≡ s.clones
+clones_stay : (s : HistoryState) (log : List Entry) → Numbered s → is_legal s log ≡ true → ((k : ℕ) → k ≤ s.clones → plain (entries_by k log) ≡ true) → (sum_of s log).clones ≡ s.clones
 clones_stay s [] i l p = refl
 clones_stay s (e ∷ es) i l p =
     let q = both (may s e) _ l in
@@ -182,11 +182,11 @@ clones_stay s (e ∷ es) i l p =
     let still = no_clone s.clones e.what (own_plain e es (p e.caller (i.within e.caller t.held))) in
     clones_stay (sum_after s e) es (numbered_step s e.caller e.at e.what i t.done) q.1 (λ k low. plain_tail_case k e es (e.caller == k) refl (p k (omega (arith, still, low)))) ∙ still
 
-sum_append : (s : Sum) (xs ys : List Entry) → sum_of s (xs ++ ys) ≡ sum_of (sum_of s xs) ys
+sum_append : (s : HistoryState) (xs ys : List Entry) → sum_of s (xs ++ ys) ≡ sum_of (sum_of s xs) ys
 sum_append s [] ys = refl
 sum_append s (x ∷ xs) ys = sum_append (sum_after s x) xs ys
 
-opening_clones : (s : Sum) (made n count : ℕ) → (sum_of s (opening_from made n count)).clones ≡ s.clones + count
+opening_clones : (s : HistoryState) (made n count : ℕ) → (sum_of s (opening_from made n count)).clones ≡ s.clones + count
 opening_clones s made n zero = omega arith
 opening_clones s made n (suc count) = let ih = opening_clones (sum_after s (entry 0 made (Clone n))) made (n + 1) count in omega (arith, ih)
 
@@ -234,7 +234,7 @@ module _ (of_span : TableId) (making : Making) (count : ℕ) (parts : ℕ → Li
       let legal : IsLegal making.made_at ((clone_entries making.made_at count ++ rest) ++ p.0) = subst (IsLegal making.made_at) (ap (λ l. clone_entries making.made_at count ++ l) (sym p.1) ∙ sym (append_assoc (clone_entries making.made_at count) rest p.0)) legal_more in
       let legal' = legal_first (start making.made_at) (clone_entries making.made_at count ++ rest) p.0 legal in
       let i = numbered making.made_at (clone_entries making.made_at count) (legal_first (start making.made_at) (clone_entries making.made_at count) rest legal') in
-      ap (λ (s : Sum). s.clones) (sum_append (start making.made_at) (clone_entries making.made_at count) rest)
+      ap (λ (s : HistoryState). s.clones) (sum_append (start making.made_at) (clone_entries making.made_at count) rest)
       ∙ clones_stay (sum making.made_at (clone_entries making.made_at count)) rest i (legal_rest (start making.made_at) (clone_entries making.made_at count) rest legal') (λ k low. plain_first (entries_by k rest) (entries_by k p.0) (ap plain (sym (by_append k rest p.0) ∙ ap (entries_by k) p.1) ∙ plain_each k (omega (arith, low, clones_first)))) ∙ clones_first
     where
       plain_first : (xs ys : List Entry) → plain (xs ++ ys) ≡ true → plain xs ≡ true

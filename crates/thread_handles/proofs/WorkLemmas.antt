@@ -22,8 +22,8 @@ use Rattle.thread_script.specs.declared.plan.Plan.{Plan}
 use Rattle.thread_script.specs.declared.script.SharedLine.{SharedLine}
 use Rattle.thread_script.specs.declared.script.WorkerOp.{WorkerOp}
 use Rattle.thread_script.specs.Asks.{Ask, ask, FollowsAsks, is_balanced, balanced_by}
-use Rattle.thread_script.specs.Plans.{AreTimed, later_at, part_by, op_asked, asked_on, release_at, last_at}
-use Rattle.thread_handles.specs.Works.{DidCall, DidAt, DidAll, IsAtWork, AllAtWork, part_of, AreMade, AreLow, WasReleased, AllReleased, IsLeft, AllLeft}
+use Rattle.thread_script.specs.Plans.{AreTimed, moment_or, with_ask, op_of_call, op_on_span, release_moment, last_moment}
+use Rattle.thread_handles.specs.Works.{DidCall, DidAt, DidAll, IsAtWork, AllAtWork, asks_of, AreMade, AreTimedSpans, WasReleased, AllReleased, IsLeft, AllLeft}
 use Rattle.thread_handles.proofs.AsksLemmas.{follows_made}
 
 still_balanced : (n : ℕ) (m : Move) (left : List Ask) → balanced_by n m (is_balanced left) ≡ true → is_balanced left (open_count_after n m) ≡ true
@@ -47,7 +47,7 @@ did_call k at all left op h g f w d =
       balanced = ap (is_balanced left) d.2 ∙ still_balanced (open_of g) (move_of op) left w.balanced;
     }
 
-did_one : (k at : ℕ) (all left : List Ask) (asked : Option Op) (h g f : SharedHandle) → IsAtWork k all (part_by at asked left) h g → DidCall g f at asked → IsAtWork k all left h f
+did_one : (k at : ℕ) (all left : List Ask) (asked : Option Op) (h g f : SharedHandle) → IsAtWork k all (with_ask at asked left) h g → DidCall g f at asked → IsAtWork k all left h f
 did_one k at all left None h g f w d = subst (IsAtWork k all left h) (sym d) w
 did_one k at all left (Some op) h g f w d = did_call k at all left op h g f w d
 
@@ -55,7 +55,7 @@ did_one k at all left (Some op) h g f w d = did_call k at all left op h g f w d
 pub did_all : (plan : Plan) (k : ℕ) (last : Option ℕ) (all left : List WorkerOp) (o : WorkerOp) (hs gs fs : List SharedHandle) → length gs ≡ length hs → AllAtWork plan k last all (o ∷ left) hs gs → DidAll plan o gs fs → AllAtWork plan k last all left hs fs
 did_all plan k last all left o hs gs fs len w d s x low =
     let h = slice_index_or hs s x in
-    did_one k o.at (part_of plan last s h all) (part_of plan last s h left) (asked_on plan s o) h (slice_index_or gs s x) (slice_index_or fs s x) (w s x low) (d s x (omega (arith, len, low)))
+    did_one k o.at (asks_of plan last s h all) (asks_of plan last s h left) (op_on_span plan s o) h (slice_index_or gs s x) (slice_index_or fs s x) (w s x low) (d s x (omega (arith, len, low)))
 
 -- ---- the end
 
@@ -97,7 +97,7 @@ map_ok : {X E : Type 0} (r : Result X E) (A B : Type 0) → (A → B) → OnOk r
 map_ok (Ok x) A B f a = f a
 map_ok (Err e) A B f a = a
 
-pub did_op : {E : Type 0} (r : Result (Unit {0}) E) (plan : Plan) (o : WorkerOp) (op : Option Op) (hs gs : List SharedHandle) → op ≡ op_asked plan o.span o.at o.what → OnOk r (DidAt o.span o.at op hs gs) → OnOk r (DidAll plan o hs gs)
+pub did_op : {E : Type 0} (r : Result (Unit {0}) E) (plan : Plan) (o : WorkerOp) (op : Option Op) (hs gs : List SharedHandle) → op ≡ op_of_call plan o.span o.at o.what → OnOk r (DidAt o.span o.at op hs gs) → OnOk r (DidAll plan o hs gs)
 did_op r plan o op hs gs e = map_ok r (DidAt o.span o.at op hs gs) (DidAll plan o hs gs) (λ did s d low. subst (λ (x : Option Op). DidCall (slice_index_or hs s d) (slice_index_or gs s d) o.at (if o.span == s then x else None)) e (did s d low))
 
 -- ---- the releases of a worker's handles
@@ -131,11 +131,11 @@ drop_next (suc k) (x ∷ xs) = drop_next k xs
 pub drop_more : {A : Type 0} (k n : ℕ) (xs ys : List A) → n ≡ suc k → ys ≡ drop k xs → drop 1 ys ≡ drop n xs
 drop_more k n xs ys e is = ap (drop 1) is ∙ drop_next k xs ∙ ap (λ (m : ℕ). drop m xs) (sym e)
 
-pub low_release : (made : ℕ) (last : Option ℕ) → made ≤ GREATEST → ((at : ℕ) → last ≡ Some at → at ≤ GREATEST) → release_at made last ≤ GREATEST
+pub low_release : (made : ℕ) (last : Option ℕ) → made ≤ GREATEST → ((at : ℕ) → last ≡ Some at → at ≤ GREATEST) → release_moment made last ≤ GREATEST
 low_release made None low f = low
 low_release made (Some at) low f = f at refl
 
-pub low_moment : (plan : Plan) (last : Option ℕ) (n s at : ℕ) → AreLow plan n → s < n → ((at : ℕ) → last ≡ Some at → at ≤ GREATEST) → ((l : SharedLine) → at ≡ release_at (slice_index_or plan.shared s l).at last) → at ≤ GREATEST
+pub low_moment : (plan : Plan) (last : Option ℕ) (n s at : ℕ) → AreTimedSpans plan n → s < n → ((at : ℕ) → last ≡ Some at → at ≤ GREATEST) → ((l : SharedLine) → at ≡ release_moment (slice_index_or plan.shared s l).at last) → at ≤ GREATEST
 low_moment plan last n s at low_all low f is =
     let l : SharedLine = record { at = 0; site = 0 } in
     let le = low_release (slice_index_or plan.shared s l).at last (low_all.1 s l low) f in
@@ -143,20 +143,20 @@ low_moment plan last n s at low_all low f is =
     omega (arith, e, le)
 
 pub released_more : (plan : Plan) (last : Option ℕ) (hs gs : List SharedHandle) (rs : List Released) (s at : ℕ) (h : SharedHandle) (r : Released) → s < length hs → length rs ≡ s → gs ≡ drop s hs → h ≡ slice_index_or gs 0 h
-    → ((l : SharedLine) → at ≡ release_at (slice_index_or plan.shared s l).at last) → (open_of h ≡ 0 → WasReleased h r at)
-    → ((j : ℕ) (d : SharedHandle) (e : Released) (l : SharedLine) → j < s → open_of (slice_index_or hs j d) ≡ 0 → WasReleased (slice_index_or hs j d) (slice_index_or rs j e) (release_at (slice_index_or plan.shared j l).at last))
-    → (j : ℕ) (d : SharedHandle) (e : Released) (l : SharedLine) → j < s + 1 → open_of (slice_index_or hs j d) ≡ 0 → WasReleased (slice_index_or hs j d) (slice_index_or (rs ++ r ∷ []) j e) (release_at (slice_index_or plan.shared j l).at last)
+    → ((l : SharedLine) → at ≡ release_moment (slice_index_or plan.shared s l).at last) → (open_of h ≡ 0 → WasReleased h r at)
+    → ((j : ℕ) (d : SharedHandle) (e : Released) (l : SharedLine) → j < s → open_of (slice_index_or hs j d) ≡ 0 → WasReleased (slice_index_or hs j d) (slice_index_or rs j e) (release_moment (slice_index_or plan.shared j l).at last))
+    → (j : ℕ) (d : SharedHandle) (e : Released) (l : SharedLine) → j < s + 1 → open_of (slice_index_or hs j d) ≡ 0 → WasReleased (slice_index_or hs j d) (slice_index_or (rs ++ r ∷ []) j e) (release_moment (slice_index_or plan.shared j l).at last)
 released_more plan last hs gs rs s at h r low len rest is moment now old j d e l less out =
     dite (ℕ_discrete j s)
     (λ (here : j ≡ s).
     let at_s : slice_index_or hs j d ≡ h = ap (λ (k : ℕ). slice_index_or hs k d) here ∙ same_get hs s d h low ∙ sym (get_drop hs s h) ∙ ap (λ (x : List SharedHandle). slice_index_or x 0 h) (sym rest) ∙ sym is in
     let out' : open_of h ≡ 0 = subst (λ (x : SharedHandle). open_of x ≡ 0) at_s out in
-    let done : WasReleased h r (release_at (slice_index_or plan.shared j l).at last) = subst (WasReleased h r) (moment l ∙ ap (λ (k : ℕ). release_at (slice_index_or plan.shared k l).at last) (sym here)) (now out') in
+    let done : WasReleased h r (release_moment (slice_index_or plan.shared j l).at last) = subst (WasReleased h r) (moment l ∙ ap (λ (k : ℕ). release_moment (slice_index_or plan.shared k l).at last) (sym here)) (now out') in
     let at_r : slice_index_or (rs ++ r ∷ []) j e ≡ r = get_last rs r j e (len ∙ sym here) in
-    subst (λ (x : SharedHandle). WasReleased x (slice_index_or (rs ++ r ∷ []) j e) (release_at (slice_index_or plan.shared j l).at last)) (sym at_s) (subst (λ (x : Released). WasReleased h x (release_at (slice_index_or plan.shared j l).at last)) (sym at_r) done))
+    subst (λ (x : SharedHandle). WasReleased x (slice_index_or (rs ++ r ∷ []) j e) (release_moment (slice_index_or plan.shared j l).at last)) (sym at_s) (subst (λ (x : Released). WasReleased h x (release_moment (slice_index_or plan.shared j l).at last)) (sym at_r) done))
     (λ (apart : j ≢ s).
     let before : j < s = grind (arith, less, apart) in
-    subst (λ (x : Released). WasReleased (slice_index_or hs j d) x (release_at (slice_index_or plan.shared j l).at last)) (sym (get_before rs r j e (omega (arith, len, before)))) (old j d e l before out))
+    subst (λ (x : Released). WasReleased (slice_index_or hs j d) x (release_moment (slice_index_or plan.shared j l).at last)) (sym (get_before rs r j e (omega (arith, len, before)))) (old j d e l before out))
 
 -- ---- a worker's whole run
 
@@ -164,27 +164,27 @@ released_more plan last hs gs rs s at h r low len rest is moment now old j d e l
 abbrev pub no_held : SharedHandle
 no_held = record { span = record { words = 0; slots = 0; views_name = 0; atom = 0; block = 0; offset = 0; slot_names = [] }; number = 0; view = first_view some_making }
 
-last_some : (at t : ℕ) (later : Option ℕ) → later_at at later ≡ Some t → at ≤ GREATEST → ((u : ℕ) → later ≡ Some u → u ≤ GREATEST) → t ≤ GREATEST
-last_some at t None e low f = subst (λ (n : ℕ). n ≤ GREATEST) (ap (λ (o : Option ℕ). release_at 0 o) e) low
+last_some : (at t : ℕ) (later : Option ℕ) → moment_or at later ≡ Some t → at ≤ GREATEST → ((u : ℕ) → later ≡ Some u → u ≤ GREATEST) → t ≤ GREATEST
+last_some at t None e low f = subst (λ (n : ℕ). n ≤ GREATEST) (ap (λ (o : Option ℕ). release_moment 0 o) e) low
 last_some at t (Some u) e low f = f t e
 
-pub last_low : (ops : List WorkerOp) (last : Option ℕ) (t : ℕ) → last ≡ last_at ops → AreTimed ops → last ≡ Some t → t ≤ GREATEST
+pub last_low : (ops : List WorkerOp) (last : Option ℕ) (t : ℕ) → last ≡ last_moment ops → AreTimed ops → last ≡ Some t → t ≤ GREATEST
 last_low [] last t is timed e = absurd (let bad : None ≡ Some t = sym is ∙ e in cc)
-last_low (o ∷ ops) last t is timed e = last_some o.at t (last_at ops) (sym is ∙ e) timed.0 (λ u x. last_low ops (last_at ops) u refl timed.1 x)
+last_low (o ∷ ops) last t is timed e = last_some o.at t (last_moment ops) (sym is ∙ e) timed.0 (λ u x. last_low ops (last_moment ops) u refl timed.1 x)
 
-pub made_low : (plan : Plan) (hs : List SharedHandle) (n : ℕ) (d : SharedHandle) → length hs ≡ n → AreMade plan hs → AreLow plan n
+pub made_low : (plan : Plan) (hs : List SharedHandle) (n : ℕ) (d : SharedHandle) → length hs ≡ n → AreMade plan hs → AreTimedSpans plan n
 made_low plan hs n d e made = (made.0 ∙ e, λ s l low. (made.1 s d l (omega (arith, e, low))).1)
 
-pub all_left : (plan : Plan) (k : ℕ) (ops : List WorkerOp) (last : Option ℕ) (hs gs : List SharedHandle) (rs : List Released) → last ≡ last_at ops → AreMade plan hs → length gs ≡ length hs → AllAtWork plan k (last_at ops) ops [] hs gs → AllReleased plan last gs rs → AllLeft plan k ops hs rs
+pub all_left : (plan : Plan) (k : ℕ) (ops : List WorkerOp) (last : Option ℕ) (hs gs : List SharedHandle) (rs : List Released) → last ≡ last_moment ops → AreMade plan hs → length gs ≡ length hs → AllAtWork plan k (last_moment ops) ops [] hs gs → AllReleased plan last gs rs → AllLeft plan k ops hs rs
 all_left plan k ops last hs gs rs is made len working released s d e low =
     let l : SharedLine = record { at = 0; site = 0 } in
     let h = slice_index_or hs s d in
     let g = slice_index_or gs s d in
-    let at = release_at h.view.origin.made_at (last_at ops) in
+    let at = release_moment h.view.origin.made_at (last_moment ops) in
     let w = working s d low in
-    let r = released s d e l (omega (arith, len, low)) (all_closed k at (part_of plan (last_at ops) s h ops) h g w) in
-    let r' : WasReleased g (slice_index_or rs s e) at = subst (WasReleased g (slice_index_or rs s e)) (λ i. release_at ((made.1 s d l low).0 i) (is i)) r in
-    is_left k at (part_of plan (last_at ops) s h ops) h g (slice_index_or rs s e) w r'
+    let r = released s d e l (omega (arith, len, low)) (all_closed k at (asks_of plan (last_moment ops) s h ops) h g w) in
+    let r' : WasReleased g (slice_index_or rs s e) at = subst (WasReleased g (slice_index_or rs s e)) (λ i. release_moment ((made.1 s d l low).0 i) (is i)) r in
+    is_left k at (asks_of plan (last_moment ops) s h ops) h g (slice_index_or rs s e) w r'
 
 pub on_done : {X E : Type 0} (r : Result X E) (b : Bool) (A : Type 0) → b ≡ is_ok r → b ≡ true → OnOk r A → A
 on_done (Ok x) b A e t a = a

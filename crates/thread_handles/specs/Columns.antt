@@ -22,12 +22,12 @@ abbrev pub WereTaken : {G : Type 0} → ℕ → List (Job G) → List (Job G) �
 WereTaken {G} n jobs news = (w : ℕ) (d : Job G) → w < length jobs → (slice_index_or news w d).left.items ≡ drop n (slice_index_or jobs w d).left.items
 
 -- what the handles of the span s left comes to a closed span
-pub record IsWhole {G : Type 0} (r : Released) (s : ℕ) (jobs : List (Job G)) : Type 0 where
+pub record ComesToClosed {G : Type 0} (r : Released) (s : ℕ) (jobs : List (Job G)) : Type 0 where
   pub left : HaveLeft r.pass.span s jobs
   pub closes : (u : Released) → MetAll r (column r s jobs) u → u.closed ≡ None → ⊥
 
-abbrev pub AreWhole : {G : Type 0} → List Released → List (Job G) → Type 0
-AreWhole firsts jobs = (s : ℕ) (d : Released) → s < length firsts → IsWhole (slice_index_or firsts s d) s jobs
+abbrev pub AllComeToClosed : {G : Type 0} → List Released → List (Job G) → Type 0
+AllComeToClosed firsts jobs = (s : ℕ) (d : Released) → s < length firsts → ComesToClosed (slice_index_or firsts s d) s jobs
 
 -- what is answered of the span s
 pub record IsJoined {G : Type 0} (r : Released) (s : ℕ) (jobs : List (Job G)) (e : Ended) : Type 0 where

@@ -12,9 +12,9 @@ use Rattle.trace_threads.specs.Handles.{ClosedAs}
 use Rattle.thread_script.specs.Asks.{Ask, FollowsAsks, clone_entries, DoesAll}
 use Rattle.thread_handles.specs.declared.gather.Ended.{Ended}
 
-abbrev pub or_else : {X : Type 0} → Option X → Option X → Option X
-or_else None y = y
-or_else (Some x) y = Some x
+abbrev pub first_some : {X : Type 0} → Option X → Option X → Option X
+first_some None y = y
+first_some (Some x) y = Some x
 
 -- two releases of one span, joined
 pub record IsMet (one other r : Released) : Type 0 where
@@ -23,7 +23,7 @@ pub record IsMet (one other r : Released) : Type 0 where
   pub legal : IsLegal one.pass.view.origin.made_at (entries r.pass.view.seen)
   pub ours : IsPrefix one.pass.view.seen r.pass.view.seen
   pub theirs : IsPrefix other.pass.view.seen r.pass.view.seen
-  pub closed : r.closed ≡ or_else one.closed other.closed
+  pub closed : r.closed ≡ first_some one.closed other.closed
 
 -- The releases of handle 0 and of the first n workers' handles, joined. `longest` is the longest list of entries that a
 -- release saw.

@@ -16,7 +16,7 @@ use Rattle.thread_script.specs.declared.plan.Plan.{Plan}
 use Rattle.thread_script.specs.declared.script.SharedLine.{SharedLine}
 use Rattle.thread_script.specs.declared.script.WorkerOp.{WorkerOp}
 use Rattle.thread_script.specs.Asks.{Ask, FollowsAsks, is_balanced}
-use Rattle.thread_script.specs.Plans.{asked_on, part_on, last_at, release_at, AreTimed}
+use Rattle.thread_script.specs.Plans.{op_on_span, asks_on, last_moment, release_moment, AreTimed}
 
 -- ---- one call of a worker
 
@@ -32,11 +32,11 @@ DidAt place at op hs gs = (s : ℕ) (d : SharedHandle) → s < length hs → Did
 
 -- each handle did what this call is on its span
 abbrev pub DidAll : Plan → WorkerOp → List SharedHandle → List SharedHandle → Type 0
-DidAll plan o hs gs = (s : ℕ) (d : SharedHandle) → s < length hs → DidCall (slice_index_or hs s d) (slice_index_or gs s d) o.at (asked_on plan s o)
+DidAll plan o hs gs = (s : ℕ) (d : SharedHandle) → s < length hs → DidCall (slice_index_or hs s d) (slice_index_or gs s d) o.at (op_on_span plan s o)
 
 -- an exit has an open entry
 abbrev pub MayDo : Plan → WorkerOp → List SharedHandle → Type 0
-MayDo plan o hs = (s : ℕ) (d : SharedHandle) → s < length hs → asked_on plan s o ≡ Some Exit → 0 < open_of (slice_index_or hs s d)
+MayDo plan o hs = (s : ℕ) (d : SharedHandle) → s < length hs → op_on_span plan s o ≡ Some Exit → 0 < open_of (slice_index_or hs s d)
 
 -- ---- while a worker works
 
@@ -52,13 +52,13 @@ pub record IsAtWork (k : ℕ) (all left : List Ask) (h g : SharedHandle) : Type 
   pub balanced : is_balanced left (open_of g) ≡ true
 
 -- what a worker is asked on the span of a handle, by the calls of a list
-abbrev pub part_of : Plan → Option ℕ → ℕ → SharedHandle → List WorkerOp → List Ask
-part_of plan last s h ops = part_on plan s (release_at h.view.origin.made_at last) ops
+abbrev pub asks_of : Plan → Option ℕ → ℕ → SharedHandle → List WorkerOp → List Ask
+asks_of plan last s h ops = asks_on plan s (release_moment h.view.origin.made_at last) ops
 
 abbrev pub AllAtWork : Plan → ℕ → Option ℕ → List WorkerOp → List WorkerOp → List SharedHandle → List SharedHandle → Type 0
 AllAtWork plan k last all left hs gs =
     (s : ℕ) (d : SharedHandle) → s < length hs
-    → IsAtWork k (part_of plan last s (slice_index_or hs s d) all) (part_of plan last s (slice_index_or hs s d) left) (slice_index_or hs s d) (slice_index_or gs s d)
+    → IsAtWork k (asks_of plan last s (slice_index_or hs s d) all) (asks_of plan last s (slice_index_or hs s d) left) (slice_index_or hs s d) (slice_index_or gs s d)
 
 -- ---- when it is done
 
@@ -69,8 +69,8 @@ AreMade plan hs =
     × ((s : ℕ) (d : SharedHandle) (l : SharedLine) → s < length hs → ((slice_index_or plan.shared s l).at ≡ (slice_index_or hs s d).view.origin.made_at) × ((slice_index_or plan.shared s l).at ≤ GREATEST))
 
 -- the plan has so many shared spans, and none is made too late
-abbrev pub AreLow : Plan → ℕ → Type 0
-AreLow plan n = (length plan.shared ≡ n) × ((s : ℕ) (l : SharedLine) → s < n → (slice_index_or plan.shared s l).at ≤ GREATEST)
+abbrev pub AreTimedSpans : Plan → ℕ → Type 0
+AreTimedSpans plan n = (length plan.shared ≡ n) × ((s : ℕ) (l : SharedLine) → s < n → (slice_index_or plan.shared s l).at ≤ GREATEST)
 
 -- what the release of a handle leaves
 pub record WasReleased (h : SharedHandle) (r : Released) (at : ℕ) : Type 0 where
@@ -82,7 +82,7 @@ pub record WasReleased (h : SharedHandle) (r : Released) (at : ℕ) : Type 0 whe
 abbrev pub AllReleased : Plan → Option ℕ → List SharedHandle → List Released → Type 0
 AllReleased plan last hs rs =
     (s : ℕ) (d : SharedHandle) (e : Released) (l : SharedLine) → s < length hs → open_of (slice_index_or hs s d) ≡ 0
-    → WasReleased (slice_index_or hs s d) (slice_index_or rs s e) (release_at (slice_index_or plan.shared s l).at last)
+    → WasReleased (slice_index_or hs s d) (slice_index_or rs s e) (release_moment (slice_index_or plan.shared s l).at last)
 
 -- What is left of the handle k of a span, which did all that it was asked.
 pub record IsLeft (k : ℕ) (all : List Ask) (of_span : TableId) (making : Making) (r : Released) : Type 0 where
@@ -96,11 +96,11 @@ pub record IsLeft (k : ℕ) (all : List Ask) (of_span : TableId) (making : Makin
 abbrev pub AllLeft : Plan → ℕ → List WorkerOp → List SharedHandle → List Released → Type 0
 AllLeft plan k ops hs rs =
     (s : ℕ) (d : SharedHandle) (e : Released) → s < length hs
-    → IsLeft k (part_of plan (last_at ops) s (slice_index_or hs s d) ops) (slice_index_or hs s d).span (slice_index_or hs s d).view.origin (slice_index_or rs s e)
+    → IsLeft k (asks_of plan (last_moment ops) s (slice_index_or hs s d) ops) (slice_index_or hs s d).span (slice_index_or hs s d).view.origin (slice_index_or rs s e)
 
 -- a worker that hasn't begun
 pub record IsReadyWorker (plan : Plan) (k : ℕ) (ops : List WorkerOp) (last : Option ℕ) (hs : List SharedHandle) : Type 0 where
   pub timed : AreTimed ops
-  pub last_is : last ≡ last_at ops
+  pub last_is : last ≡ last_moment ops
   pub made : AreMade plan hs
-  pub begins : AllAtWork plan k (last_at ops) ops ops hs hs
+  pub begins : AllAtWork plan k (last_moment ops) ops ops hs hs

@@ -1,7 +1,7 @@
 //! The releases of a span's handles, joined, tell its whole history.
 ghost use Rattle.std.specs.Prelude.{◌≡◌, ◌≢◌, ◌≤◌, [], length, Some, None, vec_len, vec_capacity};
 ghost use Rattle.thread_handles.specs.Gathers.{IsMet, MetAll};
-ghost use Rattle.thread_handles.specs.Columns.{HaveLeft, WereTaken, column, AreWhole, AreJoined};
+ghost use Rattle.thread_handles.specs.Columns.{HaveLeft, WereTaken, column, AllComeToClosed, AreJoined};
 
 use crate::job::Job;
 use otel_base::record::Record;
@@ -21,7 +21,7 @@ pub struct Ended {
 }
 
 // Joins two releases. The pass of the one that closed the span takes in the other.
-fn meet(one: Released, other: Released) -> Released
+fn join_releases(one: Released, other: Released) -> Released
     requires span { other.pass.span ≡ one.pass.span }
     ensures { IsMet one other result }
 {
@@ -74,14 +74,14 @@ fn gather_next<G>(jobs: &mut [Job<G>], first: Released) -> Released
     let mut met = first;
     for w in 0..jobs.len() {
         let other = jobs[w].left.remove(0);
-        met = meet(met, other);
+        met = join_releases(met, other);
     }
     met
 }
 
 /// Joins what the workers' handles left to the releases of the first handles, span by span.
 pub fn gather_all<G>(jobs: &mut [Job<G>], mut firsts: Vec<Released>, ended: &mut Vec<Ended>)
-    requires whole { AreWhole firsts.items jobs.old }
+    requires whole { AllComeToClosed firsts.items jobs.old }
     requires empty { ended.old.items ≡ [] }
     requires room { vec_len firsts ≤ vec_capacity ended.old }
     ensures same { length jobs.new ≡ length jobs.old }

@@ -3,9 +3,9 @@ ghost use Rattle.std.specs.Prelude.{◌≡◌, ℕ, ◌+◌, ◌<◌, ◌≤◌,
 ghost use Rattle.otel_state.specs.declared.op.Op.TheVariants.{Exit};
 ghost use Rattle.otel_state.specs.declared.times.TheConstants.{GREATEST};
 ghost use Rattle.trace_threads.specs.Handles.{SharedHandle, open_of};
-ghost use Rattle.thread_script.specs.Plans.{AreNoLevels, AreTimed, last_at, release_at};
+ghost use Rattle.thread_script.specs.Plans.{AreNoLevels, AreTimed, last_moment, release_moment};
 ghost use Rattle.thread_script.specs.declared.script.SharedLine.{SharedLine};
-ghost use Rattle.thread_handles.specs.Works.{DidCall, DidAt, DidAll, MayDo, AllAtWork, AllLeft, AreLow, WasReleased, AllReleased, IsReadyWorker};
+ghost use Rattle.thread_handles.specs.Works.{DidCall, DidAt, DidAll, MayDo, AllAtWork, AllLeft, AreTimedSpans, WasReleased, AllReleased, IsReadyWorker};
 
 use crate::job::Job;
 use event_gate::{EventGate, Levels};
@@ -91,9 +91,9 @@ fn make_calls<R: Wait, G: EventGate, T: Turnstile>(
 ) -> Result<(), Memory>
     requires opening { G.opening gate.old ≡ plan.now.filter }
     requires timed { AreTimed ops.old.items }
-    requires begins { AllAtWork plan.now (worker + 1) (last_at ops.old.items) ops.old.items ops.old.items handles.old handles.old }
+    requires begins { AllAtWork plan.now (worker + 1) (last_moment ops.old.items) ops.old.items ops.old.items handles.old handles.old }
     ensures len { length handles.new ≡ length handles.old }
-    ensures done { OnOk result (AllAtWork plan.now (worker + 1) (last_at ops.old.items) ops.old.items [] handles.old handles.new) }
+    ensures done { OnOk result (AllAtWork plan.now (worker + 1) (last_moment ops.old.items) ops.old.items [] handles.old handles.new) }
 {
     let levels = Levels {
         reload: 0,
@@ -135,7 +135,7 @@ pub fn end_handle<R: Wait>(rt: &R, mut handle: Handle, at: Moment) -> Released
 // The moment of a release: that of the worker's last call, or of the making.
 fn moment_of(plan: &Plan, last: Option<Moment>, s: usize) -> Moment
     requires { s < length plan.now.shared }
-    ensures { (l : SharedLine) → result ≡ release_at (slice_index_or plan.now.shared s l).at last }
+    ensures { (l : SharedLine) → result ≡ release_moment (slice_index_or plan.now.shared s l).at last }
 {
     match last {
         Some(at) => at,
@@ -154,7 +154,7 @@ fn end_all<R: Wait, T: Turnstile>(
     handles: &mut Vec<Handle>,
     left: &mut Vec<Released>,
 )
-    requires moments { AreLow plan.now (length handles.old.items) }
+    requires moments { AreTimedSpans plan.now (length handles.old.items) }
     requires last { (at : ℕ) → last ≡ Some at → at ≤ GREATEST }
     requires room { vec_len handles.old ≤ vec_capacity left.old }
     requires empty { left.old.items ≡ [] }

@@ -21,7 +21,7 @@ use Rattle.thread_script.specs.declared.script.WorkerOp.{WorkerOp}
 use Rattle.thread_script.specs.declared.script.WorkerCall.{WorkerCall}
 use Rattle.thread_script.specs.declared.script.WorkerCall.TheVariants as work
 use Rattle.thread_script.specs.Asks.{Ask, is_balanced, balanced_by}
-use Rattle.thread_script.specs.Plans.{op_asked, record_asked, event_asked, shared_callsite, part_by, part_on, AreTimed}
+use Rattle.thread_script.specs.Plans.{op_of_call, op_of_record, op_of_admitted_event, shared_callsite, with_ask, asks_on, AreTimed}
 use Rattle.thread_lines.specs.declared.line.ThreadOp.{ThreadOp}
 use Rattle.thread_lines.specs.declared.line.ThreadCall.{ThreadCall}
 use Rattle.thread_lines.specs.declared.line.ThreadCall.TheVariants as said
@@ -68,7 +68,7 @@ abbrev pub MovesAs : Move → Option Op → Type 0
 MovesAs m None = m ≡ stays
 MovesAs m (Some op) = move_of op ≡ m
 
-by_site : (plan : Plan) (fields : List (List ℕ × Value)) (c : Option Callsite) → MovesAs stays (record_asked plan fields c)
+by_site : (plan : Plan) (fields : List (List ℕ × Value)) (c : Option Callsite) → MovesAs stays (op_of_record plan fields c)
 by_site plan fields None = refl
 by_site plan fields (Some c) = refl
 
@@ -76,11 +76,11 @@ by_gate : (b : Bool) (op : Op) → move_of op ≡ stays → MovesAs stays (if b 
 by_gate true op e = e
 by_gate false op e = refl
 
-by_event : (plan : Plan) (at : ℕ) (values : ValueSet) (c : Option Callsite) → MovesAs stays (event_asked plan at values c)
+by_event : (plan : Plan) (at : ℕ) (values : ValueSet) (c : Option Callsite) → MovesAs stays (op_of_admitted_event plan at values c)
 by_event plan at values None = refl
 by_event plan at values (Some c) = by_gate _ _ refl
 
-asked_moves : (plan : Plan) (span at : ℕ) (call : WorkerCall) → MovesAs (move_of_call call) (op_asked plan span at call)
+asked_moves : (plan : Plan) (span at : ℕ) (call : WorkerCall) → MovesAs (move_of_call call) (op_of_call plan span at call)
 asked_moves plan span at (work.Record fields) = by_site plan fields (shared_callsite plan span)
 asked_moves plan span at (work.Event site values) = by_event plan at values (slice_get plan.callsites site)
 asked_moves plan span at (work.Own op) = refl
@@ -92,7 +92,7 @@ by_move n enters rest has e = e
 by_move n exits rest has e = ap (λ b. b && rest (n - 1)) has ∙ e
 by_move n stays rest has e = e
 
-by_part : (n at : ℕ) (m : Move) (op : Option Op) (rest : List Ask) → MovesAs m op → has_entry_for n m ≡ true → is_balanced rest (open_count_after n m) ≡ true → is_balanced (part_by at op rest) n ≡ true
+by_part : (n at : ℕ) (m : Move) (op : Option Op) (rest : List Ask) → MovesAs m op → has_entry_for n m ≡ true → is_balanced rest (open_count_after n m) ≡ true → is_balanced (with_ask at op rest) n ≡ true
 by_part n at m None rest moves has e = subst (λ (x : Move). is_balanced rest (open_count_after n x) ≡ true) moves e
 by_part n at m (Some op) rest moves has e =
     subst (λ (x : Move). balanced_by n x (is_balanced rest) ≡ true) (sym moves) (by_move n m (is_balanced rest) has e)
@@ -111,10 +111,10 @@ elsewhere entered span k m other = get_or-set_other entered span k (open_count_a
 one_more : (plan : Plan) (entered : List ℕ) (k : ℕ) (o : WorkerOp) (rest : List Ask) (b : Bool) → (o.span == k) ≡ b → k < length entered
     → has_entry_for (entered_on entered o.span) (move_of_call o.what) ≡ true
     → is_balanced rest (slice_index_or (entered_after entered o.span (move_of_call o.what)) k 0) ≡ true
-    → is_balanced (part_by o.at (if b then op_asked plan o.span o.at o.what else None) rest) (slice_index_or entered k 0) ≡ true
+    → is_balanced (with_ask o.at (if b then op_of_call plan o.span o.at o.what else None) rest) (slice_index_or entered k 0) ≡ true
 one_more plan entered k o rest true is low has e =
     let same : o.span ≡ k = eqb-true o.span k is in
-    by_part (slice_index_or entered k 0) o.at (move_of_call o.what) (op_asked plan o.span o.at o.what) rest (asked_moves plan o.span o.at o.what)
+    by_part (slice_index_or entered k 0) o.at (move_of_call o.what) (op_of_call plan o.span o.at o.what) rest (asked_moves plan o.span o.at o.what)
     (subst (λ (x : ℕ). has_entry_for (entered_on entered x) (move_of_call o.what) ≡ true) same has)
     (subst (λ (n : ℕ). is_balanced rest n ≡ true) (here entered o.span k (move_of_call o.what) same low) e)
 one_more plan entered k o rest false is low has e =
@@ -169,13 +169,13 @@ none_open (n ∷ entered) (suc k) all low = none_open entered k (both (n == 0) (
 -- no call is too late, and on no span of the plan an entry is closed that isn't open, or left open
 pub record Balances (plan : Plan) (entered : List ℕ) (ops : List WorkerOp) : Type 0 where
   pub timed : AreTimed ops
-  pub closed : (k : ℕ) → k < length entered → is_balanced (part_on plan k 0 ops) (slice_index_or entered k 0) ≡ true
+  pub closed : (k : ℕ) → k < length entered → is_balanced (asks_on plan k 0 ops) (slice_index_or entered k 0) ≡ true
 
 more_balances : (plan : Plan) (entered : List ℕ) (o : WorkerOp) (ops : List WorkerOp) → Passed entered o → Balances plan (entered_after entered o.span (move_of_call o.what)) ops → Balances plan entered (o ∷ ops)
 more_balances plan entered o ops p b = record {
   timed = (p.timed, b.timed);
   closed = λ k low.
-      one_more plan entered k o (part_on plan k 0 ops) (o.span == k) refl low p.has
+      one_more plan entered k o (asks_on plan k 0 ops) (o.span == k) refl low p.has
       (b.closed k (omega (arith, low, length-set entered o.span (open_count_after (entered_on entered o.span) (move_of_call o.what)))));
 }
 

@@ -12,8 +12,8 @@ use Rattle.thread_script.specs.declared.script.ThreadScript.{ThreadScript}
 use Rattle.thread_script.specs.declared.script.SharedLine.{SharedLine}
 use Rattle.thread_script.specs.declared.script.WorkerOp.{WorkerOp}
 use Rattle.thread_script.specs.Asks.{is_balanced}
-use Rattle.thread_script.specs.Plans.{plan_of, part_on}
-use Rattle.thread_script.specs.Tests.{IsTested, AllTested}
+use Rattle.thread_script.specs.Plans.{plan_of, asks_on}
+use Rattle.thread_script.specs.Tests.{IsValidWork, AllValidWork}
 use Rattle.thread_lines.specs.declared.limits.TheConstants.{MOST_SPANS, MOST_WORKERS}
 use Rattle.thread_lines.specs.declared.line.ThreadLine.{ThreadLine}
 use Rattle.thread_lines.specs.declared.line.ThreadLine.TheVariants as line
@@ -32,7 +32,7 @@ shared_push : (cs : List Callsite) (ls : List SharedLine) (l : SharedLine) → A
 shared_push cs [] l all low some = ((low, some), tt)
 shared_push cs (x ∷ ls) l all low some = (all.0, shared_push cs ls l all.1 low some)
 
-no_one_tested : (plan : Plan) (workers : List (List WorkerOp)) → no_workers workers ≡ true → AllTested plan workers
+no_one_tested : (plan : Plan) (workers : List (List WorkerOp)) → no_workers workers ≡ true → AllValidWork plan workers
 no_one_tested plan [] e = tt
 no_one_tested plan (ops ∷ workers) e = absurd (cc e)
 
@@ -62,7 +62,7 @@ with_shared_runs s l t e r =
 
 -- ---- a worker more
 
-tested_push : (plan : Plan) (workers : List (List WorkerOp)) (ops : List WorkerOp) → AllTested plan workers → IsTested plan ops → AllTested plan (workers ++ ops ∷ [])
+tested_push : (plan : Plan) (workers : List (List WorkerOp)) (ops : List WorkerOp) → AllValidWork plan workers → IsValidWork plan ops → AllValidWork plan (workers ++ ops ∷ [])
 tested_push plan [] ops all one = (one, tt)
 tested_push plan (x ∷ workers) ops all one = (all.0, tested_push plan workers ops all.1 one)
 
@@ -82,10 +82,10 @@ with_worker_runs s os t e r =
     let c = then_ok (ops_tested s (last_made s.shared) (replicate (length s.shared) 0) os) _ t b.2 in
     let few = ltb-true (length s.workers) MOST_WORKERS (held _ (nat_lt (length s.workers) MOST_WORKERS) a.0 a.1) in
     let balances = all_balance s (plan_of s) (last_made s.shared) (replicate (length s.shared) 0) os c.0 c.1 in
-    let one : IsTested (plan_of s) c.0 = record {
+    let one : IsValidWork (plan_of s) c.0 = record {
       timed = balances.timed;
       closed = λ k low.
-          subst (λ (n : ℕ). is_balanced (part_on (plan_of s) k 0 c.0) n ≡ true) (zeros (length s.shared) k)
+          subst (λ (n : ℕ). is_balanced (asks_on (plan_of s) k 0 c.0) n ≡ true) (zeros (length s.shared) k)
           (balances.closed k (omega (arith, low, so_many (length s.shared))));
     } in
     let runs : IsRunnable (with_worker s c.0) = record {

@@ -8,7 +8,7 @@ use Rattle.trace_base.specs.declared.callsite.Callsite.{Callsite}
 use Rattle.thread_script.specs.declared.script.SharedLine.{SharedLine}
 use Rattle.thread_script.specs.declared.script.ThreadScript.{ThreadScript}
 use Rattle.thread_script.specs.Plans.{plan_of}
-use Rattle.thread_script.specs.Tests.{AllTested}
+use Rattle.thread_script.specs.Tests.{AllValidWork}
 use Rattle.thread_lines.specs.declared.limits.TheConstants.{MOST_SPANS, MOST_WORKERS}
 
 -- each piece of a filter's text that isn't empty is a directive
@@ -28,6 +28,6 @@ pub record IsRunnable (script : ThreadScript) : Type 0 where
   pub filter : HasFilter script.filter
   pub shared : AreShared script.callsites script.shared
   pub lane : 0 < length script.shared → 0 < length script.lanes
-  pub tested : AllTested (plan_of script) script.workers
+  pub tested : AllValidWork (plan_of script) script.workers
   pub few_spans : length script.shared ≤ MOST_SPANS
   pub few_workers : length script.workers ≤ MOST_WORKERS

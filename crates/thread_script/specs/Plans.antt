@@ -49,48 +49,48 @@ abbrev pub values_of : Callsite → List (List ℕ × Value) → ValueSet
 values_of c fields = record { pairs = filter_map (declared_value c) fields }
 
 -- fields write those of them that the span's callsite declares
-abbrev pub record_asked : Plan → List (List ℕ × Value) → Option Callsite → Option Op
-record_asked plan fields None = None
-record_asked plan fields (Some c) = Some (Update (span_update c (values_of c fields) plan.layer))
+abbrev pub op_of_record : Plan → List (List ℕ × Value) → Option Callsite → Option Op
+op_of_record plan fields None = None
+op_of_record plan fields (Some c) = Some (Update (span_update c (values_of c fields) plan.layer))
 
 -- an event is told if the filter lets it through
-abbrev pub event_asked : Plan → ℕ → ValueSet → Option Callsite → Option Op
-event_asked plan at values None = None
-event_asked plan at values (Some c) = if text_admits plan.filter c then Some (event_of c values plan.layer at) else None
+abbrev pub op_of_admitted_event : Plan → ℕ → ValueSet → Option Callsite → Option Op
+op_of_admitted_event plan at values None = None
+op_of_admitted_event plan at values (Some c) = if text_admits plan.filter c then Some (event_of c values plan.layer at) else None
 
-abbrev pub op_asked : Plan → ℕ → ℕ → WorkerCall → Option Op
-op_asked plan s at (calls.Record fields) = record_asked plan fields (shared_callsite plan s)
-op_asked plan s at (calls.Event site values) = event_asked plan at values (slice_get plan.callsites site)
-op_asked plan s at (calls.Own op) = Some op
+abbrev pub op_of_call : Plan → ℕ → ℕ → WorkerCall → Option Op
+op_of_call plan s at (calls.Record fields) = op_of_record plan fields (shared_callsite plan s)
+op_of_call plan s at (calls.Event site values) = op_of_admitted_event plan at values (slice_get plan.callsites site)
+op_of_call plan s at (calls.Own op) = Some op
 
 -- what a call of a worker is on this span
-abbrev pub asked_on : Plan → ℕ → WorkerOp → Option Op
-asked_on plan s o = if o.span == s then op_asked plan o.span o.at o.what else None
+abbrev pub op_on_span : Plan → ℕ → WorkerOp → Option Op
+op_on_span plan s o = if o.span == s then op_of_call plan o.span o.at o.what else None
 
 -- ---- what a worker asks of a span
 
-abbrev pub part_by : ℕ → Option Op → List Ask → List Ask
-part_by at None rest = rest
-part_by at (Some op) rest = ask at (Call op) ∷ rest
+abbrev pub with_ask : ℕ → Option Op → List Ask → List Ask
+with_ask at None rest = rest
+with_ask at (Some op) rest = ask at (Call op) ∷ rest
 
 -- what a worker asks of a span: its ops on it, and then a release at this moment
-abbrev pub part_on : Plan → ℕ → ℕ → List WorkerOp → List Ask
-part_on plan s at [] = ask at Release ∷ []
-part_on plan s at (o ∷ ops) = part_by o.at (asked_on plan s o) (part_on plan s at ops)
+abbrev pub asks_on : Plan → ℕ → ℕ → List WorkerOp → List Ask
+asks_on plan s at [] = ask at Release ∷ []
+asks_on plan s at (o ∷ ops) = with_ask o.at (op_on_span plan s o) (asks_on plan s at ops)
 
-abbrev pub later_at : ℕ → Option ℕ → Option ℕ
-later_at at None = Some at
-later_at at (Some later) = Some later
+abbrev pub moment_or : ℕ → Option ℕ → Option ℕ
+moment_or at None = Some at
+moment_or at (Some later) = Some later
 
 -- the moment of the last call, if there is one
-abbrev pub last_at : List WorkerOp → Option ℕ
-last_at [] = None
-last_at (o ∷ ops) = later_at o.at (last_at ops)
+abbrev pub last_moment : List WorkerOp → Option ℕ
+last_moment [] = None
+last_moment (o ∷ ops) = moment_or o.at (last_moment ops)
 
 -- the moment of a worker's release: that of its last call, or of the making
-abbrev pub release_at : ℕ → Option ℕ → ℕ
-release_at made None = made
-release_at made (Some at) = at
+abbrev pub release_moment : ℕ → Option ℕ → ℕ
+release_moment made None = made
+release_moment made (Some at) = at
 
 -- no moment is too great
 abbrev pub AreTimed : List WorkerOp → Type 0
@@ -98,7 +98,7 @@ AreTimed [] = Unit {0}
 AreTimed (o ∷ ops) = (o.at ≤ GREATEST) × AreTimed ops
 
 -- what each worker asks of the span s, which was made at this moment
-abbrev pub parts_on : Plan → ℕ → ℕ → List (List WorkerOp) → ℕ → List Ask
-parts_on plan s made [] w = []
-parts_on plan s made (ops ∷ workers) zero = part_on plan s (release_at made (last_at ops)) ops
-parts_on plan s made (ops ∷ workers) (suc w) = parts_on plan s made workers w
+abbrev pub asks_of_workers : Plan → ℕ → ℕ → List (List WorkerOp) → ℕ → List Ask
+asks_of_workers plan s made [] w = []
+asks_of_workers plan s made (ops ∷ workers) zero = asks_on plan s (release_moment made (last_moment ops)) ops
+asks_of_workers plan s made (ops ∷ workers) (suc w) = asks_of_workers plan s made workers w

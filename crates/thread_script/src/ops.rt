@@ -1,6 +1,6 @@
 //! The ops that the calls of workers come to.
 ghost use Rattle.std.specs.Prelude.{◌≡◌, IfOk, option_map, slice_get};
-ghost use Rattle.thread_script.specs.Plans.{text_admits, AreNoLevels, shared_callsite, record_asked, event_asked, op_asked};
+ghost use Rattle.thread_script.specs.Plans.{text_admits, AreNoLevels, shared_callsite, op_of_record, op_of_admitted_event, op_of_call};
 
 use crate::plan::Plan;
 use crate::script::WorkerCall;
@@ -42,7 +42,7 @@ fn is_admitted<G: EventGate>(
 }
 
 // The callsite of a shared span.
-fn span_site(plan: &Plan, span: u64) -> Option<&Callsite>
+fn shared_callsite(plan: &Plan, span: u64) -> Option<&Callsite>
     ensures { option_map (λ c. c.now) result ≡ shared_callsite plan.now span }
 {
     let line = plan.shared.as_slice().get(span as usize)?;
@@ -56,9 +56,9 @@ fn record_op(
     span: u64,
     fields: Items<(Text, Value)>,
 ) -> Result<Option<Op>, Memory>
-    ensures { IfOk result (λ op. op ≡ record_asked plan.now fields (shared_callsite plan.now span)) }
+    ensures { IfOk result (λ op. op ≡ op_of_record plan.now fields (shared_callsite plan.now span)) }
 {
-    let Some(callsite) = span_site(plan, span) else {
+    let Some(callsite) = shared_callsite(plan, span) else {
         return Ok(None);
     };
     let values = values_of(alloc, callsite, fields)?;
@@ -79,7 +79,7 @@ fn admitted_event<G: EventGate>(
     requires opening { G.opening gate.old ≡ plan.now.filter }
     requires levels { AreNoLevels levels.now }
     ensures same { G.opening gate.new ≡ G.opening gate.old }
-    ensures op { IfOk result (λ op. op ≡ event_asked plan.now at values (slice_get plan.now.callsites site)) }
+    ensures op { IfOk result (λ op. op ≡ op_of_admitted_event plan.now at values (slice_get plan.now.callsites site)) }
 {
     let Some(callsite) = plan.callsites.as_slice().get(site as usize) else {
         return Ok(None);
@@ -104,7 +104,7 @@ pub fn op_of<G: EventGate>(
     requires opening { G.opening gate.old ≡ plan.now.filter }
     requires levels { AreNoLevels levels.now }
     ensures same { G.opening gate.new ≡ G.opening gate.old }
-    ensures op { IfOk result (λ op. op ≡ op_asked plan.now span at what) }
+    ensures op { IfOk result (λ op. op ≡ op_of_call plan.now span at what) }
 {
     match what {
         WorkerCall::Record { fields } => record_op(alloc, plan, span, fields),

@@ -13,13 +13,13 @@ use Rattle.trace_threads.specs.Handles.{SharedHandle}
 use Rattle.thread_script.specs.declared.plan.Plan.{Plan}
 use Rattle.thread_script.specs.declared.script.WorkerOp.{WorkerOp}
 use Rattle.thread_script.specs.Asks.{Ask, is_balanced}
-use Rattle.thread_script.specs.Plans.{last_at, release_at, part_by, asked_on, part_on, parts_on}
+use Rattle.thread_script.specs.Plans.{last_moment, release_moment, with_ask, op_on_span, asks_on, asks_of_workers}
 use Rattle.thread_handles.specs.declared.job.Job.{Job}
 use Rattle.thread_handles.specs.declared.gather.Ended.{Ended}
 use Rattle.thread_handles.specs.Gathers.{IsEnded}
-use Rattle.thread_handles.specs.Works.{part_of, AllAtWork, IsAtWork, AreMade, IsReadyWorker, IsLeft}
+use Rattle.thread_handles.specs.Works.{asks_of, AllAtWork, IsAtWork, AreMade, IsReadyWorker, IsLeft}
 use Rattle.thread_handles.specs.Shares.{IsFresh, IsShared}
-use Rattle.thread_handles.specs.Columns.{column, AreWhole, AreJoined}
+use Rattle.thread_handles.specs.Columns.{column, AllComeToClosed, AreJoined}
 use Rattle.thread_handles.proofs.GatheredLemmas.{asks_plain}
 use Rattle.thread_handles.proofs.AsksLemmas.{follows_none}
 use Rattle.thread_handles.proofs.WorkLemmas.{same_get, get_drop, get_before, get_last}
@@ -27,23 +27,23 @@ use Rattle.thread_handles.proofs.ClonesLemmas.{take_front}
 use Rattle.thread_handles.proofs.JoinsLemmas.{LeftFrom}
 use Rattle.thread_handles.proofs.Columns.{span_closed, span_ended}
 use Rattle.thread_work.specs.Jobs.{AreReady, WereRun, AreDone, lists_of}
-use Rattle.thread_work.specs.Spans.{AreFirsts, GotOne, GotNext, HaveMore, HaveRoomFor, HasGot, WasShared, WereShared, IsPreparedFor, ArePreparedFor, AllEnded}
+use Rattle.thread_work.specs.Spans.{AreFirsts, GotOne, GotNext, HaveRoomForOne, HaveRoomFor, HasGot, WasShared, WereShared, IsPreparedFor, ArePreparedFor, AllEnded}
 
 -- a worker makes no handle
-by_part : (at : ℕ) (op : Option Op) (rest : List Ask) → asks_plain rest ≡ true → asks_plain (part_by at op rest) ≡ true
+by_part : (at : ℕ) (op : Option Op) (rest : List Ask) → asks_plain rest ≡ true → asks_plain (with_ask at op rest) ≡ true
 by_part at None rest p = p
 by_part at (Some op) rest p = p
 
-pub part_plain : (plan : Plan) (s at : ℕ) (ops : List WorkerOp) → asks_plain (part_on plan s at ops) ≡ true
+pub part_plain : (plan : Plan) (s at : ℕ) (ops : List WorkerOp) → asks_plain (asks_on plan s at ops) ≡ true
 part_plain plan s at [] = refl
-part_plain plan s at (o ∷ ops) = by_part o.at (asked_on plan s o) (part_on plan s at ops) (part_plain plan s at ops)
+part_plain plan s at (o ∷ ops) = by_part o.at (op_on_span plan s o) (asks_on plan s at ops) (part_plain plan s at ops)
 
-parts_plain : {G : Type 0} (plan : Plan) (s made : ℕ) (jobs : List (Job G)) (w : ℕ) → w < length jobs → asks_plain (parts_on plan s made (lists_of jobs) w) ≡ true
+parts_plain : {G : Type 0} (plan : Plan) (s made : ℕ) (jobs : List (Job G)) (w : ℕ) → w < length jobs → asks_plain (asks_of_workers plan s made (lists_of jobs) w) ≡ true
 parts_plain plan s made [] w low = absurd (omega (arith, low))
-parts_plain plan s made (job ∷ jobs) zero low = part_plain plan s (release_at made (last_at job.ops.items)) job.ops.items
+parts_plain plan s made (job ∷ jobs) zero low = part_plain plan s (release_moment made (last_moment job.ops.items)) job.ops.items
 parts_plain plan s made (job ∷ jobs) (suc w) low = parts_plain plan s made jobs w (omega (arith, low))
 
-parts_at : {G : Type 0} (plan : Plan) (s : ℕ) (first : SharedHandle) (xs : List (Job G)) (i : ℕ) (x : Job G) → i < length xs → parts_on plan s first.view.origin.made_at (lists_of xs) i ≡ part_of plan (last_at (slice_index_or xs i x).ops.items) s first (slice_index_or xs i x).ops.items
+parts_at : {G : Type 0} (plan : Plan) (s : ℕ) (first : SharedHandle) (xs : List (Job G)) (i : ℕ) (x : Job G) → i < length xs → asks_of_workers plan s first.view.origin.made_at (lists_of xs) i ≡ asks_of plan (last_moment (slice_index_or xs i x).ops.items) s first (slice_index_or xs i x).ops.items
 parts_at plan s first [] i x low = absurd (omega (arith, low))
 parts_at plan s first (y ∷ ys) zero x low = refl
 parts_at plan s first (y ∷ ys) (suc i) x low = parts_at plan s first ys i x (omega (arith, low))
@@ -53,7 +53,7 @@ lists_len [] = refl
 lists_len (job ∷ jobs) = let e = lists_len jobs in omega (arith, e)
 
 -- a fresh handle, and what it is asked
-fresh_work : (plan : Plan) (s : ℕ) (first h : SharedHandle) (k : ℕ) (last : Option ℕ) (ops : List WorkerOp) → IsFresh first k h → is_balanced (part_of plan last s first ops) 0 ≡ true → IsAtWork k (part_of plan last s h ops) (part_of plan last s h ops) h h
+fresh_work : (plan : Plan) (s : ℕ) (first h : SharedHandle) (k : ℕ) (last : Option ℕ) (ops : List WorkerOp) → IsFresh first k h → is_balanced (asks_of plan last s first ops) 0 ≡ true → IsAtWork k (asks_of plan last s h ops) (asks_of plan last s h ops) h h
 fresh_work plan s first h k last ops f b = record {
   span = refl;
   number = f.number;
@@ -62,7 +62,7 @@ fresh_work plan s first h k last ops f b = record {
   whole = refl;
   follows = follows_none k h.view.origin.made_at (entries h.view.seen) f.none;
   own_entries = f.none ∙ sym f.mine;
-  balanced = (λ i. is_balanced (part_on plan s (release_at (f.origin i).made_at last) ops) (ap open_count f.mine i)) ∙ b;
+  balanced = (λ i. is_balanced (asks_on plan s (release_moment (f.origin i).made_at last) ops) (ap open_count f.mine i)) ∙ b;
 }
 
 module _ {G : Type 0} (opening : G → List ℕ) (plan : Plan) (spans : List SharedHandle) (jobs given : List (Job G)) (rs : List Released) (f : AreFirsts plan spans) (p : ArePreparedFor opening plan spans jobs) (glen : length given ≡ length jobs) (rlen : length rs ≡ length spans) (sh : WereShared (length spans) spans jobs given rs) where
@@ -80,8 +80,8 @@ module _ {G : Type 0} (opening : G → List ℕ) (plan : Plan) (spans : List Sha
         λ s y l less. let m = f.1 s y l (omega (arith, n, less)) in let o = sh.fresh s w y d (omega (arith, n, less)) here in
             (sym m.0.2 ∙ ap (λ (q : Making). q.made_at) (sym o.origin), m.1),
       ) in
-      let begins : AllAtWork plan (w + 1) (last_at job.ops.items) job.ops.items job.ops.items hs hs = λ s y less.
-      fresh_work plan s (slice_index_or spans s y) (slice_index_or hs s y) (w + 1) (last_at job.ops.items) job.ops.items (sh.fresh s w y d (omega (arith, n, less)) here) (x.balanced s y (omega (arith, n, less))) in
+      let begins : AllAtWork plan (w + 1) (last_moment job.ops.items) job.ops.items job.ops.items hs hs = λ s y less.
+      fresh_work plan s (slice_index_or spans s y) (slice_index_or hs s y) (w + 1) (last_moment job.ops.items) job.ops.items (sh.fresh s w y d (omega (arith, n, less)) here) (x.balanced s y (omega (arith, n, less))) in
       let ready : IsReadyWorker plan (w + 1) job.ops.items job.last hs = record { timed = x.timed; last_is = x.last; made = made; begins = begins } in
       let ok = new.handles.ok.0 in
       let cap : vec_capacity new.left ≡ vec_capacity job.left = (λ j. vec_capacity (i.left j)) in
@@ -105,7 +105,7 @@ module _ {G : Type 0} (opening : G → List ℕ) (plan : Plan) (spans : List Sha
         omega (arith, ok, m, n, ok')
 
     -- the release of a worker's handle of the span s
-    left_at : (s w : ℕ) (x : SharedHandle) (d : Job G) (e : Released) → s < length spans → w < length jobs → IsLeft (w + 1) (parts_on plan s (slice_index_or spans s x).view.origin.made_at (lists_of jobs) w) (slice_index_or spans s x).span (slice_index_or spans s x).view.origin (slice_index_or (slice_index_or run w d).left.items s e)
+    left_at : (s w : ℕ) (x : SharedHandle) (d : Job G) (e : Released) → s < length spans → w < length jobs → IsLeft (w + 1) (asks_of_workers plan s (slice_index_or spans s x).view.origin.made_at (lists_of jobs) w) (slice_index_or spans s x).span (slice_index_or spans s x).view.origin (slice_index_or (slice_index_or run w d).left.items s e)
     left_at s w x d e less low =
         let hs = (slice_index_or given w d).handles.items in
         let h = slice_index_or hs s x in
@@ -114,8 +114,8 @@ module _ {G : Type 0} (opening : G → List ℕ) (plan : Plan) (spans : List Sha
         let o = sh.fresh s w x d less low in
         let a = (ran w d (omega (arith, glen, low))).2 (done w d (omega (arith, len_run, low))) s x e (omega (arith, n, less)) in
         let ops = (slice_index_or jobs w d).ops.items in
-        let b : IsLeft (w + 1) (part_of plan (last_at ops) s h ops) h.span h.view.origin (slice_index_or (slice_index_or run w d).left.items s e) = subst (λ (t : List WorkerOp). IsLeft (w + 1) (part_of plan (last_at t) s h t) h.span h.view.origin (slice_index_or (slice_index_or run w d).left.items s e)) (λ j. (i.ops j).items) a in
-        let c = subst (λ (t : Making × TableId). IsLeft (w + 1) (part_on plan s (release_at t.0.made_at (last_at ops)) ops) t.1 t.0 (slice_index_or (slice_index_or run w d).left.items s e)) (λ j. (o.origin j, o.span j)) b in
+        let b : IsLeft (w + 1) (asks_of plan (last_moment ops) s h ops) h.span h.view.origin (slice_index_or (slice_index_or run w d).left.items s e) = subst (λ (t : List WorkerOp). IsLeft (w + 1) (asks_of plan (last_moment t) s h t) h.span h.view.origin (slice_index_or (slice_index_or run w d).left.items s e)) (λ j. (i.ops j).items) a in
+        let c = subst (λ (t : Making × TableId). IsLeft (w + 1) (asks_on plan s (release_moment t.0.made_at (last_moment ops)) ops) t.1 t.0 (slice_index_or (slice_index_or run w d).left.items s e)) (λ j. (o.origin j, o.span j)) b in
         subst (λ (asks : List Ask). IsLeft (w + 1) asks (slice_index_or spans s x).span (slice_index_or spans s x).view.origin (slice_index_or (slice_index_or run w d).left.items s e)) (sym (parts_at plan s (slice_index_or spans s x) jobs w d low)) c
 
     column_len : (e : Released) (s : ℕ) (xs : List (Job G)) → length (column e s xs) ≡ length xs
@@ -130,9 +130,9 @@ module _ {G : Type 0} (opening : G → List ℕ) (plan : Plan) (spans : List Sha
           left_from t making parts e s (n + 1) xs (λ i d low. let same : n + suc i ≡ n + 1 + i = omega arith in subst (λ (k : ℕ). IsLeft (k + 1) (parts k) t making (slice_index_or (slice_index_or xs i d).left.items s e)) same (h (suc i) d (omega (arith, low)))),
         )
 
-    column_left : (s : ℕ) (x : SharedHandle) (e : Released) → s < length spans → LeftFrom (slice_index_or spans s x).span (slice_index_or spans s x).view.origin (parts_on plan s (slice_index_or spans s x).view.origin.made_at (lists_of jobs)) 0 (column e s run)
-    column_left s x e less = left_from (slice_index_or spans s x).span (slice_index_or spans s x).view.origin (parts_on plan s (slice_index_or spans s x).view.origin.made_at (lists_of jobs)) e s 0 run (λ w d low. let same : w ≡ 0 + w = omega arith in
-        subst (λ (k : ℕ). IsLeft (k + 1) (parts_on plan s (slice_index_or spans s x).view.origin.made_at (lists_of jobs) k) (slice_index_or spans s x).span (slice_index_or spans s x).view.origin (slice_index_or (slice_index_or run w d).left.items s e)) same (left_at s w x d e less (omega (arith, len_run, low))))
+    column_left : (s : ℕ) (x : SharedHandle) (e : Released) → s < length spans → LeftFrom (slice_index_or spans s x).span (slice_index_or spans s x).view.origin (asks_of_workers plan s (slice_index_or spans s x).view.origin.made_at (lists_of jobs)) 0 (column e s run)
+    column_left s x e less = left_from (slice_index_or spans s x).span (slice_index_or spans s x).view.origin (asks_of_workers plan s (slice_index_or spans s x).view.origin.made_at (lists_of jobs)) e s 0 run (λ w d low. let same : w ≡ 0 + w = omega arith in
+        subst (λ (k : ℕ). IsLeft (k + 1) (asks_of_workers plan s (slice_index_or spans s x).view.origin.made_at (lists_of jobs) k) (slice_index_or spans s x).span (slice_index_or spans s x).view.origin (slice_index_or (slice_index_or run w d).left.items s e)) same (left_at s w x d e less (omega (arith, len_run, low))))
 
     span_at : (s : ℕ) → s < length spans → SharedHandle
     span_at s less = item spans s less
@@ -142,7 +142,7 @@ module _ {G : Type 0} (opening : G → List ℕ) (plan : Plan) (spans : List Sha
         item (y ∷ ys) zero low = y
         item (y ∷ ys) (suc i) low = item ys i (omega (arith, low))
 
-    pub are_whole : AreWhole rs run
+    pub are_whole : AllComeToClosed rs run
     are_whole s d less =
         let r = slice_index_or rs s d in
         let less' : s < length spans = omega (arith, rlen, less) in
@@ -153,7 +153,7 @@ module _ {G : Type 0} (opening : G → List ℕ) (plan : Plan) (spans : List Sha
               let here : w < length jobs = omega (arith, len_run, low) in
               let n = left_len w y here in
               (omega (arith, n, less'), λ e. (left_at s w x y e less' here).span ∙ sym q.shared.span);
-          closes = span_closed (slice_index_or spans s x) q.handles r (parts_on plan s (slice_index_or spans s x).view.origin.made_at (lists_of jobs)) (column r s run) (length jobs) (parts_plain plan s (slice_index_or spans s x).view.origin.made_at jobs) q.len (column_len r s run ∙ len_run) q.shared (column_left s x r less');
+          closes = span_closed (slice_index_or spans s x) q.handles r (asks_of_workers plan s (slice_index_or spans s x).view.origin.made_at (lists_of jobs)) (column r s run) (length jobs) (parts_plain plan s (slice_index_or spans s x).view.origin.made_at jobs) q.len (column_len r s run ∙ len_run) q.shared (column_left s x r less');
         }
 
     pub all_ended : (es : List Ended) → AreJoined rs run es → AllEnded plan spans (lists_of jobs) es
@@ -162,8 +162,8 @@ module _ {G : Type 0} (opening : G → List ℕ) (plan : Plan) (spans : List Sha
         let r = slice_index_or rs s d in
         let q = sh.shared s x d less in
         let k = j s d e (omega (arith, rlen, less)) in
-        subst (λ (n : ℕ). IsEnded (slice_index_or spans s x).span (slice_index_or spans s x).view.origin n (parts_on plan s (slice_index_or spans s x).view.origin.made_at (lists_of jobs)) (slice_index_or es s e)) (sym (lists_len jobs))
-        (span_ended (slice_index_or spans s x) q.handles r (parts_on plan s (slice_index_or spans s x).view.origin.made_at (lists_of jobs)) (column r s run) (length jobs) (parts_plain plan s (slice_index_or spans s x).view.origin.made_at jobs) q.len (column_len r s run ∙ len_run) q.shared (column_left s x r less) k.whole (slice_index_or es s e) k.met k.pass k.closed)
+        subst (λ (n : ℕ). IsEnded (slice_index_or spans s x).span (slice_index_or spans s x).view.origin n (asks_of_workers plan s (slice_index_or spans s x).view.origin.made_at (lists_of jobs)) (slice_index_or es s e)) (sym (lists_len jobs))
+        (span_ended (slice_index_or spans s x) q.handles r (asks_of_workers plan s (slice_index_or spans s x).view.origin.made_at (lists_of jobs)) (column r s run) (length jobs) (parts_plain plan s (slice_index_or spans s x).view.origin.made_at jobs) q.len (column_len r s run ∙ len_run) q.shared (column_left s x r less) k.whole (slice_index_or es s e) k.met k.pass k.closed)
       where
         item : (xs : List Released) (i : ℕ) → i < length xs → Released
         item [] i low = absurd (omega (arith, low))
@@ -212,7 +212,7 @@ shared_more {G} n spans jobs xs news rs new f hs r xlen hlen first low rlen is s
       subst (WasShared (slice_index_or spans s x) (length jobs)) (sym same) (before.shared s x e less'));
 }
 
-pub have_more : {G : Type 0} (n m : ℕ) (jobs xs : List (Job G)) → length xs ≡ length jobs → n < m → HaveRoomFor m jobs → ((w : ℕ) (d : Job G) → w < length jobs → HasGot n (slice_index_or jobs w d) (slice_index_or xs w d)) → HaveMore xs
+pub have_more : {G : Type 0} (n m : ℕ) (jobs xs : List (Job G)) → length xs ≡ length jobs → n < m → HaveRoomFor m jobs → ((w : ℕ) (d : Job G) → w < length jobs → HasGot n (slice_index_or jobs w d) (slice_index_or xs w d)) → HaveRoomForOne xs
 have_more n m jobs xs len less room got w d low =
     let here : w < length jobs = omega (arith, len, low) in
     let a = got w d here in

@@ -7,10 +7,10 @@ use Rattle.thread_script.specs.declared.plan.Plan.{Plan}
 use Rattle.thread_script.specs.declared.script.SharedLine.{SharedLine}
 use Rattle.thread_script.specs.declared.script.WorkerOp.{WorkerOp}
 use Rattle.thread_script.specs.Asks.{is_balanced}
-use Rattle.thread_script.specs.Plans.{AreTimed, last_at, parts_on}
+use Rattle.thread_script.specs.Plans.{AreTimed, last_moment, asks_of_workers}
 use Rattle.thread_handles.specs.declared.gather.Ended.{Ended}
 use Rattle.thread_handles.specs.declared.job.Job.{Job}
-use Rattle.thread_handles.specs.Works.{part_of}
+use Rattle.thread_handles.specs.Works.{asks_of}
 use Rattle.thread_handles.specs.Shares.{IsFirst, IsFresh, IsShared}
 use Rattle.thread_handles.specs.Gathers.{IsEnded}
 
@@ -32,8 +32,8 @@ pub record GotOne {G : Type 0} (h : SharedHandle) (job new : Job G) : Type 0 whe
 abbrev pub GotNext : {G : Type 0} → List SharedHandle → List (Job G) → List (Job G) → Type 0
 GotNext {G} hs jobs news = (w : ℕ) (d : Job G) (x : SharedHandle) → w < length jobs → GotOne (slice_index_or hs w x) (slice_index_or jobs w d) (slice_index_or news w d)
 
-abbrev pub HaveMore : {G : Type 0} → List (Job G) → Type 0
-HaveMore {G} jobs = (w : ℕ) (d : Job G) → w < length jobs → vec_len (slice_index_or jobs w d).handles < vec_capacity (slice_index_or jobs w d).handles
+abbrev pub HaveRoomForOne : {G : Type 0} → List (Job G) → Type 0
+HaveRoomForOne {G} jobs = (w : ℕ) (d : Job G) → w < length jobs → vec_len (slice_index_or jobs w d).handles < vec_capacity (slice_index_or jobs w d).handles
 
 -- a worker that has no handle yet, and room for so many
 pub record HasRoomFor {G : Type 0} (n : ℕ) (job : Job G) : Type 0 where
@@ -70,9 +70,9 @@ pub record WereShared {G : Type 0} (n : ℕ) (spans : List SharedHandle) (jobs n
 -- worker w may get its handles of these spans
 pub record IsPreparedFor {G : Type 0} (opening : G → List ℕ) (plan : Plan) (spans : List SharedHandle) (job : Job G) : Type 0 where
   pub timed : AreTimed job.ops.items
-  pub last : job.last ≡ last_at job.ops.items
+  pub last : job.last ≡ last_moment job.ops.items
   pub gate : opening job.gate ≡ plan.filter
-  pub balanced : (s : ℕ) (x : SharedHandle) → s < length spans → is_balanced (part_of plan (last_at job.ops.items) s (slice_index_or spans s x) job.ops.items) 0 ≡ true
+  pub balanced : (s : ℕ) (x : SharedHandle) → s < length spans → is_balanced (asks_of plan (last_moment job.ops.items) s (slice_index_or spans s x) job.ops.items) 0 ≡ true
   pub room : HasRoomFor (length spans) job
 
 abbrev pub ArePreparedFor : {G : Type 0} → (G → List ℕ) → Plan → List SharedHandle → List (Job G) → Type 0
@@ -83,4 +83,4 @@ abbrev pub AllEnded : Plan → List SharedHandle → List (List WorkerOp) → Li
 AllEnded plan spans workers es =
     (s : ℕ) (x : SharedHandle) (e : Ended) → s < length spans
     → IsEnded (slice_index_or spans s x).span (slice_index_or spans s x).view.origin (length workers)
-    (parts_on plan s (slice_index_or spans s x).view.origin.made_at workers) (slice_index_or es s e)
+    (asks_of_workers plan s (slice_index_or spans s x).view.origin.made_at workers) (slice_index_or es s e)

@@ -1,8 +1,8 @@
 //! What is made before any handle is cloned.
 ghost use Rattle.std.specs.Prelude.{◌≡◌, ◌≤◌, [], length, vec_capacity, IfOk, OnOk};
-ghost use Rattle.thread_script.specs.Plans.{last_at};
+ghost use Rattle.thread_script.specs.Plans.{last_moment};
 ghost use Rattle.thread_work.specs.Jobs.{lists_of, gates_of};
-ghost use Rattle.thread_work.specs.Preparing.{IsBegun, AllBegun, WasPrepared};
+ghost use Rattle.thread_work.specs.Preparing.{IsUnstarted, AllUnstarted, WasPrepared};
 
 use crate::spans::end_jobs;
 use otel_base::list::Items;
@@ -25,7 +25,7 @@ pub(crate) struct Prepared<G> {
 
 // The moment of the last call, if there is one.
 fn last_moment(ops: &[WorkerOp]) -> Option<Moment>
-    ensures { result ≡ last_at ops.now }
+    ensures { result ≡ last_moment ops.now }
 {
     match ops.last() {
         Some(op) => Some(op.at),
@@ -40,7 +40,7 @@ fn job_of<G: Drop>(
     ops: Vec<WorkerOp>,
     gate: G,
 ) -> Result<Job<G>, Memory>
-    ensures begun { IfOk result (λ job. IsBegun count job) }
+    ensures begun { IfOk result (λ job. IsUnstarted count job) }
     ensures ops { IfOk result (λ job. job.ops.items ≡ ops.items) }
     ensures gate { IfOk result (λ job. job.gate ≡ gate) }
 {
@@ -68,7 +68,7 @@ fn make_jobs<G: Drop>(
     requires gates { length workers ≡ length gates.items }
     requires empty { jobs.old.items ≡ [] }
     requires room { length workers ≤ vec_capacity jobs.old }
-    ensures begun { OnOk result (AllBegun count jobs.new.items) }
+    ensures begun { OnOk result (AllUnstarted count jobs.new.items) }
     ensures lists { OnOk result (lists_of jobs.new.items ≡ workers) }
     ensures gates { OnOk result (gates_of jobs.new.items ≡ gates.items) }
 {

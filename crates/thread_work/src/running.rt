@@ -1,7 +1,7 @@
 //! Workers in threads over the shared spans of a script.
 ghost use Rattle.std.specs.Prelude.{◌≡◌, vec_len, IfOk};
 ghost use Rattle.thread_script.specs.Plans.{plan_of};
-ghost use Rattle.thread_script.specs.Tests.{AllTested, AllAtOpening};
+ghost use Rattle.thread_script.specs.Tests.{AllValidWork, AllAtOpening};
 ghost use Rattle.thread_work.specs.Spans.{AreFirsts, AllEnded};
 
 use crate::prepare::{Prepared, prepare};
@@ -30,7 +30,7 @@ pub fn work<R: Threads + Wait + Sync, G: EventGate + Send + Drop, T: Turnstile +
     gates: Vec<G>,
     turns: &T,
 ) -> Result<Vec<Ended>, Memory>
-    requires tested { AllTested (plan_of script) script.workers }
+    requires tested { AllValidWork (plan_of script) script.workers }
     requires spans { AreFirsts (plan_of script) spans.items }
     requires gates { AllAtOpening G.opening script.filter script.workers gates.items }
     ensures len { IfOk result (λ es. vec_len es ≡ vec_len spans) }

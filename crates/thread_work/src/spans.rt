@@ -1,7 +1,7 @@
 //! Workers in threads over several shared spans.
 ghost use Rattle.std.specs.Prelude.{◌≡◌, ◌≤◌, [], length, vec_len, vec_capacity, OnOk, IfOk};
 ghost use Rattle.thread_work.specs.Jobs.{lists_of};
-ghost use Rattle.thread_work.specs.Spans.{AreFirsts, GotNext, HaveMore, HaveRoomFor, WereShared, ArePreparedFor, AllEnded};
+ghost use Rattle.thread_work.specs.Spans.{AreFirsts, GotNext, HaveRoomForOne, HaveRoomFor, WereShared, ArePreparedFor, AllEnded};
 
 use crate::threads::{all_done, run_all};
 use event_gate::EventGate;
@@ -18,7 +18,7 @@ use turnstile::Turnstile;
 // Gives each worker its next handle.
 fn give_next<G>(jobs: &mut [Job<G>], mut handles: Vec<Handle>)
     requires len { vec_len handles ≡ length jobs.old }
-    requires room { HaveMore jobs.old }
+    requires room { HaveRoomForOne jobs.old }
     ensures len { length jobs.new ≡ length jobs.old }
     ensures got { GotNext handles.items jobs.old jobs.new }
 {

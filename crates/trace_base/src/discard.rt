@@ -1,6 +1,6 @@
 //! Giving up what has to be spent.
 
-use otel_base::stack::ContextGuard;
+use otel_base::stack::Attached;
 
 /// What can be given up, in place of being dropped: it takes no memory, and nobody is told of it.
 pub trait Discard {
@@ -9,9 +9,9 @@ pub trait Discard {
 }
 
 /// Its context stays attached for good.
-impl Discard for ContextGuard {
+impl Discard for Attached {
     fn discard(self) {
-        ContextGuard::discard(self);
+        Attached::discard(self);
     }
 }
 

@@ -29,6 +29,6 @@ pub use lane::Lane;
 pub use layer::Layer;
 pub use level::{Level, LevelFilter, ParseLevelError, ParseLevelFilterError, STATIC_MAX_LEVEL};
 pub use no_subscriber::NoSubscriber;
-pub use span::{AsId, CloseReply, Id, Parent};
+pub use span::{AsId, Closing, Id, Parent};
 pub use subscriber::{Interest, Subscriber};
 pub use world::{World, passes};

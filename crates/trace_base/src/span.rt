@@ -95,7 +95,7 @@ impl Parent {
 
 /// What the release of a hold answers.
 #[derive(Clone, Copy)]
-pub struct CloseReply {
+pub struct Closing {
     /// Whether the span closed, since no hold was left.
     pub closed: bool,
     /// The parent that is to be released next, which there is only where the span closed.

@@ -16,7 +16,7 @@ use crate::callsite::{Callsite, SiteId};
 use crate::field::ValueSet;
 use crate::lane::Lane;
 use crate::level::LevelFilter;
-use crate::span::{CloseReply, Id, Parent};
+use crate::span::{Closing, Id, Parent};
 use otel_base::enter_error::EnterError;
 use otel_base::memory::Memory;
 
@@ -210,7 +210,7 @@ pub trait Subscriber {
 
     /// Releases one hold of a span alone, which closes with its last one; `Subscriber::try_close`. Where a parent is
     /// answered, it has a hold to release next, and is older.
-    fn try_close(&mut self, id: Id, at: u64) -> CloseReply
+    fn try_close(&mut self, id: Id, at: u64) -> Closing
         requires whole { is_whole self.old }
         requires own { HasOwnHold (spans self.old) id }
         ensures closed { result.closed ≡ ((span_at (spans self.old).made id).holds == 1) }

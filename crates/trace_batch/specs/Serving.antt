@@ -23,5 +23,5 @@ module _ {F : Type 0} (text : F → ℕ → ℕ → List ℕ) where
     pub kept : w.lacks_memory ≡ false → HasServed lists lane known got w
 
 -- Nothing was taken or served yet
-abbrev pub Opens : ℕ → Writer → Type 0
-Opens lane w = (view w.pass ≡ writer lane [] []) × (w.taken ≡ []) × (w.late ≡ [])
+abbrev pub IsNewWriter : ℕ → Writer → Type 0
+IsNewWriter lane w = (view w.pass ≡ writer lane [] []) × (w.taken ≡ []) × (w.late ≡ [])

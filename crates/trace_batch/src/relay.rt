@@ -1,10 +1,10 @@
 //! Items to their texts, in as many threads as there are lanes.
 ghost use Rattle.std.specs.Prelude.{◌≡◌, ◌<◌, ◌≤◌, ◌++◌, ℕ, [], false, All, length, get_or, IfOk};
 ghost use Rattle.crossbeam_queue.specs.Passes.{IsPassOf};
-ghost use Rattle.trace_batch.specs.declared.relay.TheConstants.{MOST_LANES};
+ghost use Rattle.trace_batch.specs.declared.relay.TheConstants.{MAX_LANES};
 ghost use Rattle.trace_batch.specs.Merges.{IsMerge};
 ghost use Rattle.trace_batch.specs.Rule.{KnowsEndedLanes};
-ghost use Rattle.trace_batch.specs.Serving.{Serving, Opens};
+ghost use Rattle.trace_batch.specs.Serving.{Serving, IsNewWriter};
 
 use crate::item::{Finished, Item, Sent};
 use crate::queue::Queue;
@@ -20,13 +20,13 @@ use std::thread::Threads;
 use turnstile::Turnstile;
 
 /// How many lanes there are at most.
-pub const MOST_LANES: u64 = 8;
+pub const MAX_LANES: u64 = 8;
 
 // How many items the queue holds at most.
-const PLACES: usize = 16;
+const QUEUE_CAPACITY: usize = 16;
 
 // What was taken out of the queue, and then what the writer served itself.
-fn together(writer: Writer) -> Result<Vec<Sent>, Memory>
+fn taken_and_late(writer: Writer) -> Result<Vec<Sent>, Memory>
     ensures { IfOk result (λ v. (writer.lacks_memory ≡ false) × (v.items ≡ writer.taken ++ writer.late)) }
 {
     let Writer {
@@ -59,7 +59,7 @@ fn finish<R: Wait, F: Finished>(
 {
     let mut writer = writer;
     take_all(rt, queue, lists, progress, &mut writer);
-    together(writer)
+    taken_and_late(writer)
 }
 
 // Starts a sender for each list, in threads that end before it returns.
@@ -75,7 +75,7 @@ fn senders<H: Threads + Wait + Sync, F: Finished + Sync, T: Turnstile + Sync>(
 ) -> Writer
     requires own { (l : ℕ) → l < length lists.now → All (λ i. i.lane ≡ l) (get_or lists.now l []) }
     requires queue { IsPassOf queue.now writer.pass }
-    requires opens { Opens 0 writer }
+    requires opens { IsNewWriter 0 writer }
     ensures queue { IsPassOf queue.now result.pass }
     ensures serving { Serving F.text lists.now 0 result }
 {
@@ -85,7 +85,7 @@ fn senders<H: Threads + Wait + Sync, F: Finished + Sync, T: Turnstile + Sync>(
         move |scope| -> Writer
             requires own { (l : ℕ) → l < length lists.now → All (λ i. i.lane ≡ l) (get_or lists.now l []) }
             requires queue { IsPassOf queue.now writer.pass }
-            requires opens { Opens 0 writer }
+            requires opens { IsNewWriter 0 writer }
             ensures queue { IsPassOf queue.entry.now result.pass }
             ensures serving { Serving F.text lists.entry.now 0 result }
         {
@@ -117,7 +117,7 @@ pub fn relay<H: Threads + Wait + Sync, F: Finished + Sync + Drop, T: Turnstile +
     lists: Vec<Items<Item<F>>>,
     turns: &T,
 ) -> Result<Vec<Sent>, Memory>
-    requires lanes { length lists.items ≤ MOST_LANES }
+    requires lanes { length lists.items ≤ MAX_LANES }
     requires own { (l : ℕ) → l < length lists.items → All (λ i. i.lane ≡ l) (get_or lists.items l []) }
     ensures { IfOk result (λ v. IsMerge F.text lists.items v.items) }
 {
@@ -133,11 +133,11 @@ pub fn relay_on_stacks<H: Threads + Wait + Sync, F: Finished + Sync + Drop, T: T
     stack_sizes: &[usize],
     turns: &T,
 ) -> Result<Vec<Sent>, Memory>
-    requires lanes { length lists.items ≤ MOST_LANES }
+    requires lanes { length lists.items ≤ MAX_LANES }
     requires own { (l : ℕ) → l < length lists.items → All (λ i. i.lane ≡ l) (get_or lists.items l []) }
     ensures { IfOk result (λ v. IsMerge F.text lists.items v.items) }
 {
-    let (queue, pass) = Queue::ruled(alloc, PLACES)?;
+    let (queue, pass) = Queue::ruled(alloc, QUEUE_CAPACITY)?;
     let progress = SendProgress {
         refused: AtomicU64::new(u64::MAX),
         ended: AtomicU64::new(0),

@@ -4,7 +4,7 @@ ghost use Rattle.crossbeam_queue.specs.Passes.{view, IsPassOf};
 ghost use Rattle.trace_batch.specs.Merges.{sent_of};
 ghost use Rattle.trace_batch.specs.Rule.{KnowsEndedLanes, lanes_of};
 ghost use Rattle.trace_batch.specs.Sending.{Sends};
-ghost use Rattle.trace_batch.specs.Serving.{Serving, Opens};
+ghost use Rattle.trace_batch.specs.Serving.{Serving, IsNewWriter};
 
 use crate::item::{Finished, Item, Sent, sent_of};
 use crate::queue::{End, Next, Queue, QueuePass, Take};
@@ -168,7 +168,7 @@ pub(crate) fn serve<'s, E, R: Threads + Wait + Sync, F: Finished + Sync, T: Turn
     requires lane { lane ≤ length lists.now }
     requires own { (l : ℕ) → l < length lists.now → All (λ i. i.lane ≡ l) (get_or lists.now l []) }
     requires queue { IsPassOf queue.now writer.old.pass }
-    requires opens { Opens lane writer.old }
+    requires opens { IsNewWriter lane writer.old }
     ensures queue { IsPassOf queue.now writer.new.pass }
     ensures serving { Serving F.text lists.now lane writer.new }
 {

@@ -1,6 +1,6 @@
 -- The names that most proofs of the crate cite, passed on from one place. Declares nothing.
 pub use Rattle.otel_base.specs.declared.record.Record.{Record}
-pub use Rattle.trace_batch.specs.declared.relay.TheConstants.{MOST_LANES}
+pub use Rattle.trace_batch.specs.declared.relay.TheConstants.{MAX_LANES}
 pub use Rattle.span_script.specs.Fits.{IsServedByHistory, StandsFor, PipelineState}
 pub use Rattle.span_script.specs.Outcomes.{records_of_history}
 pub use Rattle.span_script.specs.Setups.{Setup, setup_by}

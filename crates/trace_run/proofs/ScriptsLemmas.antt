@@ -2,7 +2,7 @@
 use Rattle.std.proofs.Common.{◌≡◌, ℕ, zero, suc, ◌+◌, ◌<◌, ◌≤◌, List, [], ◌∷◌, ◌++◌, length, map, get_or, cond, true, refl, sym, ap, subst, ◌∙◌, arith, eq-eqb, inl, inr, Vec, Global, Bool, Option, Some, None, Result, Ok, Err, is_ok, not, IfOk, IfSome}
 use Rattle.std.specs.List.{All}
 use Rattle.std.proofs.lemmas.List.{map-id}
-use Rattle.trace_run.proofs.Common.{Record, records_of_history, Setup, History, MOST_LANES, accepts, EndsAs, Refuses, NoneRefused, AreRefused, TellsRun, accepts_within, refuses, accepts_same, legal, TellsAll, TellsTrees}
+use Rattle.trace_run.proofs.Common.{Record, records_of_history, Setup, History, MAX_LANES, accepts, EndsAs, Refuses, NoneRefused, AreRefused, TellsRun, accepts_within, refuses, accepts_same, legal, TellsAll, TellsTrees}
 use Rattle.batch_lines.specs.Texts.{TellsBatches}
 use Rattle.span_laws.specs.LegalHistories.{IsHistory, occurrences}
 use Rattle.span_laws.specs.Telling.{id_of}
@@ -95,26 +95,26 @@ tree_accepted lines finished ends = accepts_same lines ∙ ap is_ok ends.1
 -- ---- batches: each record of a script of at most eight lanes is on one of them
 
 abbrev pub BatchEnds : List (List ℕ) → Result (FinishedSpans Record) RefusedLine → Type 0
-BatchEnds lines result = EndsAs (λ (r : Record). r) (Some MOST_LANES) lines result
+BatchEnds lines result = EndsAs (λ (r : Record). r) (Some MAX_LANES) lines result
 
 records_are : (lines : List (List ℕ)) (finished : FinishedSpans Record) (ends : BatchEnds lines (Ok finished)) → finished.spans.items ≡ records_of_history ends.0.setup ends.0.history
 records_are lines finished ends = ends.2.spans_are ∙ map-id (records_of_history ends.0.setup ends.0.history)
 
 pub as_many : (lines : List (List ℕ)) (finished : FinishedSpans Record) → BatchEnds lines (Ok finished) → length finished.lanes.items ≡ length finished.spans.items
 as_many lines finished ends =
-    ap length ends.2.lanes_are ∙ (legal (Some MOST_LANES) lines ends.0 ends.1).lanes ∙ sym (ap length (records_are lines finished ends))
+    ap length ends.2.lanes_are ∙ (legal (Some MAX_LANES) lines ends.0 ends.1).lanes ∙ sym (ap length (records_are lines finished ends))
 
 pub each_within : (lines : List (List ℕ)) (finished : FinishedSpans Record) → BatchEnds lines (Ok finished) → All (λ lane. lane < finished.lane_count) finished.lanes.items
 each_within lines finished ends =
-    rw (ends.2.lanes_are, ends.2.lane_count) (legal (Some MOST_LANES) lines ends.0 ends.1).within
+    rw (ends.2.lanes_are, ends.2.lane_count) (legal (Some MAX_LANES) lines ends.0 ends.1).within
 
-pub few : (lines : List (List ℕ)) (finished : FinishedSpans Record) → BatchEnds lines (Ok finished) → finished.lane_count ≤ MOST_LANES
-few lines finished ends = rw ends.2.lane_count (few_lanes MOST_LANES lines ends.0 ends.1).1
+pub few : (lines : List (List ℕ)) (finished : FinishedSpans Record) → BatchEnds lines (Ok finished) → finished.lane_count ≤ MAX_LANES
+few lines finished ends = rw ends.2.lane_count (few_lanes MAX_LANES lines ends.0 ends.1).1
 
 pub tells_batches : (size : ℕ) (lines : List (List ℕ)) (finished : FinishedSpans Record) (text : List ℕ) → BatchEnds lines (Ok finished)
     → TellsBatches size finished.spans.items finished.lanes.items finished.open_spans text → TellsAll size lines text
 tells_batches size lines finished text ends tells =
     rw (ends.1, ← records_are lines finished ends, ← ends.2.lanes_are, ← ends.2.left_open) tells
 
-pub batch_accepted : (lines : List (List ℕ)) (finished : FinishedSpans Record) → BatchEnds lines (Ok finished) → accepts_within (Some MOST_LANES) lines ≡ true
+pub batch_accepted : (lines : List (List ℕ)) (finished : FinishedSpans Record) → BatchEnds lines (Ok finished) → accepts_within (Some MAX_LANES) lines ≡ true
 batch_accepted lines finished ends = ap is_ok ends.1

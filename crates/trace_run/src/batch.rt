@@ -2,7 +2,7 @@
 //!
 //! Its answers are made in threads, so it may wait, which an `AllLinesCommand` may not; it goes the same way as `answer_all`.
 ghost use Rattle.std.specs.Prelude.{◌≡◌, ◌<◌, ℕ, not, Some, IfOk};
-ghost use Rattle.trace_batch.specs.declared.relay.TheConstants.{MOST_LANES};
+ghost use Rattle.trace_batch.specs.declared.relay.TheConstants.{MAX_LANES};
 ghost use Rattle.trace_lines.specs.Lines.{lines_of};
 ghost use Rattle.trace_stream.specs.reading.AllLines.{AnswersCut, WritesAnswer};
 ghost use Rattle.trace_stream.specs.Carries.{Carries, StopsAtFault};
@@ -16,7 +16,7 @@ use otel_base::record::Record;
 use std::alloc::Global;
 use std::sync::Wait;
 use std::thread::Threads;
-use trace_batch::relay::MOST_LANES;
+use trace_batch::relay::MAX_LANES;
 use trace_lines::limits::MAX_INPUT;
 use trace_records::{FinishedSpans, follow_lines, refusal_of};
 use trace_stream::all_lines::status_of;
@@ -92,7 +92,7 @@ fn batch_answer<H: Threads + Wait + Sync, T: Turnstile + Sync>(
     ensures text { IfOk result (λ answer. TellsAll size (lines_of bytes.now) answer.text.items) }
     ensures refused { IfOk result (λ answer. accepts_few (lines_of bytes.now) ≡ not answer.refused) }
 {
-    match follow_lines::<Record>(alloc, Some(MOST_LANES), bytes)?.end()? {
+    match follow_lines::<Record>(alloc, Some(MAX_LANES), bytes)?.end()? {
         Ok(finished) => {
             let FinishedSpans {
                 spans,
@@ -122,7 +122,7 @@ fn batch_cut(alloc: Global, part: &[u8]) -> Result<Answer, Memory>
     ensures { (size : ℕ) → IfOk result (λ answer. AnswersCut accepts_few (TellsAll size)
         answer.refused (lines_of part.now) answer.text.items) }
 {
-    match refusal_of(alloc, Some(MOST_LANES), part)? {
+    match refusal_of(alloc, Some(MAX_LANES), part)? {
         Some(text) => Ok(Answer {
             text,
             refused: true,

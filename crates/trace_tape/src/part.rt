@@ -19,7 +19,7 @@ use trace_base::span::Id;
 /// It has a layer, which tells no states. Of what is asked from outside an attribute is spelled; all else leaves the tape as
 /// it is.
 impl OtelPart for Tape {
-    ghost has = { λ s. true };
+    ghost has_layer = { λ s. true };
 
     ghost span_data = { λ s. None };
 

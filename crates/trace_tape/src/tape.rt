@@ -23,7 +23,7 @@ use trace_base::discard::Discard;
 use trace_base::field::ValueSet;
 use trace_base::lane::Lane;
 use trace_base::level::LevelFilter;
-use trace_base::span::{CloseReply, Id, Parent};
+use trace_base::span::{Closing, Id, Parent};
 use trace_base::subscriber::{Interest, Subscriber};
 
 /// A subscriber that takes everything, and keeps the list of requests that its calls spell, each on lane 0.
@@ -290,7 +290,7 @@ impl Subscriber for Tape {
         add_handle(&mut self.handles, id);
     }
 
-    fn try_close(&mut self, id: Id, at: u64) -> CloseReply {
+    fn try_close(&mut self, id: Id, at: u64) -> Closing {
         let closing = self.registry.try_close(id, at);
         let is_due = match self.due {
             Some(due) => due == id,

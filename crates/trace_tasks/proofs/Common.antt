@@ -25,9 +25,9 @@ pub use Rattle.span_handles.specs.Worlds.{Chain, ReleasesChain, Replaced, all_re
 pub use Rattle.span_futures.proofs.CallsLemmas.{called_once, called_same, calls_none, calls_one, calls_then, changed_once}
 pub use Rattle.span_futures.proofs.Inside.{keeps_nothing, refused}
 pub use Rattle.span_futures.proofs.KeptLemmas.{keeps_all, same_kept}
-pub use Rattle.span_futures.specs.Calling.{Beside, CallsBy}
+pub use Rattle.span_futures.specs.Calling.{Beside, ChangesUpTo}
 pub use Rattle.span_futures.specs.Lent.{AreAllAttached, HasAll, KeepsLent}
-pub use Rattle.span_futures.specs.Polls.{CannotEnter, IsInside, Polled}
+pub use Rattle.span_futures.specs.Polls.{CannotEnter, PollsInside, PollResult}
 pub use Rattle.span_futures.specs.declared.instrument.Instrumented.{Instrumented}
 pub use Rattle.otel_state.specs.declared.op.OpReply.{OpReply}
 pub use Rattle.otel_layer.specs.Parts.{Applies, PartCall, StaysStack}

@@ -11,7 +11,7 @@ use Rattle.trace_base.specs.Calls.{SubscriberCall, Records, Event}
 use Rattle.trace_base.specs.Gate.{WorldValue, Admits, dispatch_on}
 use Rattle.trace_base.specs.Spans.{Spans, current_on}
 use Rattle.span_handles.specs.Worlds.{Replaced, spans_in}
-use Rattle.span_futures.specs.Polls.{Polled}
+use Rattle.span_futures.specs.Polls.{PollResult}
 use Rattle.otel_state.specs.declared.op.Op.{Op}
 use Rattle.otel_state.specs.declared.op.Op.TheVariants as ops
 use Rattle.otel_state.specs.declared.op.OpReply.{OpReply}
@@ -108,7 +108,7 @@ module _ {S : Type 0} (spans : S → Spans) (hint : S → Option LevelFilter) (e
     pub wants : WantsMemory same at world new
 
   -- a poll of some steps: those up to a yield or the end, and what is left
-  abbrev pub PollsSteps : (S → S → Type 0) → List Step → WorldValue S → Lane → ℕ → Polled (Unit {0}) → List Step → WorldValue S → Lane → Type 0
+  abbrev pub PollsSteps : (S → S → Type 0) → List Step → WorldValue S → Lane → ℕ → PollResult (Unit {0}) → List Step → WorldValue S → Lane → Type 0
   PollsSteps same steps old before at (Ok (Ready x)) left new later = (later ≡ before) × (steps_left steps ≡ None) × StepsOn before at (steps_now steps) old new
   PollsSteps same steps old before at (Ok Pending) left new later = (later ≡ before) × (steps_left steps ≡ Some left) × StepsOn before at (steps_now steps) old new
   PollsSteps same steps old before at (Err e) left new later = (later ≡ before) × (e ≡ Memory) × StopsIn same before at (steps_now steps) old new

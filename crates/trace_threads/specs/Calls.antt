@@ -72,8 +72,8 @@ pub record LeftAsIs (v w : View) (k : ℕ) : Type 0 where
   pub same : w.origin ≡ v.origin
 
 -- what `finish` asks: the state with what this turn added, and some handle held
-abbrev pub FinishesState : View → Shared → Type 0
-FinishesState v state =
+abbrev pub MayFinish : View → Shared → Type 0
+MayFinish v state =
     (ticket : ℕ) × (turn : Turn) × (v.stage ≡ Holds ticket) × (state ≡ after_turn v turn)
     × (home_of v.origin (entries (v.seen ++ turn ∷ [])) ≡ Some (after_turn v turn))
     × MayTurn v (entries v.seen) turn
@@ -83,8 +83,8 @@ abbrev pub PassedWith : View → Shared → SeatValue → Type 0
 PassedWith v state w = (turn : Turn) × (state ≡ after_turn v turn) × (w ≡ (view_after v turn, []))
 
 -- what the last turn asks: no handle is held
-abbrev pub Closes : View → ℕ → Slot → Type 0
-Closes v ticket last =
+abbrev pub MayClose : View → ℕ → Slot → Type 0
+MayClose v ticket last =
     (turn : Turn) × (v.stage ≡ Holds ticket) × (last ≡ Some (after_turn v turn))
     × (home_of v.origin (entries (v.seen ++ turn ∷ [])) ≡ None) × MayTurn v (entries v.seen) turn
 

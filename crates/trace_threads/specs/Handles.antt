@@ -44,8 +44,8 @@ abbrev pub open_of : SharedHandle → ℕ
 open_of h = open_count h.view.mine
 
 -- what a turn of a handle leaves: an entry more, a call's entry more, or none, after Memory or where the handle learns
-abbrev pub Enters : SharedHandle → SharedHandle → ℕ → HandleAct → Type 0
-Enters h g at what = MakesEntry h.view g.view h.number at what
+abbrev pub AddsEntry : SharedHandle → SharedHandle → ℕ → HandleAct → Type 0
+AddsEntry h g at what = MakesEntry h.view g.view h.number at what
 
 abbrev pub Calls : SharedHandle → SharedHandle → ℕ → Op → ℕ → OpReply → Type 0
 Calls h g at op place reply = Called h.view g.view h.number at op place reply

@@ -8,7 +8,7 @@ ghost use Rattle.trace_threads.specs.Moves.{move_of, open_count_after};
 ghost use Rattle.trace_threads.specs.History.{entries_by, open_count};
 ghost use Rattle.trace_threads.specs.Turns.{entries, first_view};
 ghost use Rattle.trace_threads.specs.Calls.{MakesEntry, IsBare, IsCloneOf, IsIdle};
-ghost use Rattle.trace_threads.specs.Handles.{open_of, Enters, Calls, LeavesHandle, IsSameHandle, IsSameSight, ClosedAs};
+ghost use Rattle.trace_threads.specs.Handles.{open_of, AddsEntry, Calls, LeavesHandle, IsSameHandle, IsSameSight, ClosedAs};
 
 use crate::cell::{call_once, clone_once, cut_off, join_once, release_once, see_all, take_in};
 use crate::history::History;
@@ -130,7 +130,7 @@ impl Handle {
         requires moment { at ≤ GREATEST }
         ensures same { IsSameHandle self.old self.new }
         ensures given { IfOk result (λ h. (h.span ≡ self.old.span) × IsCloneOf self.new.view h.view) }
-        ensures made { IfOk result (λ h. Enters self.old self.new at (Clone h.number)) }
+        ensures made { IfOk result (λ h. AddsEntry self.old self.new at (Clone h.number)) }
         ensures entered { open_of self.new ≡ open_of self.old }
         ensures memory_leaves { OnErr result (LeavesHandle self.old self.new) }
     {
@@ -158,7 +158,7 @@ impl Handle {
         requires entered { open_of other ≡ 0 }
 
         ensures same { IsSameHandle self.old self.new }
-        ensures made { Enters self.old self.new at (Join other.number) }
+        ensures made { AddsEntry self.old self.new at (Join other.number) }
         ensures entered { open_of self.new ≡ open_of self.old }
         ensures seen { IsPrefix other.view.seen self.new.view.seen }
         ensures theirs { entries_by other.number (entries self.new.view.seen) ≡ other.view.mine }

@@ -24,10 +24,10 @@ pub use Rattle.span_handles.specs.Worlds.{KeepsPlainData, Chain, ChainChangesPla
 pub use Rattle.traced.specs.AsBefore.{AreAsBefore, HadNoHandle, HasEntered, HasMade, IsAsBefore, IsEntered, IsInside, IsLiveOn, IsNewest, IsOfNewest, IsOpen}
 pub use Rattle.traced.specs.Between.{EntersAndExits, MakesAndCloses}
 pub use Rattle.traced.specs.Gating.{AnswersGate, MakesOne, TellsIfAnswered, TellsOne}
-pub use Rattle.traced.specs.Keeping.{Ends, HaveSameIds, Keeps, StandsAlone, StandsWith}
+pub use Rattle.traced.specs.Keeping.{RestoresAndDid, HaveSameIds, RestoresWorld, StandsAlone, StandsWith}
 pub use Rattle.traced.specs.Laws.{IsLawful}
 pub use Rattle.traced.specs.Making.{MakesIfAnswered}
 pub use Rattle.traced.specs.Moving.{Closes, Enters, Exits, Refuses}
 pub use Rattle.traced.specs.Standing.{AreAssigned, AreAtMost, AreServed, CanAsk, CanClose, CanEnter, CanExit, CanMake, CanTell, HasOwnId, IsHeld, ServesLane, StandsReady}
-pub use Rattle.traced.specs.Staying.{Stays}
+pub use Rattle.traced.specs.Staying.{IsUnchanged}
 pub use Rattle.traced.specs.Telling.{Tells}

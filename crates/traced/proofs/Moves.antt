@@ -1,6 +1,6 @@
 -- What each call keeps and makes.
 use Rattle.std.proofs.Common.{◌≡◌, ℕ, zero, suc, ◌+◌, ◌≤◌, ◌<◌, List, [], ◌∷◌, length, Option, Some, None, Result, Ok, Err, refl, sym, ap, ◌∙◌, subst, arith, inl, inr, count_by, slice_get, ◌==◌, OnOk, OnErr, IfOk, IfSome}
-use Rattle.traced.proofs.Common.{option_map_or, cases_eq, get_or_past, Memory, ValueSet, Callsite, Lane, Parent, Ghosts, WorldValue, dispatch_on, Span, Spans, no_span, span_at, entries_on, parent_on, SubscriberCall, NewSpan, Event, Enter, Exit, spans_after_call, IsLive, IsLiveParent, KeepsAttached, Replaced, ChangesPlainData, KeepsPlainData, Chain, ChainChangesPlainData, spans_in, kept_in, no_spans, HeldSpan, Handle, IsKnown, IsOf, HasOn, Makes, MakesIf, MayMakeIf, ReplacedIf, ReplacedOn, EntryGuard, KeepsLaneButRoom, KeepsKnown, KeepsHandles, KeepsOthers, as_many, shown, alike, chain_shown, IsLawful, AreAtMost, AreServed, StandsReady, IsHeld, CanClose, IsAsBefore, IsOfNewest, HadNoHandle, HasMade, IsLiveOn, IsEntered, HasEntered, TellsEventIf, Enters, Refuses, Stays}
+use Rattle.traced.proofs.Common.{option_map_or, cases_eq, get_or_past, Memory, ValueSet, Callsite, Lane, Parent, Ghosts, WorldValue, dispatch_on, Span, Spans, no_span, span_at, entries_on, parent_on, SubscriberCall, NewSpan, Event, Enter, Exit, spans_after_call, IsLive, IsLiveParent, KeepsAttached, Replaced, ChangesPlainData, KeepsPlainData, Chain, ChainChangesPlainData, spans_in, kept_in, no_spans, HeldSpan, Handle, IsKnown, IsOf, HasOn, Makes, MakesIf, MayMakeIf, ReplacedIf, ReplacedOn, EntryGuard, KeepsLaneButRoom, KeepsKnown, KeepsHandles, KeepsOthers, as_many, shown, alike, chain_shown, IsLawful, AreAtMost, AreServed, StandsReady, IsHeld, CanClose, IsAsBefore, IsOfNewest, HadNoHandle, HasMade, IsLiveOn, IsEntered, HasEntered, TellsEventIf, Enters, Refuses, IsUnchanged}
 use Rattle.otel_base.specs.declared.enter_error.EnterError.{EnterError}
 use Rattle.trace_base.specs.Sound.{IsSound}
 use Rattle.trace_base.proofs.Sound.{parent_live}
@@ -28,8 +28,8 @@ later sub n m dispatch sites world lanes within stands = record {
   served = stands.served;
 }
 
-pub stays_same : {S : Type 0} (sub : Ghosts S) (old new : WorldValue S) → new ≡ old → Stays sub old new
-stays_same {S} sub old new same = subst (λ (w : WorldValue S). Stays sub old w) (sym same) (record {
+pub stays_same : {S : Type 0} (sub : Ghosts S) (old new : WorldValue S) → new ≡ old → IsUnchanged sub old new
+stays_same {S} sub old new same = subst (λ (w : WorldValue S). IsUnchanged sub old w) (sym same) (record {
   alike = λ d. record { spans_same = refl; attaches_same = refl; kept_same = refl; count = refl; whole = λ w. w };
   sites = refl;
   global = refl;
@@ -38,7 +38,7 @@ stays_same {S} sub old new same = subst (λ (w : WorldValue S). Stays sub old w)
 
 -- a step that leaves all that is read
 pub stays_step : {S : Type 0} (sub : Ghosts S) (R : S → S → Type 0) → ((s t : S) → R s t → sub.spans t ≡ sub.spans s) → ((s t : S) → R s t → sub.attaches t ≡ sub.attaches s) → ((s t : S) → R s t → sub.kept t ≡ sub.kept s)
-    → ((s t : S) → R s t → sub.is_whole s → sub.is_whole t) → (old new : WorldValue S) (dispatch : ℕ) → Replaced R old new dispatch → Stays sub old new
+    → ((s t : S) → R s t → sub.is_whole s → sub.is_whole t) → (old new : WorldValue S) (dispatch : ℕ) → Replaced R old new dispatch → IsUnchanged sub old new
 stays_step {S} sub R a b c e old new dispatch r = record {
   alike = λ d. elim (cases_eq d dispatch) [
     | inl here ↦ subst (λ (k : ℕ). KeepsPlainData sub.spans sub.attaches sub.kept sub.is_whole old new k) (sym here) (alike sub.spans sub.attaches sub.kept sub.is_whole R a b c e old new dispatch r)
@@ -49,12 +49,12 @@ stays_step {S} sub R a b c e old new dispatch r = record {
   known = handles_same sub.spans R a old new dispatch r;
 }
 
-pub stays_stands : {S : Type 0} (sub : Ghosts S) (n dispatch sites : ℕ) (old new : WorldValue S) (lanes : List Lane) → Stays sub old new → StandsReady sub n dispatch sites old lanes → StandsReady sub n dispatch sites new lanes
+pub stays_stands : {S : Type 0} (sub : Ghosts S) (n dispatch sites : ℕ) (old new : WorldValue S) (lanes : List Lane) → IsUnchanged sub old new → StandsReady sub n dispatch sites old lanes → StandsReady sub n dispatch sites new lanes
 stays_stands sub n dispatch sites old new lanes stays stands =
     let a = stays.alike dispatch in
     stands_after sub n n dispatch sites old new lanes a.count stays.sites stays.global a.whole (λ few. subst (AreAtMost n) (sym a.spans_same) few) a.kept_same stands
 
-pub stays_as_before : {S : Type 0} (sub : Ghosts S) (dispatch : ℕ) (old new : WorldValue S) → Stays sub old new → IsAsBefore sub dispatch old new
+pub stays_as_before : {S : Type 0} (sub : Ghosts S) (dispatch : ℕ) (old new : WorldValue S) → IsUnchanged sub old new → IsAsBefore sub dispatch old new
 stays_as_before sub dispatch old new stays = record { known = stays.known.known; as_before = unchanged _ _ (stays.alike dispatch).spans_same }
 
 -- a handle that is known has a live span
@@ -70,24 +70,24 @@ module _ {S : Type 0} (sub : Ghosts S) (law : IsLawful sub) where
   by_call : (old new : WorldValue S) (dispatch : ℕ) (call : SubscriberCall) → Replaced (λ s t. sub.does s call t) old new dispatch → ChangesPlainData sub.spans sub.attaches sub.kept sub.is_whole old new dispatch call
   by_call old new dispatch call r = shown sub.spans sub.attaches sub.kept sub.is_whole sub.does law.shows law.lanes law.keeps_attaches law.keeps_whole old new dispatch call r
 
-  pub room_stays : (old new : WorldValue S) (dispatch : ℕ) → Replaced sub.same_but_room old new dispatch → Stays sub old new
+  pub room_stays : (old new : WorldValue S) (dispatch : ℕ) → Replaced sub.same_but_room old new dispatch → IsUnchanged sub old new
   room_stays old new dispatch r = stays_step sub sub.same_but_room law.same_spans law.same_attaches law.same_kept law.same_whole old new dispatch r
 
-  pub room_stays_if : (old new : WorldValue S) (o : Option ℕ) → ReplacedIf sub.same_but_room old new o → Stays sub old new
+  pub room_stays_if : (old new : WorldValue S) (o : Option ℕ) → ReplacedIf sub.same_but_room old new o → IsUnchanged sub old new
   room_stays_if old new None r = stays_same sub old new r
   room_stays_if old new (Some e) r = room_stays old new e r
 
-  pub room_stays_on : (old new : WorldValue S) (held : HeldSpan) → ReplacedOn (λ id s t. sub.same_but_room s t) old new held → Stays sub old new
+  pub room_stays_on : (old new : WorldValue S) (held : HeldSpan) → ReplacedOn (λ id s t. sub.same_but_room s t) old new held → IsUnchanged sub old new
   room_stays_on old new None r = stays_same sub old new r
   room_stays_on old new (Some h) r = room_stays old new h.0 r
 
   -- an event
-  pub told : (old new : WorldValue S) (dispatch : ℕ) (lane : Lane) (at : ℕ) (parent : Parent) (site : ℕ) (callsite : Callsite) (values : ValueSet) → Replaced (λ s t. sub.does s (Event lane at parent site callsite values) t) old new dispatch → Stays sub old new
+  pub told : (old new : WorldValue S) (dispatch : ℕ) (lane : Lane) (at : ℕ) (parent : Parent) (site : ℕ) (callsite : Callsite) (values : ValueSet) → Replaced (λ s t. sub.does s (Event lane at parent site callsite values) t) old new dispatch → IsUnchanged sub old new
   told old new dispatch lane at parent site callsite values r =
       let call : SubscriberCall = Event lane at parent site callsite values in
       stays_step sub (λ s t. sub.does s call t) (λ s t e. law.shows s call t e) (λ s t e. law.keeps_attaches s call t e) (λ s t e. law.lanes s call t e) (λ s t e. law.keeps_whole s call t e) old new dispatch r
 
-  pub told_if : (old new : WorldValue S) (lane : Lane) (at : ℕ) (parent : Parent) (site : ℕ) (values : ValueSet) (o : Option ℕ) (result : Result (Unit {0}) Memory) → OnOk result (TellsEventIf sub.does old new lane at parent site values o) → OnErr result (ReplacedIf sub.same_but_room old new o) → Stays sub old new
+  pub told_if : (old new : WorldValue S) (lane : Lane) (at : ℕ) (parent : Parent) (site : ℕ) (values : ValueSet) (o : Option ℕ) (result : Result (Unit {0}) Memory) → OnOk result (TellsEventIf sub.does old new lane at parent site values o) → OnErr result (ReplacedIf sub.same_but_room old new o) → IsUnchanged sub old new
   told_if old new lane at parent site values None (Ok done) did left = stays_same sub old new did
   told_if old new lane at parent site values (Some d) (Ok done) did left = told old new d lane at parent site did.callsite values did.told
   told_if old new lane at parent site values o (Err memory) did left = room_stays_if old new o left

@@ -24,12 +24,12 @@ HaveSameIds (lane ∷ lanes) [] = ⊥
 HaveSameIds (lane ∷ lanes) (last ∷ left) = (last.id ≡ lane.id) × HaveSameIds lanes left
 
 -- Calls can be made still. What was made since is closed, and what was entered is exited.
-pub record Keeps {S : Type 0} (sub : Ghosts S) (most sites : ℕ) (old : WorldValue S) (lanes : List Lane) (new : WorldValue S) (left : List Lane) : Type 0 where
+pub record RestoresWorld {S : Type 0} (sub : Ghosts S) (most sites : ℕ) (old : WorldValue S) (lanes : List Lane) (new : WorldValue S) (left : List Lane) : Type 0 where
   pub ready : StandsAlone sub most sites new left
   pub ids : HaveSameIds lanes left
   pub restores : IsAsBefore sub 0 old new
 
 -- the same of a function with a result, and what it did if that is Ok
-pub record Ends {S E : Type 0} (sub : Ghosts S) (most sites : ℕ) (old : WorldValue S) (lanes : List Lane) (new : WorldValue S) (left : List Lane) (result : Result (Unit {0}) E) (done : Type 0) : Type 0 where
-  pub keeps : Keeps sub most sites old lanes new left
+pub record RestoresAndDid {S E : Type 0} (sub : Ghosts S) (most sites : ℕ) (old : WorldValue S) (lanes : List Lane) (new : WorldValue S) (left : List Lane) (result : Result (Unit {0}) E) (done : Type 0) : Type 0 where
+  pub keeps : RestoresWorld sub most sites old lanes new left
   pub did : result ≡ Ok tt → done

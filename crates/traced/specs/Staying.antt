@@ -6,7 +6,7 @@ use Rattle.span_handles.specs.Worlds.{KeepsPlainData}
 use Rattle.span_handles.specs.Knowing.{KeepsHandles}
 
 -- nothing that is read changed: of each subscriber its spans and what it keeps attached, and the world's callsites
-pub record Stays {S : Type 0} (sub : Ghosts S) (old new : WorldValue S) : Type 0 where
+pub record IsUnchanged {S : Type 0} (sub : Ghosts S) (old new : WorldValue S) : Type 0 where
   pub alike : (dispatch : ℕ) → KeepsPlainData sub.spans sub.attaches sub.kept sub.is_whole old new dispatch
   pub sites : new.sites ≡ old.sites
   pub global : new.global ≡ old.global

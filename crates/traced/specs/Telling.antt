@@ -8,7 +8,7 @@ use Rattle.trace_base.specs.declared.subscriber.Subscriber.{Ghosts}
 use Rattle.trace_base.specs.Gate.{WorldValue, dispatch_on}
 use Rattle.span_handles.specs.Handles.{ReplacedIf}
 use Rattle.traced.specs.Gating.{AnswersGate, TellsOne}
-use Rattle.traced.specs.Staying.{Stays}
+use Rattle.traced.specs.Staying.{IsUnchanged}
 
 -- An event is told under a parent where the gate lets its callsite through, else nothing happens. Nothing that is read changes,
 -- and without memory nothing but room.
@@ -16,4 +16,4 @@ pub record Tells {S : Type 0} (sub : Ghosts S) (old new : WorldValue S) (lane : 
   pub told : AnswersGate sub old lane site true → OnOk result (TellsOne sub old new lane at parent site values)
   pub refused : AnswersGate sub old lane site false → IsOk result × (new ≡ old)
   pub memory_leaves : OnErr result (ReplacedIf sub.same_but_room old new (dispatch_on lane.default old.global))
-  pub stays : Stays sub old new
+  pub stays : IsUnchanged sub old new

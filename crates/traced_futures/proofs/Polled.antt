@@ -9,7 +9,7 @@ use Rattle.trace_base.specs.Calls.{Exit}
 use Rattle.span_handles.specs.Handles.{IsKnown, ReplacedOn}
 use Rattle.span_handles.specs.Entries.{EntryGuard, MeetsFullLane}
 use Rattle.span_futures.specs.declared.instrument.Instrumented.{Instrumented}
-use Rattle.span_futures.specs.Polls.{Polled, CannotEnter, IsInside}
+use Rattle.span_futures.specs.Polls.{PollResult, CannotEnter, PollsInside}
 use Rattle.span_futures.proofs.Inside.{begun, ended, keeps_nothing}
 use Rattle.traced.specs.Laws.{IsLawful}
 use Rattle.traced.proofs.Elsewhere.{count_on}
@@ -17,11 +17,11 @@ use Rattle.traced.proofs.Moves.{later, refuses, entered_on, has_entered, exited_
 use Rattle.traced_futures.specs.Polling.{ChangesNothing, PollsPlain, Polls}
 
 -- an error isn't an answer
-no_error : {A : Type 0} (result : Polled A) → result ≡ Err Full → IsOk result → ⊥
+no_error : {A : Type 0} (result : PollResult A) → result ≡ Err Full → IsOk result → ⊥
 no_error (Ok x) is ok = absurd (cc is)
 no_error (Err e) is ok = absurd (cc ok)
 
-module _ {T S A : Type 0} (sub : Ghosts S) (law : IsLawful sub) (future : Instrumented T) (old : WorldValue S) (before : Lane) (at : ℕ) (result : Polled A) (next : Instrumented T) (new : WorldValue S) (left : Lane) where
+module _ {T S A : Type 0} (sub : Ghosts S) (law : IsLawful sub) (future : Instrumented T) (old : WorldValue S) (before : Lane) (at : ℕ) (result : PollResult A) (next : Instrumented T) (new : WorldValue S) (left : Lane) where
   of_refused : CannotEnter sub.same_but_room sub.activates future old before result next new left → Polls sub old new before left future.span
   of_refused r =
       let refused = refuses sub law old new before left future.span (Err r.error) r.nothing r.lane_same in
@@ -32,7 +32,7 @@ module _ {T S A : Type 0} (sub : Ghosts S) (law : IsLawful sub) (future : Instru
         as_before = λ dispatch held. refused.as_before dispatch;
       }
 
-  of_inside : IsKnown sub.spans old future.span.held → IsInside sub.does sub.activates ChangesNothing future old before at result next new left → Polls sub old new before left future.span
+  of_inside : IsKnown sub.spans old future.span.held → PollsInside sub.does sub.activates ChangesNothing future old before at result next new left → Polls sub old new before left future.span
   of_inside known r =
       let handle = future.span in
       let guard : EntryGuard = record { span = handle; lane = before.id } in

@@ -11,7 +11,7 @@ use Rattle.trace_base.specs.Gate.{WorldValue}
 use Rattle.span_handles.specs.Handles.{Handle}
 use Rattle.span_futures.specs.declared.instrument.Instrumented.{Instrumented}
 use Rattle.traced.specs.Standing.{IsHeld}
-use Rattle.traced.specs.Keeping.{StandsAlone, StandsWith, Keeps}
+use Rattle.traced.specs.Keeping.{StandsAlone, StandsWith, RestoresWorld}
 use Rattle.traced.specs.Making.{MakesIfAnswered}
 use Rattle.traced.specs.Moving.{Closes}
 use Rattle.traced.proofs.AsksLemmas.{asking}
@@ -50,7 +50,7 @@ module _ {S : Type 0} {sub : Ghosts S} {n sites : ℕ} {world : WorldValue S} {l
   }
 
   -- a poll is one entry more, and leaves all as it was
-  pub keeps_polled : {m : ℕ} {new : WorldValue S} {left : Lane} {handle : Handle} → Polls sub world new lane left handle → IsHeld sub 0 world handle → n + 1 ≤ m → Keeps sub m sites world (lane ∷ others) new (left ∷ others)
+  pub keeps_polled : {m : ℕ} {new : WorldValue S} {left : Lane} {handle : Handle} → Polls sub world new lane left handle → IsHeld sub 0 world handle → n + 1 ≤ m → RestoresWorld sub m sites world (lane ∷ others) new (left ∷ others)
   keeps_polled {m} {new} {left} polls held within = record {
     ready = record { stands = later sub (n + 1) m 0 sites new (left ∷ others) within (polls.stands n 0 sites others held ready.stands); alone = polls.count ∙ ready.alone };
     ids = (polls.lane_id, same_ids others);
@@ -90,7 +90,7 @@ module _ {T S : Type 0} {sub : Ghosts S} {n sites : ℕ} where
       closes : Closes sub ended new ends handle
       closes = subst (Closes sub ended new ends) (keeps.span ∙ one_span is) closing
 
-      pub keeps_under : Keeps sub m sites old (lane ∷ others) new left
+      pub keeps_under : RestoresWorld sub m sites old (lane ∷ others) new left
       keeps_under = keeps_closed ready makes keeps.keeps closes
 
       pub runs_under : {between : Instrumented T → WorldValue S → Instrumented T → WorldValue S → Type 0} → between future begun later ended → RunsUnder sub lane parent site values at ends inner between old new

@@ -10,11 +10,11 @@ use Rattle.span_handles.specs.Handles.{Handle}
 pub use Rattle.span_futures.specs.declared.instrument.Instrumented.{Instrumented}
 pub use Rattle.span_futures.specs.declared.plain.Plain.{Plain}
 use Rattle.span_futures.specs.Lent.{HasAll, AreAllAttached}
-use Rattle.span_futures.specs.Polls.{Polled, CannotEnter, IsInside}
+use Rattle.span_futures.specs.Polls.{PollResult, CannotEnter, PollsInside}
 use Rattle.traced.specs.Standing.{StandsReady, IsHeld}
 use Rattle.traced.specs.AsBefore.{IsAsBefore}
 use Rattle.traced.specs.Between.{MakesAndCloses}
-use Rattle.traced.specs.Keeping.{Keeps}
+use Rattle.traced.specs.Keeping.{RestoresWorld}
 
 -- A world and a lane can be lent to a future, which may call any subscriber: each is whole, and what it keeps attached to
 -- the lane is attached there.
@@ -24,24 +24,24 @@ pub record CanLend {S : Type 0} (sub : Ghosts S) (world : WorldValue S) (lane : 
   pub still : AreAllAttached sub.kept world lane
 
 -- a poll that leaves world and lane alone
-abbrev pub ChangesNothing : {T S A : Type 0} → T → WorldValue S → Lane → ℕ → Polled A → T → WorldValue S → Lane → Type 0
+abbrev pub ChangesNothing : {T S A : Type 0} → T → WorldValue S → Lane → ℕ → PollResult A → T → WorldValue S → Lane → Type 0
 ChangesNothing future old before at result next new later = (new ≡ old) × (later ≡ before) × IsOk result
 
 -- such a future was polled inside its span, or that couldn't be entered and the future wasn't polled
-abbrev pub PollsPlain : {T S A : Type 0} → Ghosts S → Instrumented T → WorldValue S → Lane → ℕ → Polled A → Instrumented T → WorldValue S → Lane → Type 0
+abbrev pub PollsPlain : {T S A : Type 0} → Ghosts S → Instrumented T → WorldValue S → Lane → ℕ → PollResult A → Instrumented T → WorldValue S → Lane → Type 0
 PollsPlain sub future old before at result next new later =
     CannotEnter sub.same_but_room sub.activates future old before result next new later
-    ⊎ IsInside sub.does sub.activates ChangesNothing future old before at result next new later
+    ⊎ PollsInside sub.does sub.activates ChangesNothing future old before at result next new later
 
 -- whether a poll came to a value
-abbrev pub is_ready : {A : Type 0} → Polled A → Bool
+abbrev pub is_ready : {A : Type 0} → PollResult A → Bool
 is_ready (Ok (Ready value)) = true
 is_ready (Ok Pending) = false
 is_ready (Err error) = false
 
 -- such a poll, and whether it came to a value
 abbrev pub PollsOnce : {T S : Type 0} → (A : Type 0) → Ghosts S → Instrumented T → WorldValue S → Lane → ℕ → Bool → Instrumented T → WorldValue S → Lane → Type 0
-PollsOnce A sub future old before at ready next new later = (polled : Polled A) × (ready ≡ is_ready polled) × PollsPlain sub future old before at polled next new later
+PollsOnce A sub future old before at ready next new later = (polled : PollResult A) × (ready ≡ is_ready polled) × PollsPlain sub future old before at polled next new later
 
 -- A poll leaves all as it was. The world stands with an entry more.
 pub record Polls {S : Type 0} (sub : Ghosts S) (old new : WorldValue S) (before left : Lane) (handle : Handle) : Type 0 where
@@ -52,7 +52,7 @@ pub record Polls {S : Type 0} (sub : Ghosts S) (old new : WorldValue S) (before 
 
 -- the same of some polls: the future is under the span that it was under, and that is held on
 pub record KeepsFuture {T S : Type 0} (sub : Ghosts S) (most sites : ℕ) (future : Instrumented T) (old : WorldValue S) (lanes : List Lane) (later : Instrumented T) (new : WorldValue S) (left : List Lane) : Type 0 where
-  pub keeps : Keeps sub most sites old lanes new left
+  pub keeps : RestoresWorld sub most sites old lanes new left
   pub span : later.span ≡ future.span
   pub held : IsHeld sub 0 new later.span
 

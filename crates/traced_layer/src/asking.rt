@@ -4,7 +4,7 @@ ghost use Rattle.otel_base.specs.Ids.{is_valid};
 ghost use Rattle.otel_state.specs.declared.op.Op.TheVariants as ops;
 ghost use Rattle.otel_layer.specs.Asking.{AppliesOn, AsksDone, AsksParent, link_of};
 ghost use Rattle.traced.specs.Standing.{CanAsk};
-ghost use Rattle.traced.specs.Staying.{Stays};
+ghost use Rattle.traced.specs.Staying.{IsUnchanged};
 
 use otel_base::context::{Context, SpanContext};
 use otel_base::memory::Memory;
@@ -26,7 +26,7 @@ pub fn set_parent<S: OtelSubscriber>(
 ) -> Result<(), SetParentError>
     requires { CanAsk world.old span.now }
     ensures asks { AsksParent S.touches world.old world.new at cx span.now.held result }
-    ensures stays { Stays S.Subscriber world.old world.new }
+    ensures stays { IsUnchanged S.Subscriber world.old world.new }
 {
     span.set_parent(world, at, cx)
 }
@@ -42,7 +42,7 @@ pub fn add_link<S: OtelSubscriber>(
     ensures valid { is_valid cx ≡ true
         → AsksDone S.touches world.old world.new at (link_of cx []) span.now.held result }
     ensures invalid { is_valid cx ≡ false → (result ≡ Ok tt) × (world.new ≡ world.old) }
-    ensures stays { Stays S.Subscriber world.old world.new }
+    ensures stays { IsUnchanged S.Subscriber world.old world.new }
 {
     span.add_link(world, at, cx)
 }
@@ -58,7 +58,7 @@ pub fn set_attribute<S: OtelSubscriber>(
     requires { CanAsk world.old span.now }
     ensures asks { AsksDone S.touches world.old world.new at (ops.SetAttribute (record { key = key; value = value }))
         span.now.held result }
-    ensures stays { Stays S.Subscriber world.old world.new }
+    ensures stays { IsUnchanged S.Subscriber world.old world.new }
 {
     span.set_attribute(world, at, key, value)
 }
@@ -68,7 +68,7 @@ pub fn set_status<S: OtelSubscriber>(span: &Span, world: &mut World<S>, at: u64,
     requires { CanAsk world.old span.now }
     ensures asks { (answer : _)
         × AppliesOn S.touches world.old world.new at (ops.SetStatus status) span.now.held answer }
-    ensures stays { Stays S.Subscriber world.old world.new }
+    ensures stays { IsUnchanged S.Subscriber world.old world.new }
 {
     span.set_status(world, at, status);
 }

@@ -15,8 +15,8 @@ use Rattle.left_right.specs.contracts.reader.Reader as inner_reader_row
 use Rattle.crossbeam_utils.specs.declared.rule.Protocol.{Ghosts}
 use Rattle.value_reader.proofs.numbered.Numbered.TheSendSync as numbered
 use Rattle.value_reader.specs.contracts.numbered.Numbered as numbered_row
-use Rattle.value_reader.proofs.numbered.Shown.TheSendSync as shown
-use Rattle.value_reader.specs.contracts.numbered.Shown as shown_row
+use Rattle.value_reader.proofs.numbered.InPlace.TheSendSync as shown
+use Rattle.value_reader.specs.contracts.numbered.InPlace as shown_row
 use Rattle.value_reader.specs.contracts.order.View as view_row
 use Rattle.value_reader.specs.contracts.order.InOrder as in_order_row
 use Rattle.value_reader.specs.contracts.order.InOrderProtocolShownView.TheImpl as rule

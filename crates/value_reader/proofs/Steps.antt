@@ -5,9 +5,9 @@ use mathlib.Core.List.{IsPrefix}
 use lib.ListN.{get_elem?}
 use Rattle.crossbeam_utils.specs.Register.{Admits, Turns}
 use Rattle.atomic_table.proofs.Lists.{at_set, at_snoc}
-use Rattle.value_reader.specs.declared.numbered.Shown.{Shown}
+use Rattle.value_reader.specs.declared.numbered.InPlace.{InPlace}
 use Rattle.value_reader.specs.declared.order.View.{View}
-use Rattle.value_reader.specs.Order.{view_of, newcomer, IsKept, SeesAll}
+use Rattle.value_reader.specs.Order.{view_of, newcomer, KeepsOrder, SeesAll}
 use Rattle.value_reader.proofs.Lists.{prefix_self}
 
 abbrev pub Each : {A : Type 0} → List A → List (View A) → Type 0
@@ -24,10 +24,10 @@ each_more {A} values views w each here j u e =
 pub none_begins : {A : Type 0} (values : List A) → IsPrefix [] values
 none_begins values = (values, refl)
 
-pub admits : {A : Type 0} → Admits (λ (s : Shown A) (views : List (View A)). IsKept s views) newcomer
+pub admits : {A : Type 0} → Admits (λ (s : InPlace A) (views : List (View A)). KeepsOrder s views) newcomer
 admits s views k = record { values = k.values; ends = k.ends; each = each_more k.values views newcomer k.each (none_begins k.values) }
 
-pub looks : {A : Type 0} (seat : ℕ) (v : View A) → Turns IsKept seat v (λ s. s) SeesAll
+pub looks : {A : Type 0} (seat : ℕ) (v : View A) → Turns KeepsOrder seat v (λ s. s) SeesAll
 looks seat v s views k at = (
   view_of k.values,
   record { values = k.values; ends = k.ends; each = each_set k.values views seat (view_of k.values) k.each (prefix_self k.values) },

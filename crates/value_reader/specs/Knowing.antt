@@ -7,19 +7,19 @@ use Rattle.value_reader.specs.declared.order.View.{View}
 use Rattle.value_reader.specs.Order.{EndsWith}
 
 -- A reader: whose it is, the values that it has seen put in place, from the first on, and the number of the one that it has.
-pub record Known (A : Type 0) : Type 0 where
+pub record ReaderValue (A : Type 0) : Type 0 where
   pub table : TableId
   pub values : List A
   pub number : ℕ
 
 -- A writer, or a note of it: whose it is, and all values that were put in place until then, from the first on.
-pub record Written (A : Type 0) : Type 0 where
+pub record WriterValue (A : Type 0) : Type 0 where
   pub table : TableId
   pub values : List A
 
 -- a new reader of this writer, which has seen the first value
-abbrev pub IsNew : {A : Type 0} → TableId → A → Known A → Type 0
-IsNew table first r = (r.table ≡ table) × (r.values ≡ first ∷ []) × (r.number ≡ 0)
+abbrev pub IsNewReader : {A : Type 0} → TableId → A → ReaderValue A → Type 0
+IsNewReader table first r = (r.table ≡ table) × (r.values ≡ first ∷ []) × (r.number ≡ 0)
 
 -- ---- inside
 

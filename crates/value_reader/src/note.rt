@@ -23,9 +23,9 @@ pub struct ValueNote<T: Drop> {
 impl<T: Drop> Model for ValueNote<T> {
     ghost use Rattle.std.specs.Prelude.{◌∷◌};
     ghost use Rattle.std.specs.Arc.{arc_value};
-    ghost use Rattle.value_reader.specs.Knowing.{Written, IsLast};
+    ghost use Rattle.value_reader.specs.Knowing.{WriterValue, IsLast};
 
-    ghost Value = { Written T };
+    ghost Value = { WriterValue T };
 
     ghost view = { λ n. record { table = (arc_value n.origin.value.home.value.board).shared.table_id; values = n.origin.value.first.value ∷ n.reader.place.me.0.client.seen } };
 

@@ -66,11 +66,11 @@ impl<T: Drop> Drop for Numbered<T> {
 
 /// The one that is in place.
 #[derive(Drop)]
-pub struct Shown<T> {
+pub struct InPlace<T> {
     pub last: Arc<Numbered<T>, Global>,
 }
 
-impl<T: Drop> Absorb<Arc<Numbered<T>, Global>> for Shown<T> {
+impl<T: Drop> Absorb<Arc<Numbered<T>, Global>> for InPlace<T> {
     type State = Numbered<T>;
 
     ghost state = { λ s. arc_value s.last };
@@ -80,7 +80,7 @@ impl<T: Drop> Absorb<Arc<Numbered<T>, Global>> for Shown<T> {
     fn absorb_first(
         &mut self,
         operation: &Arc<Numbered<T>, Global>,
-        _other: &Shown<T>,
+        _other: &InPlace<T>,
     ) -> Result<(), AllocError> {
         self.last = Arc::try_clone(operation)?;
         Ok(())
@@ -89,7 +89,7 @@ impl<T: Drop> Absorb<Arc<Numbered<T>, Global>> for Shown<T> {
     fn absorb_second(
         &mut self,
         operation: Arc<Numbered<T>, Global>,
-        _other: &Shown<T>,
+        _other: &InPlace<T>,
     ) -> Result<(), Arc<Numbered<T>, Global>> {
         self.last = operation;
         Ok(())

@@ -3,7 +3,7 @@ ghost use Rattle.std.specs.Prelude.{◌≡◌, ◌+◌, ◌<◌, ◌≤◌, [], 
 ghost use mathlib.Core.List.{IsPrefix};
 ghost use Rattle.std.specs.Arc.{arc_value};
 ghost use Rattle.left_right.specs.Sides.{view};
-ghost use Rattle.value_reader.specs.Knowing.{FindsLater, IsFirst, IsNew};
+ghost use Rattle.value_reader.specs.Knowing.{FindsLater, IsFirst, IsNewReader};
 
 use crate::note::ValueNote;
 use crate::numbered::Numbered;
@@ -42,9 +42,9 @@ impl<T: Drop> Drop for ValueReader<T> {
 impl<T: Drop> Model for ValueReader<T> {
     ghost use Rattle.std.specs.Prelude.{◌≡◌, ◌∷◌, Some, slice_get, option_map};
     ghost use Rattle.std.specs.Arc.{arc_value};
-    ghost use Rattle.value_reader.specs.Knowing.{Known, seen_by};
+    ghost use Rattle.value_reader.specs.Knowing.{ReaderValue, seen_by};
 
-    ghost Value = { Known T };
+    ghost Value = { ReaderValue T };
 
     ghost view = { λ r. record { table = (arc_value r.origin.value.home.value.board).shared.table_id; values = r.origin.value.first.value ∷ seen_by (option_map (λ s. s.place.me.0.client) r.reader); number = (arc_value r.last).number } };
 
@@ -60,7 +60,7 @@ impl<T: Drop> ValueReader<T> {
     ) -> ValueReader<T>
         requires home { (arc_value factory.now.board).shared.table_id ≡ (arc_value origin.now.home.value.board).shared.table_id }
         requires first { IsFirst origin.now.first.value (arc_value first) }
-        ensures { IsNew (arc_value origin.now.home.value.board).shared.table_id origin.now.first.value result }
+        ensures { IsNewReader (arc_value origin.now.home.value.board).shared.table_id origin.now.first.value result }
     {
         ValueReader {
             origin: Snapshot::of(origin),

@@ -1,7 +1,7 @@
 //! One writer that puts texts in force while eight gates are asked, each in a thread of its own.
 ghost use Rattle.std.specs.Prelude.{◌≡◌, ◌<◌, ◌≤◌, All, option_to_list};
 ghost use Rattle.std.specs.Thread.{IsSync};
-ghost use Rattle.shared_gate.specs.declared.writer.TheConstants.{MOST_GATES};
+ghost use Rattle.shared_gate.specs.declared.writer.TheConstants.{MAX_GATES};
 
 use crate::gate_questions::{Question, answers, learns, make_question};
 use shared_gate::{GateNote, GateWriter, SharedGate};
@@ -121,7 +121,7 @@ fn are_asked<R: Threads + Wait + Sync>(
     question: &Question,
 ) -> bool
     requires sync { IsSync R.row }
-    requires readers { (0 < readers) × (readers ≤ MOST_GATES) }
+    requires readers { (0 < readers) × (readers ≤ MAX_GATES) }
 {
     match SharedGate::make(alloc, "off", readers) {
         Ok((mut writer, mut gates)) => {

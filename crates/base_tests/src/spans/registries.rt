@@ -96,13 +96,13 @@ fn chain(registry: &mut Registry, making: &Making) -> Result<[u64; 6], Memory>
     registry.try_close(ids[0], 1);
     let left = registry.holds(ids[0]);
     registry.try_close(ids[1], 2);
-    let third = registry.release_hold(ids[2]);
+    let third = registry.next_closed(ids[2]);
     let second = match third {
-        Some(id) => registry.release_hold(id),
+        Some(id) => registry.next_closed(id),
         None => None,
     };
     let first = match second {
-        Some(id) => registry.release_hold(id),
+        Some(id) => registry.next_closed(id),
         None => None,
     };
     Ok([

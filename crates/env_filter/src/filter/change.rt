@@ -104,7 +104,7 @@ impl EnvFilter {
     }
 
     // Adds a directive to its table.
-    fn place(&mut self, directive: Directive) -> Result<(), Memory>
+    fn add_to_table(&mut self, directive: Directive) -> Result<(), Memory>
         ensures ok { OnOk result (plain_filter self.new ≡ with_in_table (plain_filter self.old) directive) }
         ensures memory_leaves { OnErr result (plain_filter self.new ≡ plain_filter self.old) }
     {

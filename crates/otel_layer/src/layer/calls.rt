@@ -20,7 +20,7 @@ use crate::starts::start_state;
 use otel_base::context::{Context, SpanContext};
 use otel_base::list::Items;
 use otel_base::record::Link;
-use otel_base::stack::ContextGuard;
+use otel_base::stack::Attached;
 use otel_base::tracer::Tracer;
 use otel_state::op::Op;
 use otel_state::state::SpanState;
@@ -181,7 +181,7 @@ impl<T: Tracer> OpenTelemetryLayer<T> {
     }
 
     // Adds an open entry.
-    fn add_token(&mut self, lane: u64, id: Id, attached: Option<ContextGuard>)
+    fn add_token(&mut self, lane: u64, id: Id, attached: Option<Attached>)
         requires { 0 < self.old.token_room }
         ensures { self.new.core ≡ with_token (record { lane = lane; id = id; attached = attached }) self.old.core }
     {

@@ -9,7 +9,7 @@ ghost use Rattle.otel_layer.specs.Core.{entries_by, is_token};
 ghost use Rattle.otel_layer.specs.Steps.{AttachesContext, DetachesContext, DetachesOwnContext};
 
 use otel_base::context::Context;
-use otel_base::stack::ContextGuard;
+use otel_base::stack::Attached;
 use trace_base::discard::Discard;
 use trace_base::lane::Lane;
 use trace_base::span::Id;
@@ -18,7 +18,7 @@ use trace_base::span::Id;
 pub(crate) struct Token {
     pub(crate) lane: u64,
     pub(crate) id: Id,
-    pub(crate) attached: Option<ContextGuard>,
+    pub(crate) attached: Option<Attached>,
 }
 
 /// What it attached stays attached for good.
@@ -59,7 +59,7 @@ fn last_place(tokens: &[Token], lane: u64, id: Id) -> usize
 }
 
 // Attaches a context to a lane that has room for it.
-pub(crate) fn attach(context: Context, lane: &mut Lane) -> ContextGuard
+pub(crate) fn attach(context: Context, lane: &mut Lane) -> Attached
     requires { IsReadyToAttach lane.old.contexts }
     ensures { AttachesContext context lane.old lane.new (Some result) }
 {
@@ -70,7 +70,7 @@ pub(crate) fn attach(context: Context, lane: &mut Lane) -> ContextGuard
 }
 
 // Detaches what an entry attached, with activation.
-pub(crate) fn detach_if_active(activation: bool, attached: Option<ContextGuard>, lane: &mut Lane)
+pub(crate) fn detach_if_active(activation: bool, attached: Option<Attached>, lane: &mut Lane)
     requires { activation ≡ true → IfSome attached (λ n. 0 < attached_as n lane.old) }
     ensures lane { DetachesOwnContext (if activation then attached else None) lane.old lane.new }
     ensures id { lane.new.id ≡ lane.old.id }
@@ -87,7 +87,7 @@ pub(crate) fn detach_if_active(activation: bool, attached: Option<ContextGuard>,
     }
 }
 
-fn detach(attached: ContextGuard, lane: &mut Lane)
+fn detach(attached: Attached, lane: &mut Lane)
     requires { 0 < attached_as attached lane.old }
     ensures lane { DetachesContext attached lane.old lane.new }
     ensures id { lane.new.id ≡ lane.old.id }

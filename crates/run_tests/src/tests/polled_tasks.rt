@@ -18,7 +18,7 @@ use std::test::Fail;
 use trace_base::discard::Discard;
 use trace_base::lane::Lane;
 use trace_lines::generated::generated_settings;
-use trace_pipeline::world_of;
+use trace_pipeline::new_world;
 use trace_tape::tape::Tape;
 use trace_tasks::run::run_tasks;
 use trace_tasks::script::{Step, Task, TaskScript};
@@ -33,7 +33,7 @@ fn steps(alloc: Global) -> Result<Items<Step>, Memory>
     let fields = Items::new(alloc);
     steps.push(Step::Event { site: 2, fields })?;
     steps.push(Step::Yield)?;
-    let key = Text::from(String::from_str(alloc, "k")?);
+    let key = Text::from_str(alloc, "k")?;
     let value = OtelValue::I64(7);
     steps.push(Step::SetAttribute { key, value })?;
     Ok(steps)
@@ -67,7 +67,7 @@ fn script(alloc: Global) -> Result<TaskScript, Memory>
 }
 
 // The word of a request, and the number of its handle, guard or callsite.
-fn word(call: &Call) -> (&'static str, u64) {
+fn word_and_number(call: &Call) -> (&'static str, u64) {
     match call {
         Call::New { site, .. } => ("new", *site),
         Call::Enter { handle } => ("enter", *handle),
@@ -80,20 +80,20 @@ fn word(call: &Call) -> (&'static str, u64) {
 }
 
 // A number of polls, and these requests.
-fn told(alloc: Global, polls: u64, requests: &[Request]) -> Result<String, Memory> {
-    let mut told = format!(in alloc; "{polls}")?;
+fn text(alloc: Global, polls: u64, requests: &[Request]) -> Result<String, Memory> {
+    let mut text = format!(in alloc; "{polls}")?;
     for request in requests {
-        let (at, (word, number)) = (request.at, word(&request.call));
-        told.push_str(format!(in alloc; ", {at} {word} {number}")?.as_str())?;
+        let (at, (word, number)) = (request.at, word_and_number(&request.call));
+        text.push_str(format!(in alloc; ", {at} {word} {number}")?.as_str())?;
     }
-    Ok(told)
+    Ok(text)
 }
 
 // How many polls the tasks take, and the requests that are on the tape then.
 fn polled(alloc: Global, cx: &mut Context<'_>) -> Result<String, Memory> {
     let script = script(alloc)?;
     let callsites = generated_settings(alloc)?.callsites.into_vec();
-    let (mut world, dispatch) = world_of(alloc, callsites, Tape::new(alloc))?;
+    let (mut world, dispatch) = new_world(alloc, callsites, Tape::new(alloc))?;
     let mut lane = Lane {
         id: 0,
         name: None,
@@ -103,7 +103,7 @@ fn polled(alloc: Global, cx: &mut Context<'_>) -> Result<String, Memory> {
     let told = match run_tasks(alloc, &script, &mut world, &mut lane, cx) {
         Ok(polls) => {
             runs_over_a_tape();
-            told(alloc, polls, world.subscriber(dispatch).requests())
+            text(alloc, polls, world.subscriber(dispatch).requests())
         }
         Err(_) => Err(Memory),
     };
@@ -114,7 +114,8 @@ fn polled(alloc: Global, cx: &mut Context<'_>) -> Result<String, Memory> {
 #[test]
 fn spells_the_flat_list(rt: HostRuntime) -> Result<(), Fail> {
     let task = MockTask::new(&rt)?;
-    let told = task.enter(|cx| polled(rt.alloc(), cx))?;
+    let alloc = rt.alloc();
+    let told = task.enter(|cx| polled(alloc, cx))?;
     let wanted =
         "3, 0 new 0, 0 new 0, 10 enter 0, 10 event 2, 10 exit 0, 20 enter 1, 20 exit 1, 20 drop 1, 30 enter 0, 30 set_attribute 0, 30 exit 2, 30 drop 0";
     assert_eq!(rt; told.as_str(), wanted);

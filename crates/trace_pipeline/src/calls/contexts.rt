@@ -14,7 +14,7 @@ use crate::pipeline::Pipeline;
 use otel_base::context::{Context, SpanContext};
 use otel_base::enter_error::EnterError;
 use otel_base::record::Moment;
-use otel_base::stack::ContextGuard;
+use otel_base::stack::Attached;
 use otel_layer::part::{OtelPart, OtelSubscriber};
 use otel_layer::span_ext::OpenTelemetrySpanExt;
 use span_handles::span::Span;
@@ -26,7 +26,7 @@ use trace_base::subscriber::Subscriber;
 use trace_base::world::World;
 
 // Attaches a context to a lane above all others.
-fn attach_to(lane: &mut Lane, context: Context) -> Result<ContextGuard, EnterError>
+fn attach_to(lane: &mut Lane, context: Context) -> Result<Attached, EnterError>
     ensures id { lane.new.id ≡ lane.old.id }
     ensures name { lane.new.name ≡ lane.old.name }
     ensures same_default { lane.new.default ≡ lane.old.default }
@@ -39,7 +39,7 @@ fn attach_to(lane: &mut Lane, context: Context) -> Result<ContextGuard, EnterErr
 }
 
 // Detaches a context of a lane, wherever it stands.
-fn detach_from(lane: &mut Lane, attached: ContextGuard)
+fn detach_from(lane: &mut Lane, attached: Attached)
     requires { has_number attached lane.old.contexts.live ≡ true }
     ensures id { lane.new.id ≡ lane.old.id }
     ensures name { lane.new.name ≡ lane.old.name }

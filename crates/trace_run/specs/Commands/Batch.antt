@@ -4,7 +4,7 @@ use Rattle.batch_lines.specs.Texts.{TellsBatches}
 use Rattle.span_script.specs.calls.Spans.{open_spans}
 use Rattle.span_script.specs.Outcomes.{records_of_history}
 use Rattle.span_script.specs.Tables.{tables}
-use Rattle.trace_batch.specs.declared.relay.TheConstants.{MOST_LANES}
+use Rattle.trace_batch.specs.declared.relay.TheConstants.{MAX_LANES}
 use Rattle.trace_records.specs.Inputs.{TellsRun, accepts_within}
 use Rattle.trace_records.specs.Scripts.{ScriptRan, script_of}
 use Rattle.trace_stream.specs.reading.AllLines.{meaning_of_all_lines}
@@ -18,11 +18,11 @@ TellsBatchesOf n script text =
 
 -- the records of the script of at most eight lanes that lines come to, in batches of n, or the refusal line alone
 abbrev pub TellsAll : ℕ → List (List ℕ) → List ℕ → Type 0
-TellsAll n lines text = TellsRun (TellsBatchesOf n) (script_of (Some MOST_LANES) lines) text
+TellsAll n lines text = TellsRun (TellsBatchesOf n) (script_of (Some MAX_LANES) lines) text
 
 -- the lines of a script of at most eight lanes
 abbrev pub accepts_few : List (List ℕ) → Bool
-accepts_few lines = accepts_within (Some MOST_LANES) lines
+accepts_few lines = accepts_within (Some MAX_LANES) lines
 
 abbrev pub meaning_of_batches : ℕ → Meaning
 meaning_of_batches size = record (meaning_of_all_lines accepts_few (TellsAll size)) { IsPossible = (0 < size) × (size ≤ MAX_BATCH_ITEMS) }

@@ -1,6 +1,6 @@
 -- What the changes of a step keep, and what they are to a subscriber.
 use Rattle.std.proofs.Common.{◌≡◌, ℕ, Option, Some, Result, Ok, Err, refl, sym, subst, ◌∙◌, arith, Bool, slice_get, slice_set, OnOk, OnErr}
-use Rattle.trace_tasks.proofs.Common.{Memory, OpReply, ValueSet, Callsite, Lane, LevelFilter, WorldValue, Spans, SubscriberCall, Records, Event, spans_after_call, CallLanes, KeepsLaneButRoom, Beside, CallsBy, KeepsLent, calls_none, calls_one, called_same, called_once, changed_once, keeps_nothing, refused, PartCall, Applies, StaysStack, Changes, nothing, room, told, recorded, asked, Asks, WantsMemory, spare, denied}
+use Rattle.trace_tasks.proofs.Common.{Memory, OpReply, ValueSet, Callsite, Lane, LevelFilter, WorldValue, Spans, SubscriberCall, Records, Event, spans_after_call, CallLanes, KeepsLaneButRoom, Beside, ChangesUpTo, KeepsLent, calls_none, calls_one, called_same, called_once, changed_once, keeps_nothing, refused, PartCall, Applies, StaysStack, Changes, nothing, room, told, recorded, asked, Asks, WantsMemory, spare, denied}
 use Rattle.otel_state.specs.declared.op.Op.{Op}
 use Rattle.trace_base.specs.declared.span.Parent.{Parent}
 
@@ -42,8 +42,8 @@ module _ {S : Type 0} (spans : S → Spans) (hint : S → Option LevelFilter) (e
 
   module _ (same_refl : (s : S) → same s s) (same_trans : (s t u : S) → same s t → same t u → same s u) where
     -- it is a call, or an op from outside
-    pub changes_call : (at : ℕ) (old new : WorldValue S) → Changes spans hint enables does touches same at old new → CallsBy does (Asks touches) same at old new
-    changes_call at old new (nothing is) = subst (λ (w : WorldValue S). CallsBy does (Asks touches) same at old w) (sym is) (calls_none does (Asks touches) same same_refl same_trans at old)
+    pub changes_call : (at : ℕ) (old new : WorldValue S) → Changes spans hint enables does touches same at old new → ChangesUpTo does (Asks touches) same at old new
+    changes_call at old new (nothing is) = subst (λ (w : WorldValue S). ChangesUpTo does (Asks touches) same at old w) (sym is) (calls_none does (Asks touches) same same_refl same_trans at old)
     changes_call at old new (room d r) = calls_one does (Asks touches) same same_refl same_trans at same old new d (λ s t alike. called_same does (Asks touches) same same_refl same_trans at s t alike) r
     changes_call at old new (told d on parent site callsite values r) =
         calls_one does (Asks touches) same same_refl same_trans at (λ s t. does s (Event on at parent site callsite values) t) old new d

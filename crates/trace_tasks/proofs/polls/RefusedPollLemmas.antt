@@ -1,6 +1,6 @@
 -- A poll of a task that was refused.
 use Rattle.std.proofs.Common.{◌≡◌, ℕ, List, [], ◌∷◌, ◌++◌, length, map, Bool, Option, Some, None, Err, refl, sym, ap, subst, ◌∙◌, slice_get, inl, inr, ◌⊎◌}
-use Rattle.trace_tasks.proofs.Common.{EnterError, Callsite, Lane, LevelFilter, SubscriberCall, Enter, spans_after_call, with_span_entry, CallLanes, WorldValue, Spans, entries_on, current_on, Replaced, Chain, spans_in, no_spans, Handle, HeldSpan, ReplacedOn, BeginsInside, KeepsLaneButRoom, MeetsFullLane, seen_before, seen_later, Instrumented, Polled, CannotEnter, IsInside, PartCall, StaysStack, Request, on_first_lane, TaskFuture, Step, PollsSteps, WantsMemory, untouched, spare, TaskScene, CarriesEnter, CarriesExit, CarriesOnHandle, UnfinishedTask, step_call, moment_of, StopsPoll, TurnStops, MeetsFull, dispatch_serving, ReadyToPoll, IsAlone, IsAloneAs, unfinished_task}
+use Rattle.trace_tasks.proofs.Common.{EnterError, Callsite, Lane, LevelFilter, SubscriberCall, Enter, spans_after_call, with_span_entry, CallLanes, WorldValue, Spans, entries_on, current_on, Replaced, Chain, spans_in, no_spans, Handle, HeldSpan, ReplacedOn, BeginsInside, KeepsLaneButRoom, MeetsFullLane, seen_before, seen_later, Instrumented, PollResult, CannotEnter, PollsInside, PartCall, StaysStack, Request, on_first_lane, TaskFuture, Step, PollsSteps, WantsMemory, untouched, spare, TaskScene, CarriesEnter, CarriesExit, CarriesOnHandle, UnfinishedTask, step_call, moment_of, StopsPoll, TurnStops, MeetsFull, dispatch_serving, ReadyToPoll, IsAlone, IsAloneAs, unfinished_task}
 use Rattle.span_script.specs.declared.request.Call.TheVariants as call
 use Rattle.trace_tasks.proofs.queues.RootLemmas.{entered_current, none_current}
 use Rattle.trace_tasks.proofs.polls.StepLemmas.{IsAt, disabled, enabled, first_acts, acts_carry}
@@ -54,7 +54,7 @@ module _ {S : Type 0} (spans : S → Spans) (hint : S → Option LevelFilter) (e
             }
 
   -- what a poll of a task's steps is
-  abbrev pub RunPolls : TaskFuture → WorldValue S → Lane → ℕ → Polled (Unit {0}) → TaskFuture → WorldValue S → Lane → Type 0
+  abbrev pub RunPolls : TaskFuture → WorldValue S → Lane → ℕ → PollResult (Unit {0}) → TaskFuture → WorldValue S → Lane → Type 0
   RunPolls f world lane at r g new later = PollsSteps spans hint enables does touches same f.steps.items world lane at r g.steps.items new later
 
   module _ (f g : Instrumented TaskFuture) (site : ℕ) (old world new : WorldValue S) (before later : Lane) (e : EnterError) (ready : ReadyToPoll spans kept is_whole old before) (lone : IsAlone (spans_in spans old (dispatch_serving before)).made (dispatch_serving before) site f.span)
@@ -111,7 +111,7 @@ module _ {S : Type 0} (spans : S → Spans) (hint : S → Option LevelFilter) (e
     }
 
     -- a step wanted memory
-    inside : IsInside does activates RunPolls f old before m (Err e) g world later → ReplacedOn (λ id s t. Chain spans does m (Some id) s t) world new f.span.held → StopsPoll spans hint enables activates does touches same d old.sites m k t e start new later
+    inside : PollsInside does activates RunPolls f old before m (Err e) g world later → ReplacedOn (λ id s t. Chain spans does m (Some id) s t) world new f.span.held → StopsPoll spans hint enables activates does touches same d old.sites m k t e start new later
     inside i chain =
         let polled : PollsSteps spans hint enables does touches same f.inner.steps.items i.world i.lane m (Err e) g.inner.steps.items i.left_world i.left_lane = i.polled in
         let stop = polled.2 in
@@ -154,19 +154,19 @@ module _ {S : Type 0} (spans : S → Spans) (hint : S → Option LevelFilter) (e
           handles = refl;
         }
 
-    either : CannotEnter {A = Unit {0}} same activates f old before (Err e) g world later ⊎ IsInside does activates RunPolls f old before m (Err e) g world later → ReplacedOn (λ id s t. Chain spans does m (Some id) s t) world new g.span.held
+    either : CannotEnter {A = Unit {0}} same activates f old before (Err e) g world later ⊎ PollsInside does activates RunPolls f old before m (Err e) g world later → ReplacedOn (λ id s t. Chain spans does m (Some id) s t) world new g.span.held
         → StopsPoll spans hint enables activates does touches same d old.sites m k t e start new later
     either (inl r) chain = refused r (subst (λ (h : Instrumented TaskFuture). ReplacedOn (λ id s t. Chain spans does m (Some id) s t) world new h.span.held) r.future_same chain)
     either (inr i) chain = inside i (subst (λ (h : Handle). ReplacedOn (λ id s t. Chain spans does m (Some id) s t) world new h.held) i.span_same chain)
 
   pub stops : (f g : Instrumented TaskFuture) (at site : ℕ) (old world new : WorldValue S) (before later : Lane) (e : EnterError) → ReadyToPoll spans kept is_whole old before → IsAlone (spans_in spans old (dispatch_serving before)).made (dispatch_serving before) site f.span
-      → CannotEnter {A = Unit {0}} same activates f old before (Err e) g world later ⊎ IsInside does activates RunPolls f old before at (Err e) g world later → ReplacedOn (λ id s t. Chain spans does at (Some id) s t) world new g.span.held
+      → CannotEnter {A = Unit {0}} same activates f old before (Err e) g world later ⊎ PollsInside does activates RunPolls f old before at (Err e) g world later → ReplacedOn (λ id s t. Chain spans does at (Some id) s t) world new g.span.held
       → TurnStops spans hint enables activates does touches same at f old before e new later
   stops f g at site old world new before later e ready lone polled chain = record {
     stops = λ number own k handles guards moment is count own_is.
         let same_site : site ≡ own = cc (lone.site_is, own_is) in
         subst (λ (n : ℕ). StopsPoll spans hint enables activates does touches same (dispatch_serving before) old.sites n k (unfinished_task number own f.inner) e (record { world = old; lane = before; handles = handles; guards = guards }) new later) (sym moment)
         (either f g own old world new before later e ready (subst (λ (x : ℕ). IsAlone (spans_in spans old (dispatch_serving before)).made (dispatch_serving before) x f.span) same_site lone) number k handles guards is count
-        (subst (λ (n : ℕ). CannotEnter {A = Unit {0}} same activates f old before (Err e) g world later ⊎ IsInside does activates RunPolls f old before n (Err e) g world later) moment polled)
+        (subst (λ (n : ℕ). CannotEnter {A = Unit {0}} same activates f old before (Err e) g world later ⊎ PollsInside does activates RunPolls f old before n (Err e) g world later) moment polled)
         (subst (λ (n : ℕ). ReplacedOn (λ id s t. Chain spans does n (Some id) s t) world new g.span.held) moment chain));
   }

@@ -1,6 +1,6 @@
 -- A poll of a task's steps, so far.
 use Rattle.std.proofs.Common.{◌≡◌, ℕ, List, [], ◌∷◌, ◌++◌, Bool, Option, Err, refl, sym, ap, subst, ◌∙◌, ◌⊎◌, inl, inr, append_assoc}
-use Rattle.trace_tasks.proofs.Common.{Callsite, Lane, LevelFilter, WorldValue, Spans, SubscriberCall, spans_after_call, CallLanes, CallsBy, KeepsLent, calls_none, calls_then, keeps_nothing, PartCall, StaysStack, Step, steps_now, steps_left, StepOn, StepsOn, PollsSteps, Changes, Asks, WantsMemory}
+use Rattle.trace_tasks.proofs.Common.{Callsite, Lane, LevelFilter, WorldValue, Spans, SubscriberCall, spans_after_call, CallLanes, ChangesUpTo, KeepsLent, calls_none, calls_then, keeps_nothing, PartCall, StaysStack, Step, steps_now, steps_left, StepOn, StepsOn, PollsSteps, Changes, Asks, WantsMemory}
 use Rattle.otel_base.specs.declared.enter_error.EnterError.TheVariants as faults
 use Rattle.trace_tasks.specs.declared.script.Step.TheVariants as step
 use Rattle.trace_tasks.proofs.polls.ChangesLemmas.{lent_then, changes_keep, changes_call}
@@ -33,7 +33,7 @@ next_now (step.SetAttribute key value) steps act = refl
 module _ {S : Type 0} (spans : S → Spans) (hint : S → Option LevelFilter) (enables : S → ℕ → Callsite → Bool) (attaches : S → Bool) (kept : S → ℕ → ℕ → ℕ) (is_whole : S → Type 0) (does : S → SubscriberCall → S → Type 0) (touches : S → PartCall → S → Type 0) (same : S → S → Type 0) (lane : Lane) (at : ℕ) where
   pub record Polling (first steps : List Step) (old world : WorldValue S) : Type 0 where
     pub lent : KeepsLent spans kept is_whole old world lane lane
-    pub called : CallsBy does (Asks touches) same at old world
+    pub called : ChangesUpTo does (Asks touches) same at old world
     pub left : steps_left steps ≡ steps_left first
     pub done : List Step
     pub split : done ++ steps_now steps ≡ steps_now first
@@ -57,7 +57,7 @@ module _ {S : Type 0} (spans : S → Spans) (hint : S → Option LevelFilter) (e
           lent_then spans kept is_whole old world next lane lane lane so_far.lent
           (changes_keep spans hint enables attaches kept is_whole does touches same same_spans same_kept same_whole shows lanes keeps_whole stays at world next lane changes)
 
-      pub called_more : (first steps : List Step) (old world next : WorldValue S) → Polling first steps old world → Changes spans hint enables does touches same at world next → CallsBy does (Asks touches) same at old next
+      pub called_more : (first steps : List Step) (old world next : WorldValue S) → Polling first steps old world → Changes spans hint enables does touches same at world next → ChangesUpTo does (Asks touches) same at old next
       called_more first steps old world next so_far changes =
           calls_then does (Asks touches) same same_refl same_trans at old world next so_far.called
           (changes_call spans hint enables attaches kept is_whole does touches same same_refl same_trans at world next changes)

@@ -1,6 +1,6 @@
 -- A poll of a task, and its end if it is finished.
 use Rattle.std.proofs.Common.{◌≡◌, ℕ, List, [], ◌∷◌, ◌++◌, length, map, Bool, Option, Some, None, Ok, refl, sym, ap, subst, ◌∙◌, arith, inl, inr, ◌⊎◌}
-use Rattle.trace_tasks.proofs.Common.{Callsite, Lane, LevelFilter, SubscriberCall, TryClose, Exit, spans_after_call, CallLanes, WorldValue, Span, Spans, span_at, entries_on, parent_to_release, without_hold, Replaced, Chain, ended, closes, ReleasesChain, all_released, releases, spans_in, Handle, HeldSpan, ReplacedOn, as_many, seen_before, seen_later, chain_shown, Instrumented, HasAll, AreAllAttached, KeepsLent, Polled, CannotEnter, IsInside, same_kept, keeps_all, PartCall, StaysStack, on_first_lane, TaskFuture, Step, steps_now, StepsOn, PollsSteps, TaskScene, CarriesOnHandle, Carries, UnfinishedTask, step_call, moment_of, drop_at_end, dispatch_of_default, dispatch_serving, ReadyToPoll, root_of_one_handle, IsAlone, IsAloneAs, unfinished_task, PollsTask}
+use Rattle.trace_tasks.proofs.Common.{Callsite, Lane, LevelFilter, SubscriberCall, TryClose, Exit, spans_after_call, CallLanes, WorldValue, Span, Spans, span_at, entries_on, parent_to_release, without_hold, Replaced, Chain, ended, closes, ReleasesChain, all_released, releases, spans_in, Handle, HeldSpan, ReplacedOn, as_many, seen_before, seen_later, chain_shown, Instrumented, HasAll, AreAllAttached, KeepsLent, PollResult, CannotEnter, PollsInside, same_kept, keeps_all, PartCall, StaysStack, on_first_lane, TaskFuture, Step, steps_now, StepsOn, PollsSteps, TaskScene, CarriesOnHandle, Carries, UnfinishedTask, step_call, moment_of, drop_at_end, dispatch_of_default, dispatch_serving, ReadyToPoll, root_of_one_handle, IsAlone, IsAloneAs, unfinished_task, PollsTask}
 use Rattle.std.specs.Option.{option_map}
 use Rattle.futures.specs.declared.task.Poll.{Poll}
 use Rattle.futures.specs.declared.task.Poll.TheVariants as polls
@@ -28,12 +28,12 @@ module _ {S : Type 0} (spans : S → Spans) (hint : S → Option LevelFilter) (e
     (keeps_whole : (s : S) (call : SubscriberCall) (t : S) → does s call t → is_whole s → is_whole t)
     (stays : (s : S) (call : PartCall) (t : S) → touches s call t → StaysStack spans kept attaches is_whole s t) (none_kept : (s : S) (lane number : ℕ) → is_whole s → entries_on lane (spans s).lanes ≡ [] → kept s lane number ≡ 0) where
   -- what a poll of a task's steps is
-  abbrev pub RunPolls : TaskFuture → WorldValue S → Lane → ℕ → Polled (Unit {0}) → TaskFuture → WorldValue S → Lane → Type 0
+  abbrev pub RunPolls : TaskFuture → WorldValue S → Lane → ℕ → PollResult (Unit {0}) → TaskFuture → WorldValue S → Lane → Type 0
   RunPolls f world lane at r g new later = PollsSteps spans hint enables does touches same f.steps.items world lane at r g.steps.items new later
 
   -- a poll that was answered ran inside the span
-  pub inside_of : (f g : Instrumented TaskFuture) (old new : WorldValue S) (before later : Lane) (at : ℕ) (p : Poll (Unit {0})) → CannotEnter same activates f old before (Ok p) g new later ⊎ IsInside does activates RunPolls f old before at (Ok p) g new later
-      → IsInside does activates RunPolls f old before at (Ok p) g new later
+  pub inside_of : (f g : Instrumented TaskFuture) (old new : WorldValue S) (before later : Lane) (at : ℕ) (p : Poll (Unit {0})) → CannotEnter same activates f old before (Ok p) g new later ⊎ PollsInside does activates RunPolls f old before at (Ok p) g new later
+      → PollsInside does activates RunPolls f old before at (Ok p) g new later
   inside_of f g old new before later at p (inl refused) = absurd (cc refused.is)
   inside_of f g old new before later at p (inr inside) = inside
 
@@ -51,7 +51,7 @@ module _ {S : Type 0} (spans : S → Spans) (hint : S → Option LevelFilter) (e
 
   -- the entry, the steps and the exit of a poll
   through_of : (f g : Instrumented TaskFuture) (at site : ℕ) (old new : WorldValue S) (before later : Lane) (p : Poll (Unit {0})) → ReadyToPoll spans kept is_whole old before → IsAlone (spans_in spans old (dispatch_serving before)).made (dispatch_serving before) site f.span
-      → HasAll is_whole new → (inside : IsInside does activates RunPolls f old before at (Ok p) g new later) → inside.left_lane ≡ inside.lane → StepsOn spans hint enables does touches inside.lane at (steps_now f.inner.steps.items) inside.world inside.left_world
+      → HasAll is_whole new → (inside : PollsInside does activates RunPolls f old before at (Ok p) g new later) → inside.left_lane ≡ inside.lane → StepsOn spans hint enables does touches inside.lane at (steps_now f.inner.steps.items) inside.world inside.left_world
       → Through spans hint enables attaches kept is_whole does touches (dispatch_serving before) shows lanes stays none_kept f.span.held f.span.site site at f.inner.steps.items old new before later
   through_of f g at site old new before later p ready lone whole inside same_lane on =
       through spans hint enables attaches kept is_whole does touches (dispatch_serving before) shows lanes stays none_kept f.span.held f.span.site site at f.inner.steps.items old inside.world inside.left_world new before inside.lane later
@@ -60,7 +60,7 @@ module _ {S : Type 0} (spans : S → Spans) (hint : S → Option LevelFilter) (e
       (λ no. inside.none no ∙ same_lane)
 
   pub pending : (f g : Instrumented TaskFuture) (at site : ℕ) (old new : WorldValue S) (before later : Lane) → ReadyToPoll spans kept is_whole old before → IsAlone (spans_in spans old (dispatch_serving before)).made (dispatch_serving before) site f.span
-      → KeepsLent spans kept is_whole old new before later → IsInside does activates RunPolls f old before at (Ok polls.Pending) g new later
+      → KeepsLent spans kept is_whole old new before later → PollsInside does activates RunPolls f old before at (Ok polls.Pending) g new later
       → PollsTask spans hint enables kept is_whole does touches at f old before (Some g) new later
   pending f g at site old new before later ready lone lent inside =
       let polled : PollsSteps spans hint enables does touches same f.inner.steps.items inside.world inside.lane at (Ok polls.Pending) g.inner.steps.items inside.left_world inside.left_lane = inside.polled in
@@ -121,7 +121,7 @@ module _ {S : Type 0} (spans : S → Spans) (hint : S → Option LevelFilter) (e
       (closed_some at d h.1 site old new is_alone.1 (subst (λ (e : ℕ). ReplacedOn (λ id s t. Chain spans does at (Some id) s t) old new (Some (e, h.1))) is_alone.0 r))
 
   pub finished : (f g : Instrumented TaskFuture) (at site : ℕ) (old world new : WorldValue S) (before later : Lane) → ReadyToPoll spans kept is_whole old before → IsAlone (spans_in spans old (dispatch_serving before)).made (dispatch_serving before) site f.span
-      → KeepsLent spans kept is_whole old world before later → IsInside does activates RunPolls f old before at (Ok (polls.Ready tt)) g world later
+      → KeepsLent spans kept is_whole old world before later → PollsInside does activates RunPolls f old before at (Ok (polls.Ready tt)) g world later
       → ReplacedOn (λ id s t. Chain spans does at (Some id) s t) world new g.span.held → HasAll is_whole new
       → PollsTask spans hint enables kept is_whole does touches at f old before None new later
   finished f g at site old world new before later ready lone lent inside chain whole =

@@ -1,6 +1,6 @@
 -- What one turn of a handle comes to.
 use Rattle.std.proofs.Common.{◌≡◌, ◌≢◌, ℕ, zero, suc, ◌+◌, ◌<◌, ◌^◌, Bool, true, false, List, [], ◌∷◌, ◌++◌, length, refl, ap, sym, ◌∙◌, subst, arith, Some, None, Option}
-use Rattle.trace_threads.proofs.Common.{IsPrefix, Making, Entry, HandleAct, Clone, Call, Join, Release, Op, View, Idle, move_of, count, open_count_after, start, is_legal, IsLegal, may, may_do, may_move, has, entries_by, IsHeld, IsOut, written_entry, is_closed, open_count, move_in, Shared, shared_of, some_making, reply_at, Turn, Slot, SeatValue, entries, home_of, AllBegin, view_after, passed_by, MayTurn, MayEnd, left_of, right_of, both_of, IsIdle, IsBare, IsAtRest, Begun, MakesEntry, Called, LeftAsIs, FinishesState, Closes, IsCloneOf, ClosesWith}
+use Rattle.trace_threads.proofs.Common.{IsPrefix, Making, Entry, HandleAct, Clone, Call, Join, Release, Op, View, Idle, move_of, count, open_count_after, start, is_legal, IsLegal, may, may_do, may_move, has, entries_by, IsHeld, IsOut, written_entry, is_closed, open_count, move_in, Shared, shared_of, some_making, reply_at, Turn, Slot, SeatValue, entries, home_of, AllBegin, view_after, passed_by, MayTurn, MayEnd, left_of, right_of, both_of, IsIdle, IsBare, IsAtRest, Begun, MakesEntry, Called, LeftAsIs, MayFinish, MayClose, IsCloneOf, ClosesWith}
 use Rattle.otel_state.specs.declared.op.Op.TheVariants as ops
 use Rattle.otel_state.specs.declared.op.OpReply.{OpReply}
 use Rattle.trace_threads.specs.History.{sum}
@@ -91,11 +91,11 @@ module _ (m w : SeatValue) (t : ℕ) (state : Shared) (k : ℕ) (num : m.0.numbe
         ∙ (λ i. shared_of (sym same_origin i) (sym (entries_some w.0.seen (written_entry m.0.origin.made_at (entries w.0.seen) k at what)) i))
 
     pub entry_turn : may_do (sum m.0.origin.made_at (entries w.0.seen)) k what ≡ true → MayEnd m.0.other what → (s : Shared) → s ≡ shared_of state.making (state.log ++ written_entry state.making.made_at state.log k at what ∷ [])
-        → home_of w.0.origin (entries (w.0.seen ++ Some (written_entry m.0.origin.made_at (entries w.0.seen) k at what) ∷ [])) ≡ Some (shared_of w.0.origin (entries (w.0.seen ++ Some (written_entry m.0.origin.made_at (entries w.0.seen) k at what) ∷ []))) → FinishesState w.0 s
+        → home_of w.0.origin (entries (w.0.seen ++ Some (written_entry m.0.origin.made_at (entries w.0.seen) k at what) ∷ [])) ≡ Some (shared_of w.0.origin (entries (w.0.seen ++ Some (written_entry m.0.origin.made_at (entries w.0.seen) k at what) ∷ []))) → MayFinish w.0 s
     entry_turn can ends s is home = (t, Some (written_entry m.0.origin.made_at (entries w.0.seen) k at what), ap (λ (x : View). x.stage) b.view, entry_state s is, home, may_turn can ends)
 
     pub last_turn : may_do (sum m.0.origin.made_at (entries w.0.seen)) k what ≡ true → MayEnd m.0.other what → (s : Shared) → s ≡ shared_of state.making (state.log ++ written_entry state.making.made_at state.log k at what ∷ [])
-        → home_of w.0.origin (entries (w.0.seen ++ Some (written_entry m.0.origin.made_at (entries w.0.seen) k at what) ∷ [])) ≡ None → Closes w.0 t (Some s)
+        → home_of w.0.origin (entries (w.0.seen ++ Some (written_entry m.0.origin.made_at (entries w.0.seen) k at what) ∷ [])) ≡ None → MayClose w.0 t (Some s)
     last_turn can ends s is home = (Some (written_entry m.0.origin.made_at (entries w.0.seen) k at what), ap (λ (x : View). x.stage) b.view, ap (λ (x : Shared). Some x) (entry_state s is), home, may_turn can ends)
 
     -- who isn't ended by it is held afterwards
@@ -145,7 +145,7 @@ module _ (m w : SeatValue) (t : ℕ) (state : Shared) (k : ℕ) (num : m.0.numbe
 
   -- ---- a turn without an entry
 
-  pub empty_turn : (s : Shared) → s ≡ state → FinishesState w.0 s
+  pub empty_turn : (s : Shared) → s ≡ state → MayFinish w.0 s
   empty_turn s is = (
     t,
     None,
@@ -192,7 +192,7 @@ module _ (m w : SeatValue) (t : ℕ) (state : Shared) (k : ℕ) (r : IsAtRest m 
   can_call = may_own m.0.origin.made_at k (entries w.0.seen) m.0.mine op (held m w t state k r.1 b).0 l
 
   module _ (s : Shared) (is : s ≡ shared_of state.making (state.log ++ written_entry state.making.made_at state.log k at (Call op) ∷ [])) where
-    pub call_turn : FinishesState w.0 s
+    pub call_turn : MayFinish w.0 s
     call_turn = entry_turn m w t state k r.1 b at (Call op) can_call tt s is (still_home m w t state k r.1 b at (Call op) tt)
 
     module _ (u : SeatValue) (turn : Turn) (back : s ≡ shared_of w.0.origin (entries (w.0.seen ++ turn ∷ []))) (after : u ≡ (view_after w.0 turn, [])) where
@@ -225,7 +225,7 @@ module _ (m w : SeatValue) (t : ℕ) (state : Shared) (k : ℕ) (r : IsAtRest m 
   can_clone = may_clone (sum m.0.origin.made_at (entries w.0.seen)).clones n (is_next ∙ ap (λ (x : Shared). (sum x.making.made_at x.log).clones + 1) b.state)
 
   module _ (s : Shared) (is : s ≡ shared_of state.making (state.log ++ written_entry state.making.made_at state.log k at (Clone n) ∷ [])) where
-    pub clone_turn : FinishesState w.0 s
+    pub clone_turn : MayFinish w.0 s
     clone_turn = entry_turn m w t state k r.1 b at (Clone n) can_clone r.2 s is (still_home m w t state k r.1 b at (Clone n) tt)
 
     module _ (u : SeatValue) (turn : Turn) (back : s ≡ shared_of w.0.origin (entries (w.0.seen ++ turn ∷ []))) (after : u ≡ (view_after w.0 turn, [])) where
@@ -304,7 +304,7 @@ module _ (m o m' w : SeatValue) (t : ℕ) (state : Shared) (k j : ℕ) (r : IsAt
   can_join = may_join (sum m'.0.origin.made_at (entries w.0.seen)) k j theirs_known.1 differ (out_of m'.0.origin.made_at j (entries w.0.seen) o.0.mine theirs_are none_open)
 
   module _ (s : Shared) (is : s ≡ shared_of state.making (state.log ++ written_entry state.making.made_at state.log k at (Join j) ∷ [])) where
-    pub join_turn : FinishesState w.0 s
+    pub join_turn : MayFinish w.0 s
     join_turn = entry_turn m' w t state k num_met b at (Join j) can_join other_met s is (still_home m' w t state k num_met b at (Join j) (λ e. differ (sym e)))
 
     module _ (u : SeatValue) (turn : Turn) (back : s ≡ shared_of w.0.origin (entries (w.0.seen ++ turn ∷ []))) (after : u ≡ (view_after w.0 turn, [])) where
@@ -348,10 +348,10 @@ module _ (m w : SeatValue) (t : ℕ) (state : Shared) (k : ℕ) (r : IsAtRest m 
     home_when : (closed : Bool) → is_closed s.making.made_at s.log ≡ closed → is_closed w.0.origin.made_at (entries (w.0.seen ++ Some (written_entry m.0.origin.made_at (entries w.0.seen) k at Release) ∷ [])) ≡ closed
     home_when closed e = ap (λ (x : Shared). is_closed x.making.made_at x.log) (sym end_state) ∙ e
 
-    pub release_turn : is_closed s.making.made_at s.log ≡ false → FinishesState w.0 s
+    pub release_turn : is_closed s.making.made_at s.log ≡ false → MayFinish w.0 s
     release_turn e = entry_turn m w t state k r.1 b at Release can_release tt s is (rw (home_when false e) refl)
 
-    pub close_turn : is_closed s.making.made_at s.log ≡ true → Closes w.0 t (Some s)
+    pub close_turn : is_closed s.making.made_at s.log ≡ true → MayClose w.0 t (Some s)
     close_turn e = last_turn m w t state k r.1 b at Release can_release tt s is (rw (home_when true e) refl)
 
     module _ (u : SeatValue) (turn : Turn) (back : s ≡ shared_of w.0.origin (entries (w.0.seen ++ turn ∷ []))) (after : u ≡ (view_after w.0 turn, [])) where

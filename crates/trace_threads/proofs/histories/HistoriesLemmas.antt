@@ -1,31 +1,31 @@
 -- A history with one entry more.
 use Rattle.std.proofs.Common.{◌≡◌, ◌≢◌, ⊎_elim, ℕ, ◌+◌, ◌<◌, ◌≤◌, ◌==◌, Bool, true, false, ◌||◌, max, List, [], ◌∷◌, ◌++◌, length, refl, ap, sym, ◌∙◌, subst, arith, true≢false, nat_le}
-use Rattle.trace_threads.proofs.Common.{nat_tests, Entry, HandleAct, Clone, Call, Join, Release, Sum, start, entry, has, others_in, clones_after, held_after, sum_after, may, may_do, sum_of, is_legal, IsLegal, IsHeld, entries_by, EndedForGood, EndedIsDone, NothingFollows, ends_handle, has_end, WholeIsSeen}
+use Rattle.trace_threads.proofs.Common.{nat_tests, Entry, HandleAct, Clone, Call, Join, Release, HistoryState, start, entry, has, others_in, clones_after, held_after, sum_after, may, may_do, sum_of, is_legal, IsLegal, IsHeld, entries_by, EndedForGood, EndedIsDone, NothingFollows, ends_handle, has_end, WholeIsSeen}
 use Rattle.std.proofs.lemmas.List.{append-nil}
 use Rattle.trace_threads.specs.History.{is_none, sum}
 use Rattle.trace_threads.proofs.histories.HoldersLemmas.{both, has_more, has_new, has_back, has_without, in_without, Distinct, distinct_more, distinct_without}
 
-pub sum_push : (s : Sum) (log : List Entry) (e : Entry) → sum_of s (log ++ e ∷ []) ≡ sum_after (sum_of s log) e
+pub sum_push : (s : HistoryState) (log : List Entry) (e : Entry) → sum_of s (log ++ e ∷ []) ≡ sum_after (sum_of s log) e
 sum_push s [] e = refl
 sum_push s (x ∷ log) e = sum_push (sum_after s x) log e
 
-pub legal_push : (s : Sum) (log : List Entry) (e : Entry) → is_legal s log ≡ true → may (sum_of s log) e ≡ true → is_legal s (log ++ e ∷ []) ≡ true
+pub legal_push : (s : HistoryState) (log : List Entry) (e : Entry) → is_legal s log ≡ true → may (sum_of s log) e ≡ true → is_legal s (log ++ e ∷ []) ≡ true
 legal_push s [] e l m = rw m refl
 legal_push s (x ∷ log) e l m = let p = both (may s x) _ l in rw p.0 (legal_push (sum_after s x) log e p.1 m)
 
 in_order : (a l : ℕ) → nat_le l (max a l) ≡ true
 in_order a l = grind (arith, nat_tests)
 
-pub may_any : (s : Sum) (c a : ℕ) (w : HandleAct) → has c s.held ≡ true → may_do s c w ≡ true → may s (entry c (max a s.last) w) ≡ true
+pub may_any : (s : HistoryState) (c a : ℕ) (w : HandleAct) → has c s.held ≡ true → may_do s c w ≡ true → may s (entry c (max a s.last) w) ≡ true
 may_any s c a w h m = rw (h, in_order a s.last) m
 
 -- what a legal entry was tested for
-pub record Tested (s : Sum) (e : Entry) : Type 0 where
+pub record Tested (s : HistoryState) (e : Entry) : Type 0 where
   pub held : has e.caller s.held ≡ true
   pub later : s.last ≤ e.at
   pub done : may_do s e.caller e.what ≡ true
 
-pub tested : (s : Sum) (e : Entry) → may s e ≡ true → Tested s e
+pub tested : (s : HistoryState) (e : Entry) → may s e ≡ true → Tested s e
 tested s e m =
     let p = both (has e.caller s.held) _ m in
     let q = both (nat_le s.last e.at) _ p.1 in
@@ -63,26 +63,26 @@ held_still k c h (Join m) s e = has_without k m h s e
 held_still k c h Release s e = has_without k c h s e
 
 pub held_push : (made k : ℕ) (log : List Entry) (e : Entry) → Spares k e.caller e.what → IsHeld made k log → IsHeld made k (log ++ e ∷ [])
-held_push made k log e s h = subst (λ (t : Sum). has k t.held ≡ true) (sym (sum_push (start made) log e)) (held_still k e.caller (sum made log).held e.what s h)
+held_push made k log e s h = subst (λ (t : HistoryState). has k t.held ≡ true) (sym (sum_push (start made) log e)) (held_still k e.caller (sum made log).held e.what s h)
 
 pub held_new : (made : ℕ) (log : List Entry) (c a n : ℕ) → IsHeld made n (log ++ entry c a (Clone n) ∷ [])
-held_new made log c a n = subst (λ (t : Sum). has n t.held ≡ true) (sym (sum_push (start made) log (entry c a (Clone n)))) (has_new n (sum made log).held)
+held_new made log c a n = subst (λ (t : HistoryState). has n t.held ≡ true) (sym (sum_push (start made) log (entry c a (Clone n)))) (has_new n (sum made log).held)
 
 -- ---- the numbers of a legal history
 
 -- no number is above that of the clones, and each is held once
-pub record Numbered (s : Sum) : Type 0 where
+pub record Numbered (s : HistoryState) : Type 0 where
   pub within : (k : ℕ) → has k s.held ≡ true → k ≤ s.clones
   pub distinct : Distinct s.held
 
-not_held : (s : Sum) (n : ℕ) (b : Bool) → has n s.held ≡ b → n ≡ s.clones + 1 → Numbered s → b ≡ false
+not_held : (s : HistoryState) (n : ℕ) (b : Bool) → has n s.held ≡ b → n ≡ s.clones + 1 → Numbered s → b ≡ false
 not_held s n true is next i = absurd (let le = i.within n is in omega (arith, next, le))
 not_held s n false is next i = refl
 
-next_of : (s : Sum) (n c : ℕ) → may_do s c (Clone n) ≡ true → n ≡ s.clones + 1
+next_of : (s : HistoryState) (n c : ℕ) → may_do s c (Clone n) ≡ true → n ≡ s.clones + 1
 next_of s n c m = grind (arith, nat_tests)
 
-pub numbered_step : (s : Sum) (c a : ℕ) (w : HandleAct) → Numbered s → may_do s c w ≡ true → Numbered (sum_after s (entry c a w))
+pub numbered_step : (s : HistoryState) (c a : ℕ) (w : HandleAct) → Numbered s → may_do s c w ≡ true → Numbered (sum_after s (entry c a w))
 numbered_step s c a (Clone n) i m =
     let is = next_of s n c m in record {
       within = λ k at. ⊎_elim (λ (h : has k s.held ≡ true). let le = i.within k h in omega (arith, le)) (λ (h : n ≡ k). omega (arith, is, h)) (has_back k n s.held at);
@@ -92,7 +92,7 @@ numbered_step s c a (Call op) i m = record { within = i.within; distinct = i.dis
 numbered_step s c a (Join j) i m = record { within = λ k at. i.within k (in_without k j s.held at); distinct = distinct_without j s.held i.distinct }
 numbered_step s c a Release i m = record { within = λ k at. i.within k (in_without k c s.held at); distinct = distinct_without c s.held i.distinct }
 
-numbered_all : (s : Sum) (log : List Entry) → Numbered s → is_legal s log ≡ true → Numbered (sum_of s log)
+numbered_all : (s : HistoryState) (log : List Entry) → Numbered s → is_legal s log ≡ true → Numbered (sum_of s log)
 numbered_all s [] i l = i
 numbered_all s (e ∷ log) i l =
     let p = both (may s e) _ l in
@@ -124,11 +124,11 @@ clones_step n (Call op) = omega arith
 clones_step n (Join m) = omega arith
 clones_step n Release = omega arith
 
-clones_grow : (s : Sum) (log : List Entry) → s.clones ≤ (sum_of s log).clones
+clones_grow : (s : HistoryState) (log : List Entry) → s.clones ≤ (sum_of s log).clones
 clones_grow s [] = omega arith
 clones_grow s (e ∷ log) = let a = clones_step s.clones e.what in let b = clones_grow (sum_after s e) log in omega (arith, a, b)
 
-pub none_above : (s : Sum) (log : List Entry) (n : ℕ) → Numbered s → is_legal s log ≡ true → (sum_of s log).clones < n → entries_by n log ≡ []
+pub none_above : (s : HistoryState) (log : List Entry) (n : ℕ) → Numbered s → is_legal s log ≡ true → (sum_of s log).clones < n → entries_by n log ≡ []
 none_above s [] n i l lt = refl
 none_above s (e ∷ log) n i l lt =
     let p = both (may s e) _ l in
@@ -150,10 +150,10 @@ fresh_entries made log c a n l m =
 pub may_clone : (clones n : ℕ) → n ≡ clones + 1 → (n == clones + 1) ≡ true
 may_clone clones n e = grind (arith, nat_tests)
 
-pub may_join : (s : Sum) (c m : ℕ) → has m s.held ≡ true → m ≢ c → has m s.inside ≡ false → may_do s c (Join m) ≡ true
+pub may_join : (s : HistoryState) (c m : ℕ) → has m s.held ≡ true → m ≢ c → has m s.inside ≡ false → may_do s c (Join m) ≡ true
 may_join s c m h n out = let miss : (m == c) ≡ false = grind (arith, nat_tests) in rw (h, miss, out) refl
 
-pub may_release : (s : Sum) (c : ℕ) → has c s.inside ≡ false → may_do s c Release ≡ true
+pub may_release : (s : HistoryState) (c : ℕ) → has c s.inside ≡ false → may_do s c Release ≡ true
 may_release s c out = rw out refl
 
 pub counts_none : (h : List ℕ) → (length h == 0) ≡ is_none h
@@ -163,13 +163,13 @@ counts_none (x ∷ h) = grind (arith, nat_tests)
 -- ---- laws
 
 -- who isn't held, and has had a number, isn't held after one entry more
-still_gone : (s : Sum) (k c : ℕ) (w : HandleAct) → (has k s.held ≡ true → ⊥) → k ≤ s.clones → may_do s c w ≡ true → has k (held_after s.held c w) ≡ true → ⊥
+still_gone : (s : HistoryState) (k c : ℕ) (w : HandleAct) → (has k s.held ≡ true → ⊥) → k ≤ s.clones → may_do s c w ≡ true → has k (held_after s.held c w) ≡ true → ⊥
 still_gone s k c (Clone n) gone low m at = let is = next_of s n c m in ⊎_elim gone (λ (e : n ≡ k). omega (arith, is, e, low)) (has_back k n s.held at)
 still_gone s k c (Call op) gone low m at = gone at
 still_gone s k c (Join j) gone low m at = gone (in_without k j s.held at)
 still_gone s k c Release gone low m at = gone (in_without k c s.held at)
 
-no_entry : (s : Sum) (log : List Entry) (k : ℕ) → is_legal s log ≡ true → (has k s.held ≡ true → ⊥) → k ≤ s.clones → entries_by k log ≡ []
+no_entry : (s : HistoryState) (log : List Entry) (k : ℕ) → is_legal s log ≡ true → (has k s.held ≡ true → ⊥) → k ≤ s.clones → entries_by k log ≡ []
 no_entry s [] k l gone low = refl
 no_entry s (e ∷ log) k l gone low =
     let p = both (may s e) _ l in
@@ -179,7 +179,7 @@ no_entry s (e ∷ log) k l gone low =
     let more = clones_step s.clones e.what in
     rw miss (no_entry (sum_after s e) log k p.1 (still_gone s k e.caller e.what gone low t.done) (omega (arith, more, low)))
 
-pub legal_rest : (s : Sum) (xs ys : List Entry) → is_legal s (xs ++ ys) ≡ true → is_legal (sum_of s xs) ys ≡ true
+pub legal_rest : (s : HistoryState) (xs ys : List Entry) → is_legal s (xs ++ ys) ≡ true → is_legal (sum_of s xs) ys ≡ true
 legal_rest s [] ys l = l
 legal_rest s (x ∷ xs) ys l = legal_rest (sum_after s x) xs ys (both (may s x) _ l).1
 
@@ -190,7 +190,7 @@ none_held : (k : ℕ) (h : List ℕ) → is_none h ≡ true → has k h ≡ true
 none_held k [] e at = cc
 none_held k (x ∷ h) e at = cc
 
-nothing_after : (s : Sum) (ys : List Entry) → is_legal s ys ≡ true → is_none s.held ≡ true → ys ≡ []
+nothing_after : (s : HistoryState) (ys : List Entry) → is_legal s ys ≡ true → is_none s.held ≡ true → ys ≡ []
 nothing_after s [] l e = refl
 nothing_after s (y ∷ ys) l e = absurd (none_held y.caller s.held e (tested s y (both (may s y) _ l).0).held)
 
@@ -212,27 +212,27 @@ gone_by k m h is at =
     let same : m ≡ k = grind (arith, nat_tests) in
     true≢false (sym at ∙ subst (λ (j : ℕ). has j (others_in m h) ≡ false) same (gone_self m h))
 
-ended_at : (s : Sum) (k c : ℕ) (w : HandleAct) → ends_handle k c w ≡ true → has k (held_after s.held c w) ≡ true → ⊥
+ended_at : (s : HistoryState) (k c : ℕ) (w : HandleAct) → ends_handle k c w ≡ true → has k (held_after s.held c w) ≡ true → ⊥
 ended_at s k c (Clone n) e at = absurd cc
 ended_at s k c (Call op) e at = absurd cc
 ended_at s k c (Join m) e at = gone_by k m s.held e at
 ended_at s k c Release e at = gone_by k c s.held e at
 
 -- who is ended had a number
-ended_low : (s : Sum) (k c : ℕ) (w : HandleAct) → Numbered s → has c s.held ≡ true → may_do s c w ≡ true → ends_handle k c w ≡ true → k ≤ s.clones
+ended_low : (s : HistoryState) (k c : ℕ) (w : HandleAct) → Numbered s → has c s.held ≡ true → may_do s c w ≡ true → ends_handle k c w ≡ true → k ≤ s.clones
 ended_low s k c (Clone n) i h m e = absurd cc
 ended_low s k c (Call op) i h m e = absurd cc
 ended_low s k c (Join j) i h m e = let same : j ≡ k = grind (arith, nat_tests) in let low = i.within j (both (has j s.held) _ m).0 in omega (arith, same, low)
 ended_low s k c Release i h m e = let same : c ≡ k = grind (arith, nat_tests) in let low = i.within c h in omega (arith, same, low)
 
-stays_gone : (s : Sum) (log : List Entry) (k : ℕ) → is_legal s log ≡ true → (has k s.held ≡ true → ⊥) → k ≤ s.clones → has k (sum_of s log).held ≡ true → ⊥
+stays_gone : (s : HistoryState) (log : List Entry) (k : ℕ) → is_legal s log ≡ true → (has k s.held ≡ true → ⊥) → k ≤ s.clones → has k (sum_of s log).held ≡ true → ⊥
 stays_gone s [] k l gone low at = gone at
 stays_gone s (e ∷ log) k l gone low at =
     let p = both (may s e) _ l in
     let more = clones_step s.clones e.what in
     stays_gone (sum_after s e) log k p.1 (still_gone s k e.caller e.what gone low (tested s e p.0).done) (omega (arith, more, low)) at
 
-end_case : (s : Sum) (e : Entry) (log : List Entry) (k : ℕ) (b : Bool) → Numbered s → is_legal s (e ∷ log) ≡ true → ends_handle k e.caller e.what ≡ b → (b || has_end k log) ≡ true
+end_case : (s : HistoryState) (e : Entry) (log : List Entry) (k : ℕ) (b : Bool) → Numbered s → is_legal s (e ∷ log) ≡ true → ends_handle k e.caller e.what ≡ b → (b || has_end k log) ≡ true
     → (Numbered (sum_after s e) → is_legal (sum_after s e) log ≡ true → has_end k log ≡ true → has k (sum_of (sum_after s e) log).held ≡ true → ⊥) → has k (sum_of (sum_after s e) log).held ≡ true → ⊥
 end_case s e log k true i l is h ih at =
     let p = both (may s e) _ l in
@@ -244,11 +244,11 @@ end_case s e log k false i l is h ih at =
     let p = both (may s e) _ l in
     ih (numbered_step s e.caller e.at e.what i (tested s e p.0).done) p.1 h at
 
-after_end : (s : Sum) (log : List Entry) (k : ℕ) → Numbered s → is_legal s log ≡ true → has_end k log ≡ true → has k (sum_of s log).held ≡ true → ⊥
+after_end : (s : HistoryState) (log : List Entry) (k : ℕ) → Numbered s → is_legal s log ≡ true → has_end k log ≡ true → has k (sum_of s log).held ≡ true → ⊥
 after_end s [] k i l h at = absurd cc
 after_end s (e ∷ log) k i l h at = end_case s e log k (ends_handle k e.caller e.what) i l refl h (λ i' l' h'. after_end (sum_after s e) log k i' l' h') at
 
-pub legal_first : (s : Sum) (xs ys : List Entry) → is_legal s (xs ++ ys) ≡ true → is_legal s xs ≡ true
+pub legal_first : (s : HistoryState) (xs ys : List Entry) → is_legal s (xs ++ ys) ≡ true → is_legal s xs ≡ true
 legal_first s [] ys l = refl
 legal_first s (x ∷ xs) ys l = let p = both (may s x) _ l in rw p.0 (legal_first (sum_after s x) xs ys p.1)
 
@@ -264,7 +264,7 @@ whole_is_seen made xs ys l ended =
 
 -- ---- an ended handle
 
-low_case : (s : Sum) (e : Entry) (log : List Entry) (k : ℕ) (b : Bool) → Numbered s → is_legal s (e ∷ log) ≡ true → ends_handle k e.caller e.what ≡ b → (b || has_end k log) ≡ true
+low_case : (s : HistoryState) (e : Entry) (log : List Entry) (k : ℕ) (b : Bool) → Numbered s → is_legal s (e ∷ log) ≡ true → ends_handle k e.caller e.what ≡ b → (b || has_end k log) ≡ true
     → (Numbered (sum_after s e) → is_legal (sum_after s e) log ≡ true → has_end k log ≡ true → k ≤ (sum_of (sum_after s e) log).clones) → k ≤ (sum_of (sum_after s e) log).clones
 low_case s e log k true i l is h ih =
     let p = both (may s e) _ l in
@@ -275,7 +275,7 @@ low_case s e log k true i l is h ih =
     omega (arith, low, a, b)
 low_case s e log k false i l is h ih = let p = both (may s e) _ l in ih (numbered_step s e.caller e.at e.what i (tested s e p.0).done) p.1 h
 
-end_low : (s : Sum) (log : List Entry) (k : ℕ) → Numbered s → is_legal s log ≡ true → has_end k log ≡ true → k ≤ (sum_of s log).clones
+end_low : (s : HistoryState) (log : List Entry) (k : ℕ) → Numbered s → is_legal s log ≡ true → has_end k log ≡ true → k ≤ (sum_of s log).clones
 end_low s [] k i l h = absurd cc
 end_low s (e ∷ log) k i l h = low_case s e log k (ends_handle k e.caller e.what) i l refl h (λ i' l' h'. end_low (sum_after s e) log k i' l' h')
 

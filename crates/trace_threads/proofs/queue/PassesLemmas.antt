@@ -1,6 +1,6 @@
 -- Passing a turn on, with what its holder did in it.
 use Rattle.std.proofs.Common.{◌≡◌, ◌≢◌, inl, ℕ, ◌+◌, ◌%◌, ◌^◌, ◌<◌, ◌==◌, Bool, true, false, List, [], ◌∷◌, ◌++◌, length, set, refl, ap, sym, ◌∙◌, subst, arith, length-append, Some, None, Option, if◌then◌else◌}
-use Rattle.trace_threads.proofs.Common.{nat_tests, get_elem?, either, step, gives, Allows, Making, Entry, HandleAct, Clone, Call, Join, Release, View, TicketStage, Idle, Waits, Holds, LAST, start, IsLegal, is_legal, may, entries_by, IsHeld, entry, shared_of, Turn, Slot, SeatValue, entries, home_of, AllBegin, Staged, Known, Placed, ViewFitsRule, KeepsRule, KeepsWords, passed_by, view_after, PassedOn, MayEnd, MayTurn, Closed}
+use Rattle.trace_threads.proofs.Common.{nat_tests, get_elem?, either, step, gives, Allows, Making, Entry, HandleAct, Clone, Call, Join, Release, View, TicketStage, Idle, Waits, Holds, MAX_TURNS, start, IsLegal, is_legal, may, entries_by, IsHeld, entry, shared_of, Turn, Slot, SeatValue, entries, home_of, AllBegin, Staged, Known, Placed, ViewFitsRule, KeepsRule, KeepsWords, passed_by, view_after, PassedOn, MayEnd, MayTurn, Closed}
 use mathlib.Core.Option as core
 use Rattle.std.proofs.Math.Nat.{mod-eq_of_lt}
 use Rattle.trace_threads.specs.History.{sum}
@@ -188,7 +188,7 @@ legal_turn v turns (Some e) legal m = ap (is_legal (start v.origin.made_at)) (en
 abbrev pub Back : View → Turn → List (ℕ × Slot)
 Back v turn = (0, home_of v.origin (entries (v.seen ++ turn ∷ []))) ∷ []
 
-passed_case : (f : ℕ → ℕ) (id t : ℕ) (v : View) (turn : Turn) → ((n : ℕ) → n ≡ t → n < LAST → f n ≡ n + 1) → v.stage ≡ Holds t → MayTurn v (entries v.seen) turn
+passed_case : (f : ℕ → ℕ) (id t : ℕ) (v : View) (turn : Turn) → ((n : ℕ) → n ≡ t → n < MAX_TURNS → f n ≡ n + 1) → v.stage ≡ Holds t → MayTurn v (entries v.seen) turn
     → (turns : List Turn) (owner : ℕ → ℕ) (place : ℕ → ℕ × Bool) (tickets : ℕ) (home : core.Option Slot) (views : List View) → KeepsRule v.origin turns owner place tickets home views → get_elem? views id ≡ core.some v
     → (length turns ≡ t) × (t < tickets) × (owner t ≡ id) × (v.seen ≡ turns)
     → Goes v.origin f 0 id (v, Back v turn) (λ n w. w ≡ (view_after v turn, [])) (length turns ∷ tickets ∷ []) (home ∷ []) views
@@ -215,15 +215,15 @@ passed_case f id t v turn adds holds may turns owner place tickets home views r 
       refl,
     )
 
-passes : (making : Making) (f : ℕ → ℕ) (slots id t : ℕ) (v : View) (turn : Turn) → ((n : ℕ) → n ≡ t → n < LAST → f n ≡ n + 1) → v.stage ≡ Holds t → v.live ≡ true → MayTurn v (entries v.seen) turn
+passes : (making : Making) (f : ℕ → ℕ) (slots id t : ℕ) (v : View) (turn : Turn) → ((n : ℕ) → n ≡ t → n < MAX_TURNS → f n ≡ n + 1) → v.stage ≡ Holds t → v.live ≡ true → MayTurn v (entries v.seen) turn
     → Allows (KeepsWords making) slots id (v, Back v turn) 0 f (λ n w. w ≡ (view_after v turn, []))
 passes making f slots id t v turn adds holds live may = allows making slots f 0 id (v, Back v turn) (λ n w. w ≡ (view_after v turn, [])) live
     (λ turns owner place tickets home views r at. passed_case f id t v turn adds holds may turns owner place tickets home views r at (subst (Staged turns owner tickets id v.seen) holds (r.each id v at).staged))
 
-one_more : (t n : ℕ) → n ≡ t → n < LAST → (n + 1) % 2 ^ 64 ≡ n + 1
+one_more : (t n : ℕ) → n ≡ t → n < MAX_TURNS → (n + 1) % 2 ^ 64 ≡ n + 1
 one_more t n is low = let small : n + 1 < 2 ^ 64 = omega (arith, low) in mod-eq_of_lt small
 
-to_next : (t n : ℕ) → n ≡ t → n < LAST → either (n == t) (t + 1) n ≡ n + 1
+to_next : (t n : ℕ) → n ≡ t → n < MAX_TURNS → either (n == t) (t + 1) n ≡ n + 1
 to_next t n is low = let yes : (n == t) ≡ true = grind (arith, nat_tests) in rw yes (omega (arith, is))
 
 -- as a caller meets it: the slot has the history with this turn, and some handle is held

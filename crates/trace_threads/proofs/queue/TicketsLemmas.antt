@@ -1,6 +1,6 @@
 -- Drawing a ticket, and looking whether it is served.
 use Rattle.std.proofs.Common.{◌≡◌, inl, inr, ℕ, ◌+◌, ◌<◌, ◌==◌, Bool, true, false, List, [], ◌∷◌, length, set, refl, ap, sym, ◌∙◌, subst, arith, if◌then◌else◌, MatchBool}
-use Rattle.trace_threads.proofs.Common.{nat_tests, get_elem?, either, step, keeps, takes, Allows, set_here, set_again, Making, View, TicketStage, Idle, Waits, Holds, LAST, Turn, Slot, SeatValue, entries, home_of, view, Staged, ViewFitsRule, IsHolder, IsHome, KeepsRule, KeepsWords, at_stage, Drawn, HasTurn, LookedAs, Looked, Noticed}
+use Rattle.trace_threads.proofs.Common.{nat_tests, get_elem?, either, step, keeps, takes, Allows, set_here, set_again, Making, View, TicketStage, Idle, Waits, Holds, MAX_TURNS, Turn, Slot, SeatValue, entries, home_of, view, Staged, ViewFitsRule, IsHolder, IsHome, KeepsRule, KeepsWords, with_stage, Drawn, HasTurn, LookedAs, Looked, Noticed}
 use mathlib.Core.Option as core
 use Rattle.trace_threads.proofs.queue.SeatsLemmas.{prefix_self, Goes, allows, fits_set, there, same_view, home_else, no_holder, at_own, sides}
 
@@ -23,13 +23,13 @@ staged_drawn turns owner n id j seen (Holds t) s = (s.0, omega (arith, s.1), dra
 fits_drawn : (making : Making) (turns : List Turn) (owner : ℕ → ℕ) (place : ℕ → ℕ × Bool) (n id j : ℕ) (u : View) → ViewFitsRule making turns owner place n j u → ViewFitsRule making turns (drawn_by owner n id) place (n + 1) j u
 fits_drawn making turns owner place n id j u f = record { same = f.same; begins = f.begins; before = f.before; staged = staged_drawn turns owner n id j u.seen u.stage f.staged; own_entries = f.own_entries; own_place = f.own_place; other = f.other; other_place = f.other_place }
 
-drawn_case : (id : ℕ) (v : View) (c : List (ℕ × Slot)) (old : ℕ) → v.stage ≡ Idle → old < LAST
+drawn_case : (id : ℕ) (v : View) (c : List (ℕ × Slot)) (old : ℕ) → v.stage ≡ Idle → old < MAX_TURNS
     → (turns : List Turn) (owner : ℕ → ℕ) (place : ℕ → ℕ × Bool) (tickets : ℕ) (home : core.Option Slot) (views : List View) → KeepsRule v.origin turns owner place tickets home views → get_elem? views id ≡ core.some v
     → (b : Bool) → (tickets == old) ≡ b
     → Goes v.origin (λ n. either (n == old) (old + 1) n) 1 id (v, c) (Drawn (step 1 1 old (old + 1) core.none) (v, c)) (length turns ∷ tickets ∷ []) (home ∷ []) views
 drawn_case id v c old idle low turns owner place tickets home views r at true is =
     let same : tickets ≡ old = grind (arith, nat_tests) in
-    let w = at_stage (Waits old) v in
+    let w = with_stage (Waits old) v in
     let f = r.each id v at in
     let mine : ViewFitsRule v.origin turns (drawn_by owner tickets id) place (tickets + 1) id w = record { same = λ _. refl; begins = f.begins; before = f.before; staged = (omega (arith, r.behind, same), omega (arith, same), ap (drawn_by owner tickets id) (sym same) ∙ drawn_here owner tickets id); own_entries = f.own_entries; own_place = f.own_place; other = f.other; other_place = f.other_place } in
     let ruled : KeepsRule v.origin turns (drawn_by owner tickets id) place (tickets + 1) home (set views id w) = record {
@@ -53,7 +53,7 @@ drawn_case id v c old idle low turns owner place tickets home views r at false i
   rw is refl,
 )
 
-pub draws : (making : Making) (slots id : ℕ) (v : View) (c : List (ℕ × Slot)) (old : ℕ) → v.stage ≡ Idle → v.live ≡ true → old < LAST
+pub draws : (making : Making) (slots id : ℕ) (v : View) (c : List (ℕ × Slot)) (old : ℕ) → v.stage ≡ Idle → v.live ≡ true → old < MAX_TURNS
     → Allows (KeepsWords making) slots id (v, c) 1 (λ n. either (n == old) (old + 1) n) (Drawn (step slots 1 old (old + 1) core.none) (v, c))
 draws making slots id v c old idle live low = allows making slots _ 1 id (v, c) (Drawn (step slots 1 old (old + 1) core.none) (v, c)) live (λ turns owner place tickets home views r at. drawn_case id v c old idle low turns owner place tickets home views r at (tickets == old) refl)
 

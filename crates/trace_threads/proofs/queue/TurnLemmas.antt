@@ -1,7 +1,7 @@
 -- The begin and the end of a turn.
 use Rattle.std.proofs.Common.{◌≡◌, ℕ, ◌+◌, ◌%◌, ◌^◌, true, false, List, [], ◌∷◌, ◌++◌, refl, ap, sym, ◌∙◌, subst, true≢false, Some, None, Option, IsSome}
 use mathlib.Core.Option as core
-use Rattle.trace_threads.proofs.Common.{Step, step, Allows, rest, Making, Entry, Waits, IsHeld, has, Shared, shared_of, some_making, Turn, Slot, SeatValue, entries, home_of, Known, KeepsWords, at_stage, HasTurn, view_after, PassedOn, Closed, FinishesState}
+use Rattle.trace_threads.proofs.Common.{Step, step, Allows, rest, Making, Entry, Waits, IsHeld, has, Shared, shared_of, some_making, Turn, Slot, SeatValue, entries, home_of, Known, KeepsWords, with_stage, HasTurn, view_after, PassedOn, Closed, MayFinish}
 use Rattle.trace_threads.specs.History.{sum, is_none}
 use Rattle.trace_threads.proofs.queue.PassesLemmas.{passes_on}
 
@@ -28,7 +28,7 @@ state_of (Some l) = l
 there_is : (m : SeatValue) (t : ℕ) (w : SeatValue) → IsSome m.0.number → HasTurn m t w → w.1 ≡ (0, Some (shared_of m.0.origin (entries w.0.seen))) ∷ m.1
 there_is m t w s h = h.slot ∙ ap (λ (x : Slot). (0, x) ∷ m.1) (home_known m.0.origin (entries w.0.seen) m.0.mine m.0.number s h.own_entries)
 
-pub finishes : (making : Making) (slots id : ℕ) (m me : SeatValue) (state : Shared) → m.1 ≡ (0, None) ∷ [] → m.0.live ≡ true → me ≡ (m.0, (0, Some state) ∷ rest m.1) → FinishesState m.0 state
+pub finishes : (making : Making) (slots id : ℕ) (m me : SeatValue) (state : Shared) → m.1 ≡ (0, None) ∷ [] → m.0.live ≡ true → me ≡ (m.0, (0, Some state) ∷ rest m.1) → MayFinish m.0 state
     → Allows (KeepsWords making) slots id me 0 (λ n. (n + 1) % 2 ^ 64) (PassedOn (step slots 0 1 0 core.none) me)
 finishes making slots id m me state slot live after f =
     let out : (0, Some state) ∷ rest m.1 ≡ (0, Some (shared_of m.0.origin (entries (m.0.seen ++ f.1 ∷ [])))) ∷ [] = λ i. (0, Some (f.3 i)) ∷ rest (slot i) in
@@ -41,12 +41,12 @@ finished st n m me w state after p =
     let q : PassedOn st (m.0, (0, Some state) ∷ rest m.1) n w = subst (λ (x : SeatValue). PassedOn st x n w) after p in
     (q.0, ap (λ l. state_of (value_in l)) q.1, q.2)
 
-module _ (o : SeatValue) (t : ℕ) (m w : SeatValue) (drew : m ≡ (at_stage (Waits t) o.0, o.1)) (some_number : IsSome o.0.number) (h : HasTurn m t w) where
-  turn_of : HasTurn (at_stage (Waits t) o.0, o.1) t w
+module _ (o : SeatValue) (t : ℕ) (m w : SeatValue) (drew : m ≡ (with_stage (Waits t) o.0, o.1)) (some_number : IsSome o.0.number) (h : HasTurn m t w) where
+  turn_of : HasTurn (with_stage (Waits t) o.0, o.1) t w
   turn_of = subst (λ (x : SeatValue). HasTurn x t w) drew h
 
   pub takes_out : (x : Slot) × (w.1 ≡ (0, x) ∷ rest w.1)
-  takes_out = let full = there_is (at_stage (Waits t) o.0, o.1) t w some_number turn_of in (Some (shared_of o.0.origin (entries w.0.seen)), full ∙ ap (λ (l : List (ℕ × Slot)). (0, Some (shared_of o.0.origin (entries w.0.seen))) ∷ rest l) (sym full))
+  takes_out = let full = there_is (with_stage (Waits t) o.0, o.1) t w some_number turn_of in (Some (shared_of o.0.origin (entries w.0.seen)), full ∙ ap (λ (l : List (ℕ × Slot)). (0, Some (shared_of o.0.origin (entries w.0.seen))) ∷ rest l) (sym full))
 
 pub closed_as : (slots t : ℕ) (last : Slot) (n : ℕ) (me w : SeatValue) → Closed (step slots 0 t (t + 1) (core.some last)) me n w → (turn : Turn) × (last ≡ Some (shared_of me.0.origin (entries (me.0.seen ++ turn ∷ [])))) × (w ≡ (view_after me.0 turn, []))
 closed_as slots t last n me w p = (p.0, core.some-injective last (Some (shared_of me.0.origin (entries (me.0.seen ++ p.0 ∷ [])))) p.1, p.2)

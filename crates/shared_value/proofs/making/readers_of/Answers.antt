@@ -2,7 +2,7 @@
 use Rattle.std.proofs.Common.{◌∙◌, vec_capacity, IfSome, subst, arith}
 use Rattle.std.proofs.lemmas.List.Elements.{All-pop}
 use Rattle.std.specs.Arc.{arc_value}
-use Rattle.value_reader.specs.Knowing.{IsNew, IsFirst}
+use Rattle.value_reader.specs.Knowing.{IsNewReader, IsFirst}
 use Rattle.shared_value.proofs.Lists.{all_pushed}
 use Rattle.shared_value.proofs.making.readers_of.Goals as goal
 
@@ -29,5 +29,5 @@ loop-preserved g c =
       copies = copies.0;
       count = omega (arith, more, count);
       room = ◌∙◌ {a = vec_capacity made} c.push_reserved.ensures.capacity i.room;
-      readers = all_pushed (IsNew table first) c.loop.made.items made.items c.new.result c.push_reserved.ensures.items i.readers c.new.ensures;
+      readers = all_pushed (IsNewReader table first) c.loop.made.items made.items c.new.result c.push_reserved.ensures.items i.readers c.new.ensures;
     }

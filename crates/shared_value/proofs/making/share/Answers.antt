@@ -1,7 +1,7 @@
 -- The first value is in place, and each reader has it.
 use Rattle.std.proofs.Common.{All, ap, sym, subst, ◌∙◌}
 use Rattle.value_reader.specs.declared.numbered.Numbered.{Numbered}
-use Rattle.value_reader.specs.Knowing.{IsNew}
+use Rattle.value_reader.specs.Knowing.{IsNewReader}
 use Rattle.shared_value.proofs.Firsts.{first_is_last}
 use Rattle.shared_value.proofs.making.share.Goals as goal
 
@@ -16,7 +16,7 @@ returns-clause-count g c = c.readers_of-made.ensures.count
 pub returns-clause-readers : goal.returns-clause-readers
 returns-clause-readers g c =
     let first = c.of-2.ensures ∙ ap (λ (n : Numbered g.row.T.Denot). n.value) c.deref.ensures ∙ c.in_ok-last.ensures.1 in
-    subst (λ f. All (IsNew c.of.result.value.board.value.shared.table_id f) c.readers_of-made.result.items) first c.readers_of-made.ensures.readers
+    subst (λ f. All (IsNewReader c.of.result.value.board.value.shared.table_id f) c.readers_of-made.result.items) first c.readers_of-made.ensures.readers
 
 pub invariant_of-writer : goal.invariant_of-writer
 invariant_of-writer g c =

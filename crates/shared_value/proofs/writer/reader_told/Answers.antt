@@ -1,6 +1,6 @@
 use Rattle.value_reader.proofs.Steps.{admits}
 use Rattle.shared_value.proofs.Steps.{forks, merges}
-use Rattle.shared_value.proofs.writer.reader_told.Goals as goal
+use Rattle.shared_value.proofs.writer.informed_reader.Goals as goal
 
 pub reader-requires : goal.reader-requires
 reader-requires g c = admits

@@ -1,7 +1,7 @@
 use Rattle.std.proofs.Common.{◌≡◌, ◌<◌, ◌+◌, suc, ◌∙◌, ap, sym, subst, arith, List, length, slice_index_or}
 use Rattle.trace_threads.specs.declared.handle.Released.{Released}
 use Rattle.thread_handles.specs.Gathers.{MetAll}
-use Rattle.thread_handles.specs.Columns.{IsWhole}
+use Rattle.thread_handles.specs.Columns.{ComesToClosed}
 use Rattle.thread_handles.proofs.WorkLemmas.{get_drop, drop_more}
 use Rattle.thread_handles.proofs.Columns.{left_now, same_column, taken_next, joined_next}
 use Rattle.thread_handles.proofs.gather.gather_all.Goals as goal
@@ -15,7 +15,7 @@ gather_next-requires g c =
     let low : c.loop.counter < length c.args.firsts.items = omega (arith, t, n, ok) in
     let f = c.remove-first.result in
     let first = c.remove-first.ensures.value ∙ ap (λ (l : List Released). slice_index_or l 0 f) i.items ∙ get_drop c.args.firsts.items c.loop.counter f in
-    let whole = subst (λ (r : Released). IsWhole r c.loop.counter c.args.jobs.now) (sym first) (c.requires.whole c.loop.counter f low) in
+    let whole = subst (λ (r : Released). ComesToClosed r c.loop.counter c.args.jobs.now) (sym first) (c.requires.whole c.loop.counter f low) in
     record { left = left_now f.pass.span c.loop.counter c.args.jobs.now c.loop.jobs i.len i.taken whole.left }
 
 pub finish-requires : goal.finish-requires
@@ -27,7 +27,7 @@ finish-requires g c =
     let low : c.loop.counter < length c.args.firsts.items = omega (arith, t, n, ok) in
     let f = c.remove-first.result in
     let first = c.remove-first.ensures.value ∙ ap (λ (l : List Released). slice_index_or l 0 f) i.items ∙ get_drop c.args.firsts.items c.loop.counter f in
-    let whole = subst (λ (r : Released). IsWhole r c.loop.counter c.args.jobs.now) (sym first) (c.requires.whole c.loop.counter f low) in
+    let whole = subst (λ (r : Released). ComesToClosed r c.loop.counter c.args.jobs.now) (sym first) (c.requires.whole c.loop.counter f low) in
     let met = subst (λ (l : List Released). MetAll f l c.gather_next.result) (same_column f c.loop.counter c.args.jobs.now c.loop.jobs i.len i.taken) c.gather_next.ensures.met in
     record { closed = whole.closes c.gather_next.result met }
 

@@ -20,8 +20,8 @@ loop-w-preserved g c =
     let value = c.remove-other.ensures.value ∙ ap (λ (x : Job g.row.G.Denot). slice_index_or x.left.items 0 o) here ∙ same_get (slice_index_or c.args.jobs.now c.loop-w.w y).left.items 0 o e have.0 in
     record {
       len = length-set c.loop-w.jobs c.loop-w.w new ∙ i.len;
-      span = c.meet-met.ensures.span ∙ i.span;
-      joined = joined_more e e c.loop-w.met o c.meet-met.result c.args.jobs.now c.loop-w.w y low value c.meet-met.ensures i.joined;
+      span = c.join_releases-met.ensures.span ∙ i.span;
+      joined = joined_more e e c.loop-w.met o c.join_releases-met.result c.args.jobs.now c.loop-w.w y low value c.join_releases-met.ensures i.joined;
       taken = taken_more c.args.jobs.now c.loop-w.jobs c.loop-w.w y new i.len low c.remove-other.ensures.items i.taken i.rest;
       rest = taken_rest c.args.jobs.now c.loop-w.jobs c.loop-w.w new i.rest;
     }

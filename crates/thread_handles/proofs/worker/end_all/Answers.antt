@@ -1,6 +1,6 @@
 use Rattle.std.proofs.Common.{sym, subst, arith, ◌∙◌, ◌≡◌, ◌<◌, ◌+◌, suc, List, length, slice_index_or}
 use Rattle.trace_threads.specs.declared.handle.Released.{Released}
-use Rattle.thread_script.specs.Plans.{release_at}
+use Rattle.thread_script.specs.Plans.{release_moment}
 use Rattle.thread_handles.specs.Works.{WasReleased}
 use Rattle.thread_handles.proofs.WorkLemmas.{low_moment, released_more, drop_more}
 use Rattle.thread_handles.proofs.worker.end_all.Goals as goal
@@ -33,7 +33,7 @@ loop-s-preserved g c =
       count = omega (arith, d, e);
       room = c.push_reserved.ensures.capacity ∙ i.room;
       released = λ j x y l less out.
-          subst (λ (rs : List Released). WasReleased (slice_index_or c.args.handles.now.items j x) (slice_index_or rs j y) (release_at (slice_index_or c.args.plan.now.shared j l).at c.args.last)) (sym c.push_reserved.ensures.items)
+          subst (λ (rs : List Released). WasReleased (slice_index_or c.args.handles.now.items j x) (slice_index_or rs j y) (release_moment (slice_index_or c.args.plan.now.shared j l).at c.args.last)) (sym c.push_reserved.ensures.items)
           (released_more c.args.plan.now c.args.last c.args.handles.now.items c.loop-s.handles.items c.loop-s.left.items c.loop-s.s c.moment_of-at.result c.remove-handle.result c.end_handle.result low len i.items c.remove-handle.ensures.value c.moment_of-at.ensures c.end_handle.ensures.released i.released j x y l less out);
     }
 

@@ -1,6 +1,6 @@
 use Rattle.std.proofs.Common.{◌≡◌, ◌∷◌, ◌∙◌, List, length, sym, ap, subst, arith}
 use Rattle.thread_handles.specs.declared.job.Job.{Job}
-use Rattle.thread_work.specs.Preparing.{AllBegun}
+use Rattle.thread_work.specs.Preparing.{AllUnstarted}
 use Rattle.thread_work.proofs.PreparedLemmas.{begun_push, lists_more, gates_more}
 use Rattle.thread_work.proofs.prepare.make_jobs.Goals as goal
 
@@ -16,7 +16,7 @@ loop-ops-preserved g c =
     let count = i.count in
     let all = i.len in
     record {
-      begun = subst (λ (l : List (Job g.row.G.Denot)). AllBegun c.args.count l) (sym items) (begun_push c.args.count c.loop-ops.jobs.items c.in_ok-job.job i.begun c.in_ok-job.ensures.begun);
+      begun = subst (λ (l : List (Job g.row.G.Denot)). AllUnstarted c.args.count l) (sym items) (begun_push c.args.count c.loop-ops.jobs.items c.in_ok-job.job i.begun c.in_ok-job.ensures.begun);
       lists = lists_more c.loop-ops.jobs.items c.push_reserved.new.self.items c.in_ok-job.job c.in-Some.ops _ _ _ items (c.in_ok-job.ensures.ops ∙ c.into_vec.ensures) step i.lists;
       gates = gates_more c.loop-ops.jobs.items c.push_reserved.new.self.items c.in_ok-job.job c.in-Some-pop_front.gate _ _ _ items c.in_ok-job.ensures.gate popped i.gates;
       count = omega (arith, left, gates, count);

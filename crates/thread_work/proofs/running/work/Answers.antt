@@ -1,8 +1,8 @@
 use Rattle.std.proofs.Common.{◌≡◌, List, length, sym, subst, arith, IfOk}
 use Rattle.thread_script.specs.declared.plan.Plan.{Plan}
 use Rattle.thread_script.specs.declared.script.WorkerOp.{WorkerOp}
-use Rattle.thread_script.specs.Tests.{AllTested, AllAtOpening}
-use Rattle.thread_work.specs.Preparing.{AllBegun}
+use Rattle.thread_script.specs.Tests.{AllValidWork, AllAtOpening}
+use Rattle.thread_work.specs.Preparing.{AllUnstarted}
 use Rattle.thread_work.specs.Spans.{AreFirsts, AllEnded}
 use Rattle.thread_work.proofs.PreparedLemmas.{as_many, all_prepared}
 use Rattle.thread_work.proofs.running.work.Goals as goal
@@ -21,9 +21,9 @@ work_over-requires-clause-jobs g c κs within =
     let count : c.len.result ≡ length c.args.spans.items = omega (arith, n, ok) in
     all_prepared g.G.EventGate.opening c.in-Ok.field-0.plan c.args.spans.items c.in-Ok.field-0.jobs.items c.args.script.workers c.args.gates.items w.lists w.gates
     (subst (λ (p : Plan). AreFirsts p c.args.spans.items) (sym w.plan) c.requires.spans).0
-    (subst (λ (p : Plan). AllTested p c.args.script.workers) (sym w.plan) c.requires.tested)
+    (subst (λ (p : Plan). AllValidWork p c.args.script.workers) (sym w.plan) c.requires.tested)
     (subst (λ (p : Plan). AllAtOpening g.G.EventGate.opening p.filter c.args.script.workers c.args.gates.items) (sym w.plan) c.requires.gates)
-    (subst (λ n. AllBegun n c.in-Ok.field-0.jobs.items) count w.begun)
+    (subst (λ n. AllUnstarted n c.in-Ok.field-0.jobs.items) count w.begun)
 
 pub returns-in-Ok-clause-ended : goal.returns-in-Ok-clause-ended
 returns-in-Ok-clause-ended g c =

@@ -1,6 +1,6 @@
 use Rattle.std.proofs.Common.{sym, ◌∙◌, subst, List, length}
 use Rattle.thread_handles.specs.declared.job.Job.{Job}
-use Rattle.thread_handles.specs.Columns.{AreWhole, AreJoined}
+use Rattle.thread_handles.specs.Columns.{AllComeToClosed, AreJoined}
 use Rattle.thread_handles.proofs.ClonesLemmas.{take_front}
 use Rattle.thread_work.specs.Jobs.{AreDone}
 use Rattle.thread_work.proofs.SpansLemmas.{shared_at, ready_for, are_whole, all_ended}
@@ -19,7 +19,7 @@ gather_all-requires-clause-whole g c =
     let back = take_front c.args.jobs.len run _ (n ∙ c.as_mut_slice-2.ensures.len) in
     let done = subst AreDone (c.as_slice.ensures.value ∙ back) (c.all_done.ensures c.if-not-all_done.false) in
     let same = c.as_mut_slice-3.ensures.value ∙ back in
-    subst (AreWhole c.share_all.new.firsts.items) (sym same) (are_whole g.G.EventGate.opening c.args.plan.now c.args.spans.items c.args.jobs.items c.as_mut_slice-2.result.now c.share_all.new.firsts.items c.requires.spans c.requires.jobs sh.0 c.in-Ok.ensures.len sh.1 run n c.run_all.ensures.run done)
+    subst (AllComeToClosed c.share_all.new.firsts.items) (sym same) (are_whole g.G.EventGate.opening c.args.plan.now c.args.spans.items c.args.jobs.items c.as_mut_slice-2.result.now c.share_all.new.firsts.items c.requires.spans c.requires.jobs sh.0 c.in-Ok.ensures.len sh.1 run n c.run_all.ensures.run done)
 
 pub returns-clause-ended : goal.returns-clause-ended
 returns-clause-ended g c =

@@ -1,6 +1,6 @@
 -- What is learnt is the note's.
 use Rattle.std.proofs.Common.{ap}
-use Rattle.value_reader.specs.Knowing.{Written}
+use Rattle.value_reader.specs.Knowing.{WriterValue}
 use Rattle.value_reader.proofs.Firsts.{stands}
 use Rattle.value_reader.proofs.reader.ValueReader.learn.Goals as goal
 
@@ -8,4 +8,4 @@ pub invariant_of-self : goal.invariant_of-self
 invariant_of-self g c = stands _ _ _ c.note.invariant
 
 pub returns-then-deref-clause-begins : goal.returns-then-deref-clause-begins
-returns-then-deref-clause-begins g c = λ _. ap (λ (w : Written g.row.T.Denot). w.values) c.note.view_is
+returns-then-deref-clause-begins g c = λ _. ap (λ (w : WriterValue g.row.T.Denot). w.values) c.note.view_is
