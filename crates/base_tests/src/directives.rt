@@ -120,7 +120,7 @@ fn makes_directives_of_levels(rt: HostRuntime) -> Result<(), Fail> {
 
 type Set = DirectiveSet<StaticDirective>;
 
-const KEPT: [&str; 6] = [
+const ADDED: [&str; 6] = [
     "info",
     "app=trace",
     "db[{a}]=warn",
@@ -132,7 +132,7 @@ const KEPT: [&str; 6] = [
 // A set of those, added in turn.
 fn directive_set(alloc: Global) -> Result<Set, Fail> {
     let mut set = DirectiveSet::new(alloc);
-    for text in KEPT {
+    for text in ADDED {
         set.add(StaticDirective::from_str(alloc, text)?)?;
     }
     Ok(set)
@@ -165,12 +165,12 @@ fn is_empty(set: &Set) -> (bool, LevelFilter) {
 }
 
 // What is kept, and what a set of what that hands out keeps.
-fn kept_once(alloc: Global) -> Result<String, Fail> {
+fn set_text_once(alloc: Global) -> Result<String, Fail> {
     let kept = directive_set(alloc)?;
     set_text(alloc, &kept)
 }
 
-fn kept_again(alloc: Global) -> Result<String, Fail> {
+fn set_text_again(alloc: Global) -> Result<String, Fail> {
     let again = again(alloc, &directive_set(alloc)?)?;
     set_text(alloc, &again)
 }
@@ -182,11 +182,11 @@ fn keeps_directives_in_order(rt: HostRuntime) -> Result<(), Fail> {
         (true, LevelFilter::OFF)
     );
     assert_eq!(rt;
-        kept_once(rt.alloc())?.as_str(),
+        set_text_once(rt.alloc())?.as_str(),
         "app[{b}]=off app=debug db[{a,b}]=error db[{a}]=warn info trace"
     );
     assert_eq!(rt;
-        kept_again(rt.alloc())?.as_str(),
+        set_text_again(rt.alloc())?.as_str(),
         "app[{b}]=off app=debug db[{a,b}]=error db[{a}]=warn info debug"
     );
     Ok(())

@@ -25,5 +25,5 @@ abbrev pub items_of : List Record → List ℕ → List (Item FinishedSpan)
 items_of records lanes = items_from 0 records lanes
 
 -- those of a lane, in order
-abbrev pub on_lane : ℕ → List (Item FinishedSpan) → List (Item FinishedSpan)
-on_lane l items = filter (λ (i : Item FinishedSpan). i.lane == l) items
+abbrev pub items_on_lane : ℕ → List (Item FinishedSpan) → List (Item FinishedSpan)
+items_on_lane l items = filter (λ (i : Item FinishedSpan). i.lane == l) items

@@ -7,7 +7,7 @@ use Rattle.trace_lines.specs.reading.Object.{by_name, whole_number, line_of}
 use Rattle.trace_batch.specs.declared.item.Sent.{Sent}
 use Rattle.trace_batch.specs.Cuts.{IsCut}
 use Rattle.trace_batch.specs.Merges.{of_lane, sent_of}
-use Rattle.batch_lines.specs.Items.{object_text, items_of, on_lane}
+use Rattle.batch_lines.specs.Items.{object_text, items_of, items_on_lane}
 
 -- the texts of items, with commas between them
 abbrev pub listed_texts : Bool → List Sent → List ℕ
@@ -37,7 +37,7 @@ batches_end_text batches open_spans records = line_of (batches_end_data batches 
 
 -- Of each lane the texts of its records, in order, and nothing of other lanes.
 abbrev pub IsMergeOf : List Record → List ℕ → List Sent → Type 0
-IsMergeOf records lanes out = (l : ℕ) → of_lane l out ≡ map (sent_of object_text) (on_lane l (items_of records lanes))
+IsMergeOf records lanes out = (l : ℕ) → of_lane l out ≡ map (sent_of object_text) (items_on_lane l (items_of records lanes))
 
 -- What is written of the records of a script that leaves so many spans open, with the lane of each: the lines of some merge
 -- of the lanes' records, cut after every n, and the end line.

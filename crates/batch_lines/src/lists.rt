@@ -1,6 +1,6 @@
 //! The lists of the lanes, for their senders.
 ghost use Rattle.std.specs.Prelude.{◌≡◌, ◌<◌, ◌∷◌, ◌++◌, ℕ, [], All, length, get_or, set, IfOk, OnOk};
-ghost use Rattle.batch_lines.specs.Items.{items_of, on_lane};
+ghost use Rattle.batch_lines.specs.Items.{items_of, items_on_lane};
 
 use crate::finished::FinishedSpan;
 use otel_base::list::Items;
@@ -65,7 +65,7 @@ pub fn lane_lists(
     requires each { All (λ lane. lane < count) lanes.now }
     ensures len { IfOk result (λ lists. length lists.items ≡ count) }
     ensures each { IfOk result (λ lists.
-        (l : ℕ) → get_or lists.items l [] ≡ on_lane l (items_of records.items lanes.now)) }
+        (l : ℕ) → get_or lists.items l [] ≡ items_on_lane l (items_of records.items lanes.now)) }
 {
     let mut lists = empty_lists(alloc, count)?;
     let mut place = 0;

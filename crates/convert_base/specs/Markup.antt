@@ -2,8 +2,8 @@
 use Rattle.std.specs.Prelude.{ℕ, List, [], ◌∷◌, ◌==◌, ◌||◌, Bool, if◌then◌else◌, codes, nat_lt}
 
 -- what stands for a byte of a text: for a mark of HTML its reference, for a control of ASCII the one of "no character"
-unfoldable pub in_markup : ℕ → List ℕ
-in_markup b =
+unfoldable pub escaped_byte : ℕ → List ℕ
+escaped_byte b =
     if b == 38 then codes "&amp;" else
     if b == 60 then codes "&lt;" else
     if b == 62 then codes "&gt;" else

@@ -54,5 +54,5 @@ text_fault broken error.InvalidData = broken
 text_fault broken kind = io_fault kind
 
 -- an id whose digits are all 0 names no span
-abbrev pub names_none : List ℕ → Bool
-names_none id = list_all (λ digit. digit == 48) id
+abbrev pub names_no_span : List ℕ → Bool
+names_no_span id = list_all (λ digit. digit == 48) id

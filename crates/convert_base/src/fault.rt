@@ -36,7 +36,7 @@ pub enum Fault {
 
 impl Fault {
     /// What the process ends with.
-    pub fn status(&self) -> u8
+    pub fn exit_status(&self) -> u8
         ensures { result ≡ exit_status_of self.now }
     {
         match self {

@@ -1,7 +1,7 @@
 //! Texts inside of markup.
 ghost use Rattle.std.specs.Prelude.{◌≡◌, ◌++◌, IfOk, OnOk, false, string_bytes, encode_utf8, flat_map};
 ghost use Rattle.std.specs.List.{list_any};
-ghost use Rattle.convert_base.specs.Markup.{in_markup, is_mark};
+ghost use Rattle.convert_base.specs.Markup.{escaped_byte, is_mark};
 
 use crate::fault::Fault;
 use std::alloc::Global;
@@ -10,14 +10,14 @@ use std::alloc::Global;
 /// and none is a control.
 #[tactic(auto, using(crate::proofs::MarkupLemmas::inert))]
 pub fn escape(alloc: Global, text: &str) -> Result<String, Fault>
-    ensures value { IfOk result (λ page. string_bytes page ≡ flat_map in_markup text.now) }
+    ensures value { IfOk result (λ page. string_bytes page ≡ flat_map escaped_byte text.now) }
     ensures inert { IfOk result (λ page. list_any is_mark (string_bytes page) ≡ false) }
 {
     escape_all(alloc, text)
 }
 
 fn escape_all(alloc: Global, text: &str) -> Result<String, Fault>
-    ensures { IfOk result (λ page. string_bytes page ≡ flat_map in_markup text.now) }
+    ensures { IfOk result (λ page. string_bytes page ≡ flat_map escaped_byte text.now) }
 {
     let mut page = String::new(alloc);
     for c in text.chars() {
@@ -26,9 +26,9 @@ fn escape_all(alloc: Global, text: &str) -> Result<String, Fault>
     Ok(page)
 }
 
-#[tactic(auto, unfolding(crate::specs::Markup::in_markup), using(crate::proofs::MarkupLemmas::plain))]
+#[tactic(auto, unfolding(crate::specs::Markup::escaped_byte), using(crate::proofs::MarkupLemmas::plain))]
 fn push_escaped(page: &mut String, c: char) -> Result<(), Fault>
-    ensures { OnOk result (string_bytes page.new ≡ string_bytes page.old ++ flat_map in_markup (encode_utf8 c)) }
+    ensures { OnOk result (string_bytes page.new ≡ string_bytes page.old ++ flat_map escaped_byte (encode_utf8 c)) }
 {
     match c {
         '&' => page.push_str("&amp;")?,

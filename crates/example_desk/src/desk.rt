@@ -2,10 +2,10 @@
 ghost use Rattle.std.specs.Prelude.{◌≡◌, ◌<◌, ◌^◌, ◌+◌, ◌⊎◌, IfOk, Ok, Err};
 ghost use Rattle.traced_futures.specs.Programs.{IsFull, IsUnused};
 ghost use Rattle.example_desk.specs.declared.fault.Fault.TheVariants as fault;
-ghost use Rattle.example_desk.specs.Orders.{front_first, back_first, Ready, ReadyWith, Leaves, KeepsPayment, Asks, Waits, Pays, Wraps, Packs, PaysAndPacks, Inside, ServesOrder};
+ghost use Rattle.example_desk.specs.Orders.{front_first, back_first, CanCall, CanCallWith, Leaves, KeepsPayment, Asks, Waits, Pays, Wraps, Packs, PaysAndPacks, Inside, ServesOrder};
 
 use crate::fault::Fault;
-use crate::given::Given;
+use crate::order_values::OrderValues;
 use crate::payment::Payment;
 use crate::sites::Sites;
 use futures::task;
@@ -33,7 +33,7 @@ impl<S: OtelSubscriber + Discard> Desk<S> {
     /// A desk with a stack that knows no span and two lanes, 1 and 2, and the name of the stack.
     pub fn new(alloc: Global, stack: S) -> Result<(Desk<S>, Dispatch), Memory>
         requires { IsUnused S.Subscriber stack }
-        ensures { IfOk result (λ made. Ready S.Subscriber 0 front_first made.0 × (made.1 ≡ 0)
+        ensures { IfOk result (λ made. CanCall S.Subscriber 0 front_first made.0 × (made.1 ≡ 0)
             × (made.0.front.id ≡ 1) × (made.0.back.id ≡ 2)) }
     {
         let mut world = World::new(alloc);
@@ -66,11 +66,11 @@ impl<S: OtelSubscriber> Desk<S> {
     /// An order, which came with a context. It is `Full` only where a lane is.
     pub fn order(
         &mut self,
-        given: &Given,
+        given: &OrderValues,
         remote: Context,
         cx: &mut task::Context<'_>,
     ) -> Result<(), Fault>
-        requires { Ready S.Subscriber given.now.at front_first self.old }
+        requires { CanCall S.Subscriber given.now.at front_first self.old }
         ensures ends { Leaves S.Subscriber given.now 100 front_first self.old self.new result (ServesOrder S.touches remote) }
         ensures full { result ≡ Err fault.Full → IsFull self.old.front ⊎ IsFull self.old.back }
     {
@@ -87,10 +87,10 @@ impl<S: OtelSubscriber> Desk<S> {
     fn inside(
         &mut self,
         order: &Span,
-        given: &Given,
+        given: &OrderValues,
         cx: &mut task::Context<'_>,
     ) -> Result<(), Fault>
-        requires { ReadyWith S.Subscriber (given.now.at + 10) front_first order.now self.old }
+        requires { CanCallWith S.Subscriber (given.now.at + 10) front_first order.now self.old }
         ensures ends { Leaves S.Subscriber given.now 60 front_first self.old self.new result (Inside order.now) }
         ensures full { result ≡ Err fault.Full → IsFull self.old.front ⊎ IsFull self.old.back }
     {
@@ -105,10 +105,10 @@ impl<S: OtelSubscriber> Desk<S> {
     fn pay_and_pack(
         &mut self,
         order: &Span,
-        given: &Given,
+        given: &OrderValues,
         cx: &mut task::Context<'_>,
     ) -> Result<(), Fault>
-        requires { ReadyWith S.Subscriber (given.now.at + 20) front_first order.now self.old }
+        requires { CanCallWith S.Subscriber (given.now.at + 20) front_first order.now self.old }
         ensures ends { Leaves S.Subscriber given.now 60 front_first self.old self.new result (PaysAndPacks order.now) }
         ensures full { result ≡ Err fault.Full → IsFull self.old.back }
     {
@@ -117,8 +117,8 @@ impl<S: OtelSubscriber> Desk<S> {
     }
 
     // A payment, by a future under a span of its own, and an event where it is made.
-    fn pay(&mut self, given: &Given, cx: &mut task::Context<'_>) -> Result<(), Memory>
-        requires { Ready S.Subscriber (given.now.at + 20) front_first self.old }
+    fn pay(&mut self, given: &OrderValues, cx: &mut task::Context<'_>) -> Result<(), Memory>
+        requires { CanCall S.Subscriber (given.now.at + 20) front_first self.old }
         ensures ends { Leaves S.Subscriber given.now 30 front_first self.old self.new result Pays }
         ensures back { self.new.back ≡ self.old.back }
     {
@@ -138,30 +138,30 @@ impl<S: OtelSubscriber> Desk<S> {
     // Asks twice for a payment.
     fn wait(
         &mut self,
-        given: &Given,
+        given: &OrderValues,
         payment: &mut Instrumented<Plain<Payment>>,
         cx: &mut task::Context<'_>,
     ) -> bool
-        requires { ReadyWith S.Subscriber (given.now.at + 21) front_first payment.old.span self.old }
+        requires { CanCallWith S.Subscriber (given.now.at + 21) front_first payment.old.span self.old }
         ensures keeps { KeepsPayment S.Subscriber (given.now.at + 26) payment.old self.old payment.new self.new }
         ensures waits { Waits S.Subscriber given.now result payment.old self.old payment.new self.new }
     {
-        let made = self.is_made(given.at + 22, payment, cx);
+        let made = self.poll_payment(given.at + 22, payment, cx);
         if made {
             true
         } else {
-            self.is_made(given.at + 24, payment, cx)
+            self.poll_payment(given.at + 24, payment, cx)
         }
     }
 
     // Whether a payment is made, by a poll inside its span. Where that can't be entered, it isn't.
-    fn is_made(
+    fn poll_payment(
         &mut self,
         at: u64,
         payment: &mut Instrumented<Plain<Payment>>,
         cx: &mut task::Context<'_>,
     ) -> bool
-        requires ready { ReadyWith S.Subscriber at front_first payment.old.span self.old }
+        requires ready { CanCallWith S.Subscriber at front_first payment.old.span self.old }
         requires early { at < 2 ^ 63 }
         ensures keeps { KeepsPayment S.Subscriber (at + 1) payment.old self.old payment.new self.new }
         ensures asks { Asks S.Subscriber at result payment.old self.old payment.new self.new }
@@ -171,8 +171,8 @@ impl<S: OtelSubscriber> Desk<S> {
     }
 
     // Packs on the back lane, in a child of the order.
-    fn pack(&mut self, order: &Span, given: &Given) -> Result<(), Fault>
-        requires { ReadyWith S.Subscriber (given.now.at + 30) back_first order.now self.old }
+    fn pack(&mut self, order: &Span, given: &OrderValues) -> Result<(), Fault>
+        requires { CanCallWith S.Subscriber (given.now.at + 30) back_first order.now self.old }
         ensures ends { Leaves S.Subscriber given.now 60 back_first self.old self.new result (Packs order.now) }
         ensures front { self.new.front ≡ self.old.front }
         ensures full { result ≡ Err fault.Full → IsFull self.old.back }
@@ -191,8 +191,8 @@ impl<S: OtelSubscriber> Desk<S> {
     }
 
     // What is told while an order is packed.
-    fn wrap(&mut self, pack: &Span, given: &Given) -> Result<(), Fault>
-        requires { ReadyWith S.Subscriber (given.now.at + 35) back_first pack.now self.old }
+    fn wrap(&mut self, pack: &Span, given: &OrderValues) -> Result<(), Fault>
+        requires { CanCallWith S.Subscriber (given.now.at + 35) back_first pack.now self.old }
         ensures ends { Leaves S.Subscriber given.now 60 back_first self.old self.new result (Wraps pack.now) }
         ensures front { self.new.front ≡ self.old.front }
         ensures full { result ≡ Err fault.Full → IsFull self.old.back }

@@ -3,6 +3,6 @@
 
 pub mod desk;
 pub mod fault;
-pub mod given;
+pub mod order_values;
 pub mod payment;
 pub mod sites;

@@ -4,14 +4,14 @@
 
 ghost use Rattle.std.specs.Prelude.{◌≡◌, ◌<◌, ◌^◌, ◌+◌, length};
 ghost use Rattle.env_filter.specs.Filtering.{plain_filter, IsNewFilter};
-ghost use Rattle.example_desk.specs.Orders.{front_first, Ready};
+ghost use Rattle.example_desk.specs.Orders.{front_first, CanCall};
 
 mod report;
 
 use env_filter::filter::EnvFilter;
 use example_desk::desk::Desk;
 use example_desk::fault::Fault;
-use example_desk::given::Given;
+use example_desk::order_values::OrderValues;
 use futures::task;
 use futures::test::MockTask;
 use otel_base::context::{Context, SpanContext};
@@ -56,22 +56,22 @@ fn serve(
     dispatch: Dispatch,
     cx: &mut task::Context<'_>,
 ) -> Result<(), Fault>
-    requires ready { Ready ⟦<Stack as Subscriber>⟧ 0 front_first desk.old }
+    requires ready { CanCall ⟦<Stack as Subscriber>⟧ 0 front_first desk.old }
     requires first { dispatch ≡ 0 }
     ensures { dispatch < length desk.new.world.subscribers }
 {
     let remote = Context {
         span: Some(SpanContext { trace: 77, span: 7 }),
     };
-    take(alloc, desk, 0, "ada", remote, cx)?;
-    take(alloc, desk, 100, "bob", Context::empty(), cx)?;
+    take_order(alloc, desk, 0, "ada", remote, cx)?;
+    take_order(alloc, desk, 100, "bob", Context::empty(), cx)?;
     let filter = EnvFilter::new(alloc, "warn,[order]=info")?;
     refilter(desk, dispatch, filter)?;
-    take(alloc, desk, 200, "cleo", Context::empty(), cx)
+    take_order(alloc, desk, 200, "cleo", Context::empty(), cx)
 }
 
 // An order of a user at a moment.
-fn take(
+fn take_order(
     alloc: Global,
     desk: &mut Desk<Stack>,
     at: u64,
@@ -79,20 +79,20 @@ fn take(
     remote: Context,
     cx: &mut task::Context<'_>,
 ) -> Result<(), Fault>
-    requires ready { Ready ⟦<Stack as Subscriber>⟧ at front_first desk.old }
+    requires ready { CanCall ⟦<Stack as Subscriber>⟧ at front_first desk.old }
     requires early { at < 2 ^ 62 }
-    ensures { Ready ⟦<Stack as Subscriber>⟧ (at + 100) front_first desk.new }
+    ensures { CanCall ⟦<Stack as Subscriber>⟧ (at + 100) front_first desk.new }
 {
-    let given = Given::new(alloc, at, desk.sites, user)?;
+    let given = OrderValues::new(alloc, at, desk.sites, user)?;
     desk.order(&given, remote, cx)
 }
 
 // Puts another filter in force, if there is one.
 fn refilter(desk: &mut Desk<Stack>, dispatch: Dispatch, filter: EnvFilter) -> Result<(), Memory>
-    requires ready { Ready ⟦<Stack as Subscriber>⟧ 200 front_first desk.old }
+    requires ready { CanCall ⟦<Stack as Subscriber>⟧ 200 front_first desk.old }
     requires first { dispatch ≡ 0 }
     requires new { IsNewFilter (plain_filter filter) }
-    ensures { Ready ⟦<Stack as Subscriber>⟧ 200 front_first desk.new }
+    ensures { CanCall ⟦<Stack as Subscriber>⟧ 200 front_first desk.new }
 {
     let stack = desk.world.subscriber(dispatch);
     if stack.layer().with_current(|_| ()).is_err() {

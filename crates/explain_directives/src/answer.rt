@@ -1,5 +1,5 @@
 //! What directives answer about a callsite or a value.
-use crate::asked::{callsite_of, value_of};
+use crate::question::{callsite_of, value_of};
 use env_directives::directive::Match;
 use env_directives::{Directive, DirectiveSet, FieldMatch, ParseError, StaticDirective, Targets};
 use explain_base::push;

@@ -31,12 +31,12 @@ fn directive(
     patterns: bool,
 ) -> Result<String, Memory> {
     match Directive::parse(alloc, text, patterns) {
-        Ok(directive) => told_directive(alloc, &directive, asked),
+        Ok(directive) => directive_answer(alloc, &directive, asked),
         Err(fault) => fault_line(alloc, fault),
     }
 }
 
-fn told_directive(
+fn directive_answer(
     alloc: Global,
     directive: &Directive,
     asked: Option<&str>,
@@ -125,12 +125,12 @@ fn piece_fault(
 // The targets with their levels in order, and the level of all others, if there is one.
 fn targets(alloc: Global, text: &str, asked: Option<&str>) -> Result<String, Memory> {
     match Targets::from_str(alloc, text) {
-        Ok(targets) => told_targets(alloc, text, &targets, asked),
+        Ok(targets) => targets_answer(alloc, text, &targets, asked),
         Err(fault) => fault_line(alloc, fault),
     }
 }
 
-fn told_targets(
+fn targets_answer(
     alloc: Global,
     text: &str,
     targets: &Targets,

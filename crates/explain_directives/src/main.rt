@@ -2,8 +2,8 @@
 #![tactic(auto)]
 
 mod answer;
-mod asked;
 mod explain;
+mod question;
 
 use crate::explain::explain;
 use explain_base::Reading;

@@ -55,13 +55,13 @@ fn change_line(
     callsite: &Callsite,
 ) -> Result<String, Memory> {
     let before = lent_answer(layer, lane, callsite);
-    let changed = changes(layer, EnvFilter::new(alloc, "off")?);
+    let changed = is_changed_in_place(layer, EnvFilter::new(alloc, "off")?);
     let after = lent_answer(layer, lane, callsite);
     Ok(format!(in alloc; "  enabled {before:?}, changed {changed}, enabled {after:?}")?)
 }
 
 // Whether a layer's filter is changed in place for another.
-fn changes(layer: &mut reload::Layer<EnvFilter>, next: EnvFilter) -> bool {
+fn is_changed_in_place(layer: &mut reload::Layer<EnvFilter>, next: EnvFilter) -> bool {
     layer.modify(|filter| *filter = next).is_ok()
 }
 

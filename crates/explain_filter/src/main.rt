@@ -38,7 +38,7 @@ fn answer(rt: &HostRuntime, session: &mut Session, line: &str) -> io::Result<()>
 
 fn answer_text(rt: &HostRuntime, session: &mut Session, line: &str) -> Result<String, Memory> {
     match line.strip_prefix("process ") {
-        Some(words) => variables::of_process(rt.alloc(), rt, words),
+        Some(words) => variables::read_process_variable(rt.alloc(), rt, words),
         None => session.answer(line),
     }
 }

@@ -49,14 +49,14 @@ impl Session {
     // The calls that make a filter of the one in place, or of variables.
     fn answer_around(&mut self, call: &str, words: &str) -> Result<String, Memory> {
         match call {
-            "default" => self.by_default(words),
+            "default" => self.renew_with_default(words),
             "clone" => self.copy(),
             "current" => self.copy_current(),
             "reload" => self.exchange(words),
             "try_new" => self.put_read(EnvFilter::try_new(self.alloc, words)),
             "from_str" => self.put_read(EnvFilter::from_str(self.alloc, words)),
-            "vars" => variables::in_memory(self.alloc, words),
-            "vars_lossy" => variables::in_part(self.alloc, words),
+            "vars" => variables::read_memory_variables(self.alloc, words),
+            "vars_lossy" => variables::read_variables_lossy(self.alloc, words),
             "var" => variables::read_value(self.alloc, words),
             _ => self.answer_on(call, words),
         }
@@ -76,7 +76,7 @@ impl Session {
             "close" => self.close(Id::at(number)),
             "ask" => self.ask(number, more),
             "retired" => self.ask_retired(number, more),
-            "targets" => self.by_targets(number, more),
+            "targets" => self.ask_targets(number, more),
             _ => answers::no_call_line(self.alloc),
         }
     }
@@ -129,7 +129,7 @@ impl Session {
     }
 
     // The filter of the empty text, where that has a default directive.
-    fn by_default(&mut self, text: &str) -> Result<String, Memory> {
+    fn renew_with_default(&mut self, text: &str) -> Result<String, Memory> {
         let Ok(directive) = Directive::parse(self.alloc, text, true) else {
             return answers::no_call_line(self.alloc);
         };
@@ -268,7 +268,7 @@ impl Session {
     }
 
     // What targets answer of a callsite.
-    fn by_targets(&self, callsite: u64, words: &str) -> Result<String, Memory> {
+    fn ask_targets(&self, callsite: u64, words: &str) -> Result<String, Memory> {
         let Some(callsite) = self.callsites.get(callsite as usize) else {
             return answers::no_call_line(self.alloc);
         };

@@ -34,8 +34,11 @@ fn lines(
     targets: Targets,
     others: Targets,
 ) -> Result<String, Memory> {
-    let mut told = by_filter(alloc, &targets, callsite)?;
-    push(&mut told, by_layer(alloc, "layer", &targets, callsite))?;
+    let mut told = filter_answer_line(alloc, &targets, callsite)?;
+    push(
+        &mut told,
+        layer_answer_line(alloc, "layer", &targets, callsite),
+    )?;
     push(&mut told, exchange_lines(alloc, callsite, targets, others))?;
     Ok(told)
 }
@@ -48,11 +51,14 @@ fn exchange_lines(
     others: Targets,
 ) -> Result<String, Memory> {
     let mut layer = reload::Layer::new(targets);
-    let mut told = by_layer(alloc, "inside", &layer, callsite)?;
+    let mut told = layer_answer_line(alloc, "inside", &layer, callsite)?;
     if layer.reload(others).is_err() {
         return answers::no_call_line(alloc);
     }
-    push(&mut told, by_layer(alloc, "exchanged", &layer, callsite))?;
+    push(
+        &mut told,
+        layer_answer_line(alloc, "exchanged", &layer, callsite),
+    )?;
     push(&mut told, copy_line(alloc, &layer, callsite))?;
     Ok(told)
 }
@@ -64,18 +70,22 @@ fn copy_line(
     callsite: &Callsite,
 ) -> Result<String, Memory> {
     match layer.clone_current()? {
-        Some(targets) => by_layer(alloc, "copied", &targets, callsite),
+        Some(targets) => layer_answer_line(alloc, "copied", &targets, callsite),
         None => answers::no_call_line(alloc),
     }
 }
 
-fn by_filter<F: Filter>(alloc: Global, filter: &F, callsite: &Callsite) -> Result<String, Memory> {
+fn filter_answer_line<F: Filter>(
+    alloc: Global,
+    filter: &F,
+    callsite: &Callsite,
+) -> Result<String, Memory> {
     let interest = filter.callsite_enabled(callsite);
     let enabled = filter.enabled(0, callsite);
     line(alloc, "filter", interest, enabled, filter.max_level_hint())
 }
 
-fn by_layer<L: Layer>(
+fn layer_answer_line<L: Layer>(
     alloc: Global,
     kind: &str,
     layer: &L,

@@ -9,7 +9,7 @@ use std::alloc::Global;
 use std::env::Env;
 
 /// What is read of variables in memory, of words `NAME=TEXT`: leniently, and where it has to be set.
-pub fn in_memory(alloc: Global, words: &str) -> Result<String, Memory> {
+pub fn read_memory_variables(alloc: Global, words: &str) -> Result<String, Memory> {
     let vars = MemVars::new(alloc, pairs(alloc, words)?);
     let mut told = read_default(alloc, &vars)?;
     push_required(alloc, &mut told, &vars)?;
@@ -28,7 +28,7 @@ fn push_required(alloc: Global, told: &mut String, vars: &MemVars) -> Result<(),
 }
 
 /// What is read of them leniently and without a default, with the pieces that were left out.
-pub fn in_part(alloc: Global, words: &str) -> Result<String, Memory> {
+pub fn read_variables_lossy(alloc: Global, words: &str) -> Result<String, Memory> {
     let vars = MemVars::new(alloc, pairs(alloc, words)?);
     let (filter, ignored) = EnvFilter::builder(alloc).from_env_lossy(&vars)?;
     let mut told = answers::ignored_lines(alloc, ignored.as_slice())?;
@@ -68,7 +68,7 @@ fn value_of(alloc: Global, words: &str) -> Result<Option<String>, Memory> {
 }
 
 /// What a reader makes of a variable of the process, of words `READER NAME`.
-pub fn of_process<R: Env>(alloc: Global, rt: &R, words: &str) -> Result<String, Memory> {
+pub fn read_process_variable<R: Env>(alloc: Global, rt: &R, words: &str) -> Result<String, Memory> {
     let vars = SysVars::new(alloc, rt);
     let (reader, name) = words.split_once(' ').unwrap_or((words, ""));
     match reader {

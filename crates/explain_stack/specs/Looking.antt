@@ -8,6 +8,6 @@ is_there None = false
 is_there (Some dispatch) = true
 
 -- whether there is one, once it is ready
-abbrev pub looks : Bool → Option ℕ → PollResult Bool
-looks true served = Ok (Ready (is_there served))
-looks false served = Ok Pending
+abbrev pub probe_answer : Bool → Option ℕ → PollResult Bool
+probe_answer true served = Ok (Ready (is_there served))
+probe_answer false served = Ok Pending

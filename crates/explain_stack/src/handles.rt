@@ -52,7 +52,7 @@ impl Slot {
     }
 
     /// The lanes change places.
-    pub fn turn(&mut self)
+    pub fn swap_lanes(&mut self)
         ensures { self.new ≡ self.old }
     {
         mem::swap(&mut self.entry, &mut self.other);
@@ -148,12 +148,12 @@ impl Handles {
     }
 
     /// The lanes change places.
-    pub fn turn(&mut self)
+    pub fn swap_lanes(&mut self)
         ensures { self.new ≡ self.old }
     {
-        self.a.turn();
-        self.b.turn();
-        self.c.turn();
+        self.a.swap_lanes();
+        self.b.swap_lanes();
+        self.c.swap_lanes();
     }
 
     /// Whether one of them is of a span.

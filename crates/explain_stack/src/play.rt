@@ -41,7 +41,7 @@ pub fn answer<S: Stack>(
         "follows" => follow(alloc, scene, handles, at, name, words),
         "close" => close(alloc, scene, handles, at, name),
         "admits" => admits(alloc, scene, name, words),
-        "lane" => turn(alloc, scene, handles, name),
+        "lane" => swap_lanes(alloc, scene, handles, name),
         "fill" => polls::fill(alloc, scene),
         "around" => polls::around(alloc, scene, handles, at, name),
         "inside" => inside::line(alloc, scene.dispatch),
@@ -150,7 +150,7 @@ fn admits<S: Stack>(
 }
 
 // Calls are made on the lane of an id from here on.
-fn turn<S: Stack>(
+fn swap_lanes<S: Stack>(
     alloc: Global,
     scene: &mut Scene<S>,
     handles: &mut Handles,
@@ -163,8 +163,8 @@ fn turn<S: Stack>(
     let (here, there) = scene.lanes();
     let lane = words::number(lane).unwrap_or(0);
     if lane == there {
-        scene.turn();
-        handles.turn();
+        scene.swap_lanes();
+        handles.swap_lanes();
     }
     told::done_line(alloc, lane == here || lane == there)
 }

@@ -99,7 +99,7 @@ impl<S: Stack> Scene<S> {
     }
 
     /// Calls are made on the other lane from here on.
-    pub fn turn(&mut self)
+    pub fn swap_lanes(&mut self)
         requires order { SceneInOrder S.spans S.kept S.is_whole self.old }
         ensures order { SceneInOrder S.spans S.kept S.is_whole self.new }
         ensures lanes { self.new ≡ record self.old { lane = self.old.other; other = self.old.lane } }

@@ -40,12 +40,12 @@ impl Stack for Registry {
 }
 
 /// A tracer that tells what it keeps.
-pub trait ToldTracer: Tracer {
+pub trait ReportingTracer: Tracer {
     /// Takes out the finished spans that it still has and tells each, and tells its counts where they are told.
     fn tell(&mut self, alloc: Global, told: &mut String) -> Result<(), Memory>;
 }
 
-impl<T: ToldTracer + Drop> Stack for Layered<OpenTelemetryLayer<T>, Registry> {
+impl<T: ReportingTracer + Drop> Stack for Layered<OpenTelemetryLayer<T>, Registry> {
     fn registry(&self) -> &Registry {
         self.inner()
     }

@@ -11,7 +11,7 @@ use thread_script::{ThreadScript, WorkerCall, WorkerOp};
 use turnstile::Turnstile;
 
 // How often a worker looks at most whether its turn has come.
-const MOST_LOOKS: u64 = 10_000_000;
+const MAX_LOOKS: u64 = 10_000_000;
 
 /// Holds each call and each release until the entries before it in an output were made on its span. Where one waits in vain,
 /// the output has another order than any run, and nobody is held any more.
@@ -65,7 +65,7 @@ impl Turnstile for Replay {
         let Some(span) = self.span(worker, call) else {
             return;
         };
-        for _ in 0..MOST_LOOKS {
+        for _ in 0..MAX_LOOKS {
             if self.is_next(span, worker) || self.is_over.load(Ordering::SeqCst) == 1 {
                 return;
             }

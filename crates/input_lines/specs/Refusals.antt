@@ -7,8 +7,8 @@ use Rattle.trace_lines.specs.declared.told.Told.TheVariants as told
 use Rattle.trace_lines.specs.Lines.{is_blank}
 
 -- a refusal has a line that tells it
-abbrev pub IsTold : Told → Type 0
-IsTold why = why ≢ told.Step refusal.Memory
+abbrev pub HasRefusalLine : Told → Type 0
+HasRefusalLine why = why ≢ told.Step refusal.Memory
 
 -- no settings line is among the lines
 abbrev pub are_blank : List (List ℕ) → Bool

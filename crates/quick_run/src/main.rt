@@ -32,7 +32,7 @@ fn answer(rt: &HostRuntime, words: &[String]) -> Status {
     match words {
         [_, word] => carry_out(rt, word.as_str()),
         [program, word, path] => {
-            keep(rt, program.as_str(), path.as_str());
+            copy_program(rt, program.as_str(), path.as_str());
             carry_out(rt, word.as_str())
         }
         _ => Status::Usage,
@@ -40,7 +40,7 @@ fn answer(rt: &HostRuntime, words: &[String]) -> Status {
 }
 
 // Copies the program to a path. Where that fails, the next call builds it anew.
-fn keep(rt: &HostRuntime, program: &str, path: &str) {
+fn copy_program(rt: &HostRuntime, program: &str, path: &str) {
     let _ = fs::copy(rt, program, path);
 }
 

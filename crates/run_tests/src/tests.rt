@@ -75,7 +75,7 @@ fn run<H: Threads + Wait + Sync + RandomSource + AllocGlobal, R: Source, W: Sink
 }
 
 // What is written for an input by the command of a word, over these turns of reads and writes, and behind it the status.
-fn ran_as<H: Threads + Wait + Sync + RandomSource + AllocGlobal>(
+fn run_command<H: Threads + Wait + Sync + RandomSource + AllocGlobal>(
     rt: &H,
     word: &str,
     input: &[u8],
@@ -90,13 +90,13 @@ fn ran_as<H: Threads + Wait + Sync + RandomSource + AllocGlobal>(
 }
 
 // The same by `run`.
-fn ran<H: Threads + Wait + Sync + RandomSource + AllocGlobal>(
+fn run_script<H: Threads + Wait + Sync + RandomSource + AllocGlobal>(
     rt: &H,
     input: &[u8],
     reads: &[Turn],
     writes: &[Turn],
 ) -> Result<String, Fail> {
-    ran_as(rt, "run", input, reads, writes)
+    run_command(rt, "run", input, reads, writes)
 }
 
 #[test]

@@ -12,7 +12,7 @@ use left_right::writer::Writer;
 use std::alloc::{AllocError, Global};
 use std::snapshot::Snapshot;
 use std::sync::Arc;
-use value_reader::numbered::{Numbered, InPlace};
+use value_reader::numbered::{InPlace, Numbered};
 use value_reader::order::OrderedFactory;
 use value_reader::reader::{Origin, ValueReader};
 

@@ -4,7 +4,7 @@ use crossbeam_utils::rule::Outcome;
 use left_right::writer::Writer;
 use std::alloc::Global;
 use std::sync::Arc;
-use value_reader::numbered::{Numbered, InPlace};
+use value_reader::numbered::{InPlace, Numbered};
 use value_reader::order::{InOrder, View};
 
 /// A writer of `left_right` that keeps to the order.

@@ -12,7 +12,7 @@ use std::alloc::{AllocError, Global};
 use std::marker::Model;
 use std::sync::{Arc, Wait};
 use value_reader::note::ValueNote;
-use value_reader::numbered::{Numbered, InPlace};
+use value_reader::numbered::{InPlace, Numbered};
 use value_reader::order::OrderedReader;
 use value_reader::reader::Origin;
 

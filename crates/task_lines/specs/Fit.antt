@@ -28,15 +28,15 @@ abbrev pub has_sites : List Callsite → Task → Bool
 has_sites sites task = is_some (span_site sites task.site) && list_all (λ s. has_event sites s) task.steps
 
 -- the callsite of a step's event declares its fields
-abbrev pub tells_fields : List Callsite → Step → Bool
-tells_fields sites (step.Event site fields) = declares_by sites site fields
-tells_fields sites (step.Record fields) = true
-tells_fields sites (step.SetAttribute key value) = true
-tells_fields sites step.Yield = true
+abbrev pub declares_event_fields : List Callsite → Step → Bool
+declares_event_fields sites (step.Event site fields) = declares_by sites site fields
+declares_event_fields sites (step.Record fields) = true
+declares_event_fields sites (step.SetAttribute key value) = true
+declares_event_fields sites step.Yield = true
 
 -- the callsites of a task's span and of its events declare their fields
 abbrev pub has_fields : List Callsite → Task → Bool
-has_fields sites task = declares_by sites task.site task.fields && list_all (λ s. tells_fields sites s) task.steps
+has_fields sites task = declares_by sites task.site task.fields && list_all (λ s. declares_event_fields sites s) task.steps
 
 -- what a task names that isn't there, if there is something
 abbrev pub missing_name : Settings → Task → Option What

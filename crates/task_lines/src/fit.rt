@@ -3,7 +3,7 @@ ghost use Rattle.std.specs.Prelude.{◌≡◌, is_some, map, option_map};
 ghost use Rattle.std.specs.List.{list_all};
 ghost use Rattle.span_script.specs.Setups.{span_site, event_site};
 ghost use Rattle.trace_tasks.specs.FieldNames.{declares_all, declares_by};
-ghost use Rattle.task_lines.specs.Fit.{has_event, has_sites, tells_fields, has_fields, missing_name};
+ghost use Rattle.task_lines.specs.Fit.{has_event, has_sites, declares_event_fields, has_fields, missing_name};
 
 use otel_base::text::Text;
 use span_script::reply::What;
@@ -13,7 +13,7 @@ use trace_base::field::Value;
 use trace_tasks::script::{Step, Task};
 
 // Whether a callsite is there that makes spans.
-fn has_span(sites: &[Callsite], site: u64) -> bool
+fn has_span_site(sites: &[Callsite], site: u64) -> bool
     ensures { result ≡ is_some (span_site sites.now site) }
 {
     match sites.get(site as usize) {
@@ -83,8 +83,8 @@ fn declares_at(sites: &[Callsite], site: u64, fields: &[(Text, Value)]) -> bool
 }
 
 // Whether the callsite of a step's event declares its fields.
-fn tells_fields(sites: &[Callsite], step: &Step) -> bool
-    ensures { result ≡ tells_fields sites.now step.now }
+fn declares_event_fields(sites: &[Callsite], step: &Step) -> bool
+    ensures { result ≡ declares_event_fields sites.now step.now }
 {
     match step {
         Step::Event { site, fields } => declares_at(sites, *site, fields.as_slice()),
@@ -93,11 +93,11 @@ fn tells_fields(sites: &[Callsite], step: &Step) -> bool
 }
 
 // Whether those of all events of some steps do.
-fn tell_fields(sites: &[Callsite], steps: &[Step]) -> bool
-    ensures { result ≡ list_all (λ s. tells_fields sites.now s) steps.now }
+fn declare_event_fields(sites: &[Callsite], steps: &[Step]) -> bool
+    ensures { result ≡ list_all (λ s. declares_event_fields sites.now s) steps.now }
 {
     for step in steps {
-        if !tells_fields(sites, step) {
+        if !declares_event_fields(sites, step) {
             return false;
         }
     }
@@ -114,10 +114,12 @@ pub fn missing_name(settings: &Settings, task: &Task) -> Option<What>
     if settings.lanes.as_slice().is_empty() {
         return Some(What::Lane);
     }
-    if !(has_span(sites, task.site) && have_events(sites, steps)) {
+    if !(has_span_site(sites, task.site) && have_events(sites, steps)) {
         return Some(What::Site);
     }
-    if !(declares_at(sites, task.site, task.fields.as_slice()) && tell_fields(sites, steps)) {
+    if !(declares_at(sites, task.site, task.fields.as_slice())
+        && declare_event_fields(sites, steps))
+    {
         return Some(What::Field);
     }
     None

@@ -24,7 +24,7 @@ use trace_tasks::script::{Step, Task};
 const USUAL_STEPS: usize = 16;
 
 // The most steps that are read so.
-const MOST_STEPS: u32 = 65_536;
+const MAX_STEPS: u32 = 65_536;
 
 // The number of a callsite behind a front, and what stands behind the bracket that closes its object.
 fn closing_site<'a>(bytes: &'a [u8], front: &[u8]) -> Option<(u64, &'a [u8])>
@@ -85,7 +85,7 @@ fn event_with_fields(alloc: Global, bytes: &[u8]) -> Option<(Step, &[u8])>
     Some((Step::Event { site, fields }, rest))
 }
 
-fn event_alone(alloc: Global, bytes: &[u8]) -> Option<(Step, &[u8])>
+fn event_without_fields(alloc: Global, bytes: &[u8]) -> Option<(Step, &[u8])>
     ensures { IfSome result (λ r. BeginsStep bytes.now r.0 r.1.now) }
 {
     let (site, rest) = closing_site(bytes, b"{\"do\":\"event\",\"site\":")?;
@@ -148,7 +148,7 @@ fn step(alloc: Global, bytes: &[u8]) -> Option<(Step, &[u8])>
     match bytes[7] {
         b'e' => match event_with_fields(alloc, bytes) {
             Some((step, rest)) => Some((step, rest)),
-            None => event_alone(alloc, bytes),
+            None => event_without_fields(alloc, bytes),
         },
         b'r' => record(alloc, bytes),
         b's' => set_attribute(alloc, bytes),
@@ -157,7 +157,7 @@ fn step(alloc: Global, bytes: &[u8]) -> Option<(Step, &[u8])>
 }
 
 // Adds a step. None where there is no memory.
-fn keep(steps: &mut Vec<Step>, step: Step) -> Option<()>
+fn push_step(steps: &mut Vec<Step>, step: Step) -> Option<()>
     ensures { IfSome result (λ _. steps.new.items ≡ steps.old.items ++ step ∷ []) }
 {
     steps.push(step).ok()?;
@@ -173,9 +173,9 @@ fn leading_steps(alloc: Global, bytes: &[u8]) -> Option<(Items<Step>, &[u8])>
         return Some((Items::new(alloc), end));
     }
     let mut steps = Vec::with_capacity(alloc, USUAL_STEPS).ok()?;
-    for _ in 0..MOST_STEPS {
+    for _ in 0..MAX_STEPS {
         let (next, after) = step(alloc, rest)?;
-        keep(&mut steps, next)?;
+        push_step(&mut steps, next)?;
         match word(after, b",") {
             Some(more) => rest = more,
             None => {

@@ -19,7 +19,7 @@ use Rattle.trace_tasks.specs.FieldNames.{declares_all, declares_by}
 use Rattle.trace_tasks.specs.Flat.{all_polls, tasks_at_first, yield_count}
 use Rattle.trace_tasks.specs.Spelled.{IsDeclared, StepsAreDeclared, TasksAreDeclared}
 use Rattle.trace_tasks.proofs.queues.BegunTasksLemmas.{answer_is}
-use Rattle.task_lines.specs.Fit.{has_lane, has_sites, has_fields, tells_fields, missing_name}
+use Rattle.task_lines.specs.Fit.{has_lane, has_sites, has_fields, declares_event_fields, missing_name}
 use Rattle.task_runs.specs.Reading.{IsFit}
 use Rattle.task_runs.specs.Runs.{CanSpell}
 
@@ -44,14 +44,14 @@ declared : (o : Option Callsite) (fields : Fields) → option_map_or (λ c. decl
 declared None fields is = absurd (true≢false (sym is))
 declared (Some c) fields is = is
 
-tested : (sites : List Callsite) (steps : List Step) → list_all (λ s. tells_fields sites s) steps ≡ true → StepsAreDeclared sites steps
+tested : (sites : List Callsite) (steps : List Step) → list_all (λ s. declares_event_fields sites s) steps ≡ true → StepsAreDeclared sites steps
 tested sites [] is = tt
 tested sites (step.Event site fields ∷ steps) is =
-    let b = both (declares_by sites site fields) (list_all (λ s. tells_fields sites s) steps) is in
+    let b = both (declares_by sites site fields) (list_all (λ s. declares_event_fields sites s) steps) is in
     (declared (slice_get sites site) fields b.0, tested sites steps b.1)
-tested sites (step.Record fields ∷ steps) is = tested sites steps (both true (list_all (λ s. tells_fields sites s) steps) is).1
-tested sites (step.SetAttribute key value ∷ steps) is = tested sites steps (both true (list_all (λ s. tells_fields sites s) steps) is).1
-tested sites (step.Yield ∷ steps) is = tested sites steps (both true (list_all (λ s. tells_fields sites s) steps) is).1
+tested sites (step.Record fields ∷ steps) is = tested sites steps (both true (list_all (λ s. declares_event_fields sites s) steps) is).1
+tested sites (step.SetAttribute key value ∷ steps) is = tested sites steps (both true (list_all (λ s. declares_event_fields sites s) steps) is).1
+tested sites (step.Yield ∷ steps) is = tested sites steps (both true (list_all (λ s. declares_event_fields sites s) steps) is).1
 
 -- one task
 one_fits : (settings : Settings) (task : Task) → missing_name settings task ≡ None → (task.site < length settings.callsites) × IsDeclared (slice_get settings.callsites task.site) task.fields × StepsAreDeclared settings.callsites task.steps

@@ -7,7 +7,7 @@ use Rattle.input_lines.specs.declared.refused_line.RefusedLine.{RefusedLine}
 use Rattle.input_lines.specs.Refusals.{Refuses, NoneRefused}
 use Rattle.trace_tasks.specs.declared.script.TaskScript.{TaskScript}
 use Rattle.task_runs.specs.Reading.{EndsAs, IsRefusedBy, IsStopped}
-use Rattle.task_runs.specs.Scripts.{tasks_of}
+use Rattle.task_runs.specs.Scripts.{task_script_of}
 use Rattle.task_runs.specs.Texts.{tasks_outcome, TellsOutcome, TellsTasks, accepts_tasks}
 
 pub tells_outcome : (lines : List (List ℕ)) (script : TaskScript) (text : List ℕ) → EndsAs lines (Ok script) → TellsOutcome (tasks_outcome script) text → TellsTasks lines text

@@ -9,26 +9,26 @@ use Rattle.trace_lines.specs.declared.told.Told.{Told}
 use Rattle.trace_lines.specs.declared.told.Told.TheVariants as told
 use Rattle.trace_lines.specs.Lines.{is_blank}
 use Rattle.input_lines.specs.declared.refused_line.RefusedLine.{RefusedLine}
-use Rattle.input_lines.specs.Refusals.{IsTold, are_blank}
+use Rattle.input_lines.specs.Refusals.{HasRefusalLine, are_blank}
 use Rattle.input_lines.proofs.BlankLemmas.{some_before, all_blank, one_not_blank}
 use Rattle.trace_tasks.specs.declared.script.Task.{Task}
 use Rattle.trace_tasks.specs.declared.script.TaskScript.{TaskScript}
 use Rattle.task_runs.specs.declared.script.ReadStage.{ReadStage}
 use Rattle.task_runs.specs.declared.script.ReadStage.TheVariants as stage
 use Rattle.task_lines.specs.Fit.{missing_name}
-use Rattle.task_runs.specs.Scripts.{Lines, settings_on, task_on, tasks_on, tasks_from, tasks_of}
+use Rattle.task_runs.specs.Scripts.{TaskScriptResult, settings_on, task_on, task_script_on, task_script_from, task_script_of}
 use Rattle.task_runs.specs.Reading.{CanOpen, IsFit, IsOpening, IsReading, IsStopped, StandsAt, IsRefusedBy, EndsAs}
 
 -- what holds behind one line more
-on_line : (lines more : List (List ℕ)) (line : List ℕ) (r : Lines) → tasks_of (lines ++ line ∷ more) ≡ r → tasks_of ((lines ++ line ∷ []) ++ more) ≡ r
-on_line lines more line r is = ap tasks_of (append_assoc lines (line ∷ []) more) ∙ is
+on_line : (lines more : List (List ℕ)) (line : List ℕ) (r : TaskScriptResult) → task_script_of (lines ++ line ∷ more) ≡ r → task_script_of ((lines ++ line ∷ []) ++ more) ≡ r
+on_line lines more line r is = ap task_script_of (append_assoc lines (line ∷ []) more) ∙ is
 
 -- no line changes what came of a refused line
 pub stays_stopped : (lines more : List (List ℕ)) (refused : RefusedLine) → IsStopped lines refused → IsStopped (lines ++ more) refused
 stays_stopped lines more refused s = record {
   some = some_before lines more s.some;
   is_told = s.is_told;
-  lines_are = λ later. ap tasks_of (append_assoc lines more later) ∙ s.lines_are (more ++ later);
+  lines_are = λ later. ap task_script_of (append_assoc lines more later) ∙ s.lines_are (more ++ later);
 }
 
 -- a blank line
@@ -54,7 +54,7 @@ opened_on lines count next line settings o counted is reads opens = record {
 }
 
 -- a settings line that is refused
-pub unopened_on : (lines : List (List ℕ)) (count next : ℕ) (line : List ℕ) (why : Told) → IsOpening lines count → next ≡ count + 1 → is_blank line ≡ false → settings_on line ≡ Err why → IsTold why
+pub unopened_on : (lines : List (List ℕ)) (count next : ℕ) (line : List ℕ) (why : Told) → IsOpening lines count → next ≡ count + 1 → is_blank line ≡ false → settings_on line ≡ Err why → HasRefusalLine why
     → IsStopped (lines ++ line ∷ []) (record { line = next; told = why })
 unopened_on lines count next line why o counted is refused told = record {
   some = one_not_blank lines line o.blank is;
@@ -72,7 +72,7 @@ task_read_on lines count next line old new task r counted is reads fits settings
 })
 
 -- a task line that is refused
-pub refused_on : (lines : List (List ℕ)) (count next : ℕ) (line : List ℕ) (script : TaskScript) (why : Told) → IsReading lines count script → next ≡ count + 1 → is_blank line ≡ false → task_on script.settings line ≡ Err why → IsTold why
+pub refused_on : (lines : List (List ℕ)) (count next : ℕ) (line : List ℕ) (script : TaskScript) (why : Told) → IsReading lines count script → next ≡ count + 1 → is_blank line ≡ false → task_on script.settings line ≡ Err why → HasRefusalLine why
     → IsStopped (lines ++ line ∷ []) (record { line = next; told = why })
 refused_on lines count next line script why r counted is none told = record {
   some = some_before lines (line ∷ []) r.some;
@@ -87,8 +87,8 @@ on_ok (Err why) P new go holds = tt
 
 -- ---- the end of the lines
 
-with_none : (lines : List (List ℕ)) → tasks_of lines ≡ tasks_of (lines ++ [])
-with_none lines = ap tasks_of (sym (append-nil lines))
+with_none : (lines : List (List ℕ)) → task_script_of lines ≡ task_script_of (lines ++ [])
+with_none lines = ap task_script_of (sym (append-nil lines))
 
 pub opening_end : (lines : List (List ℕ)) (count next : ℕ) → IsOpening lines count → next ≡ count + 1 → EndsAs lines (Err (record { line = next; told = told.BadLine }))
 opening_end lines count next o counted = (with_none lines ∙ o.lines_are [] ∙ rw counted refl, λ is. cc)

@@ -16,7 +16,7 @@ use Rattle.span_script.specs.Outcomes.{history_from, history_of, records_of_hist
 use Rattle.span_script.proofs.runs.RunLemmas.{records_push, goes_on_with}
 use Rattle.trace_lines.specs.Report.{record_lines}
 use Rattle.trace_lines.specs.text.Texts.{record_text, end_text}
-use Rattle.trace_records.specs.Following.{without_taken}
+use Rattle.trace_records.specs.Following.{without_outputs}
 use Rattle.trace_records.proofs.FollowingLemmas.{stands_beside}
 use Rattle.trace_tape.specs.Sinks.{TakesAll}
 use Rattle.task_runs.specs.declared.runner.Runner.{Runner}
@@ -64,7 +64,7 @@ count_more rs ss finished count after is counted same =
 written_own : (requests left : List Request) (request : Request) (old mid new : PipelineState) (before after : RecordLines) (answer : Reply)
     → (w : WrittenSoFar old.setup requests (request ∷ left) old before) → IsServedByHistory (effect_of old.setup (tables old.setup w.history) request) w.history old mid answer
     → after.text.items ≡ before.text.items ++ record_lines (before.count + 1) mid.recording.finished → after.count ≡ before.count + length mid.recording.finished
-    → new.recording.finished ≡ [] → without_taken new ≡ without_taken mid → WrittenSoFar old.setup requests left new after
+    → new.recording.finished ≡ [] → without_outputs new ≡ without_outputs mid → WrittenSoFar old.setup requests left new after
 written_own requests left request old mid new before after answer w did text count taken state = record {
   history = w.history ++ did.effect ∷ [];
   setup_is = ap (λ (k : PipelineState). k.setup) state ∙ did.setup;
@@ -95,7 +95,7 @@ pub written_next : (setup : Setup) (requests left rest : List Request) (request 
     → rest ≡ request ∷ left
     → ((h : History) → StandsFor old (tables old.setup h) → IsServedByHistory (effect_of old.setup (tables old.setup h) request) h old mid answer)
     → after.text.items ≡ before.text.items ++ record_lines (before.count + 1) mid.recording.finished → after.count ≡ before.count + length mid.recording.finished
-    → new.recording.finished ≡ [] → without_taken new ≡ without_taken mid
+    → new.recording.finished ≡ [] → without_outputs new ≡ without_outputs mid
     → WrittenSoFar setup requests rest old before → WrittenSoFar setup requests left new after
 written_next setup requests left rest request old mid new before after answer rest_is steps text count taken state so_far =
     let here : WrittenSoFar old.setup requests rest old before = subst (λ (s : Setup). WrittenSoFar s requests rest old before) (sym so_far.setup_is) so_far in
@@ -107,7 +107,7 @@ written_next setup requests left rest request old mid new before after answer re
 pub runs : (request : Request) (old mid new : PipelineState) (before after : RecordLines) (answer : Reply) (result : Result (Unit {0}) Memory)
     → ((h : History) → StandsFor old (tables old.setup h) → IsServedByHistory (effect_of old.setup (tables old.setup h) request) h old mid answer)
     → OnOk result (after.text.items ≡ before.text.items ++ record_lines (before.count + 1) mid.recording.finished) → OnOk result (after.count ≡ before.count + length mid.recording.finished)
-    → OnOk result (new.recording.finished ≡ []) → without_taken new ≡ without_taken mid
+    → OnOk result (new.recording.finished ≡ []) → without_outputs new ≡ without_outputs mid
     → OnOk result ((setup : Setup) (requests left : List Request) → WrittenSoFar setup requests (request ∷ left) old before → WrittenSoFar setup requests left new after)
 runs request old mid new before after answer (Ok x) steps text count taken state = λ setup requests left so_far. written_next setup requests left (request ∷ left) request old mid new before after answer refl steps text count taken state so_far
 runs request old mid new before after answer (Err e) steps text count taken state = tt

@@ -15,11 +15,11 @@ use Rattle.task_lines.specs.Fit.{missing_name}
 use Rattle.task_lines.specs.TaskForm.{task_spelled}
 
 -- the script, or the line that is refused
-abbrev pub Lines : Type 0
-Lines = Result TaskScript RefusedLine
+abbrev pub TaskScriptResult : Type 0
+TaskScriptResult = Result TaskScript RefusedLine
 
 -- goes on, or is refused at a line
-abbrev pub lines_unless_refused : {A : Type 0} → Result A Told → ℕ → (A → Lines) → Lines
+abbrev pub lines_unless_refused : {A : Type 0} → Result A Told → ℕ → (A → TaskScriptResult) → TaskScriptResult
 lines_unless_refused (Ok x) line go = go x
 lines_unless_refused (Err why) line go = Err (record { line = line; told = why })
 
@@ -50,19 +50,19 @@ unfoldable pub task_on : Settings → List ℕ → Result Task Told
 task_on settings text = task_if_declared settings (task_spelled text)
 
 -- the script whose task lines follow, so many lines having come before
-abbrev pub tasks_on : Settings → List Task → ℕ → List (List ℕ) → Lines
-tasks_on settings tasks n [] = Ok (record { settings = settings; tasks = tasks })
-tasks_on settings tasks n (text ∷ lines) =
-    if is_blank text then tasks_on settings tasks (n + 1) lines else
-    lines_unless_refused (task_on settings text) (n + 1) (λ task. tasks_on settings (tasks ++ task ∷ []) (n + 1) lines)
+abbrev pub task_script_on : Settings → List Task → ℕ → List (List ℕ) → TaskScriptResult
+task_script_on settings tasks n [] = Ok (record { settings = settings; tasks = tasks })
+task_script_on settings tasks n (text ∷ lines) =
+    if is_blank text then task_script_on settings tasks (n + 1) lines else
+    lines_unless_refused (task_on settings text) (n + 1) (λ task. task_script_on settings (tasks ++ task ∷ []) (n + 1) lines)
 
 -- The first line that isn't blank is the settings line. If there is none, the lines are refused at their end.
-abbrev pub tasks_from : ℕ → List (List ℕ) → Lines
-tasks_from n [] = Err (record { line = n + 1; told = told.BadLine })
-tasks_from n (text ∷ lines) =
-    if is_blank text then tasks_from (n + 1) lines else
-    lines_unless_refused (settings_on text) (n + 1) (λ settings. tasks_on settings [] (n + 1) lines)
+abbrev pub task_script_from : ℕ → List (List ℕ) → TaskScriptResult
+task_script_from n [] = Err (record { line = n + 1; told = told.BadLine })
+task_script_from n (text ∷ lines) =
+    if is_blank text then task_script_from (n + 1) lines else
+    lines_unless_refused (settings_on text) (n + 1) (λ settings. task_script_on settings [] (n + 1) lines)
 
 -- what lines come to
-abbrev pub tasks_of : List (List ℕ) → Lines
-tasks_of lines = tasks_from 0 lines
+abbrev pub task_script_of : List (List ℕ) → TaskScriptResult
+task_script_of lines = task_script_from 0 lines

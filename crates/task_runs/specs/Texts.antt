@@ -3,7 +3,7 @@ use Rattle.std.specs.Prelude.{◌≡◌, ℕ, List, ◌++◌, length, Bool, None
 use Rattle.span_script.specs.declared.outcome.Outcome.{Outcome}
 use Rattle.span_script.specs.Outcomes.{outcome_of}
 use Rattle.span_script.specs.Setups.{setup_by}
-use Rattle.task_runs.specs.Scripts.{Lines, tasks_of}
+use Rattle.task_runs.specs.Scripts.{TaskScriptResult, task_script_of}
 use Rattle.trace_lines.specs.Report.{record_lines}
 use Rattle.trace_lines.specs.text.Texts.{refusal_text, end_text}
 use Rattle.trace_tasks.specs.declared.script.TaskScript.{TaskScript}
@@ -22,13 +22,13 @@ abbrev pub TellsOutcome : Outcome → List ℕ → Type 0
 TellsOutcome outcome text = (outcome.refused ≡ None) × (text ≡ outcome_text outcome)
 
 -- the text of a script's outcome, or the refusal line alone
-abbrev pub TellsScript : Lines → List ℕ → Type 0
+abbrev pub TellsScript : TaskScriptResult → List ℕ → Type 0
 TellsScript (Ok script) text = TellsOutcome (tasks_outcome script) text
 TellsScript (Err refused) text = text ≡ refusal_text refused.line refused.told
 
 abbrev pub TellsTasks : List (List ℕ) → List ℕ → Type 0
-TellsTasks lines text = TellsScript (tasks_of lines) text
+TellsTasks lines text = TellsScript (task_script_of lines) text
 
 -- none of the lines is refused, and a settings line is among them
 abbrev pub accepts_tasks : List (List ℕ) → Bool
-accepts_tasks lines = is_ok (tasks_of lines)
+accepts_tasks lines = is_ok (task_script_of lines)

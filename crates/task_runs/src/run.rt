@@ -11,10 +11,10 @@ use std::random::RandomSource;
 use trace_tasks::script::{Step, Task, TaskScript};
 
 // More polls than that are never made.
-const MOST_POLLS: u64 = 1_000_000_000_000_000_000;
+const MAX_POLLS: u64 = 1_000_000_000_000_000_000;
 
 // How many yields some steps have.
-fn yields(steps: &[Step]) -> u64
+fn yield_count(steps: &[Step]) -> u64
     ensures { result ≡ yield_count steps.now }
 {
     let mut count = 0;
@@ -34,14 +34,10 @@ fn polls_of(tasks: &[Task]) -> Option<u64>
     let mut polls = 0u64;
     for task in tasks {
         polls = polls
-            .checked_add(yields(task.steps.as_slice()))?
+            .checked_add(yield_count(task.steps.as_slice()))?
             .checked_add(1)?;
     }
-    if polls < MOST_POLLS {
-        Some(polls)
-    } else {
-        None
-    }
+    if polls < MAX_POLLS { Some(polls) } else { None }
 }
 
 /// Polls the tasks of a script in turn, and runs the requests that they spell: what is written is of the outcome of the flat

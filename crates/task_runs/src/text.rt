@@ -2,7 +2,7 @@
 ghost use Rattle.std.specs.Prelude.{◌≡◌, ◌+◌, ◌++◌, [], length, OnOk, IfOk};
 ghost use Rattle.trace_lines.specs.Report.{record_lines};
 ghost use Rattle.trace_lines.specs.text.Texts.{end_text};
-ghost use Rattle.trace_records.specs.Following.{without_taken};
+ghost use Rattle.trace_records.specs.Following.{without_outputs};
 
 use otel_base::memory::Memory;
 use std::alloc::Global;
@@ -34,7 +34,7 @@ impl RecordLines {
             ≡ self.old.text.items ++ record_lines (self.old.count + 1) pipeline.old.recording.finished) }
         ensures count { OnOk result (self.new.count ≡ self.old.count + length pipeline.old.recording.finished) }
         ensures taken { OnOk result (pipeline.new.recording.finished ≡ []) }
-        ensures state { without_taken pipeline.new ≡ without_taken pipeline.old }
+        ensures state { without_outputs pipeline.new ≡ without_outputs pipeline.old }
     {
         while let Some(finished) = pipeline.take_record() {
             // No run has so many records that the sum wraps.

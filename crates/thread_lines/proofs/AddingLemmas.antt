@@ -4,12 +4,12 @@ use Rattle.std.specs.Prelude.{Result, if◌then◌else◌, IfOk, IfErr}
 use Rattle.trace_lines.specs.declared.told.Told.{Told}
 use Rattle.trace_lines.specs.Lines.{is_blank}
 use Rattle.input_lines.specs.declared.refused_line.RefusedLine.{RefusedLine}
-use Rattle.input_lines.specs.Refusals.{IsTold}
+use Rattle.input_lines.specs.Refusals.{HasRefusalLine}
 use Rattle.thread_script.specs.declared.script.ThreadScript.{ThreadScript}
 use Rattle.thread_lines.specs.declared.stop.ScriptStop.{ScriptStop}
 use Rattle.thread_lines.specs.declared.stop.ScriptStop.TheVariants as stop
 use Rattle.thread_lines.specs.Answers.{AnswersTest, AddsToScript}
-use Rattle.thread_lines.specs.Steps.{script_opened, text_added, at_line, lines_added, script_from, script_of}
+use Rattle.thread_lines.specs.Steps.{script_opened, text_added, unless_refused_at, lines_added, script_from, script_of}
 use Rattle.thread_lines.proofs.ToldLemmas.{script_told}
 
 -- ---- why a line is refused
@@ -23,9 +23,9 @@ not_answered view why t r answers is = subst (λ (x : ScriptStop). AnswersTest v
 -- ---- behind the settings line
 
 module _ (s : ThreadScript) (n m : ℕ) (lines : List (List ℕ)) (line : List ℕ) (behind : List (List ℕ)) (all : Result ThreadScript RefusedLine) (cut : lines ≡ line ∷ behind) (next : m ≡ n + 1) (before : lines_added s n lines ≡ all) where
-  cut_added : (b : Bool) → is_blank line ≡ b → (if b then lines_added s (n + 1) behind else at_line (n + 1) (text_added s line) (λ more. lines_added more (n + 1) behind)) ≡ all
+  cut_added : (b : Bool) → is_blank line ≡ b → (if b then lines_added s (n + 1) behind else unless_refused_at (n + 1) (text_added s line) (λ more. lines_added more (n + 1) behind)) ≡ all
   cut_added b is =
-      sym (ap (λ (x : Bool). if x then lines_added s (n + 1) behind else at_line (n + 1) (text_added s line) (λ more. lines_added more (n + 1) behind)) is)
+      sym (ap (λ (x : Bool). if x then lines_added s (n + 1) behind else unless_refused_at (n + 1) (text_added s line) (λ more. lines_added more (n + 1) behind)) is)
       ∙ sym (ap (λ (ls : List (List ℕ)). lines_added s n ls) cut) ∙ before
 
   pub blank_added : is_blank line ≡ true → lines_added s m behind ≡ all
@@ -34,20 +34,20 @@ module _ (s : ThreadScript) (n m : ℕ) (lines : List (List ℕ)) (line : List �
   pub more_added : (t : ThreadScript) → is_blank line ≡ false → text_added s line ≡ Ok t → lines_added t m behind ≡ all
   more_added t is added =
       ap (λ (k : ℕ). lines_added t k behind) next
-      ∙ sym (ap (λ (r : Result ThreadScript Told). at_line (n + 1) r (λ more. lines_added more (n + 1) behind)) added) ∙ cut_added false is
+      ∙ sym (ap (λ (r : Result ThreadScript Told). unless_refused_at (n + 1) r (λ more. lines_added more (n + 1) behind)) added) ∙ cut_added false is
 
   pub refused_there : (w : RefusedLine) → is_blank line ≡ false → text_added s line ≡ Err w.told → w.line ≡ m → Err w ≡ all
   refused_there w is refused at =
       let told_at : ℕ → Result ThreadScript RefusedLine = λ k. Err (record { line = k; told = w.told }) in
       ap told_at (at ∙ next)
-      ∙ sym (ap (λ (r : Result ThreadScript Told). at_line (n + 1) r (λ more. lines_added more (n + 1) behind)) refused) ∙ cut_added false is
+      ∙ sym (ap (λ (r : Result ThreadScript Told). unless_refused_at (n + 1) r (λ more. lines_added more (n + 1) behind)) refused) ∙ cut_added false is
 
 -- ---- the settings line
 
 module _ (n m : ℕ) (lines : List (List ℕ)) (line : List ℕ) (behind : List (List ℕ)) (all : Result ThreadScript RefusedLine) (cut : lines ≡ line ∷ behind) (next : m ≡ n + 1) (before : script_from n lines ≡ all) where
-  cut_from : (b : Bool) → is_blank line ≡ b → (if b then script_from (n + 1) behind else at_line (n + 1) (script_opened line) (λ s. lines_added s (n + 1) behind)) ≡ all
+  cut_from : (b : Bool) → is_blank line ≡ b → (if b then script_from (n + 1) behind else unless_refused_at (n + 1) (script_opened line) (λ s. lines_added s (n + 1) behind)) ≡ all
   cut_from b is =
-      sym (ap (λ (x : Bool). if x then script_from (n + 1) behind else at_line (n + 1) (script_opened line) (λ s. lines_added s (n + 1) behind)) is)
+      sym (ap (λ (x : Bool). if x then script_from (n + 1) behind else unless_refused_at (n + 1) (script_opened line) (λ s. lines_added s (n + 1) behind)) is)
       ∙ sym (ap (λ (ls : List (List ℕ)). script_from n ls) cut) ∙ before
 
   pub blank_from : is_blank line ≡ true → script_from m behind ≡ all
@@ -56,17 +56,17 @@ module _ (n m : ℕ) (lines : List (List ℕ)) (line : List ℕ) (behind : List 
   pub opened_from : (t : ThreadScript) → is_blank line ≡ false → script_opened line ≡ Ok t → lines_added t m behind ≡ all
   opened_from t is opened =
       ap (λ (k : ℕ). lines_added t k behind) next
-      ∙ sym (ap (λ (r : Result ThreadScript Told). at_line (n + 1) r (λ s. lines_added s (n + 1) behind)) opened) ∙ cut_from false is
+      ∙ sym (ap (λ (r : Result ThreadScript Told). unless_refused_at (n + 1) r (λ s. lines_added s (n + 1) behind)) opened) ∙ cut_from false is
 
   pub unopened_there : (w : RefusedLine) → is_blank line ≡ false → script_opened line ≡ Err w.told → w.line ≡ m → Err w ≡ all
   unopened_there w is refused at =
       let told_at : ℕ → Result ThreadScript RefusedLine = λ k. Err (record { line = k; told = w.told }) in
       ap told_at (at ∙ next)
-      ∙ sym (ap (λ (r : Result ThreadScript Told). at_line (n + 1) r (λ s. lines_added s (n + 1) behind)) refused) ∙ cut_from false is
+      ∙ sym (ap (λ (r : Result ThreadScript Told). unless_refused_at (n + 1) r (λ s. lines_added s (n + 1) behind)) refused) ∙ cut_from false is
 
 -- ---- at the end
 
-pub told_where : {E : Type 0} (lines : List (List ℕ)) (r : Result (Result ThreadScript RefusedLine) E) → IfOk r (λ x. x ≡ script_of lines) → IfOk r (λ x. IfErr x (λ w. IsTold w.told))
+pub told_where : {E : Type 0} (lines : List (List ℕ)) (r : Result (Result ThreadScript RefusedLine) E) → IfOk r (λ x. x ≡ script_of lines) → IfOk r (λ x. IfErr x (λ w. HasRefusalLine w.told))
 told_where lines (Ok (Ok s)) is = tt
 told_where lines (Ok (Err w)) is = script_told lines w (sym is)
 told_where lines (Err why) is = tt

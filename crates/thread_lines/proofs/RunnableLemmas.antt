@@ -14,12 +14,12 @@ use Rattle.thread_script.specs.declared.script.WorkerOp.{WorkerOp}
 use Rattle.thread_script.specs.Asks.{is_balanced}
 use Rattle.thread_script.specs.Plans.{plan_of, asks_on}
 use Rattle.thread_script.specs.Tests.{IsValidWork, AllValidWork}
-use Rattle.thread_lines.specs.declared.limits.TheConstants.{MOST_SPANS, MOST_WORKERS}
+use Rattle.thread_lines.specs.declared.limits.TheConstants.{MAX_SHARED_SPANS, MAX_WORKERS}
 use Rattle.thread_lines.specs.declared.line.ThreadLine.{ThreadLine}
 use Rattle.thread_lines.specs.declared.line.ThreadLine.TheVariants as line
 use Rattle.thread_lines.specs.declared.line.ThreadOp.{ThreadOp}
-use Rattle.thread_lines.specs.Runnable.{AreShared, IsRunnable}
-use Rattle.thread_lines.specs.Steps.{need, time_tested, lane_tested, last_made, no_workers, with_shared, with_worker, shared_added, ops_tested, worker_added, line_added, text_added}
+use Rattle.thread_lines.specs.Runnable.{AreValidSharedLines, IsRunnable}
+use Rattle.thread_lines.specs.Steps.{need, time_tested, lane_tested, last_shared_moment, no_workers, with_shared, with_worker, shared_added, ops_tested, worker_added, line_added, text_added}
 use Rattle.thread_lines.proofs.BalanceLemmas.{then_ok, held, both, timely, all_balance}
 
 is_named : {A : Type 0} (w : What) (o : Option A) (a : A) → need w o ≡ Ok a → is_some o ≡ true
@@ -28,7 +28,7 @@ is_named w None a e = absurd (cc e)
 
 -- ---- a shared span more
 
-shared_push : (cs : List Callsite) (ls : List SharedLine) (l : SharedLine) → AreShared cs ls → l.at ≤ GREATEST → is_some (span_site cs l.site) ≡ true → AreShared cs (ls ++ l ∷ [])
+shared_push : (cs : List Callsite) (ls : List SharedLine) (l : SharedLine) → AreValidSharedLines cs ls → l.at ≤ GREATEST → is_some (span_site cs l.site) ≡ true → AreValidSharedLines cs (ls ++ l ∷ [])
 shared_push cs [] l all low some = ((low, some), tt)
 shared_push cs (x ∷ ls) l all low some = (all.0, shared_push cs ls l all.1 low some)
 
@@ -43,15 +43,15 @@ pushed (y ∷ xs) x = ap suc (pushed xs x)
 with_shared_runs : (s : ThreadScript) (l : SharedLine) (t : ThreadScript) → shared_added s l ≡ Ok t → IsRunnable s → IsRunnable t
 with_shared_runs s l t e r =
     let a = then_ok _ _ t e in
-    let b = then_ok (time_tested (last_made s.shared) l.at) _ t a.2 in
+    let b = then_ok (time_tested (last_shared_moment s.shared) l.at) _ t a.2 in
     let c = then_ok (lane_tested s 0) _ t b.2 in
     let d = then_ok (need what.Site (span_site s.callsites l.site)) _ t c.2 in
-    let room = both (no_workers s.workers) (nat_lt (length s.shared) MOST_SPANS) (held _ _ a.0 a.1) in
-    let few = ltb-true (length s.shared) MOST_SPANS room.1 in
+    let room = both (no_workers s.workers) (nat_lt (length s.shared) MAX_SHARED_SPANS) (held _ _ a.0 a.1) in
+    let few = ltb-true (length s.shared) MAX_SHARED_SPANS room.1 in
     let lanes = ltb-true 0 (length s.lanes) (held _ (nat_lt 0 (length s.lanes)) c.0 c.1) in
     let runs : IsRunnable (with_shared s l) = record {
       filter = r.filter;
-      shared = shared_push s.callsites s.shared l r.shared (timely (last_made s.shared) l.at b.0 b.1) (is_named what.Site (span_site s.callsites l.site) d.0 d.1);
+      shared = shared_push s.callsites s.shared l r.shared (timely (last_shared_moment s.shared) l.at b.0 b.1) (is_named what.Site (span_site s.callsites l.site) d.0 d.1);
       lane = λ some. omega (arith, lanes);
       tested = no_one_tested (plan_of (with_shared s l)) s.workers room.0;
       few_spans = omega (arith, few, pushed s.shared l);
@@ -79,9 +79,9 @@ with_worker_runs : (s : ThreadScript) (os : List ThreadOp) (t : ThreadScript) �
 with_worker_runs s os t e r =
     let a = then_ok _ _ t e in
     let b = then_ok (lane_tested s (length s.workers)) _ t a.2 in
-    let c = then_ok (ops_tested s (last_made s.shared) (replicate (length s.shared) 0) os) _ t b.2 in
-    let few = ltb-true (length s.workers) MOST_WORKERS (held _ (nat_lt (length s.workers) MOST_WORKERS) a.0 a.1) in
-    let balances = all_balance s (plan_of s) (last_made s.shared) (replicate (length s.shared) 0) os c.0 c.1 in
+    let c = then_ok (ops_tested s (last_shared_moment s.shared) (replicate (length s.shared) 0) os) _ t b.2 in
+    let few = ltb-true (length s.workers) MAX_WORKERS (held _ (nat_lt (length s.workers) MAX_WORKERS) a.0 a.1) in
+    let balances = all_balance s (plan_of s) (last_shared_moment s.shared) (replicate (length s.shared) 0) os c.0 c.1 in
     let one : IsValidWork (plan_of s) c.0 = record {
       timed = balances.timed;
       closed = λ k low.
@@ -110,7 +110,7 @@ text_runs s text t e r = let a = then_ok _ (line_added s) t e in line_runs s a.0
 
 -- ---- the last shared span
 
-pub last_is : (ls : List SharedLine) (k : ℕ) (l : SharedLine) → length ls ≡ suc k → l ≡ slice_index_or ls k l → last_made ls ≡ l.at
+pub last_is : (ls : List SharedLine) (k : ℕ) (l : SharedLine) → length ls ≡ suc k → l ≡ slice_index_or ls k l → last_shared_moment ls ≡ l.at
 last_is [] k l n e = absurd (omega (arith, n))
 last_is (x ∷ []) zero l n e = ap (λ (y : SharedLine). y.at) (sym e)
 last_is (x ∷ []) (suc k) l n e = absurd (omega (arith, n))

@@ -9,25 +9,25 @@ use Rattle.thread_script.specs.declared.script.SharedLine.{SharedLine}
 use Rattle.thread_script.specs.declared.script.ThreadScript.{ThreadScript}
 use Rattle.thread_script.specs.Plans.{plan_of}
 use Rattle.thread_script.specs.Tests.{AllValidWork}
-use Rattle.thread_lines.specs.declared.limits.TheConstants.{MOST_SPANS, MOST_WORKERS}
+use Rattle.thread_lines.specs.declared.limits.TheConstants.{MAX_SHARED_SPANS, MAX_WORKERS}
 
 -- each piece of a filter's text that isn't empty is a directive
 abbrev pub HasFilter : List ℕ → Type 0
 HasFilter text = (ds : List Directive) × ReadsText false text ds []
 
 -- a shared span isn't made too late, and is of a callsite of spans
-abbrev pub IsSharedLine : List Callsite → SharedLine → Type 0
-IsSharedLine callsites l = (l.at ≤ GREATEST) × (is_some (span_site callsites l.site) ≡ true)
+abbrev pub IsValidSharedLine : List Callsite → SharedLine → Type 0
+IsValidSharedLine callsites l = (l.at ≤ GREATEST) × (is_some (span_site callsites l.site) ≡ true)
 
-abbrev pub AreShared : List Callsite → List SharedLine → Type 0
-AreShared callsites [] = Unit {0}
-AreShared callsites (l ∷ ls) = IsSharedLine callsites l × AreShared callsites ls
+abbrev pub AreValidSharedLines : List Callsite → List SharedLine → Type 0
+AreValidSharedLines callsites [] = Unit {0}
+AreValidSharedLines callsites (l ∷ ls) = IsValidSharedLine callsites l × AreValidSharedLines callsites ls
 
 -- A script that workers may run.
 pub record IsRunnable (script : ThreadScript) : Type 0 where
   pub filter : HasFilter script.filter
-  pub shared : AreShared script.callsites script.shared
+  pub shared : AreValidSharedLines script.callsites script.shared
   pub lane : 0 < length script.shared → 0 < length script.lanes
   pub tested : AllValidWork (plan_of script) script.workers
-  pub few_spans : length script.shared ≤ MOST_SPANS
-  pub few_workers : length script.workers ≤ MOST_WORKERS
+  pub few_spans : length script.shared ≤ MAX_SHARED_SPANS
+  pub few_workers : length script.workers ≤ MAX_WORKERS

@@ -23,7 +23,7 @@ use Rattle.trace_lines.specs.Lines.{is_blank}
 use Rattle.trace_lines.specs.reading.Spelled.{value_on_line, settings_spelled}
 use Rattle.thread_lines.specs.ThreadForm.{thread_form}
 use Rattle.input_lines.specs.declared.refused_line.RefusedLine.{RefusedLine}
-use Rattle.thread_lines.specs.declared.limits.TheConstants.{MOST_SPANS, MOST_WORKERS}
+use Rattle.thread_lines.specs.declared.limits.TheConstants.{MAX_SHARED_SPANS, MAX_WORKERS}
 use Rattle.thread_lines.specs.declared.line.ThreadCall.{ThreadCall}
 use Rattle.thread_lines.specs.declared.line.ThreadCall.TheVariants as said
 use Rattle.thread_lines.specs.declared.line.ThreadLine.{ThreadLine}
@@ -44,17 +44,17 @@ refuse_unless why true = Ok tt
 refuse_unless why false = Err why
 
 -- a name names nothing
-abbrev pub names_nothing : What → Told
-names_nothing w = told.Step (refusal.UnknownName w)
+abbrev pub unknown_name : What → Told
+unknown_name w = told.Step (refusal.UnknownName w)
 
 -- what a name names, which has to be there
 abbrev pub need : {A : Type 0} → What → Option A → Result A Told
 need w (Some x) = Ok x
-need w None = Err (names_nothing w)
+need w None = Err (unknown_name w)
 
 -- there is a lane at this place
 abbrev pub lane_tested : ThreadScript → ℕ → Result ⊤ Told
-lane_tested s place = refuse_unless (names_nothing what.Lane) (nat_lt place (length s.lanes))
+lane_tested s place = refuse_unless (unknown_name what.Lane) (nat_lt place (length s.lanes))
 
 -- the moment is neither too late nor below the one before
 abbrev pub time_tested : ℕ → ℕ → Result ⊤ Told
@@ -83,18 +83,18 @@ script_opened text = settings_spelled text >>= script_if_read
 -- ---- the line of a shared span
 
 -- the moment of the last shared span, 0 where there is none
-abbrev pub last_made : List SharedLine → ℕ
-last_made [] = 0
-last_made (l ∷ []) = l.at
-last_made (l ∷ m ∷ ls) = last_made (m ∷ ls)
+abbrev pub last_shared_moment : List SharedLine → ℕ
+last_shared_moment [] = 0
+last_shared_moment (l ∷ []) = l.at
+last_shared_moment (l ∷ m ∷ ls) = last_shared_moment (m ∷ ls)
 
 abbrev pub no_workers : List (List WorkerOp) → Bool
 no_workers [] = true
 no_workers (ops ∷ workers) = false
 
 -- shared spans come before workers, and there is a most
-abbrev pub has_room : ThreadScript → Bool
-has_room s = no_workers s.workers && nat_lt (length s.shared) MOST_SPANS
+abbrev pub may_add_shared : ThreadScript → Bool
+may_add_shared s = no_workers s.workers && nat_lt (length s.shared) MAX_SHARED_SPANS
 
 abbrev pub with_shared : ThreadScript → SharedLine → ThreadScript
 with_shared s l = record s { shared = s.shared ++ l ∷ [] }
@@ -102,8 +102,8 @@ with_shared s l = record s { shared = s.shared ++ l ∷ [] }
 -- the first lane is that of the shared spans
 abbrev pub shared_added : ThreadScript → SharedLine → Result ThreadScript Told
 shared_added s l = do
-  room ← refuse_unless told.BadLine (has_room s)
-  time ← time_tested (last_made s.shared) l.at
+  room ← refuse_unless told.BadLine (may_add_shared s)
+  time ← time_tested (last_shared_moment s.shared) l.at
   lane ← lane_tested s 0
   callsite ← need what.Site (span_site s.callsites l.site)
   Ok (with_shared s l)
@@ -117,15 +117,15 @@ move_of_call (work.Event site values) = stays
 move_of_call (work.Own op) = move_of op
 
 -- how many entries a worker has open on a span, of these numbers for all spans
-abbrev pub entered_on : List ℕ → ℕ → ℕ
-entered_on entered span = slice_index_or entered span 0
+abbrev pub open_entries_on : List ℕ → ℕ → ℕ
+open_entries_on entered span = slice_index_or entered span 0
 
-abbrev pub entered_after : List ℕ → ℕ → Move → List ℕ
-entered_after entered span m = set entered span (open_count_after (entered_on entered span) m)
+abbrev pub open_entries_after : List ℕ → ℕ → Move → List ℕ
+open_entries_after entered span m = set entered span (open_count_after (open_entries_on entered span) m)
 
 -- there is such a shared span
 abbrev pub shared_tested : ThreadScript → ℕ → Result ⊤ Told
-shared_tested s span = refuse_unless (names_nothing what.Handle) (nat_lt span (length s.shared))
+shared_tested s span = refuse_unless (unknown_name what.Handle) (nat_lt span (length s.shared))
 
 -- an exit needs an open entry, so many being open
 abbrev pub has_entry_for : ℕ → Move → Bool
@@ -134,11 +134,11 @@ has_entry_for n enters = true
 has_entry_for n stays = true
 
 abbrev pub entry_tested : ℕ → Op → Result ⊤ Told
-entry_tested n op = refuse_unless (names_nothing what.Guard) (has_entry_for n (move_of op))
+entry_tested n op = refuse_unless (unknown_name what.Guard) (has_entry_for n (move_of op))
 
 -- an op, where so many entries are open on the span
-abbrev pub own_tested : ℕ → Op → Result WorkerCall Told
-own_tested n op = do
+abbrev pub op_call_tested : ℕ → Op → Result WorkerCall Told
+op_call_tested n op = do
   open_there ← entry_tested n op
   Ok (work.Own op)
 
@@ -154,7 +154,7 @@ call_tested s entered span (said.Event site fields) = do
   Ok (work.Event site values)
 call_tested s entered span (said.Own op) = do
   there ← shared_tested s span
-  own_tested (entered_on entered span) op
+  op_call_tested (open_entries_on entered span) op
 
 abbrev pub op_tested : ThreadScript → ℕ → List ℕ → ThreadOp → Result WorkerOp Told
 op_tested s before entered o = do
@@ -167,7 +167,7 @@ abbrev pub ops_tested : ThreadScript → ℕ → List ℕ → List ThreadOp → 
 ops_tested s before entered [] = refuse_unless (told.Step refusal.InUse) (list_all (λ n. n == 0) entered) >>= (λ closed. Ok [])
 ops_tested s before entered (o ∷ os) =
     op_tested s before entered o
-    >>= (λ op. ops_tested s op.at (entered_after entered op.span (move_of_call op.what)) os >>= (λ ops. Ok (op ∷ ops)))
+    >>= (λ op. ops_tested s op.at (open_entries_after entered op.span (move_of_call op.what)) os >>= (λ ops. Ok (op ∷ ops)))
 
 -- ---- the line of a worker
 
@@ -177,9 +177,9 @@ with_worker s ops = record s { workers = s.workers ++ ops ∷ [] }
 -- each worker has a lane of its own
 abbrev pub worker_added : ThreadScript → List ThreadOp → Result ThreadScript Told
 worker_added s os = do
-  room ← refuse_unless told.BadLine (nat_lt (length s.workers) MOST_WORKERS)
+  room ← refuse_unless told.BadLine (nat_lt (length s.workers) MAX_WORKERS)
   lane ← lane_tested s (length s.workers)
-  ops ← ops_tested s (last_made s.shared) (replicate (length s.shared) 0) os
+  ops ← ops_tested s (last_shared_moment s.shared) (replicate (length s.shared) 0) os
   Ok (with_worker s ops)
 
 -- ---- any line
@@ -195,23 +195,23 @@ abbrev pub text_added : ThreadScript → List ℕ → Result ThreadScript Told
 text_added s text = ok_or (value_on_line (all_of thread_form) text) told.BadLine >>= line_added s
 
 -- refused at a line
-abbrev pub at_line : {A B : Type 0} → ℕ → Result A Told → (A → Result B RefusedLine) → Result B RefusedLine
-at_line number (Ok a) go = go a
-at_line number (Err why) go = Err (record { line = number; told = why })
+abbrev pub unless_refused_at : {A B : Type 0} → ℕ → Result A Told → (A → Result B RefusedLine) → Result B RefusedLine
+unless_refused_at number (Ok a) go = go a
+unless_refused_at number (Err why) go = Err (record { line = number; told = why })
 
 -- what the lines behind the settings line add, so many lines having come before; blank ones are counted and left out
 abbrev pub lines_added : ThreadScript → ℕ → List (List ℕ) → Result ThreadScript RefusedLine
 lines_added s n [] = Ok s
 lines_added s n (text ∷ lines) =
     if is_blank text then lines_added s (n + 1) lines else
-    at_line (n + 1) (text_added s text) (λ more. lines_added more (n + 1) lines)
+    unless_refused_at (n + 1) (text_added s text) (λ more. lines_added more (n + 1) lines)
 
 -- The first line that isn't blank is the settings line. If there is none, the lines are refused at their end.
 abbrev pub script_from : ℕ → List (List ℕ) → Result ThreadScript RefusedLine
 script_from n [] = Err (record { line = n + 1; told = told.BadLine })
 script_from n (text ∷ lines) =
     if is_blank text then script_from (n + 1) lines else
-    at_line (n + 1) (script_opened text) (λ s. lines_added s (n + 1) lines)
+    unless_refused_at (n + 1) (script_opened text) (λ s. lines_added s (n + 1) lines)
 
 -- the script that lines come to, or the first line that is refused
 abbrev pub script_of : List (List ℕ) → Result ThreadScript RefusedLine

@@ -75,8 +75,8 @@ link_op_form = do
   give (op.Link (record { context = context; attributes = attributes }))
 
 -- an op by itself
-abbrev pub own_call : Form Op → Form ThreadCall
-own_call form = do
+abbrev pub op_call_form : Form Op → Form ThreadCall
+op_call_form form = do
   o ← form
   give (calls.Own o)
 
@@ -89,10 +89,10 @@ abbrev pub call_by : ℕ → List ℕ → Form ThreadCall
 call_by at word =
     if bytes_eq word (codes "record") then record_op_form else
     (if bytes_eq word (codes "event") then event_op_form else
-    (if bytes_eq word (codes "set_attribute") then own_call attribute_op_form else
-    (if bytes_eq word (codes "set_status") then own_call status_op_form else
-    (if bytes_eq word (codes "add_event") then own_call (added_event_form at) else
-    (if bytes_eq word (codes "add_link") then own_call link_op_form else
+    (if bytes_eq word (codes "set_attribute") then op_call_form attribute_op_form else
+    (if bytes_eq word (codes "set_status") then op_call_form status_op_form else
+    (if bytes_eq word (codes "add_event") then op_call_form (added_event_form at) else
+    (if bytes_eq word (codes "add_link") then op_call_form link_op_form else
     (if bytes_eq word (codes "enter") then give (calls.Own op.Enter) else
     (if bytes_eq word (codes "exit") then give (calls.Own op.Exit) else
     (if bytes_eq word (codes "start") then give (calls.Own (op.Start no_ids)) else when None))))))))

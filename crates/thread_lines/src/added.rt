@@ -3,9 +3,9 @@ ghost use Rattle.std.specs.Prelude.{◌≡◌, IfOk, OnOk};
 ghost use Rattle.span_script.specs.Admission.{fault_in, text_read, opening_read};
 ghost use Rattle.thread_lines.specs.Answers.{AnswersTest, AddsToScript, stop_of};
 ghost use Rattle.thread_lines.specs.Runnable.{HasFilter, IsRunnable};
-ghost use Rattle.thread_lines.specs.Steps.{last_made, directives_tested, script_opened, shared_added, worker_added, text_added};
+ghost use Rattle.thread_lines.specs.Steps.{last_shared_moment, directives_tested, script_opened, shared_added, worker_added, text_added};
 
-use crate::limits::{MOST_SPANS, MOST_WORKERS};
+use crate::limits::{MAX_SHARED_SPANS, MAX_WORKERS};
 use crate::line::{ThreadLine, ThreadOp};
 use crate::read::read_thread_line;
 use crate::require::{require, span_site, test_lane, test_moment};
@@ -21,7 +21,7 @@ use thread_script::{SharedLine, ThreadScript};
 use trace_lines::{LineError, Settings, Told, read_settings};
 
 // Why nothing was read of a line.
-fn unread(error: LineError) -> ScriptStop
+fn stop_of(error: LineError) -> ScriptStop
     ensures { result ≡ stop_of error }
 {
     match error {
@@ -63,7 +63,7 @@ pub(crate) fn open_script(alloc: Global, line: &[u8]) -> Result<ThreadScript, Sc
     ensures opened { AnswersTest (λ s. s) result (script_opened line.now) }
     ensures runnable { IfOk result IsRunnable }
 {
-    let settings = read_settings(alloc, line).map_err(unread)?;
+    let settings = read_settings(alloc, line).map_err(stop_of)?;
     test_texts(alloc, &settings)?;
     let Settings {
         filter,
@@ -83,8 +83,8 @@ pub(crate) fn open_script(alloc: Global, line: &[u8]) -> Result<ThreadScript, Sc
 }
 
 // The moment of the last shared span, 0 where there is none.
-fn last_made(shared: &[SharedLine]) -> Moment
-    ensures { result ≡ last_made shared.now }
+fn last_shared_moment(shared: &[SharedLine]) -> Moment
+    ensures { result ≡ last_shared_moment shared.now }
 {
     match shared.last() {
         Some(line) => line.at,
@@ -97,9 +97,9 @@ fn add_shared(script: &mut ThreadScript, line: SharedLine) -> Result<(), ScriptS
     ensures { AddsToScript script.new result (shared_added script.old line) }
 {
     let shared = script.shared.as_slice();
-    let has_room = script.workers.as_slice().is_empty() && shared.len() < MOST_SPANS;
+    let has_room = script.workers.as_slice().is_empty() && shared.len() < MAX_SHARED_SPANS;
     require(Told::BadLine, has_room)?;
-    test_moment(last_made(shared), line.at)?;
+    test_moment(last_shared_moment(shared), line.at)?;
     test_lane(script, 0)?;
     span_site(script, line.site)?;
     script.shared.push(line)?;
@@ -115,9 +115,9 @@ fn add_worker(
     ensures { AddsToScript script.new result (worker_added script.old ops) }
 {
     let worker = script.workers.as_slice().len();
-    require(Told::BadLine, worker < MOST_WORKERS)?;
+    require(Told::BadLine, worker < MAX_WORKERS)?;
     test_lane(script, worker)?;
-    let made_at = last_made(script.shared.as_slice());
+    let made_at = last_shared_moment(script.shared.as_slice());
     let ops = test_ops(alloc, script, made_at, ops)?;
     script.workers.push(ops)?;
     Ok(())
@@ -131,7 +131,7 @@ pub(crate) fn add_text(
 ) -> Result<(), ScriptStop>
     ensures { AddsToScript script.new result (text_added script.old text.now) }
 {
-    match read_thread_line(alloc, text).map_err(unread)? {
+    match read_thread_line(alloc, text).map_err(stop_of)? {
         ThreadLine::Shared { at, site } => add_shared(script, SharedLine { at, site }),
         ThreadLine::Worker { ops } => add_worker(alloc, script, ops),
     }

@@ -3,7 +3,7 @@ ghost use Rattle.std.specs.Prelude.{◌≡◌};
 ghost use Rattle.span_script.specs.Setups.{span_site, event_site};
 ghost use Rattle.span_script.specs.declared.reply.What.TheVariants.{Site};
 ghost use Rattle.thread_lines.specs.Answers.{AnswersTest};
-ghost use Rattle.thread_lines.specs.Steps.{refuse_unless, need, time_tested, names_nothing, lane_tested};
+ghost use Rattle.thread_lines.specs.Steps.{refuse_unless, need, time_tested, unknown_name, lane_tested};
 
 use crate::stop::ScriptStop;
 use otel_base::record::Moment;
@@ -24,7 +24,7 @@ pub(crate) fn require(told: Told, holds: bool) -> Result<(), ScriptStop>
 
 /// The refusal of a name that names nothing.
 pub(crate) fn unknown_name(what: What) -> Told
-    ensures { result ≡ names_nothing what }
+    ensures { result ≡ unknown_name what }
 {
     Told::Step {
         refusal: Refusal::UnknownName { what },

@@ -1,7 +1,7 @@
 //! The script that lines come to.
 ghost use Rattle.std.specs.Prelude.{◌≡◌, ◌+◌, IfErr, IfOk};
 ghost use Rattle.trace_lines.specs.Lines.{lines_of};
-ghost use Rattle.input_lines.specs.Refusals.{IsTold};
+ghost use Rattle.input_lines.specs.Refusals.{HasRefusalLine};
 ghost use Rattle.thread_lines.specs.Runnable.{IsRunnable};
 ghost use Rattle.thread_lines.specs.Steps.{script_of, script_from, lines_added};
 
@@ -63,7 +63,7 @@ fn add_lines(
 pub fn read_script(alloc: Global, bytes: &[u8]) -> Result<Result<ThreadScript, RefusedLine>, Memory>
     ensures script { IfOk result (λ r. r ≡ script_of (lines_of bytes.now)) }
     ensures runnable { IfOk result (λ r. IfOk r IsRunnable) }
-    ensures told { IfOk result (λ r. IfErr r (λ refused. IsTold refused.told)) }
+    ensures told { IfOk result (λ r. IfErr r (λ refused. HasRefusalLine refused.told)) }
 {
     let mut number = 0u64;
     let mut rest = bytes;

@@ -4,7 +4,7 @@ ghost use Rattle.std.specs.Prelude.{◌≡◌, ◌<◌, ◌==◌, IfOk, OnOk, le
 ghost use Rattle.span_script.specs.Fields.{all_values};
 ghost use Rattle.span_script.specs.declared.reply.What.TheVariants.{Field};
 ghost use Rattle.thread_lines.specs.Answers.{AnswersTest};
-ghost use Rattle.thread_lines.specs.Steps.{need, shared_tested, has_entry_for, own_tested, move_of_call, entered_after, call_tested, op_tested, ops_tested};
+ghost use Rattle.thread_lines.specs.Steps.{need, shared_tested, has_entry_for, op_call_tested, move_of_call, open_entries_after, call_tested, op_tested, ops_tested};
 ghost use Rattle.trace_threads.specs.Moves.{move_of, open_count_after};
 
 use crate::line::{ThreadCall, ThreadOp};
@@ -48,7 +48,7 @@ fn all_values(
 }
 
 // Whether an op may come where so many entries are open.
-fn may_come(entries: u64, op: &Op) -> bool
+fn has_entry_for(entries: u64, op: &Op) -> bool
     ensures { result ≡ has_entry_for entries (move_of op.now) }
 {
     match op {
@@ -58,10 +58,10 @@ fn may_come(entries: u64, op: &Op) -> bool
 }
 
 // An op of a worker, where it has so many entries open on the span: an exit needs one.
-fn own_call(entries: u64, op: Op) -> Result<WorkerCall, ScriptStop>
-    ensures { AnswersTest (λ c. c) result (own_tested entries op) }
+fn op_call(entries: u64, op: Op) -> Result<WorkerCall, ScriptStop>
+    ensures { AnswersTest (λ c. c) result (op_call_tested entries op) }
 {
-    if may_come(entries, &op) {
+    if has_entry_for(entries, &op) {
         Ok(WorkerCall::Own { op })
     } else {
         Err(ScriptStop::Refused {
@@ -94,7 +94,7 @@ fn test_call(
         }
         ThreadCall::Own { op } => {
             test_span(script, span)?;
-            own_call(entered[span as usize], op)
+            op_call(entered[span as usize], op)
         }
     }
 }
@@ -131,7 +131,7 @@ fn open_count_after_call(entries: u64, call: &WorkerCall) -> Result<u64, Memory>
 fn count_entry(entered: &mut [u64], op: &WorkerOp) -> Result<(), Memory>
     requires { op.now.span < length entered.old }
     ensures len { length entered.new ≡ length entered.old }
-    ensures counted { OnOk result (entered.new ≡ entered_after entered.old op.now.span (move_of_call op.now.what)) }
+    ensures counted { OnOk result (entered.new ≡ open_entries_after entered.old op.now.span (move_of_call op.now.what)) }
 {
     let entries = entered[op.span as usize];
     entered[op.span as usize] = open_count_after_call(entries, &op.what)?;
@@ -146,7 +146,7 @@ fn are_closed(entered: &[u64]) -> bool
 }
 
 // Tests a call that comes after a moment, and counts what it opens or closes.
-fn test_counted(
+fn test_and_count(
     alloc: Global,
     script: &ThreadScript,
     before: Moment,
@@ -156,7 +156,7 @@ fn test_counted(
     requires { length entered.old ≡ length script.now.shared }
     ensures tested { AnswersTest (λ o. o) result (op_tested script.now before entered.old op) }
     ensures len { length entered.new ≡ length entered.old }
-    ensures counted { IfOk result (λ o. entered.new ≡ entered_after entered.old o.span (move_of_call o.what)) }
+    ensures counted { IfOk result (λ o. entered.new ≡ open_entries_after entered.old o.span (move_of_call o.what)) }
 {
     let op = test_op(alloc, script, before, entered, op)?;
     count_entry(entered, &op)?;
@@ -177,7 +177,7 @@ fn test_each(
     let mut before = made_at;
     let mut tested = Items::new(alloc);
     for op in ops.into_vec() {
-        let op = test_counted(alloc, script, before, entered, op)?;
+        let op = test_and_count(alloc, script, before, entered, op)?;
         before = op.at;
         tested.push(op)?;
     }

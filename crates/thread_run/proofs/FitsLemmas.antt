@@ -11,7 +11,7 @@ use Rattle.thread_script.specs.Tests.{AllAtOpening}
 use Rattle.thread_handles.specs.declared.gather.Ended.{Ended}
 use Rattle.thread_work.specs.Spans.{AllEnded}
 use Rattle.thread_run.specs.Fits.{AllFit}
-use Rattle.thread_run.specs.Gates.{AreOpen}
+use Rattle.thread_run.specs.Gates.{AreNewGates}
 use Rattle.thread_run.specs.Spans.{AreMadeFor}
 
 -- ---- gates
@@ -25,7 +25,7 @@ at_opening opening text (ops ∷ workers) (g ∷ gates) len all =
     (all 0 g (omega arith), at_opening opening text workers gates (omega (arith, len)) (λ w d low. all (suc w) d (omega (arith, low))))
 
 -- gates that have seen the opening text alone
-pub are_open : (text : List ℕ) (workers : List (List WorkerOp)) (gates : List GateValue) → AreOpen text (length workers) gates → AllAtOpening (λ (g : GateValue). opening_of g.texts) text workers gates
+pub are_open : (text : List ℕ) (workers : List (List WorkerOp)) (gates : List GateValue) → AreNewGates text (length workers) gates → AllAtOpening (λ (g : GateValue). opening_of g.texts) text workers gates
 are_open text workers gates open_all = at_opening (λ (g : GateValue). opening_of g.texts) text workers gates open_all.0 (λ w d low. ap opening_of (open_all.1 w d low))
 
 -- ---- what came of the spans

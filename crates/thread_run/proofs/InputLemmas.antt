@@ -3,7 +3,7 @@ use Rattle.std.proofs.Common.{◌≡◌, ℕ, List, [], ◌++◌, Bool, true, fa
 use Rattle.std.specs.Prelude.{Result, Ok, Err, is_ok, not, IfOk, IfErr}
 use Rattle.trace_lines.specs.text.Texts.{refusal_text}
 use Rattle.input_lines.specs.declared.refused_line.RefusedLine.{RefusedLine}
-use Rattle.input_lines.specs.Refusals.{IsTold, are_blank, Refuses, NoneRefused}
+use Rattle.input_lines.specs.Refusals.{HasRefusalLine, are_blank, Refuses, NoneRefused}
 use Rattle.thread_script.specs.declared.script.ThreadScript.{ThreadScript}
 use Rattle.thread_handles.specs.declared.gather.Ended.{Ended}
 use Rattle.thread_lines.specs.Runnable.{IsRunnable}
@@ -32,8 +32,8 @@ tells_ended lines read script es slice text of_lines is fits same text_is =
 
 -- ---- a refused line
 
-pub told_of : (read : Read) (refused : RefusedLine) → read ≡ Err refused → IfErr read (λ (w : RefusedLine). IsTold w.told) → IsTold refused.told
-told_of read refused is known = subst (λ (r : Read). IfErr r (λ (w : RefusedLine). IsTold w.told)) is known
+pub told_of : (read : Read) (refused : RefusedLine) → read ≡ Err refused → IfErr read (λ (w : RefusedLine). HasRefusalLine w.told) → HasRefusalLine refused.told
+told_of read refused is known = subst (λ (r : Read). IfErr r (λ (w : RefusedLine). HasRefusalLine w.told)) is known
 
 pub tells_refused : (lines : List (List ℕ)) (read : Read) (refused : RefusedLine) (es : List Ended) (text : List ℕ) → read ≡ script_of lines → read ≡ Err refused → es ≡ []
     → text ≡ refusal_text refused.line refused.told → TellsEnded lines es text

@@ -20,7 +20,7 @@ use Rattle.thread_script.specs.declared.script.SharedLine.{SharedLine}
 use Rattle.thread_script.specs.declared.script.ThreadScript.{ThreadScript}
 use Rattle.thread_script.specs.Plans.{plan_of}
 use Rattle.thread_work.specs.Spans.{AreFirsts}
-use Rattle.thread_lines.specs.Runnable.{AreShared, IsRunnable}
+use Rattle.thread_lines.specs.Runnable.{AreValidSharedLines, IsRunnable}
 use Rattle.thread_run.specs.Spans.{lane_of, IsLane, ids_at, no_values, making_on, shared_making, IsMadeFor, AreMadeUpTo, AreMadeFor}
 
 -- ---- lists
@@ -49,7 +49,7 @@ shared_making_at script place l m low e =
 
 -- ---- the first handles
 
-pub low_at : (cs : List Callsite) (ls : List SharedLine) (s : ℕ) (l : SharedLine) → AreShared cs ls → s < length ls → (slice_index_or ls s l).at ≤ GREATEST
+pub low_at : (cs : List Callsite) (ls : List SharedLine) (s : ℕ) (l : SharedLine) → AreValidSharedLines cs ls → s < length ls → (slice_index_or ls s l).at ≤ GREATEST
 low_at cs [] s l all low = absurd (omega (arith, low))
 low_at cs (x ∷ ls) zero l all low = all.0.0
 low_at cs (x ∷ ls) (suc s) l all low = low_at cs ls s l all.1 (omega (arith, low))
@@ -72,7 +72,7 @@ there_by (c ∷ cs) zero e = omega arith
 there_by (c ∷ cs) (suc site) e = let low = there_by cs site e in omega (arith, low)
 
 -- its callsite is there
-pub site_low : (cs : List Callsite) (ls : List SharedLine) (s : ℕ) (l : SharedLine) → AreShared cs ls → s < length ls → (slice_index_or ls s l).site < length cs
+pub site_low : (cs : List Callsite) (ls : List SharedLine) (s : ℕ) (l : SharedLine) → AreValidSharedLines cs ls → s < length ls → (slice_index_or ls s l).site < length cs
 site_low cs [] s l all low = absurd (omega (arith, low))
 site_low cs (x ∷ ls) zero l all low = there_by cs x.site all.0.1
 site_low cs (x ∷ ls) (suc s) l all low = site_low cs ls s l all.1 (omega (arith, low))

@@ -8,14 +8,14 @@ use Rattle.trace_lines.specs.text.Writes.{AddsText}
 use Rattle.trace_lines.specs.text.WrittenText.{WrittenText}
 use Rattle.trace_threads.specs.declared.history.Entry.{Entry}
 use Rattle.thread_run.specs.declared.entry.EntryText.{EntryText}
-use Rattle.thread_run.specs.Texts.{entry_texts_after, told_text, history_text, spans_text, all_text}
+use Rattle.thread_run.specs.Texts.{entry_texts_after, entries_line, history_text, spans_text, all_text}
 
 -- the line of a span's history was added, and then other bytes
-pub span_added : {E : Type 0} (place : ℕ) (log shown : List Entry) (told slice : List EntryText) (out new behind : List ℕ) (r : Result WrittenText E) → shown ≡ log → told ≡ entry_texts_after [] shown → slice ≡ told → AddsText out new (told_text place slice)
+pub span_added : {E : Type 0} (place : ℕ) (log shown : List Entry) (told slice : List EntryText) (out new behind : List ℕ) (r : Result WrittenText E) → shown ≡ log → told ≡ entry_texts_after [] shown → slice ≡ told → AddsText out new (entries_line place slice)
     → IfOk r (λ text. text.items ≡ new ++ behind) → IfOk r (λ text. text.items ≡ out ++ (history_text place log ++ behind))
 span_added place log shown told slice out new behind (Ok text) same telling shows adds last =
     last
-    ∙ ap (λ (l : List ℕ). l ++ behind) (adds.0 ∙ ap (λ (t : List EntryText). out ++ told_text place t) (shows ∙ telling ∙ ap (entry_texts_after []) same))
+    ∙ ap (λ (l : List ℕ). l ++ behind) (adds.0 ∙ ap (λ (t : List EntryText). out ++ entries_line place t) (shows ∙ telling ∙ ap (entry_texts_after []) same))
     ∙ append_assoc out (history_text place log) behind
 span_added place log shown told slice out new behind (Err why) same telling shows adds last = tt
 

@@ -4,5 +4,5 @@ use Rattle.std.proofs.Common.{All}
 use Rattle.shared_gate.specs.Gates.{GateValue}
 
 -- so many gates, of which each has seen the opening text alone
-abbrev pub AreOpen : List ℕ → ℕ → List GateValue → Type 0
-AreOpen text count gates = (length gates ≡ count) × All (λ g. g.texts ≡ text ∷ []) gates
+abbrev pub AreNewGates : List ℕ → ℕ → List GateValue → Type 0
+AreNewGates text count gates = (length gates ≡ count) × All (λ g. g.texts ≡ text ∷ []) gates

@@ -57,12 +57,12 @@ history_data place told = object (by_name (
     (codes "history", array_of entry_data told)
     ∷ (codes "shared", whole_number place) ∷ []))
 
-unfoldable pub told_text : ℕ → List EntryText → List ℕ
-told_text place told = line_of (history_data place told)
+unfoldable pub entries_line : ℕ → List EntryText → List ℕ
+entries_line place told = line_of (history_data place told)
 
 -- the line of a history
 abbrev pub history_text : ℕ → List Entry → List ℕ
-history_text place log = told_text place (entry_texts_after [] log)
+history_text place log = entries_line place (entry_texts_after [] log)
 
 -- a history line and a record line for each shared span, so many having come before
 abbrev pub spans_text : ℕ → List Ended → List ℕ

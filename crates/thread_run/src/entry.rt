@@ -30,7 +30,7 @@ pub enum Deed {
 }
 
 // Has a place for a count, and maybe for others before it.
-fn reach(counts: &mut Vec<u64>, at: usize) -> Result<(), Memory>
+fn ensure_count(counts: &mut Vec<u64>, at: usize) -> Result<(), Memory>
     ensures same { OnOk result (
         (k : ℕ) → slice_index_or counts.new.items k 0 ≡ slice_index_or counts.old.items k 0) }
     ensures there { OnOk result (at < vec_len counts.new) }
@@ -49,7 +49,7 @@ fn next_call(counts: &mut Vec<u64>, caller: u64) -> Result<u64, Memory>
         ≡ (if caller == k then slice_index_or counts.old.items k 0 + 1 else slice_index_or counts.old.items k 0)) }
 {
     let at = caller as usize;
-    reach(counts, at)?;
+    ensure_count(counts, at)?;
     let number = counts[at];
     counts[at] = number.checked_add(1).ok_or(Memory)?;
     Ok(number)

@@ -1,8 +1,8 @@
 //! The gates of workers.
 ghost use Rattle.std.specs.Prelude.{◌≤◌, IfOk};
 ghost use Rattle.thread_lines.specs.Runnable.{HasFilter};
-ghost use Rattle.thread_lines.specs.declared.limits.TheConstants.{MOST_WORKERS};
-ghost use Rattle.thread_run.specs.Gates.{AreOpen};
+ghost use Rattle.thread_lines.specs.declared.limits.TheConstants.{MAX_WORKERS};
+ghost use Rattle.thread_run.specs.Gates.{AreNewGates};
 
 use otel_base::memory::Memory;
 use shared_gate::{GateError, GateWriter, SharedGate};
@@ -17,8 +17,8 @@ pub(crate) struct Gates {
 /// A gate of a text for each of so many workers.
 pub(crate) fn make_gates(alloc: Global, text: &str, workers: usize) -> Result<Gates, Memory>
     requires filter { HasFilter text.now }
-    requires few { workers ≤ MOST_WORKERS }
-    ensures { IfOk result (λ g. AreOpen text.now workers g.gates.items) }
+    requires few { workers ≤ MAX_WORKERS }
+    ensures { IfOk result (λ g. AreNewGates text.now workers g.gates.items) }
 {
     if workers == 0 {
         return Ok(Gates {

@@ -4,7 +4,7 @@ ghost use Rattle.serde_json.specs.Written.{compact_text};
 ghost use Rattle.trace_lines.specs.reading.Object.{array_of};
 ghost use Rattle.trace_lines.specs.text.Texts.{record_text};
 ghost use Rattle.trace_lines.specs.text.Writes.{Writes};
-ghost use Rattle.thread_run.specs.Texts.{deed_data, entry_data, history_text, told_text, spans_text, all_text};
+ghost use Rattle.thread_run.specs.Texts.{deed_data, entry_data, history_text, entries_line, spans_text, all_text};
 
 use crate::entry::{Deed, EntryText, entry_texts};
 use otel_base::memory::Memory;
@@ -53,7 +53,7 @@ fn add_entries(out: &mut TextBuffer, front: &str, entries: &[EntryText]) -> Resu
 
 // Adds the line of what the entries of a span tell.
 fn add_history(out: &mut TextBuffer, place: u64, entries: &[EntryText]) -> Result<(), AllocError>
-    ensures { Writes result out.old out.new (told_text place entries.now) }
+    ensures { Writes result out.old out.new (entries_line place entries.now) }
 {
     add_entries(out, "{\"history\":", entries)?;
     add_number(out, ",\"shared\":", place)?;

@@ -3,7 +3,7 @@ ghost use Rattle.std.specs.Prelude.{◌≡◌, ◌<◌};
 ghost use Rattle.std.specs.Thread.{IsSync};
 ghost use Rattle.trace_threads.specs.Handles.{open_of, IsSameHandle};
 
-use crate::spans::{OWN, alone, span};
+use crate::spans::{SPAN_IDS, alone, span};
 use otel_base::memory::Memory;
 use otel_base::record::Record;
 use otel_base::text::Text;
@@ -130,7 +130,7 @@ fn is_in_turn(
 ) -> Result<bool, Memory> {
     let mut state = alone(alloc)?;
     let is_in_order = apply_all(&mut state, history, next)?;
-    state.apply(11, Op::Start { own: OWN })?;
+    state.apply(11, Op::Start { own: SPAN_IDS })?;
     Ok(is_in_order && is_same_record(&state.close(11), record))
 }
 

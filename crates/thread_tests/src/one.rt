@@ -2,7 +2,7 @@
 ghost use Rattle.std.specs.Prelude.{◌≡◌, IfOk};
 ghost use Rattle.trace_threads.specs.Handles.{open_of, IsSameHandle};
 
-use crate::spans::{OWN, span};
+use crate::spans::{SPAN_IDS, span};
 use otel_base::context::{Context, SpanContext};
 use otel_base::memory::Memory;
 use otel_base::record::Record;
@@ -56,7 +56,9 @@ fn set_parent<R: Wait>(rt: &R, handle: &mut Handle) -> Option<(u64, bool)>
     ensures same { IsSameHandle handle.old handle.new }
     ensures idle { open_of handle.new ≡ open_of handle.old }
 {
-    let context = Context { span: Some(OWN) };
+    let context = Context {
+        span: Some(SPAN_IDS),
+    };
     match handle.call(rt, 1, Op::SetParent { context }) {
         Ok(called) => Some((called.place, called.reply == OpReply::Parent(Ok(())))),
         Err(_) => None,
@@ -161,7 +163,7 @@ fn has_keys(attributes: &[KeyValue], wanted: &[&str]) -> bool {
 }
 
 fn is_its_record(record: &Record) -> bool {
-    record.context == OWN
+    record.context == SPAN_IDS
         && record.name.as_str() == "s"
         && record.start == 5
         && record.end == 9

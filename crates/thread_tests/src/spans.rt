@@ -17,7 +17,7 @@ use trace_base::level::Level;
 use trace_threads::handle::Handle;
 
 /// The ids with which it starts.
-pub const OWN: SpanContext = SpanContext { trace: 7, span: 9 };
+pub const SPAN_IDS: SpanContext = SpanContext { trace: 7, span: 9 };
 
 /// The first handle of a span that is made at moment 5 on the lane 4, with 3 in its field `a`.
 pub fn span(alloc: Global) -> Result<Handle, Memory>
@@ -29,7 +29,7 @@ pub fn span(alloc: Global) -> Result<Handle, Memory>
         &lane(alloc),
         &LayerSettings::default(),
         5,
-        OWN,
+        SPAN_IDS,
         Context::empty(),
         &values(alloc)?,
     )

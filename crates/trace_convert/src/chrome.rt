@@ -1,5 +1,5 @@
 //! The trace event format: times in microseconds with three decimals, and in each row spans that nest or lie apart.
-use crate::record::{Event, Link, Plain, Record, Status};
+use crate::record::{AttributeValue, Event, Link, Record, Status};
 use crate::traces::Trace;
 use convert_base::{Fault, Kind};
 use serde::Serialize;
@@ -12,7 +12,7 @@ struct SpanDetails {
     span: String,
     parent: String,
     status: String,
-    attributes: BTreeMap<String, Plain>,
+    attributes: BTreeMap<String, AttributeValue>,
     links: Vec<LinkDetails>,
 }
 
@@ -20,12 +20,12 @@ struct SpanDetails {
 struct LinkDetails {
     trace: String,
     span: String,
-    attributes: BTreeMap<String, Plain>,
+    attributes: BTreeMap<String, AttributeValue>,
 }
 
 #[derive(Drop, Serialize)]
 struct EventDetails {
-    attributes: BTreeMap<String, Plain>,
+    attributes: BTreeMap<String, AttributeValue>,
 }
 
 #[derive(Drop, Serialize)]
@@ -75,7 +75,7 @@ impl TraceRows {
     fn row(&mut self, alloc: Global, start: u64, end: u64) -> Result<(u64, bool), Fault> {
         let mut number = self.first;
         for open in self.open.iter_mut() {
-            if takes(open, start, end)? {
+            if fits_in_row(open, start, end)? {
                 return Ok((number, false));
             }
             number = number.saturating_add(1);
@@ -86,7 +86,7 @@ impl TraceRows {
 }
 
 // Whether a span that starts now nests in a row: those that have ended are left out, and it ends within the last other.
-fn takes(open: &mut Vec<u64>, start: u64, end: u64) -> Result<bool, Fault> {
+fn fits_in_row(open: &mut Vec<u64>, start: u64, end: u64) -> Result<bool, Fault> {
     for _ in 0..open.len() {
         match open.last() {
             Some(last) if *last <= start => open.pop(),
@@ -175,8 +175,8 @@ fn status_text(alloc: Global, status: Status) -> Result<String, Fault> {
 // By their keys. Of equal keys the last counts, since a viewer shows one.
 fn members_of(
     alloc: Global,
-    pairs: Vec<(String, Plain)>,
-) -> Result<BTreeMap<String, Plain>, Fault> {
+    pairs: Vec<(String, AttributeValue)>,
+) -> Result<BTreeMap<String, AttributeValue>, Fault> {
     let mut members = BTreeMap::new(alloc);
     for (key, value) in pairs {
         members.insert(key, value)?;

@@ -1,7 +1,7 @@
 //! A page that needs nothing else: a waterfall of each trace, and what each span has on a click. No text of a record
 //! stands in it but escaped, in an element inside of a `bdi`, and no script runs on it.
 use crate::duration::duration;
-use crate::record::{Event, Link, Plain, Record, Status};
+use crate::record::{AttributeValue, Event, Link, Record, Status};
 use crate::scale::Scale;
 use crate::traces::{Row, Trace};
 use convert_base::{Fault, escape, is_zero};
@@ -56,7 +56,7 @@ pub fn section(alloc: Global, trace: &Trace) -> Result<String, Fault> {
     };
     let id = escape(alloc, trace.id.as_str())?;
     let lasts = duration(alloc, end.saturating_sub(start))?;
-    let size = trace.size(alloc)?;
+    let size = trace.size_text(alloc)?;
     let mut page = format!(in alloc;
         "<section>\n<h2>Trace <code><bdi>{id}</bdi></code>, {size}, {lasts}</h2>\n"
     )?;
@@ -149,7 +149,7 @@ fn push_status(alloc: Global, table: &mut String, status: &Status) -> Result<(),
 fn push_attributes(
     alloc: Global,
     table: &mut String,
-    pairs: &[(String, Plain)],
+    pairs: &[(String, AttributeValue)],
 ) -> Result<(), Fault> {
     for (key, value) in pairs.iter() {
         push_row(
@@ -194,12 +194,12 @@ fn push_row(alloc: Global, table: &mut String, label: &str, text: &str) -> Resul
     Ok(())
 }
 
-fn value_text(alloc: Global, value: &Plain) -> Result<String, Fault> {
+fn value_text(alloc: Global, value: &AttributeValue) -> Result<String, Fault> {
     Ok(match value {
-        Plain::Bool(given) => format!(in alloc; "{given}")?,
-        Plain::Number(number) => format!(in alloc; "{number}")?,
-        Plain::Text(text) => text.as_str().to_string(alloc)?,
-        Plain::List(texts) => join(alloc, texts.as_slice())?,
+        AttributeValue::Bool(given) => format!(in alloc; "{given}")?,
+        AttributeValue::Number(number) => format!(in alloc; "{number}")?,
+        AttributeValue::Text(text) => text.as_str().to_string(alloc)?,
+        AttributeValue::List(texts) => join(alloc, texts.as_slice())?,
     })
 }
 

@@ -25,7 +25,7 @@ fn main(rt: HostRuntime) -> ExitCode {
         Err(fault) => {
             // Where the error output fails too, the status still tells.
             let _ = eprintln!(&rt; "trace_convert: {fault}");
-            ExitCode::from(fault.status())
+            ExitCode::from(fault.exit_status())
         }
     }
 }
@@ -47,7 +47,7 @@ fn convert(rt: &HostRuntime) -> Result<(), Fault> {
             let width = width_of(width.as_str()).ok_or(Fault::Usage)?;
             write_text(rt, width)
         }
-        (Format::Text, None) => write_text(rt, WIDTH),
+        (Format::Text, None) => write_text(rt, DEFAULT_WIDTH),
         (Format::Chrome, None) => write_chrome(rt),
         (Format::Html, None) => write_html(rt),
         (Format::Chrome | Format::Html, Some(_)) => Err(Fault::Usage),
@@ -57,7 +57,7 @@ fn convert(rt: &HostRuntime) -> Result<(), Fault> {
 // The service's name where none is given, by the conventions of OpenTelemetry.
 const NO_SERVICE: &str = "unknown_service";
 // The columns of a line where no number is given.
-const WIDTH: usize = 100;
+const DEFAULT_WIDTH: usize = 100;
 
 // A line for each batch of records. Those before a fault of the input are written too.
 fn write_otlp(rt: &HostRuntime, service: &str) -> Result<(), Fault> {

@@ -1,6 +1,6 @@
 //! OTLP JSON, one export request a line, with the spans of up to 1,000 records.
 
-use crate::record::{self, Plain, Record};
+use crate::record::{self, AttributeValue, Record};
 use convert_base::{Fault, is_zero};
 use serde::Serialize;
 use std::alloc::Global;
@@ -201,7 +201,10 @@ fn status_of(status: record::Status) -> Status {
     }
 }
 
-fn attributes_of(alloc: Global, pairs: Vec<(String, Plain)>) -> Result<Vec<KeyValue>, Fault> {
+fn attributes_of(
+    alloc: Global,
+    pairs: Vec<(String, AttributeValue)>,
+) -> Result<Vec<KeyValue>, Fault> {
     let mut attributes = Vec::new(alloc);
     for (key, value) in pairs {
         attributes.push(KeyValue {
@@ -212,12 +215,12 @@ fn attributes_of(alloc: Global, pairs: Vec<(String, Plain)>) -> Result<Vec<KeyVa
     Ok(attributes)
 }
 
-fn value_of(alloc: Global, value: Plain) -> Result<AnyValue, Fault> {
+fn value_of(alloc: Global, value: AttributeValue) -> Result<AnyValue, Fault> {
     match value {
-        Plain::Bool(given) => Ok(AnyValue::BoolValue(given)),
-        Plain::Number(number) => Ok(AnyValue::IntValue(format!(in alloc; "{number}")?)),
-        Plain::Text(text) => Ok(AnyValue::StringValue(text)),
-        Plain::List(texts) => Ok(AnyValue::ArrayValue(ArrayValue {
+        AttributeValue::Bool(given) => Ok(AnyValue::BoolValue(given)),
+        AttributeValue::Number(number) => Ok(AnyValue::IntValue(format!(in alloc; "{number}")?)),
+        AttributeValue::Text(text) => Ok(AnyValue::StringValue(text)),
+        AttributeValue::List(texts) => Ok(AnyValue::ArrayValue(ArrayValue {
             values: items_of(alloc, texts)?,
         })),
     }

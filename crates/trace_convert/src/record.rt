@@ -16,7 +16,7 @@ pub struct Record {
     pub parent: String,
     pub start: u64,
     pub end: u64,
-    pub attributes: Vec<(String, Plain)>,
+    pub attributes: Vec<(String, AttributeValue)>,
     pub events: Vec<Event>,
     pub links: Vec<Link>,
     pub status: Status,
@@ -25,7 +25,7 @@ pub struct Record {
 /// The value of an attribute.
 #[derive(Drop, Deserialize, Serialize)]
 #[serde(untagged)]
-pub enum Plain {
+pub enum AttributeValue {
     Bool(bool),
     Number(i64),
     Text(String),
@@ -37,7 +37,7 @@ pub enum Plain {
 pub struct Event {
     pub name: String,
     pub time: u64,
-    pub attributes: Vec<(String, Plain)>,
+    pub attributes: Vec<(String, AttributeValue)>,
 }
 
 /// Another span that a span refers to.
@@ -45,7 +45,7 @@ pub struct Event {
 pub struct Link {
     pub trace: String,
     pub span: String,
-    pub attributes: Vec<(String, Plain)>,
+    pub attributes: Vec<(String, AttributeValue)>,
 }
 
 /// How a span ended.

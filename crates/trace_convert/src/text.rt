@@ -8,9 +8,9 @@ use std::alloc::Global;
 use unicode_width::{UnicodeWidthChar, UnicodeWidthStr};
 
 // The columns of a duration, as `123.4ms`.
-const DURATION: usize = 8;
+const DURATION_WIDTH: usize = 8;
 // What is neither name, duration nor bar: the mark, and blanks between the parts.
-const REST: usize = 4;
+const MARK_AND_BLANKS_WIDTH: usize = 4;
 
 const EIGHTHS: [&str; 8] = [" ", "▏", "▎", "▍", "▌", "▋", "▊", "▉"];
 
@@ -25,7 +25,9 @@ fn columns_of(width: usize) -> Columns {
     let name = width / 10 * 3;
     Columns {
         name,
-        bar: width.saturating_sub(name).saturating_sub(DURATION + REST),
+        bar: width
+            .saturating_sub(name)
+            .saturating_sub(DURATION_WIDTH + MARK_AND_BLANKS_WIDTH),
     }
 }
 
@@ -40,7 +42,7 @@ pub fn lines(alloc: Global, trace: &Trace, width: usize) -> Result<String, Fault
     };
     let id = printable(alloc, trace.id.as_str())?;
     let lasts = duration(alloc, end.saturating_sub(start))?;
-    let size = trace.size(alloc)?;
+    let size = trace.size_text(alloc)?;
     let mut lines = format!(in alloc; "trace {id}, {size}, {lasts}\n")?;
     for row in trace.rows(alloc)? {
         if let Some(record) = trace.records.get(row.place) {
@@ -64,7 +66,7 @@ fn line(
     let lasts = duration(alloc, record.end.saturating_sub(record.start))?;
     push_blanks(
         &mut line,
-        DURATION
+        DURATION_WIDTH
             .saturating_sub(lasts.as_str().width())
             .saturating_add(1),
     )?;

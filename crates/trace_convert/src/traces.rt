@@ -69,14 +69,14 @@ impl Traces {
 
 // Which records stand below which, by their places.
 #[derive(Drop)]
-struct Families {
+struct SpanTree {
     roots: Vec<usize>,
     children: Vec<Vec<usize>>,
 }
 
 impl Trace {
     /// How many spans the trace has, in words.
-    pub fn size(&self, alloc: Global) -> Result<String, Fault> {
+    pub fn size_text(&self, alloc: Global) -> Result<String, Fault> {
         let count = self.records.len();
         let plural = if count == 1 { "" } else { "s" };
         Ok(format!(in alloc; "{count} span{plural}")?)
@@ -96,21 +96,21 @@ impl Trace {
     /// The spans, each behind its parent, those of one parent in the order of the records. A span whose parent has no
     /// record here, or no lower id, stands at the outside.
     pub fn rows(&self, alloc: Global) -> Result<Vec<Row>, Fault> {
-        let families = self.families(alloc)?;
+        let span_tree = self.span_tree(alloc)?;
         let mut rows = Vec::new(alloc);
         let mut waiting = Vec::new(alloc);
-        push_rows(&mut waiting, families.roots.as_slice(), 0)?;
+        push_rows(&mut waiting, span_tree.roots.as_slice(), 0)?;
         for _ in 0..self.records.len() {
             let Some(row) = waiting.pop() else { break };
             rows.push(row)?;
-            if let Some(below) = families.children.get(row.place) {
+            if let Some(below) = span_tree.children.get(row.place) {
                 push_rows(&mut waiting, below.as_slice(), row.depth.saturating_add(1))?;
             }
         }
         Ok(rows)
     }
 
-    fn families(&self, alloc: Global) -> Result<Families, Fault> {
+    fn span_tree(&self, alloc: Global) -> Result<SpanTree, Fault> {
         let places = self.places(alloc)?;
         let mut roots = Vec::new(alloc);
         let mut children = self.no_children(alloc)?;
@@ -126,7 +126,7 @@ impl Trace {
                 None => roots.push(place)?,
             }
         }
-        Ok(Families { roots, children })
+        Ok(SpanTree { roots, children })
     }
 
     // Where each span's record stands.

@@ -14,7 +14,7 @@ use Rattle.trace_lines.specs.Lines.{is_blank}
 use Rattle.trace_lines.specs.Report.{Report, accepts, report_on_opening, report_on_settings, report_from, report_on}
 use Rattle.trace_lines.specs.reading.Spelled.{settings_spelled}
 use Rattle.trace_eager.specs.Renamed.{IsRenamed, RenamesIds, Script, script_by, script_from}
-use Rattle.trace_eager.specs.Written.{answers_text, numbers_of, requests_of}
+use Rattle.trace_eager.specs.Written.{answers_text, line_numbers, requests_of}
 use Rattle.trace_eager.proofs.AnswersLemmas.{text_of_answers}
 
 renames : (settings : Settings) (n : ℕ) (lines : List (List ℕ)) → (report_on signal.Traces (setup_by settings) [] n 0 lines).accepted ≡ true
@@ -23,7 +23,7 @@ renames settings n lines accepted eager may =
     let setup = setup_by settings in
     let requests = requests_of lines in
     text_of_answers setup n lines accepted
-    ∙ ap₂ (λ (all : List (Reply × List Record)) (left : ℕ). answers_text 0 (numbers_of n lines) all left) (each_early_is_late setup requests eager may)
+    ∙ ap₂ (λ (all : List (Reply × List Record)) (left : ℕ). answers_text 0 (line_numbers n lines) all left) (each_early_is_late setup requests eager may)
     (ap (λ (o : Outcome). o.left_open) (early_is_late setup requests eager may))
 
 abbrev IsRenamedBy : Option Script → Report → Type 0

@@ -8,7 +8,7 @@ use Rattle.span_eager.specs.Renaming.{renamed_answer}
 use Rattle.trace_lines.specs.declared.told.Told.{Told}
 use Rattle.trace_lines.specs.Lines.{is_blank}
 use Rattle.trace_lines.specs.reading.Spelled.{settings_spelled}
-use Rattle.trace_eager.specs.Written.{answers_text, numbers_of, requests_of}
+use Rattle.trace_eager.specs.Written.{answers_text, line_numbers, requests_of}
 
 -- the settings of a script, the number of their line, and the lines behind it
 pub record Script : Type 0 where
@@ -30,7 +30,7 @@ abbrev pub renamed_text : Script → List ℕ
 renamed_text script =
     let setup = lazy_setup (setup_by script.settings) in
     let requests = requests_of script.lines in
-    answers_text 0 (numbers_of script.number script.lines) (map (renamed_answer (eager_id setup requests)) (answers setup requests)) (outcome_of setup requests).left_open
+    answers_text 0 (line_numbers script.number script.lines) (map (renamed_answer (eager_id setup requests)) (answers setup requests)) (outcome_of setup requests).left_open
 
 -- a text of such a script, if spans start early in it and that changes ids alone
 abbrev pub RenamesIds : Script → List ℕ → Type 0

@@ -10,19 +10,19 @@ use Rattle.trace_lines.specs.reading.Spelled.{request_spelled}
 use Rattle.trace_lines.specs.text.Texts.{end_text, reply_text}
 
 -- a request in front of others, where one is spelled
-abbrev pub in_front : Result Request Told → List Request → List Request
-in_front (Ok request) requests = request ∷ requests
-in_front (Err why) requests = []
+abbrev pub with_request_if_spelled : Result Request Told → List Request → List Request
+with_request_if_spelled (Ok request) requests = request ∷ requests
+with_request_if_spelled (Err why) requests = []
 
 -- the requests of the lines that aren't blank, up to the first that spells none
 abbrev pub requests_of : List (List ℕ) → List Request
 requests_of [] = []
-requests_of (text ∷ lines) = if is_blank text then requests_of lines else in_front (request_spelled text) (requests_of lines)
+requests_of (text ∷ lines) = if is_blank text then requests_of lines else with_request_if_spelled (request_spelled text) (requests_of lines)
 
 -- the numbers of the lines that aren't blank, so many lines having come before
-abbrev pub numbers_of : ℕ → List (List ℕ) → List ℕ
-numbers_of n [] = []
-numbers_of n (text ∷ lines) = if is_blank text then numbers_of (n + 1) lines else (n + 1) ∷ numbers_of (n + 1) lines
+abbrev pub line_numbers : ℕ → List (List ℕ) → List ℕ
+line_numbers n [] = []
+line_numbers n (text ∷ lines) = if is_blank text then line_numbers (n + 1) lines else (n + 1) ∷ line_numbers (n + 1) lines
 
 -- the reply and the records of each request, which stands on the line of a number, and the end line; so many records come before
 abbrev pub answers_text : ℕ → List ℕ → List (Reply × List Record) → ℕ → List ℕ

@@ -1,7 +1,7 @@
 -- What is written for request lines are the lines of their answers, and the last line is that of the outcome.
 use Rattle.std.proofs.Common.{◌≡◌, ℕ, suc, ◌+◌, List, [], ◌∷◌, ◌++◌, length, fold, Bool, true, false, Option, Some, None, Result, Ok, Err, refl, sym, ap, ◌∙◌, arith, append_assoc, if◌then◌else◌, slice_get, option_and_then}
 use Rattle.std.proofs.lemmas.List.{length-append}
-use Rattle.trace_laws.proofs.Common.{fold_push, Refusal, Request, Resolved, effect_of, open_spans, with_effects_behind, history_from, records_from, refusal_at, Setup, Effect, History, Tables, after_effect, no_tables, records_of, tables, answers_from, in_front, numbers_of, requests_of, Told, is_blank, Report, with_text_before, step_or_refusal, effect_of_line, effect_of_request, report_on_effect, report_on, answer_text, answer_count, request_spelled, answer_lines, last_line, unread_from, unread_or}
+use Rattle.trace_laws.proofs.Common.{fold_push, Refusal, Request, Resolved, effect_of, open_spans, with_effects_behind, history_from, records_from, refusal_at, Setup, Effect, History, Tables, after_effect, no_tables, records_of, tables, answers_from, with_request_if_spelled, line_numbers, requests_of, Told, is_blank, Report, with_text_before, step_or_refusal, effect_of_line, effect_of_request, report_on_effect, report_on, answer_text, answer_count, request_spelled, answer_lines, last_line, first_bad_line, bad_line_or}
 use Rattle.trace_lines.specs.declared.signal.Signal.TheVariants as signal
 
 module _ (setup : Setup) where
@@ -19,7 +19,7 @@ module _ (setup : Setup) where
       ++ last_line numbers (refused_of t requests h) unread (open_spans (fold after_effect t h)) (count + length (records_from t h))
 
   abbrev text_of : Tables → ℕ → ℕ → List (List ℕ) → List ℕ
-  text_of t n count lines = text_by t count (numbers_of n lines) (unread_from n lines) (requests_of lines) (history_from setup t (requests_of lines))
+  text_of t n count lines = text_by t count (line_numbers n lines) (first_bad_line n lines) (requests_of lines) (history_from setup t (requests_of lines))
 
   -- a request in front counts its number away
   shifted : (o : Option Request) (f : Request → Resolved) (p number : ℕ) (numbers : List ℕ) (unread : Option (ℕ × Told)) (left count : ℕ)
@@ -47,12 +47,12 @@ module _ (setup : Setup) where
     -- one effect more in front
     in_turn : (request : Request) (e : Effect) (rest : List ℕ) → rest ≡ text_of (after_effect t e) (n + 1) (count + length (records_of t e)) lines
         → answer_text signal.Traces (n + 1) count e.reply (records_of t e) e.measures ++ rest
-        ≡ text_by t count ((n + 1) ∷ numbers_of (n + 1) lines) (unread_from (n + 1) lines) (request ∷ requests_of lines) (e ∷ later e)
+        ≡ text_by t count ((n + 1) ∷ line_numbers (n + 1) lines) (first_bad_line (n + 1) lines) (request ∷ requests_of lines) (e ∷ later e)
     in_turn request e rest is =
         let first = answer_text signal.Traces (n + 1) count e.reply (records_of t e) e.measures in
         let more = count + length (records_of t e) in
-        let numbers = numbers_of (n + 1) lines in
-        let unread = unread_from (n + 1) lines in
+        let numbers = line_numbers (n + 1) lines in
+        let unread = first_bad_line (n + 1) lines in
         let left = open_spans (fold after_effect (after_effect t e) (later e)) in
         let many = length-append (records_of t e) (records_from (after_effect t e) (later e)) in
         let sum : more + length (records_from (after_effect t e) (later e)) ≡ count + length (records_of t e ++ records_from (after_effect t e) (later e)) = omega (arith, many) in
@@ -64,19 +64,19 @@ module _ (setup : Setup) where
 
     by_effect : (request : Request) (r : Resolved) → effect_of setup t request ≡ r
         → (report_on_effect (step_or_refusal r) go (n + 1)).written
-        ≡ text_by t count ((n + 1) ∷ numbers_of (n + 1) lines) (unread_from (n + 1) lines) (request ∷ requests_of lines) (with_effects_behind r later)
+        ≡ text_by t count ((n + 1) ∷ line_numbers (n + 1) lines) (first_bad_line (n + 1) lines) (request ∷ requests_of lines) (with_effects_behind r later)
     by_effect request (Err why) is =
-        ap (λ (x : Resolved). last_line ((n + 1) ∷ numbers_of (n + 1) lines) (refusal_at 0 x) (unread_from (n + 1) lines) (open_spans t) (count + 0)) (sym is)
+        ap (λ (x : Resolved). last_line ((n + 1) ∷ line_numbers (n + 1) lines) (refusal_at 0 x) (first_bad_line (n + 1) lines) (open_spans t) (count + 0)) (sym is)
     by_effect request (Ok e) is =
         let more = count + length (records_of t e) in
         in_turn request e _ (behind_it (h ++ e ∷ []) (n + 1) more ∙ ap (λ (u : Tables). text_of u (n + 1) more lines) (fold_push after_effect (no_tables setup) h e))
 
     pub by_blank : (b : Bool) (spelled : Result Request Told)
         → (if b then report h (n + 1) count lines else report_on_effect (effect_of_request setup t spelled) go (n + 1)).written
-        ≡ text_by t count (if b then numbers_of (n + 1) lines else (n + 1) ∷ numbers_of (n + 1) lines)
-        (if b then unread_from (n + 1) lines else unread_or spelled (n + 1) (unread_from (n + 1) lines))
-        (if b then requests_of lines else in_front spelled (requests_of lines))
-        (history_from setup t (if b then requests_of lines else in_front spelled (requests_of lines)))
+        ≡ text_by t count (if b then line_numbers (n + 1) lines else (n + 1) ∷ line_numbers (n + 1) lines)
+        (if b then first_bad_line (n + 1) lines else bad_line_or spelled (n + 1) (first_bad_line (n + 1) lines))
+        (if b then requests_of lines else with_request_if_spelled spelled (requests_of lines))
+        (history_from setup t (if b then requests_of lines else with_request_if_spelled spelled (requests_of lines)))
     by_blank true spelled = behind_it h (n + 1) count
     by_blank false (Err why) = refl
     by_blank false (Ok request) = by_effect request (effect_of setup t request) refl

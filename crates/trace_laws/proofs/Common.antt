@@ -25,7 +25,7 @@ unfoldable pub use Rattle.trace_lines.specs.reading.Spelled.{request_spelled, se
 pub use Rattle.trace_lines.specs.text.Texts.{end_data, reply_data}
 unfoldable pub use Rattle.trace_lines.specs.text.Texts.{end_text, record_text, refusal_text, reply_text}
 pub use Rattle.trace_eager.specs.Renamed.{Script, script_by, script_from}
-pub use Rattle.trace_eager.specs.Written.{in_front, numbers_of, requests_of}
-pub use Rattle.trace_laws.specs.Headline.{AnswersEach, AreAnswers, HoldsCalls, TellsScript, TellsSpans, closed_by}
+pub use Rattle.trace_eager.specs.Written.{with_request_if_spelled, line_numbers, requests_of}
+pub use Rattle.trace_laws.specs.Headline.{AnswersEach, AreAnswers, HoldsCalls, TellsScript, TellsSpans, closed_spans}
 pub use Rattle.trace_laws.specs.Sums.{Counts, records_in}
-pub use Rattle.trace_laws.specs.Written.{IsOutput, answer_lines, first_line, last_line, opened_text, outcome_text, unread_from, unread_or}
+pub use Rattle.trace_laws.specs.Written.{IsOutput, answer_lines, first_line_number, last_line, opened_text, outcome_text, first_bad_line, bad_line_or}

@@ -1,12 +1,12 @@
 -- Fronts of a history are legal, and answers are parted as the spans that requests closed.
 use Rattle.std.proofs.Common.{◌≡◌, ℕ, List, [], ◌∷◌, ◌++◌, length, map, flat_map, fold, Some, Ok, Err, refl, sym, ap, subst, ◌∙◌, arith, append_assoc, append-nil, slice_get, IsErr}
-use Rattle.trace_laws.proofs.Common.{fold_push, Record, Reply, Request, Resolved, effect_of, with_effects_behind, history_from, records_from, Setup, Effect, History, Tables, after_effect, no_tables, records_of, tables, answers_from, IsHistory, more, EachRecord, AnswersEach, closed_by}
+use Rattle.trace_laws.proofs.Common.{fold_push, Record, Reply, Request, Resolved, effect_of, with_effects_behind, history_from, records_from, Setup, Effect, History, Tables, after_effect, no_tables, records_of, tables, answers_from, IsHistory, more, EachRecord, AnswersEach, closed_spans}
 use Rattle.span_laws.proofs.records.RecordsLemmas.{as_many_as_close}
 
 -- the closed spans of the tables behind a history
-pub closed_is : (t : Tables) (h : History) → (fold after_effect t h).closed ≡ t.closed ++ closed_by h
+pub closed_is : (t : Tables) (h : History) → (fold after_effect t h).closed ≡ t.closed ++ closed_spans h
 closed_is t [] = sym (append-nil t.closed)
-closed_is t (e ∷ h) = closed_is (after_effect t e) h ∙ append_assoc t.closed e.closes (closed_by h)
+closed_is t (e ∷ h) = closed_is (after_effect t e) h ∙ append_assoc t.closed e.closes (closed_spans h)
 
 -- the replies and the records of answers
 pub replies_are : (t : Tables) (h : History) → map (λ (answer : Reply × List Record). answer.0) (answers_from t h) ≡ map (λ e. e.reply) h
@@ -32,22 +32,22 @@ module _ (setup : Setup) where
 
   -- the answers of requests, whose records are beside the spans that were closed
   pub answers_each : (P : ℕ → Record → Type 0) (requests : List Request) (h : History) (t : Tables) → tables setup h ≡ t → IsHistory setup h
-      → EachRecord P (closed_by (history_from setup t requests)) (records_from t (history_from setup t requests))
+      → EachRecord P (closed_spans (history_from setup t requests)) (records_from t (history_from setup t requests))
       → AnswersEach P (history_from setup t requests) (answers_from t (history_from setup t requests))
   answers_each P [] h t now legal each = tt
   answers_each P (request ∷ requests) h t now legal each =
       by_effect (effect_of setup t request) refl (λ e behind. answers_each P requests (h ++ e ∷ []) (after_effect t e) (pushed h e ∙ ap (λ (u : Tables). after_effect u e) now) behind) each
     where
       by_effect : (r : Resolved) → effect_of setup t request ≡ r
-          → ((e : Effect) → IsHistory setup (h ++ e ∷ []) → EachRecord P (closed_by (history_from setup (after_effect t e) requests)) (records_from (after_effect t e) (history_from setup (after_effect t e) requests))
+          → ((e : Effect) → IsHistory setup (h ++ e ∷ []) → EachRecord P (closed_spans (history_from setup (after_effect t e) requests)) (records_from (after_effect t e) (history_from setup (after_effect t e) requests))
           → AnswersEach P (history_from setup (after_effect t e) requests) (answers_from (after_effect t e) (history_from setup (after_effect t e) requests)))
-          → EachRecord P (closed_by (with_effects_behind r (λ e. history_from setup (after_effect t e) requests))) (records_from t (with_effects_behind r (λ e. history_from setup (after_effect t e) requests)))
+          → EachRecord P (closed_spans (with_effects_behind r (λ e. history_from setup (after_effect t e) requests))) (records_from t (with_effects_behind r (λ e. history_from setup (after_effect t e) requests)))
           → AnswersEach P (with_effects_behind r (λ e. history_from setup (after_effect t e) requests)) (answers_from t (with_effects_behind r (λ e. history_from setup (after_effect t e) requests)))
       by_effect (Err why) is behind each = tt
       by_effect (Ok e) is behind each =
           let here = ap (λ (u : Tables). effect_of setup u request) now ∙ is in
           let many = ap (λ (u : Tables). length (records_of u e)) (sym now) ∙ as_many_as_close setup h request e legal here in
-          let parts = each_parts P e.closes (closed_by (history_from setup (after_effect t e) requests)) (records_of t e) (records_from (after_effect t e) (history_from setup (after_effect t e) requests)) many each in
+          let parts = each_parts P e.closes (closed_spans (history_from setup (after_effect t e) requests)) (records_of t e) (records_from (after_effect t e) (history_from setup (after_effect t e) requests)) many each in
           (refl, parts.0, behind e (more h request e legal here) parts.1)
 
   -- a front of a history is legal

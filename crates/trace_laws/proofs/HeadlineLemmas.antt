@@ -1,6 +1,6 @@
 -- What a script's answers tell of its spans.
 use Rattle.std.proofs.Common.{◌≡◌, ℕ, ◌≤◌, ◌&&◌, List, [], ◌∷◌, ◌++◌, length, Bool, not, Option, Some, Ok, refl, sym, ap, subst, ◌∙◌, inl, inr, nat_lt, slice_get}
-use Rattle.trace_laws.proofs.Common.{cases_lt, Record, Request, opening_read, is_open, history_of, records_of_history, Setup, setup_by, Effect, History, no_tables, tables, answers, IsHistory, none, occurrences, EachRecord, Script, script_from, requests_of, lines_of, output, AnswersEach, AreAnswers, HoldsCalls, TellsSpans, TellsScript, IsOutput, first_line, opened_text}
+use Rattle.trace_laws.proofs.Common.{cases_lt, Record, Request, opening_read, is_open, history_of, records_of_history, Setup, setup_by, Effect, History, no_tables, tables, answers, IsHistory, none, occurrences, EachRecord, Script, script_from, requests_of, lines_of, output, AnswersEach, AreAnswers, HoldsCalls, TellsSpans, TellsScript, IsOutput, first_line_number, opened_text}
 use Rattle.std.proofs.lemmas.Bool.{lt-ltb, le-ltb}
 use Rattle.span_laws.specs.Makings.{HasContextOf}
 use Rattle.span_laws.proofs.spans.ChildrenLemmas.{children_first}
@@ -63,7 +63,7 @@ module _ (setup : Setup) (requests : List Request) where
 pub tells_script : (bytes : List ℕ) (script : Script) → script_from 0 (lines_of bytes) ≡ Some script
     → opening_read script.settings.filter script.settings.counting ≡ Ok tt → TellsScript script (output signal.Traces bytes)
 tells_script bytes script is read = record {
-  written = subst (λ (o : Option Script). IsOutput (first_line 0 (lines_of bytes)) o (output signal.Traces bytes)) is (is_output bytes) ∙ ap (λ r. opened_text r script) read;
+  written = subst (λ (o : Option Script). IsOutput (first_line_number 0 (lines_of bytes)) o (output signal.Traces bytes)) is (is_output bytes) ∙ ap (λ r. opened_text r script) read;
   outcome = are_answers (setup_by script.settings) (requests_of script.lines);
   spans = tells_spans (setup_by script.settings) (requests_of script.lines);
 }

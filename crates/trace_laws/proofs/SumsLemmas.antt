@@ -1,6 +1,6 @@
 -- The summary of a made script counts what is written of it.
 use Rattle.std.proofs.Common.{◌≡◌, ℕ, ◌+◌, ◌≤◌, List, [], ◌∷◌, ◌++◌, length, map, Bool, true, Option, Some, None, Ok, Err, refl, sym, ap, ap₂, subst, ◌∙◌, arith, append-nil, option_and_then, if◌then◌else◌}
-use Rattle.trace_laws.proofs.Common.{range_with_len, Record, Refusal, Reply, Request, OpeningRead, opening_read, Resolved, effect_of, open_spans, history_from, history_of, outcome_of, records_of_history, refusal_at, refusal_behind, Setup, Effect, History, Tables, after_effect, no_tables, tables, answers, answers_from, Script, script_from, numbers_of, requests_of, Told, lines_of, IsValid, Report, accepts, report_on_opening, output, report_on, end_text, Counts, records_in, IsOutput, first_line, answer_lines, last_line, opened_text, outcome_text, unread_from}
+use Rattle.trace_laws.proofs.Common.{range_with_len, Record, Refusal, Reply, Request, OpeningRead, opening_read, Resolved, effect_of, open_spans, history_from, history_of, outcome_of, records_of_history, refusal_at, refusal_behind, Setup, Effect, History, Tables, after_effect, no_tables, tables, answers, answers_from, Script, script_from, line_numbers, requests_of, Told, lines_of, IsValid, Report, accepts, report_on_opening, output, report_on, end_text, Counts, records_in, IsOutput, first_line_number, answer_lines, last_line, opened_text, outcome_text, first_bad_line}
 use Rattle.std.specs.List.{sum_by}
 use Rattle.std.proofs.lemmas.List.{length-append}
 use Rattle.std.proofs.lemmas.List.FromFn.{length-range_with_len}
@@ -20,14 +20,14 @@ requests_back : (requests : List Request) → Each HasLine requests → requests
 requests_back [] all = refl
 requests_back (r ∷ requests) all = rw (all.0.shown, all.0.spells, requests_back requests all.1) refl
 
-all_spelled : (n : ℕ) (requests : List Request) → Each HasLine requests → unread_from n (map request_line requests) ≡ None
+all_spelled : (n : ℕ) (requests : List Request) → Each HasLine requests → first_bad_line n (map request_line requests) ≡ None
 all_spelled n [] all = refl
 all_spelled n (r ∷ requests) all = rw (all.0.shown, all.0.spells) (all_spelled (n + 1) requests all.1)
 
-numbers_are : (n : ℕ) (requests : List Request) → Each HasLine requests → numbers_of n (map request_line requests) ≡ range_with_len (n + 1) (length requests)
+numbers_are : (n : ℕ) (requests : List Request) → Each HasLine requests → line_numbers n (map request_line requests) ≡ range_with_len (n + 1) (length requests)
 numbers_are n [] all = refl
 numbers_are n (r ∷ requests) all =
-    let behind = numbers_of (n + 1) (map request_line requests) in
+    let behind = line_numbers (n + 1) (map request_line requests) in
     ap (λ (b : Bool). if b then behind else (n + 1) ∷ behind) all.0.shown ∙ ap (λ (numbers : List ℕ). (n + 1) ∷ numbers) (numbers_are (n + 1) requests all.1)
 
 made_from : (n : ℕ) → n ≤ 50000 → script_from 0 (lines_of (generated_script n)) ≡ Some (record { settings = generated_settings; number = 1; lines = map request_line (generated_requests n) })
@@ -105,15 +105,15 @@ module _ (n : ℕ) (few : n ≤ 50000) (valid : IsValid (generated_script n)) (h
   abbrev numbers : List ℕ
   numbers = range_with_len 2 (length all)
 
-  numbered : numbers_of 1 lines ≡ numbers
+  numbered : line_numbers 1 lines ≡ numbers
   numbered = let answered = answers_many generated_setup requests in numbers_are 1 requests each ∙ ap (range_with_len 2) (omega (arith, many, answered))
 
   written : output signal.Traces (generated_script n) ≡ answer_lines 0 numbers all ++ end_text (open_spans (tables generated_setup done)) (length (records_of_history generated_setup done))
   written =
-      subst (λ (o : Option Script). IsOutput (first_line 0 (lines_of (generated_script n))) o (output signal.Traces (generated_script n))) (made_from n few) (is_output (generated_script n))
+      subst (λ (o : Option Script). IsOutput (first_line_number 0 (lines_of (generated_script n))) o (output signal.Traces (generated_script n))) (made_from n few) (is_output (generated_script n))
       ∙ ap (λ (r : OpeningRead). opened_text r script) read
-      ∙ ap (λ (rs : List Request). outcome_text (numbers_of 1 lines) (unread_from 1 lines) (answers generated_setup rs) (outcome_of generated_setup rs)) (requests_back requests each)
-      ∙ ap₂ (λ (refused : Option (ℕ × Refusal)) (unread : Option (ℕ × Told)). answer_lines 0 (numbers_of 1 lines) all ++ last_line (numbers_of 1 lines) refused unread (open_spans (tables generated_setup done)) (length (records_of_history generated_setup done)))
+      ∙ ap (λ (rs : List Request). outcome_text (line_numbers 1 lines) (first_bad_line 1 lines) (answers generated_setup rs) (outcome_of generated_setup rs)) (requests_back requests each)
+      ∙ ap₂ (λ (refused : Option (ℕ × Refusal)) (unread : Option (ℕ × Told)). answer_lines 0 (line_numbers 1 lines) all ++ last_line (line_numbers 1 lines) refused unread (open_spans (tables generated_setup done)) (length (records_of_history generated_setup done)))
       (none_refused generated_setup requests done (omega (arith, many))) (all_spelled 1 requests each)
       ∙ ap (λ (ns : List ℕ). answer_lines 0 ns all ++ end_text (open_spans (tables generated_setup done)) (length (records_of_history generated_setup done))) numbered
 

@@ -18,8 +18,8 @@ use Rattle.trace_eager.specs.Written.{requests_of}
 use Rattle.trace_laws.specs.Written.{script_text}
 
 -- the spans that the requests of a history closed, in order
-abbrev pub closed_by : History → List ℕ
-closed_by h = flat_map (λ e. e.closes) h
+abbrev pub closed_spans : History → List ℕ
+closed_spans h = flat_map (λ e. e.closes) h
 
 -- the record of a span is made with what the request at its place says, and holds exactly that span's calls, in order
 abbrev pub HoldsCalls : Setup → List Request → History → ℕ → Record → Type 0
@@ -48,12 +48,12 @@ pub record TellsSpans (setup : Setup) (requests : List Request) (h : History) (a
   pub admitted : (fore rest : History) (e : Effect) → h ≡ fore ++ e ∷ rest → MakesIfAdmitted setup requests fore e
   pub answered : AnswersEach (HoldsCalls setup requests h) h all
   pub under : AnswersEach (HasContextOf setup h) h all
-  pub once : (s : ℕ) → occurrences s (closed_by h) ≤ 1
+  pub once : (s : ℕ) → occurrences s (closed_spans h) ≤ 1
   -- so far those are closed that were made and that no unspent handle holds, theirs or a descendant's
   pub when_ended : (fore rest : History) (s : ℕ) → h ≡ fore ++ rest
-      → is_in s (closed_by fore) ≡ (nat_lt s (length (tables setup fore).spans) && not (is_open (tables setup fore).handles s))
+      → is_in s (closed_spans fore) ≡ (nat_lt s (length (tables setup fore).spans) && not (is_open (tables setup fore).handles s))
   pub child_first : (s p : ℕ) (up fore rest : List ℕ) → (made_span_at (tables setup h).spans s).scope ≡ s ∷ p ∷ up
-      → closed_by h ≡ fore ++ p ∷ rest → is_in s fore ≡ true
+      → closed_spans h ≡ fore ++ p ∷ rest → is_in s fore ≡ true
 
 -- the answers are those of the outcome, parted by requests
 pub record AreAnswers (setup : Setup) (requests : List Request) (all : List (Reply × List Record)) : Type 0 where

@@ -10,7 +10,7 @@ use Rattle.span_script.specs.Outcomes.{outcome_of}
 use Rattle.span_script.specs.Setups.{setup_by}
 use Rattle.span_eager.specs.Early.{answers}
 use Rattle.trace_eager.specs.Renamed.{Script}
-use Rattle.trace_eager.specs.Written.{numbers_of, requests_of}
+use Rattle.trace_eager.specs.Written.{line_numbers, requests_of}
 use Rattle.trace_lines.specs.declared.told.Told.{Told}
 use Rattle.trace_lines.specs.declared.told.Told.TheVariants as told
 use Rattle.trace_lines.specs.Lines.{is_blank}
@@ -19,14 +19,14 @@ use Rattle.trace_lines.specs.reading.Spelled.{request_spelled}
 use Rattle.trace_lines.specs.text.Texts.{end_text, refusal_text, reply_text}
 
 -- the number of a line and why it spells no request, else those of a later line
-abbrev pub unread_or : Result Request Told → ℕ → Option (ℕ × Told) → Option (ℕ × Told)
-unread_or (Ok request) number later = later
-unread_or (Err why) number later = Some (number, why)
+abbrev pub bad_line_or : Result Request Told → ℕ → Option (ℕ × Told) → Option (ℕ × Told)
+bad_line_or (Ok request) number later = later
+bad_line_or (Err why) number later = Some (number, why)
 
 -- the number of the first line that spells no request, and why, so many lines having come before
-abbrev pub unread_from : ℕ → List (List ℕ) → Option (ℕ × Told)
-unread_from n [] = None
-unread_from n (text ∷ lines) = if is_blank text then unread_from (n + 1) lines else unread_or (request_spelled text) (n + 1) (unread_from (n + 1) lines)
+abbrev pub first_bad_line : ℕ → List (List ℕ) → Option (ℕ × Told)
+first_bad_line n [] = None
+first_bad_line n (text ∷ lines) = if is_blank text then first_bad_line (n + 1) lines else bad_line_or (request_spelled text) (n + 1) (first_bad_line (n + 1) lines)
 
 -- the lines of the answers to requests, which stand on lines of some numbers: each reply and then its records, so many having
 -- come before
@@ -51,7 +51,7 @@ abbrev pub script_text : Script → List ℕ
 script_text script =
     let setup = setup_by script.settings in
     let requests = requests_of script.lines in
-    outcome_text (numbers_of script.number script.lines) (unread_from script.number script.lines) (answers setup requests) (outcome_of setup requests)
+    outcome_text (line_numbers script.number script.lines) (first_bad_line script.number script.lines) (answers setup requests) (outcome_of setup requests)
 
 -- what is written of a script: a refusal line alone where a text of directives isn't read
 abbrev pub opened_text : OpeningRead → Script → List ℕ
@@ -59,8 +59,8 @@ opened_text (Ok read) script = script_text script
 opened_text (Err unread) script = refusal_text script.number (told.Directive unread.0 unread.1)
 
 -- the number of the first line that isn't blank, else of the one past the last, so many lines having come before
-abbrev pub first_line : ℕ → List (List ℕ) → ℕ
-first_line n lines = slice_index_or (numbers_of n lines) 0 (n + length lines + 1)
+abbrev pub first_line_number : ℕ → List (List ℕ) → ℕ
+first_line_number n lines = slice_index_or (line_numbers n lines) 0 (n + length lines + 1)
 
 -- what is written: without settings, whose line of a number is missing or spells none, the refusal of that line alone
 abbrev pub IsOutput : ℕ → Option Script → List ℕ → Type 0

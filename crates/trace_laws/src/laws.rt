@@ -6,7 +6,7 @@ ghost use Rattle.span_eager.specs.Early.{answers};
 ghost use Rattle.trace_eager.specs.Renamed.{Script, script_from};
 ghost use Rattle.trace_laws.specs.Headline.{TellsScript};
 ghost use Rattle.trace_laws.specs.Sums.{Counts};
-ghost use Rattle.trace_laws.specs.Written.{IsOutput, first_line};
+ghost use Rattle.trace_laws.specs.Written.{IsOutput, first_line_number};
 ghost use Rattle.trace_lines.specs.Lines.{lines_of};
 ghost use Rattle.trace_lines.specs.Generated.{generated_requests, generated_script, generated_setup};
 ghost use Rattle.trace_lines.specs.Replay.{history_after, summary_of};
@@ -17,7 +17,7 @@ ghost use Rattle.trace_lines.specs.declared.signal.Signal.TheVariants as signal;
 /// What is written for some bytes: where their settings are read, the lines of the outcome of their requests, and behind
 /// them the refusal line of the first line that is refused, or the end line; else the refusal of the settings line alone.
 pub fn outputs()
-    ensures { (bytes : List ℕ) → IsOutput (first_line 0 (lines_of bytes)) (script_from 0 (lines_of bytes)) (output signal.Traces bytes) }
+    ensures { (bytes : List ℕ) → IsOutput (first_line_number 0 (lines_of bytes)) (script_from 0 (lines_of bytes)) (output signal.Traces bytes) }
 {}
 
 /// So for each request its reply is written and then the records of the spans that it closed; every span is recorded once,

@@ -1,3 +1,4 @@
 mod Common
 mod NamedHandlesLemmas
+mod NamedSitesLemmas
 mod SpendingLemmas

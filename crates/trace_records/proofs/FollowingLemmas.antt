@@ -14,13 +14,13 @@ use Rattle.trace_lines.specs.Lines.{is_blank}
 use Rattle.input_lines.proofs.BlankLemmas.{some_before, one_not_blank}
 use Rattle.trace_records.specs.declared.finished.FinishedSpans.{FinishedSpans}
 use Rattle.input_lines.specs.declared.refused_line.RefusedLine.{RefusedLine}
-use Rattle.trace_records.specs.declared.line.Opened.{Opened}
-use Rattle.trace_records.specs.declared.line.Answered.{Answered}
+use Rattle.trace_records.specs.declared.line.OpenedPipeline.{OpenedPipeline}
+use Rattle.trace_records.specs.declared.line.RequestAnswer.{RequestAnswer}
 use Rattle.trace_records.specs.declared.script.ScriptStage.{ScriptStage}
 use Rattle.trace_records.specs.declared.script.ScriptStage.TheVariants as stage
 use Rattle.trace_records.specs.Scripts.{ScriptResult, lanes_on, script_of}
 use Rattle.trace_records.specs.Lines.{Opens, AnswersRequest}
-use Rattle.trace_records.specs.Following.{without_taken, IsOpening, IsRunning, IsStopped, StandsAt, EndsAs, IsRefusedBy}
+use Rattle.trace_records.specs.Following.{without_outputs, IsOpening, IsRunning, IsStopped, StandsAt, EndsAs, IsRefusedBy}
 
 -- ---- one line more
 
@@ -29,7 +29,7 @@ on_line : (most : Option ℕ) (lines more : List (List ℕ)) (line : List ℕ) (
 on_line most lines more line r is = ap (script_of most) (append_assoc lines (line ∷ []) more) ∙ is
 
 -- the settings line
-pub opened_on : {K : Type 0} (of : Record → K) (most : Option ℕ) (lines : List (List ℕ)) (count next : ℕ) (old new : FinishedSpans K) (line : List ℕ) (opened : Opened)
+pub opened_on : {K : Type 0} (of : Record → K) (most : Option ℕ) (lines : List (List ℕ)) (count next : ℕ) (old new : FinishedSpans K) (line : List ℕ) (opened : OpenedPipeline)
     → IsOpening most lines count old → next ≡ count + 1 → is_blank line ≡ false → Opens most line opened
     → new.spans.items ≡ old.spans.items → new.lanes.items ≡ old.lanes.items → new.lane_count ≡ opened.lane_count
     → IsRunning of most (lines ++ line ∷ []) next opened.pipeline new
@@ -44,7 +44,7 @@ opened_on of most lines count next old new line opened o counted is opens spans 
 }
 
 -- records and measures that are to be taken change nothing else
-beside : (k : PipelineState) (t : Tables) → StandsFor k t → StandsFor (without_taken k) t
+beside : (k : PipelineState) (t : Tables) → StandsFor k t → StandsFor (without_outputs k) t
 beside k t s = record {
   fits = record {
     handle_slots = s.fits.handle_slots;
@@ -68,7 +68,7 @@ beside k t s = record {
   filtering = record { in_place = s.filtering.in_place; fresh = s.filtering.fresh; counting_filter = s.filtering.counting_filter; new = s.filtering.new };
 }
 
-back : (k : PipelineState) (t : Tables) → StandsFor (without_taken k) t → StandsFor k t
+back : (k : PipelineState) (t : Tables) → StandsFor (without_outputs k) t → StandsFor k t
 back k t s = record {
   fits = record {
     handle_slots = s.fits.handle_slots;
@@ -92,13 +92,13 @@ back k t s = record {
   filtering = record { in_place = s.filtering.in_place; fresh = s.filtering.fresh; counting_filter = s.filtering.counting_filter; new = s.filtering.new };
 }
 
-pub stands_beside : (old new : PipelineState) (t : Tables) → without_taken new ≡ without_taken old → StandsFor old t → StandsFor new t
+pub stands_beside : (old new : PipelineState) (t : Tables) → without_outputs new ≡ without_outputs old → StandsFor old t → StandsFor new t
 stands_beside old new t same stands = back new t (subst (λ (k : PipelineState). StandsFor k t) (sym same) (beside old t stands))
 
 -- a request that is answered
-pub answered_on : {K : Type 0} (of : Record → K) (most : Option ℕ) (lines : List (List ℕ)) (count next : ℕ) (old mid new : PipelineState) (before after : FinishedSpans K) (line : List ℕ) (answered : Answered)
+pub answered_on : {K : Type 0} (of : Record → K) (most : Option ℕ) (lines : List (List ℕ)) (count next : ℕ) (old mid new : PipelineState) (before after : FinishedSpans K) (line : List ℕ) (answered : RequestAnswer)
     (r : IsRunning of most lines count old before) → next ≡ count + 1 → is_blank line ≡ false → AnswersRequest line r.history old mid answered
-    → without_taken new ≡ without_taken mid → new.recording.finished ≡ []
+    → without_outputs new ≡ without_outputs mid → new.recording.finished ≡ []
     → after.spans.items ≡ before.spans.items ++ map of mid.recording.finished → after.lanes.items ≡ before.lanes.items ++ map (λ (x : Record). answered.lane_place) mid.recording.finished
     → after.lane_count ≡ before.lane_count → IsRunning of most (lines ++ line ∷ []) next new after
 answered_on of most lines count next old mid new before after line answered r counted is a same taken spans_are lanes_are number =

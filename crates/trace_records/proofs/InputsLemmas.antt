@@ -2,11 +2,11 @@
 use Rattle.std.proofs.Common.{ℕ, List, [], ap}
 use Rattle.std.specs.Prelude.{Option, is_ok}
 use Rattle.input_lines.specs.Refusals.{Refuses}
-use Rattle.trace_records.specs.Scripts.{ScriptRan, script_of}
+use Rattle.trace_records.specs.Scripts.{ScriptHistory, script_of}
 use Rattle.trace_records.specs.Inputs.{accepts_within, TellsRun, AreRefused}
 
 -- whatever is told of a script, the refusal line alone is written
-pub refuses : (most : Option ℕ) (Tells : ScriptRan → List ℕ → Type 0) (lines : List (List ℕ)) (text : List ℕ) → AreRefused most lines text
+pub refuses : (most : Option ℕ) (Tells : ScriptHistory → List ℕ → Type 0) (lines : List (List ℕ)) (text : List ℕ) → AreRefused most lines text
     → Refuses (accepts_within most) (λ ls. TellsRun Tells (script_of most ls)) lines text
 refuses most Tells lines text a = record {
   some = a.1.some;

@@ -16,14 +16,14 @@ use Rattle.trace_lines.specs.declared.told.Told.{Told}
 use Rattle.trace_lines.specs.declared.told.Told.TheVariants as told
 use Rattle.trace_lines.specs.reading.Spelled.{settings_spelled, request_spelled}
 use Rattle.trace_lines.specs.Report.{effect_of_line, effect_of_request}
-use Rattle.input_lines.specs.Refusals.{IsTold}
-use Rattle.trace_records.specs.declared.line.Opened.{Opened}
-use Rattle.trace_records.specs.declared.line.Answered.{Answered}
-use Rattle.trace_records.specs.Scripts.{takes_lanes, setup_of_settings, setup_of_line, lane_spelled}
+use Rattle.input_lines.specs.Refusals.{HasRefusalLine}
+use Rattle.trace_records.specs.declared.line.OpenedPipeline.{OpenedPipeline}
+use Rattle.trace_records.specs.declared.line.RequestAnswer.{RequestAnswer}
+use Rattle.trace_records.specs.Scripts.{allows_lanes, setup_of_settings, setup_of_line, lane_spelled}
 use Rattle.trace_records.specs.Lines.{Opens, AnswersRequest}
 
 -- the refusal of a step has a line but for want of memory
-pub told_step : (why : Refusal) → is_for_memory why ≡ false → IsTold (told.Step why)
+pub told_step : (why : Refusal) → is_for_memory why ≡ false → HasRefusalLine (told.Step why)
 told_step why other is = let same : why ≡ refusal.Memory = cc in true≢false (sym (ap is_for_memory same) ∙ other)
 
 -- ---- the settings line
@@ -38,21 +38,21 @@ unfolding setup_of_line
 not_read most text settings counting piece is why = rw (is, why) refl
 
 pub too_many : (most : Option ℕ) (text : List ℕ) (settings : Settings) → settings_spelled text ≡ Ok settings
-    → opening_read settings.filter settings.counting ≡ Ok tt → takes_lanes most (length settings.lanes) ≡ false → setup_of_line most text ≡ Err told.Lanes
+    → opening_read settings.filter settings.counting ≡ Ok tt → allows_lanes most (length settings.lanes) ≡ false → setup_of_line most text ≡ Err told.Lanes
 unfolding setup_of_line
 too_many most text settings is read many = rw (is, read, many) refl
 
 pub read_whole : (most : Option ℕ) (text : List ℕ) (settings : Settings) → settings_spelled text ≡ Ok settings
-    → opening_read settings.filter settings.counting ≡ Ok tt → takes_lanes most (length settings.lanes) ≡ true → setup_of_line most text ≡ Ok (setup_by settings)
+    → opening_read settings.filter settings.counting ≡ Ok tt → allows_lanes most (length settings.lanes) ≡ true → setup_of_line most text ≡ Ok (setup_by settings)
 unfolding setup_of_line
 read_whole most text settings is read few = rw (is, read, few) refl
 
-pub opens : (most : Option ℕ) (text : List ℕ) (settings : Settings) (opened : Opened) → settings_spelled text ≡ Ok settings
-    → opening_read settings.filter settings.counting ≡ Ok tt → takes_lanes most opened.lane_count ≡ true → opened.lane_count ≡ length settings.lanes
+pub opens : (most : Option ℕ) (text : List ℕ) (settings : Settings) (opened : OpenedPipeline) → settings_spelled text ≡ Ok settings
+    → opening_read settings.filter settings.counting ≡ Ok tt → allows_lanes most opened.lane_count ≡ true → opened.lane_count ≡ length settings.lanes
     → opened.pipeline.setup ≡ setup_by settings → StandsFor opened.pipeline (tables (setup_by settings) [])
     → opened.pipeline.recording.finished ≡ [] → opened.pipeline.measures ≡ [] → Opens most text opened
 opens most text settings opened is read few count setup stands records measures = record {
-  setup = read_whole most text settings is read (ap (takes_lanes most) (sym count) ∙ few) ∙ ap Ok (sym setup);
+  setup = read_whole most text settings is read (ap (allows_lanes most) (sym count) ∙ few) ∙ ap Ok (sym setup);
   stands = subst (λ (s : Setup). StandsFor opened.pipeline (tables s [])) (sym setup) stands;
   records = records;
   measures = measures;
@@ -75,7 +75,7 @@ stepped : (setup : Setup) (t : Tables) (text : List ℕ) (request : Request) (ef
 unfolding effect_of_line
 stepped setup t text request effect is does = rw (is, does) refl
 
-pub answers : (text : List ℕ) (h : History) (old new : PipelineState) (request : Request) (answered : Answered) → request_spelled text ≡ Ok request
+pub answers : (text : List ℕ) (h : History) (old new : PipelineState) (request : Request) (answered : RequestAnswer) → request_spelled text ≡ Ok request
     → answered.lane_place ≡ request.lane_place → IsServedByHistory (effect_of old.setup (tables old.setup h) request) h old new answered.reply → AnswersRequest text h old new answered
 answers text h old new request answered is lane did = record {
   effect = did.effect;

@@ -25,7 +25,7 @@ use Rattle.trace_lines.specs.declared.told.Told.{Told}
 use Rattle.trace_lines.specs.Lines.{is_blank}
 use Rattle.trace_lines.specs.reading.Spelled.{settings_spelled, request_spelled}
 use Rattle.trace_lines.specs.Report.{Report, report_on_effect, effect_of_line, effect_of_request, step_or_refusal, report_on, report_from, report_on_settings, report_on_opening, accepts, answer_count}
-use Rattle.trace_records.specs.Scripts.{ScriptRan, ScriptResult, run_unless_refused, setup_read, setup_of_settings, setup_of_line, lane_spelled, lanes_on, script_on, script_from, script_of}
+use Rattle.trace_records.specs.Scripts.{ScriptHistory, ScriptResult, run_unless_refused, setup_if_read, setup_of_settings, setup_of_line, lane_spelled, lanes_on, script_on, script_from, script_of}
 
 -- ---- the same lines are accepted
 
@@ -44,7 +44,7 @@ same_on setup h lanes n count (text ∷ lines) =
     (following_same (effect_of_line setup (tables setup h) text) _ _ (n + 1)
     (λ e. same_on setup (h ++ e ∷ []) (lanes ++ lanes_on text (records_of (tables setup h) e)) (n + 1) (count + answer_count signal.Traces (records_of (tables setup h) e) e.measures) lines))
 
-read_same : (read : OpeningRead) (r : Report) (setup : Setup) (goes : Setup → ScriptResult) (line : ℕ) → r.accepted ≡ is_ok (goes setup) → (report_on_opening read r line).accepted ≡ is_ok (run_unless_refused (setup_read read true setup) line goes)
+read_same : (read : OpeningRead) (r : Report) (setup : Setup) (goes : Setup → ScriptResult) (line : ℕ) → r.accepted ≡ is_ok (goes setup) → (report_on_opening read r line).accepted ≡ is_ok (run_unless_refused (setup_if_read read true setup) line goes)
 read_same (Ok read) r setup goes line same = same
 read_same (Err unread) r setup goes line same = refl
 
@@ -66,16 +66,16 @@ accepts_same lines = same_from 0 lines
 
 -- ---- the history is legal, and each record has a lane of the settings
 
-pub record IsLegal (s : ScriptRan) : Type 0 where
+pub record IsLegal (s : ScriptHistory) : Type 0 where
   pub history : IsHistory s.setup s.history
   pub lanes : length s.lanes ≡ length (records_of_history s.setup s.history)
   pub within : All (λ lane. lane < length s.setup.ids) s.lanes
 
-if_either : (P : Type 0) (b : Bool) (v w : ScriptResult) (s : ScriptRan) → (if b then v else w) ≡ Ok s → (v ≡ Ok s → P) → (w ≡ Ok s → P) → P
+if_either : (P : Type 0) (b : Bool) (v w : ScriptResult) (s : ScriptHistory) → (if b then v else w) ≡ Ok s → (v ≡ Ok s → P) → (w ≡ Ok s → P) → P
 if_either P true v w s e left right = left e
 if_either P false v w s e left right = right e
 
-pub going_either : {A : Type 0} (P : Type 0) (r : Result A Told) (line : ℕ) (go : A → ScriptResult) (s : ScriptRan) → run_unless_refused r line go ≡ Ok s → ((x : A) → r ≡ Ok x → go x ≡ Ok s → P) → P
+pub going_either : {A : Type 0} (P : Type 0) (r : Result A Told) (line : ℕ) (go : A → ScriptResult) (s : ScriptHistory) → run_unless_refused r line go ≡ Ok s → ((x : A) → r ≡ Ok x → go x ≡ Ok s → P) → P
 going_either P (Ok x) line go s e holds = holds x refl e
 going_either P (Err why) line go s e holds = absurd cc
 
@@ -116,9 +116,9 @@ all_same : (P : ℕ → Type 0) (n : ℕ) (rs : List Record) → P n → All P (
 all_same P n [] holds = All-nil P
 all_same P n (r ∷ rs) holds = All-cons P n (map (λ r. n) rs) holds (all_same P n rs holds)
 
-legal_on : (setup : Setup) (h : History) (lanes : List ℕ) (n : ℕ) (lines : List (List ℕ)) (s : ScriptRan) → script_on setup h lanes n lines ≡ Ok s → IsLegal (record { setup = setup; history = h; lanes = lanes }) → IsLegal s
+legal_on : (setup : Setup) (h : History) (lanes : List ℕ) (n : ℕ) (lines : List (List ℕ)) (s : ScriptHistory) → script_on setup h lanes n lines ≡ Ok s → IsLegal (record { setup = setup; history = h; lanes = lanes }) → IsLegal s
 legal_on setup h lanes n [] s is l = subst_legal s is l where
-  subst_legal : (s : ScriptRan) → script_on setup h lanes n [] ≡ Ok s → IsLegal (record { setup = setup; history = h; lanes = lanes }) → IsLegal s
+  subst_legal : (s : ScriptHistory) → script_on setup h lanes n [] ≡ Ok s → IsLegal (record { setup = setup; history = h; lanes = lanes }) → IsLegal s
   subst_legal s is l = let same : record { setup = setup; history = h; lanes = lanes } ≡ s = cc in rw (← same) l
 legal_on setup h lanes n (text ∷ lines) s is l =
     if_either (IsLegal s) (is_blank text) _ _ s is (λ e. legal_on setup h lanes (n + 1) lines s e l)
@@ -134,12 +134,12 @@ legal_on setup h lanes n (text ∷ lines) s is l =
       within = All-append (λ k. k < length setup.ids) lanes (lanes_on text more_records) l.within (all_same (λ k. k < length setup.ids) (lane_spelled (request_spelled text)) more_records lane);
     })))
 
-legal_from : (most : Option ℕ) (n : ℕ) (lines : List (List ℕ)) (s : ScriptRan) → script_from most n lines ≡ Ok s → IsLegal s
+legal_from : (most : Option ℕ) (n : ℕ) (lines : List (List ℕ)) (s : ScriptHistory) → script_from most n lines ≡ Ok s → IsLegal s
 legal_from most n [] s is = absurd cc
 legal_from most n (text ∷ lines) s is =
     if_either (IsLegal s) (is_blank text) _ _ s is (λ e. legal_from most (n + 1) lines s e)
     (λ e. going_either (IsLegal s) (setup_of_line most text) (n + 1) _ s e
     (λ setup read goes. legal_on setup [] [] (n + 1) lines s goes (record { history = none; lanes = refl; within = All-nil (λ k. k < length setup.ids) })))
 
-pub legal : (most : Option ℕ) (lines : List (List ℕ)) (s : ScriptRan) → script_of most lines ≡ Ok s → IsLegal s
+pub legal : (most : Option ℕ) (lines : List (List ℕ)) (s : ScriptHistory) → script_of most lines ≡ Ok s → IsLegal s
 legal most lines s is = legal_from most 0 lines s is

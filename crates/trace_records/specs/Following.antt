@@ -5,17 +5,17 @@ use Rattle.span_script.specs.Tables.{History, tables}
 use Rattle.span_script.specs.calls.Spans.{open_spans}
 use Rattle.span_script.specs.Fits.{PipelineState, StandsFor}
 use Rattle.span_script.specs.Outcomes.{records_of_history}
-use Rattle.input_lines.specs.Refusals.{IsTold, are_blank}
+use Rattle.input_lines.specs.Refusals.{HasRefusalLine, are_blank}
 use Rattle.trace_records.specs.declared.finished.FinishedSpans.{FinishedSpans}
 use Rattle.input_lines.specs.declared.refused_line.RefusedLine.{RefusedLine}
 use Rattle.trace_records.specs.declared.script.ScriptRun.{ScriptRun}
 use Rattle.trace_records.specs.declared.script.ScriptStage.{ScriptStage}
 use Rattle.trace_records.specs.declared.script.ScriptStage.TheVariants as stage
-use Rattle.trace_records.specs.Scripts.{ScriptRan, script_on, script_from, script_of}
+use Rattle.trace_records.specs.Scripts.{ScriptHistory, script_on, script_from, script_of}
 
 -- what is kept beside the records and the measures that are to be taken
-abbrev pub without_taken : PipelineState → PipelineState
-without_taken kept = record kept { recording = record kept.recording { finished = [] }; measures = [] }
+abbrev pub without_outputs : PipelineState → PipelineState
+without_outputs kept = record kept { recording = record kept.recording { finished = [] }; measures = [] }
 
 -- All lines are blank, and nothing finished.
 pub record IsOpening {K : Type 0} (most : Option ℕ) (lines : List (List ℕ)) (count : ℕ) (finished : FinishedSpans K) : Type 0 where
@@ -39,7 +39,7 @@ pub record IsRunning {K : Type 0} (of : Record → K) (most : Option ℕ) (lines
 -- A line is refused, whichever lines follow.
 pub record IsStopped (most : Option ℕ) (lines : List (List ℕ)) (refused : RefusedLine) : Type 0 where
   pub some : are_blank lines ≡ false
-  pub is_told : IsTold refused.told
+  pub is_told : HasRefusalLine refused.told
   pub script_is : (more : List (List ℕ)) → script_of most (lines ++ more) ≡ Err refused
 
 -- what holds at each stage
@@ -55,12 +55,12 @@ HasFollowed of most lines run = StandsAt of most run.stage lines run.lines run.f
 -- the line that is refused whatever lines follow, if there is one; else all are blank or a script
 abbrev pub IsRefusedBy : Option ℕ → List (List ℕ) → Option RefusedLine → Type 0
 IsRefusedBy most lines (Some refused) = IsStopped most lines refused
-IsRefusedBy most lines None = (are_blank lines ≡ true) ⊎ ((script : ScriptRan) × (script_of most lines ≡ Ok script))
+IsRefusedBy most lines None = (are_blank lines ≡ true) ⊎ ((script : ScriptHistory) × (script_of most lines ≡ Ok script))
 
 -- ---- the end
 
 -- the finished spans of a script, of each of which what is wanted (of) is kept
-pub record AreOf {K : Type 0} (of : Record → K) (script : ScriptRan) (finished : FinishedSpans K) : Type 0 where
+pub record AreFinishedSpansOf {K : Type 0} (of : Record → K) (script : ScriptHistory) (finished : FinishedSpans K) : Type 0 where
   pub spans_are : finished.spans.items ≡ map of (records_of_history script.setup script.history)
   pub lanes_are : finished.lanes.items ≡ script.lanes
   pub lane_count : finished.lane_count ≡ length script.setup.ids
@@ -68,5 +68,5 @@ pub record AreOf {K : Type 0} (of : Record → K) (script : ScriptRan) (finished
 
 -- what came of the lines
 abbrev pub EndsAs : {K : Type 0} → (Record → K) → Option ℕ → List (List ℕ) → Result (FinishedSpans K) RefusedLine → Type 0
-EndsAs of most lines (Ok finished) = (script : ScriptRan) × (script_of most lines ≡ Ok script) × AreOf of script finished
-EndsAs of most lines (Err refused) = (script_of most lines ≡ Err refused) × IsTold refused.told
+EndsAs of most lines (Ok finished) = (script : ScriptHistory) × (script_of most lines ≡ Ok script) × AreFinishedSpansOf of script finished
+EndsAs of most lines (Err refused) = (script_of most lines ≡ Err refused) × HasRefusalLine refused.told

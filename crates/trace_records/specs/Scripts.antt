@@ -15,14 +15,14 @@ use Rattle.input_lines.specs.declared.refused_line.RefusedLine.{RefusedLine}
 
 -- A script that ran: what its settings fix, the history of its requests, and for each record of that the lane of the drop
 -- that closed the span, by its place.
-pub record ScriptRan : Type 0 where
+pub record ScriptHistory : Type 0 where
   pub setup : Setup
   pub history : History
   pub lanes : List ℕ
 
 -- the script, or the line that is refused
 abbrev pub ScriptResult : Type 0
-ScriptResult = Result ScriptRan RefusedLine
+ScriptResult = Result ScriptHistory RefusedLine
 
 -- goes on, or is refused at a line
 abbrev pub run_unless_refused : {A : Type 0} → Result A Told → ℕ → (A → ScriptResult) → ScriptResult
@@ -32,19 +32,19 @@ run_unless_refused (Err why) line go = Err (record { line = line; told = why })
 -- ---- the settings line
 
 -- whether so many lanes are no more than the most that are taken, if there is a most
-abbrev pub takes_lanes : Option ℕ → ℕ → Bool
-takes_lanes None lanes = true
-takes_lanes (Some most) lanes = nat_le lanes most
+abbrev pub allows_lanes : Option ℕ → ℕ → Bool
+allows_lanes None lanes = true
+allows_lanes (Some most) lanes = nat_le lanes most
 
 -- what settings fix; a text of directives that isn't read is refused before too many lanes
-abbrev pub setup_read : OpeningRead → Bool → Setup → Result Setup Told
-setup_read (Err unread) few setup = Err (told.Directive unread.0 unread.1)
-setup_read (Ok read) false setup = Err told.Lanes
-setup_read (Ok read) true setup = Ok setup
+abbrev pub setup_if_read : OpeningRead → Bool → Setup → Result Setup Told
+setup_if_read (Err unread) few setup = Err (told.Directive unread.0 unread.1)
+setup_if_read (Ok read) false setup = Err told.Lanes
+setup_if_read (Ok read) true setup = Ok setup
 
 abbrev pub setup_of_settings : Option ℕ → Result Settings Told → Result Setup Told
 setup_of_settings most (Err why) = Err why
-setup_of_settings most (Ok settings) = setup_read (opening_read settings.filter settings.counting) (takes_lanes most (length settings.lanes)) (setup_by settings)
+setup_of_settings most (Ok settings) = setup_if_read (opening_read settings.filter settings.counting) (allows_lanes most (length settings.lanes)) (setup_by settings)
 
 -- what the settings on a line fix, or why the line is refused
 unfoldable pub setup_of_line : Option ℕ → List ℕ → Result Setup Told

@@ -1,8 +1,8 @@
 //! The finished spans of a script.
 ghost use Rattle.std.specs.Prelude.{◌≡◌, ◌++◌, [], map, OnOk};
-ghost use Rattle.trace_records.specs.Following.{without_taken};
+ghost use Rattle.trace_records.specs.Following.{without_outputs};
 
-use crate::kept::Kept;
+use crate::from_record::FromRecord;
 use otel_base::memory::Memory;
 use std::alloc::Global;
 use trace_pipeline::pipeline::Pipeline;
@@ -20,7 +20,7 @@ pub struct FinishedSpans<K> {
     pub open_spans: u64,
 }
 
-impl<K: Kept> FinishedSpans<K> {
+impl<K: FromRecord> FinishedSpans<K> {
     /// None.
     pub fn new(alloc: Global) -> FinishedSpans<K>
         ensures spans { result.spans.items ≡ [] }
@@ -42,10 +42,10 @@ impl<K: Kept> FinishedSpans<K> {
             ≡ self.old.lanes.items ++ map (λ r. lane) pipeline.old.recording.finished) }
         ensures count { self.new.lane_count ≡ self.old.lane_count }
         ensures taken { OnOk result (pipeline.new.recording.finished ≡ []) }
-        ensures state { without_taken pipeline.new ≡ without_taken pipeline.old }
+        ensures state { without_outputs pipeline.new ≡ without_outputs pipeline.old }
     {
         while let Some(finished) = pipeline.take_record() {
-            self.spans.push(K::keep(finished))?;
+            self.spans.push(K::from_record(finished))?;
             self.lanes.push(lane)?;
         }
         Ok(())
@@ -56,7 +56,7 @@ impl<K: Kept> FinishedSpans<K> {
 pub fn drop_measures(pipeline: &mut Pipeline)
     ensures taken { pipeline.new.measures ≡ [] }
     ensures records { pipeline.new.recording.finished ≡ pipeline.old.recording.finished }
-    ensures state { without_taken pipeline.new ≡ without_taken pipeline.old }
+    ensures state { without_outputs pipeline.new ≡ without_outputs pipeline.old }
 {
     while pipeline.take_measure().is_some() {}
 }

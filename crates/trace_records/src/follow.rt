@@ -5,7 +5,7 @@ ghost use Rattle.input_lines.specs.Refusals.{NoneRefused};
 ghost use Rattle.trace_records.specs.Following.{HasFollowed};
 ghost use Rattle.trace_records.specs.Inputs.{AreRefused, accepts_within};
 
-use crate::kept::Kept;
+use crate::from_record::FromRecord;
 use crate::script::ScriptRun;
 use input_lines::{first_line, refused_answer};
 use otel_base::memory::Memory;
@@ -14,7 +14,7 @@ use trace_base::discard::Discard;
 use trace_tree::TreeSpan;
 
 /// The script that has followed the lines of some bytes, and may have so many lanes. `Memory` freely.
-pub fn follow_lines<K: Kept>(
+pub fn follow_lines<K: FromRecord>(
     alloc: Global,
     most_lanes: Option<u64>,
     bytes: &[u8],

@@ -4,16 +4,16 @@ ghost use Rattle.trace_lines.specs.Report.{accepts, report_from};
 ghost use Rattle.trace_lines.specs.declared.signal.Signal.TheVariants.{Traces};
 ghost use Rattle.span_laws.specs.LegalHistories.{IsHistory};
 ghost use Rattle.span_script.specs.Outcomes.{records_of_history};
-ghost use Rattle.trace_records.specs.Inputs.{EndsWith, last_of};
-ghost use Rattle.trace_records.specs.Scripts.{ScriptRan, script_of};
+ghost use Rattle.trace_records.specs.Inputs.{EndsWith, last_line_of};
+ghost use Rattle.trace_records.specs.Scripts.{ScriptHistory, script_of};
 
 /// The history of each script is legal, and each of its records has a lane that the settings give.
 pub fn scripts()
-    ensures history { (most : Option ℕ) (lines : List (List ℕ)) (s : ScriptRan) → script_of most lines ≡ Ok s
+    ensures history { (most : Option ℕ) (lines : List (List ℕ)) (s : ScriptHistory) → script_of most lines ≡ Ok s
         → IsHistory s.setup s.history }
-    ensures lanes { (most : Option ℕ) (lines : List (List ℕ)) (s : ScriptRan) → script_of most lines ≡ Ok s
+    ensures lanes { (most : Option ℕ) (lines : List (List ℕ)) (s : ScriptHistory) → script_of most lines ≡ Ok s
         → length s.lanes ≡ length (records_of_history s.setup s.history) }
-    ensures within { (most : Option ℕ) (lines : List (List ℕ)) (s : ScriptRan) → script_of most lines ≡ Ok s
+    ensures within { (most : Option ℕ) (lines : List (List ℕ)) (s : ScriptHistory) → script_of most lines ≡ Ok s
         → All (λ lane. lane < length s.setup.ids) s.lanes }
 {}
 
@@ -22,7 +22,7 @@ pub fn scripts()
 /// script, if it has no more lanes.
 pub fn runs()
     ensures accepted { (lines : List (List ℕ)) → accepts lines ≡ is_ok (script_of None lines) }
-    ensures last { (lines : List (List ℕ)) → EndsWith (last_of (script_of None lines)) (report_from Traces 0 lines).written }
-    ensures few { (most : ℕ) (lines : List (List ℕ)) (s : ScriptRan)
+    ensures last { (lines : List (List ℕ)) → EndsWith (last_line_of (script_of None lines)) (report_from Traces 0 lines).written }
+    ensures few { (most : ℕ) (lines : List (List ℕ)) (s : ScriptHistory)
         → (script_of (Some most) lines ≡ Ok s) ↔ ((script_of None lines ≡ Ok s) × (length s.setup.ids ≤ most)) }
 {}

@@ -2,8 +2,8 @@
 ghost use Rattle.std.specs.Prelude.{◌≡◌, Option, IfOk, IfErr, OnOk, OnErr, true, false};
 ghost use Rattle.span_script.specs.Fits.{StandsFor, is_for_memory};
 ghost use Rattle.span_script.specs.Tables.{History, tables};
-ghost use Rattle.input_lines.specs.Refusals.{IsTold};
-ghost use Rattle.trace_records.specs.Scripts.{takes_lanes};
+ghost use Rattle.input_lines.specs.Refusals.{HasRefusalLine};
+ghost use Rattle.trace_records.specs.Scripts.{allows_lanes};
 ghost use Rattle.trace_records.specs.Lines.{OpensLine, AnswersLine};
 
 use otel_base::memory::Memory;
@@ -15,7 +15,7 @@ use trace_lines::{Refusal, Reply, Told};
 use trace_pipeline::pipeline::Pipeline;
 
 /// What a settings line opens.
-pub struct Opened {
+pub struct OpenedPipeline {
     /// The pipeline, before any request. It has to be spent.
     pub pipeline: Pipeline,
     /// How many lanes the settings give.
@@ -24,7 +24,7 @@ pub struct Opened {
 
 /// What a request is answered.
 #[derive(Clone, Copy)]
-pub struct Answered {
+pub struct RequestAnswer {
     /// The lane that it came on, by its place.
     pub lane_place: u64,
     /// The reply.
@@ -32,8 +32,8 @@ pub struct Answered {
 }
 
 // Whether so many lanes are no more than the most that are taken.
-fn takes_lanes(most_lanes: Option<u64>, lane_count: u64) -> bool
-    ensures { result ≡ takes_lanes most_lanes lane_count }
+fn allows_lanes(most_lanes: Option<u64>, lane_count: u64) -> bool
+    ensures { result ≡ allows_lanes most_lanes lane_count }
 {
     match most_lanes {
         Some(most) => lane_count <= most,
@@ -47,7 +47,7 @@ pub fn open_line(
     alloc: Global,
     most_lanes: Option<u64>,
     line: &[u8],
-) -> Result<Result<Opened, Told>, Memory>
+) -> Result<Result<OpenedPipeline, Told>, Memory>
     ensures { IfOk result (OpensLine most_lanes line.now) }
 {
     let settings = match read_settings(alloc, line) {
@@ -58,8 +58,8 @@ pub fn open_line(
     let lane_count = settings.lanes.as_slice().len() as u64;
     match Pipeline::open(alloc, settings) {
         Ok(pipeline) => {
-            if takes_lanes(most_lanes, lane_count) {
-                Ok(Ok(Opened {
+            if allows_lanes(most_lanes, lane_count) {
+                Ok(Ok(OpenedPipeline {
                     pipeline,
                     lane_count,
                 }))
@@ -80,10 +80,10 @@ pub fn answer_line(
     alloc: Global,
     pipeline: &mut Pipeline,
     line: &[u8],
-) -> Result<Result<Answered, Told>, Memory>
+) -> Result<Result<RequestAnswer, Told>, Memory>
     ensures answers { (h : History) → StandsFor pipeline.old (tables pipeline.old.setup h)
         → IfOk result (AnswersLine line.now h pipeline.old pipeline.new) }
-    ensures told { IfOk result (λ answered. IfErr answered IsTold) }
+    ensures told { IfOk result (λ answered. IfErr answered HasRefusalLine) }
 {
     let request = match read_request(alloc, line) {
         Ok(request) => request,
@@ -92,16 +92,16 @@ pub fn answer_line(
     };
     let lane_place = request.lane_place;
     match pipeline.step(request) {
-        Ok(reply) => Ok(Ok(Answered { lane_place, reply })),
+        Ok(reply) => Ok(Ok(RequestAnswer { lane_place, reply })),
         Err(refusal) => {
-            let told = told_of(refusal)?;
+            let told = line_refusal(refusal)?;
             Ok(Err(told))
         }
     }
 }
 
 // What a refusal line tells of a refusal. Want of memory has no such line.
-fn told_of(refusal: Refusal) -> Result<Told, Memory>
+fn line_refusal(refusal: Refusal) -> Result<Told, Memory>
     ensures same { IfOk result (λ told. told ≡ Told.Step refusal) }
     ensures other { OnOk result (is_for_memory refusal ≡ false) }
     ensures memory { OnErr result (is_for_memory refusal ≡ true) }

@@ -3,8 +3,8 @@ ghost use Rattle.std.specs.Prelude.{◌≡◌, ℕ, List, Option, [], ◌∷◌,
 ghost use Rattle.trace_records.specs.Following.{HasFollowed, EndsAs, IsRefusedBy};
 
 use crate::finished::{FinishedSpans, drop_measures};
-use crate::kept::Kept;
-use crate::line::{Opened, answer_line, open_line};
+use crate::from_record::FromRecord;
+use crate::line::{OpenedPipeline, answer_line, open_line};
 use input_lines::{RefusedLine, is_blank};
 use otel_base::memory::Memory;
 use std::alloc::Global;
@@ -45,7 +45,7 @@ pub struct ScriptRun<K> {
 }
 
 /// What is kept is dropped.
-impl<K: Kept> Discard for ScriptRun<K> {
+impl<K: FromRecord> Discard for ScriptRun<K> {
     fn discard(self) {
         let ScriptRun {
             lines: _,
@@ -57,13 +57,13 @@ impl<K: Kept> Discard for ScriptRun<K> {
 }
 
 // Goes on to another stage.
-fn go_on(stage: &mut ScriptStage, next: ScriptStage)
+fn set_stage(stage: &mut ScriptStage, next: ScriptStage)
     ensures { stage.new ≡ next }
 {
     mem::replace(stage, next).discard();
 }
 
-impl<K: Kept> ScriptRun<K> {
+impl<K: FromRecord> ScriptRun<K> {
     /// A script before its first line.
     pub fn new(alloc: Global) -> ScriptRun<K>
         ensures { (most : Option ℕ) → HasFollowed K.of_record most [] result }
@@ -95,13 +95,13 @@ impl<K: Kept> ScriptRun<K> {
         match &mut self.stage {
             ScriptStage::Opening => match open_line(alloc, most_lanes, line)? {
                 Ok(
-                    Opened {
+                    OpenedPipeline {
                         pipeline,
                         lane_count,
                     },
                 ) => {
                     self.finished.lane_count = lane_count;
-                    go_on(&mut self.stage, ScriptStage::Running { pipeline });
+                    set_stage(&mut self.stage, ScriptStage::Running { pipeline });
                     Ok(())
                 }
                 Err(told) => {
@@ -128,7 +128,7 @@ impl<K: Kept> ScriptRun<K> {
         ensures { self.new.stage ≡ ScriptStage.Refused (record { line = line; told = told }) }
     {
         let refused = RefusedLine { line, told };
-        go_on(&mut self.stage, ScriptStage::Refused { refused });
+        set_stage(&mut self.stage, ScriptStage::Refused { refused });
     }
 
     /// The line that is refused whatever lines follow, if one is.

@@ -13,13 +13,13 @@ pub use Rattle.trace_lines.specs.Report.{IsValid, accepts}
 pub use Rattle.input_lines.specs.Refusals.{NoneRefused, Refuses}
 pub use Rattle.trace_records.proofs.InputsLemmas.{refuses}
 pub use Rattle.trace_records.proofs.ScriptsLaws.{accepts_same, legal}
-pub use Rattle.trace_records.specs.Following.{EndsAs, without_taken}
+pub use Rattle.trace_records.specs.Following.{EndsAs, without_outputs}
 pub use Rattle.trace_records.specs.Inputs.{AreRefused, TellsRun, accepts_within}
 pub use Rattle.thread_run.specs.Inputs.{TellsThreads, accepts_threads}
 pub use Rattle.trace_stream.proofs.AllLinesLemmas.{IsRead, carries_broken, carries_whole, stops_of, tells_cut}
-pub use Rattle.trace_stream.specs.Carries.{Carries, Causes}
+pub use Rattle.trace_stream.specs.Carries.{CarriesOut, HasCause}
 pub use Rattle.trace_stream.specs.Streams.{CountsFault, Puts, PutsFront, Streams, Takes, streams_of}
 pub use Rattle.trace_stream.specs.declared.status.Status.{Status}
-pub use Rattle.trace_run.specs.Commands.Batch.{TellsAll, TellsBatchesOf, accepts_few}
+pub use Rattle.trace_run.specs.Commands.Batch.{TellsBatchesOfLines, TellsBatchesOf, accepts_batch}
 pub use Rattle.trace_run.specs.Commands.Tree.{TellsTreeOf, TellsTrees}
-pub use Rattle.trace_run.specs.Making.{Counts, ServesRequests, SumsUp, of_requests, with_records}
+pub use Rattle.trace_run.specs.Making.{Counts, ServesRequests, SumsUp, totals_of_requests, with_records}

@@ -2,7 +2,7 @@
 use Rattle.std.proofs.Common.{ℕ, List, Option, Some, None, sym, subst, IfSome}
 use Rattle.trace_eager.specs.Renamed.{IsRenamed}
 use Rattle.trace_eager.proofs.RenamedLemmas.{is_renamed}
-use Rattle.trace_run.proofs.Common.{lines_of, Carries, Streams, Puts, Status}
+use Rattle.trace_run.proofs.Common.{lines_of, CarriesOut, Streams, Puts, Status}
 use Rattle.trace_lines.specs.declared.signal.Signal.{Signal}
 use Rattle.trace_lines.specs.declared.signal.Signal.TheVariants as signal
 use Rattle.trace_stream.specs.Runs.{answering_of_run, meaning_of_runs}
@@ -19,8 +19,8 @@ by_left before now (Some bytes) leaves =
     let put = leaves.2 in
     (put.0, subst (IsRenamed (lines_of bytes)) (sym put.1) (is_renamed (lines_of bytes) leaves.0.accepted), put.2)
 
-pub renames_ids : (told : Signal) (status : Status) (before now : Streams) → Carries (meaning_of_runs told) status before now → RenamesIds (invocation.Script (command.Run told)) status before now
+pub renames_ids : (told : Signal) (status : Status) (before now : Streams) → CarriesOut (meaning_of_runs told) status before now → RenamesIds (invocation.Script (command.Run told)) status before now
 renames_ids signal.Metrics status before now carries = tt
 renames_ids signal.Traces status before now carries ok =
-    let done = subst (λ (s : Status). Carries (meaning_of_runs signal.Traces) s before now) ok carries in
+    let done = subst (λ (s : Status). CarriesOut (meaning_of_runs signal.Traces) s before now) ok carries in
     by_left before now before.left done.does.leaves

@@ -2,7 +2,7 @@
 use Rattle.std.proofs.Common.{◌≡◌, ℕ, zero, suc, ◌+◌, ◌<◌, ◌≤◌, List, [], ◌∷◌, ◌++◌, length, map, get_or, cond, true, refl, sym, ap, subst, ◌∙◌, arith, eq-eqb, inl, inr, Vec, Global, Bool, Option, Some, None, Result, Ok, Err, is_ok, not, IfOk, IfSome}
 use Rattle.std.specs.List.{All}
 use Rattle.std.proofs.lemmas.List.{map-id}
-use Rattle.trace_run.proofs.Common.{Record, records_of_history, Setup, History, MAX_LANES, accepts, EndsAs, Refuses, NoneRefused, AreRefused, TellsRun, accepts_within, refuses, accepts_same, legal, TellsAll, TellsTrees}
+use Rattle.trace_run.proofs.Common.{Record, records_of_history, Setup, History, MAX_LANES, accepts, EndsAs, Refuses, NoneRefused, AreRefused, TellsRun, accepts_within, refuses, accepts_same, legal, TellsBatchesOfLines, TellsTrees}
 use Rattle.batch_lines.specs.Texts.{TellsBatches}
 use Rattle.span_laws.specs.LegalHistories.{IsHistory, occurrences}
 use Rattle.span_laws.specs.Telling.{id_of}
@@ -11,7 +11,7 @@ use Rattle.trace_lines.specs.text.Texts.{refusal_text}
 use Rattle.input_lines.specs.declared.answer.Answer.{Answer}
 use Rattle.trace_records.specs.declared.finished.FinishedSpans.{FinishedSpans}
 use Rattle.input_lines.specs.declared.refused_line.RefusedLine.{RefusedLine}
-use Rattle.trace_records.specs.Scripts.{ScriptRan, script_of}
+use Rattle.trace_records.specs.Scripts.{ScriptHistory, script_of}
 use Rattle.trace_records.proofs.LanesLaws.{few_lanes}
 use Rattle.trace_tree.specs.Busy.{tree_span}
 use Rattle.trace_tree.specs.Paths.{AreDistinct}
@@ -21,7 +21,7 @@ use Rattle.tree_lines.specs.Texts.{TellsTree}
 -- ---- where a line is refused
 
 -- the refusal line alone is written
-pub refused_text : {E : Type 0} (most : Option ℕ) (Tells : ScriptRan → List ℕ → Type 0) (lines : List (List ℕ)) (refused : RefusedLine) (r : Result Answer E) → script_of most lines ≡ Err refused
+pub refused_text : {E : Type 0} (most : Option ℕ) (Tells : ScriptHistory → List ℕ → Type 0) (lines : List (List ℕ)) (refused : RefusedLine) (r : Result Answer E) → script_of most lines ≡ Err refused
     → IfOk r (λ a. a.text.items ≡ refusal_text refused.line refused.told) → IfOk r (λ a. TellsRun Tells (script_of most lines) a.text.items)
 refused_text most Tells lines refused (Ok a) stops is = rw stops is
 refused_text most Tells lines refused (Err why) stops is = tt
@@ -33,7 +33,7 @@ refused_flag most accepted lines refused (Ok a) same stops is = same ∙ ap is_o
 refused_flag most accepted lines refused (Err why) same stops is = tt
 
 module _ (most : Option ℕ) (accepted : List (List ℕ) → Bool) (same : (lines : List (List ℕ)) → accepted lines ≡ accepts_within most lines) where
-  pub refusal_some : {E : Type 0} (Tells : ScriptRan → List ℕ → Type 0) (lines : List (List ℕ)) (r : Result (Option (Vec ℕ Global)) E) → IfOk r (λ o. IfSome o (λ text. AreRefused most lines text.items))
+  pub refusal_some : {E : Type 0} (Tells : ScriptHistory → List ℕ → Type 0) (lines : List (List ℕ)) (r : Result (Option (Vec ℕ Global)) E) → IfOk r (λ o. IfSome o (λ text. AreRefused most lines text.items))
       → IfOk r (λ o. IfSome o (λ text. Refuses accepted (λ ls. TellsRun Tells (script_of most ls)) lines text.items))
   refusal_some Tells lines (Ok (Some text)) holds =
       let r = refuses most Tells lines text.items holds in
@@ -112,7 +112,7 @@ pub few : (lines : List (List ℕ)) (finished : FinishedSpans Record) → BatchE
 few lines finished ends = rw ends.2.lane_count (few_lanes MAX_LANES lines ends.0 ends.1).1
 
 pub tells_batches : (size : ℕ) (lines : List (List ℕ)) (finished : FinishedSpans Record) (text : List ℕ) → BatchEnds lines (Ok finished)
-    → TellsBatches size finished.spans.items finished.lanes.items finished.open_spans text → TellsAll size lines text
+    → TellsBatches size finished.spans.items finished.lanes.items finished.open_spans text → TellsBatchesOfLines size lines text
 tells_batches size lines finished text ends tells =
     rw (ends.1, ← records_are lines finished ends, ← ends.2.lanes_are, ← ends.2.left_open) tells
 

@@ -33,11 +33,11 @@ with_records totals finished = record totals {
 }
 
 -- those of so many requests without a record
-abbrev pub of_requests : ℕ → Totals
-of_requests n = record { busy = 0; events = 0; records = 0; requests = n }
+abbrev pub totals_of_requests : ℕ → Totals
+totals_of_requests n = record { busy = 0; events = 0; records = 0; requests = n }
 
 abbrev pub totals_of : History → Totals
-totals_of h = with_records (of_requests (length h)) (records_of_history generated_setup h)
+totals_of h = with_records (totals_of_requests (length h)) (records_of_history generated_setup h)
 
 -- A pipeline stands for a history, its records are taken, and the totals are those of the history.
 pub record Counts (h : History) (kept : PipelineState) (totals : Totals) : Type 0 where

@@ -5,8 +5,8 @@ ghost use Rattle.std.specs.Prelude.{◌≡◌, ◌<◌, ℕ, not, Some, IfOk};
 ghost use Rattle.trace_batch.specs.declared.relay.TheConstants.{MAX_LANES};
 ghost use Rattle.trace_lines.specs.Lines.{lines_of};
 ghost use Rattle.trace_stream.specs.reading.AllLines.{AnswersCut, WritesAnswer};
-ghost use Rattle.trace_stream.specs.Carries.{Carries, StopsAtFault};
-ghost use Rattle.trace_run.specs.Commands.Batch.{TellsAll, accepts_few, meaning_of_batches};
+ghost use Rattle.trace_stream.specs.Carries.{CarriesOut, StopsAtFault};
+ghost use Rattle.trace_run.specs.Commands.Batch.{TellsBatchesOfLines, accepts_batch, meaning_of_batches};
 ghost use Rattle.trace_stream.specs.Streams.{StopsReading, StopsWriting, streams_of};
 
 use batch_lines::batches_text;
@@ -43,7 +43,7 @@ pub fn run_batch<H: Threads + Wait + Sync, T: Turnstile + Sync, R: Source, W: Si
 ) -> Status
     requires { (meaning_of_batches size).IsPossible }
     ensures carries { let at = streams_of R.remaining R.ends R.faults W.holds W.faults in
-        Carries (meaning_of_batches size) result (at source.old sink.old) (at source.new sink.new) }
+        CarriesOut (meaning_of_batches size) result (at source.old sink.old) (at source.new sink.new) }
     ensures stops { StopsAtFault result (StopsReading R.faults R.remaining source.old source.new)
         (StopsWriting W.faults W.holds sink.old sink.new) }
 {
@@ -69,7 +69,7 @@ fn batch_input<H: Threads + Wait + Sync, T: Turnstile + Sync>(
 ) -> Result<Answer, Memory>
     requires { 0 < size }
     ensures { IfOk result (λ answer.
-        WritesAnswer accepts_few (TellsAll size) input.now.end input.now.bytes.items answer) }
+        WritesAnswer accepts_batch (TellsBatchesOfLines size) input.now.end input.now.bytes.items answer) }
 {
     match input.end {
         End::Whole => batch_answer(rt, alloc, turns, size, input.bytes.as_slice()),
@@ -89,8 +89,8 @@ fn batch_answer<H: Threads + Wait + Sync, T: Turnstile + Sync>(
     bytes: &[u8],
 ) -> Result<Answer, Memory>
     requires { 0 < size }
-    ensures text { IfOk result (λ answer. TellsAll size (lines_of bytes.now) answer.text.items) }
-    ensures refused { IfOk result (λ answer. accepts_few (lines_of bytes.now) ≡ not answer.refused) }
+    ensures text { IfOk result (λ answer. TellsBatchesOfLines size (lines_of bytes.now) answer.text.items) }
+    ensures refused { IfOk result (λ answer. accepts_batch (lines_of bytes.now) ≡ not answer.refused) }
 {
     match follow_lines::<Record>(alloc, Some(MAX_LANES), bytes)?.end()? {
         Ok(finished) => {
@@ -119,7 +119,7 @@ fn batch_answer<H: Threads + Wait + Sync, T: Turnstile + Sync>(
 
 // What is written for whole lines at which an input breaks off, whatever the size.
 fn batch_cut(alloc: Global, part: &[u8]) -> Result<Answer, Memory>
-    ensures { (size : ℕ) → IfOk result (λ answer. AnswersCut accepts_few (TellsAll size)
+    ensures { (size : ℕ) → IfOk result (λ answer. AnswersCut accepts_batch (TellsBatchesOfLines size)
         answer.refused (lines_of part.now) answer.text.items) }
 {
     match refusal_of(alloc, Some(MAX_LANES), part)? {

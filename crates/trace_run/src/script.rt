@@ -1,7 +1,7 @@
 //! The commands of the program that need no threads, over any source and any sink: by which word each is asked for, and who
 //! carries it out.
 ghost use Rattle.std.specs.Prelude.{◌≡◌, false};
-ghost use Rattle.trace_stream.specs.Carries.{Carries, StopsAtFault};
+ghost use Rattle.trace_stream.specs.Carries.{CarriesOut, StopsAtFault};
 ghost use Rattle.trace_stream.specs.Streams.{StopsReading, StopsWriting, streams_of};
 ghost use Rattle.trace_run.specs.Commands.{command_by, command_with, meaning_of};
 ghost use Rattle.trace_run.specs.Renames.{RenamesIds};
@@ -78,7 +78,7 @@ pub fn run_script<H: RandomSource + AllocGlobal, R: Source, W: Sink>(
 ) -> Status
     requires { (meaning_of command).IsPossible }
     ensures carries { let at = streams_of R.remaining R.ends R.faults W.holds W.faults in
-        Carries (meaning_of command) result (at source.old sink.old) (at source.new sink.new) }
+        CarriesOut (meaning_of command) result (at source.old sink.old) (at source.new sink.new) }
     ensures renames { let at = streams_of R.remaining R.ends R.faults W.holds W.faults in
         RenamesIds (Script command) result (at source.old sink.old) (at source.new sink.new) }
     // A command that reads nothing doesn't touch the source, told or not.

@@ -6,7 +6,7 @@ ghost use Rattle.std.specs.Prelude.{IfOk};
 ghost use Rattle.thread_run.specs.Inputs.{TellsThreads, accepts_threads};
 ghost use Rattle.trace_lines.specs.Lines.{lines_of};
 ghost use Rattle.trace_stream.specs.reading.AllLines.{AnswersCut, WritesAnswer};
-ghost use Rattle.trace_stream.specs.Carries.{Carries, StopsAtFault};
+ghost use Rattle.trace_stream.specs.Carries.{CarriesOut, StopsAtFault};
 ghost use Rattle.trace_run.specs.Commands.Threads.{AnswersEnded, ComesOf, meaning_of_threads};
 ghost use Rattle.trace_stream.specs.Streams.{StopsReading, StopsWriting, streams_of};
 
@@ -38,7 +38,7 @@ pub fn run_threads<H: Threads + Wait + Sync, R: Source, W: Sink, T: Turnstile + 
     turns: &T,
 ) -> (Status, Vec<Ended>)
     ensures carries { let at = streams_of R.remaining R.ends R.faults W.holds W.faults in
-        Carries meaning_of_threads result.0 (at source.old sink.old) (at source.new sink.new) }
+        CarriesOut meaning_of_threads result.0 (at source.old sink.old) (at source.new sink.new) }
     ensures ended { let at = streams_of R.remaining R.ends R.faults W.holds W.faults in
         AnswersEnded result.0 result.1.items (at source.old sink.old) (at source.new sink.new) }
     ensures stops { StopsAtFault result.0 (StopsReading R.faults R.remaining source.old source.new)

@@ -1,6 +1,6 @@
 //! The entry point of the program, over any source and any sink.
 ghost use Rattle.std.specs.Prelude.{◌≡◌, ◌↔◌, map, false, None, IfSome, string_bytes};
-ghost use Rattle.trace_stream.specs.Carries.{Carries, StopsAtFault};
+ghost use Rattle.trace_stream.specs.Carries.{CarriesOut, StopsAtFault};
 ghost use Rattle.trace_run.specs.Commands.{invocation_of, meaning_by};
 ghost use Rattle.trace_run.specs.Renames.{RenamesIds};
 ghost use Rattle.trace_stream.specs.Streams.{StopsReading, StopsWriting, streams_of};
@@ -32,7 +32,7 @@ pub fn top<H: Threads + Wait + Sync + RandomSource + AllocGlobal, R: Source, W: 
     ensures usage_leaves { result ≡ Status.Usage → (source.new ≡ source.old) × (sink.new ≡ sink.old) }
     ensures carries { let at = streams_of R.remaining R.ends R.faults W.holds W.faults in
         IfSome (invocation_of (map string_bytes words.now)) (λ asked.
-        Carries (meaning_by asked) result (at source.old sink.old) (at source.new sink.new)) }
+        CarriesOut (meaning_by asked) result (at source.old sink.old) (at source.new sink.new)) }
     ensures renames { let at = streams_of R.remaining R.ends R.faults W.holds W.faults in
         IfSome (invocation_of (map string_bytes words.now)) (λ asked.
         RenamesIds asked result (at source.old sink.old) (at source.new sink.new)) }

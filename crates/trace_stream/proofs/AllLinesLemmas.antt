@@ -1,12 +1,12 @@
 -- What a command that reads all lines leaves, from what was read, answered and written.
 use Rattle.std.proofs.Common.{◌≡◌, ◌≢◌, ℕ, List, [], ◌∷◌, ◌++◌, refl, sym, ap, subst, ◌∙◌, take, drop, length, ◌<◌, ◌≤◌, ◌+◌, ◌⊎◌, inl, inr, arith, Bool, true, false, not, min, Option, Some, None, IfSome, Result, Ok, Err, IfOk}
-use Rattle.trace_stream.proofs.Common.{IsAtEnd, cases_lt, lines_of, MAX_INPUT, Refuses, NoneRefused, whole_part, whole_lines, Causes, Carries, StopsAtFault, HasRefused, PutsSome, LeavesStreams, IsRefusedAt, Streams, CountsFault, MeetsEnd, Takes, Puts, PutsFront}
+use Rattle.trace_stream.proofs.Common.{IsAtEnd, cases_lt, lines_of, MAX_INPUT, Refuses, NoneRefused, whole_part, whole_lines, HasCause, CarriesOut, StopsAtFault, HasRefused, PutsSome, LeavesStreams, IsRefusedAt, Streams, CountsFault, MeetsEnd, Takes, Puts, PutsFront}
 use Rattle.std.proofs.lemmas.List.{append-nil, take_all}
 use Rattle.input_lines.specs.declared.answer.Answer.{Answer}
 use Rattle.trace_stream.specs.declared.input.End.{End}
 use Rattle.trace_stream.specs.declared.input.End.TheVariants as end
 use Rattle.trace_stream.specs.declared.status.Status.TheVariants as ends
-use Rattle.trace_stream.specs.reading.AllLines.{writes_last, meaning_of_all_lines, AnswersCut, WritesAnswer, status_at_end}
+use Rattle.trace_stream.specs.reading.AllLines.{answering_of_all_lines, meaning_of_all_lines, AnswersCut, WritesAnswer, status_at_end}
 use Rattle.trace_stream.proofs.LinesLemmas.{lines_on}
 use Rattle.trace_stream.proofs.ReadingLemmas.{split_at, all_read, reads_lines}
 
@@ -42,13 +42,13 @@ module _ (accepts : List (List ℕ) → Bool) (Whole : List (List ℕ) → List 
 
   -- where a front of the text was written, nothing was, or a front of one for the whole input
   cut_some : (refused : Bool) (bytes read rest text : List ℕ) (before now : Option (List ℕ)) → bytes ≡ read ++ rest
-      → AnswersCut accepts Whole refused (whole_lines (take MAX_INPUT read)) text → PutsFront before now text → PutsSome (writes_last accepts Whole) bytes before now
+      → AnswersCut accepts Whole refused (whole_lines (take MAX_INPUT read)) text → PutsFront before now text → PutsSome (answering_of_all_lines accepts Whole) bytes before now
   cut_some true bytes read rest text before now is cuts put = inr (text, stops_whole bytes read rest text is cuts, put)
   cut_some false bytes read rest text before now is cuts put = inl (front_none before now (subst (λ (t : List ℕ). PutsFront before now t) cuts.1 put))
 
   tells_some : (ending : End) (bytes : List ℕ) (left before now : Option (List ℕ)) (read : List ℕ) (answer : Answer) → Takes (Some bytes) left read
       → (ending ≡ end.Whole → IsAtEnd left) → WritesAnswer accepts Whole ending read answer → PutsFront before now answer.text.items
-      → PutsSome (writes_last accepts Whole) bytes before now
+      → PutsSome (answering_of_all_lines accepts Whole) bytes before now
   tells_some end.Whole bytes left before now read answer took none tells put =
       let same : read ≡ bytes = (all_read bytes left read took (none refl)).1 in
       inr (answer.text.items, subst (λ (b : List ℕ). Whole (lines_of b) answer.text.items) same tells.0, put)
@@ -59,7 +59,7 @@ module _ (accepts : List (List ℕ) → Bool) (Whole : List (List ℕ) → List 
 
   pub some_of : (ending : End) (old left before now : Option (List ℕ)) (read : List ℕ) (answer : Answer) → Takes old left read
       → (ending ≡ end.Whole → IsAtEnd left) → WritesAnswer accepts Whole ending read answer → PutsFront before now answer.text.items
-      → IfSome old (λ bytes. PutsSome (writes_last accepts Whole) bytes before now)
+      → IfSome old (λ bytes. PutsSome (answering_of_all_lines accepts Whole) bytes before now)
   some_of ending None left before now read answer took none tells put = tt
   some_of ending (Some bytes) left before now read answer took none tells put = tells_some ending bytes left before now read answer took none tells put
 
@@ -67,7 +67,7 @@ module _ (accepts : List (List ℕ) → Bool) (Whole : List (List ℕ) → List 
 
   leaves_whole : (refused : Bool) (bytes : List ℕ) (left before now : Option (List ℕ)) (text read : List ℕ) → Takes (Some bytes) left read → IsAtEnd left
       → length bytes ≤ MAX_INPUT → Whole (lines_of bytes) text → accepts (lines_of bytes) ≡ not refused → Puts before now text
-      → LeavesStreams (writes_last accepts Whole) (status_at_end refused end.Whole) bytes left before now
+      → LeavesStreams (answering_of_all_lines accepts Whole) (status_at_end refused end.Whole) bytes left before now
   leaves_whole true bytes left before now text read took none short whole is put = record {
     refused = is;
     read = read;
@@ -79,7 +79,7 @@ module _ (accepts : List (List ℕ) → Bool) (Whole : List (List ℕ) → List 
       (record { short = short; accepted = is }, (all_read bytes left read took none).0, (text, whole, put))
 
   leaves_stopped : (bytes : List ℕ) (left before now : Option (List ℕ)) (text read : List ℕ) → Takes (Some bytes) left read
-      → Refuses accepts Whole (whole_lines (take MAX_INPUT read)) text → Puts before now text → LeavesStreams (writes_last accepts Whole) ends.Refused bytes left before now
+      → Refuses accepts Whole (whole_lines (take MAX_INPUT read)) text → Puts before now text → LeavesStreams (answering_of_all_lines accepts Whole) ends.Refused bytes left before now
   leaves_stopped bytes left before now text read took stops put = record {
     refused = stops_accepts bytes read took.0 text took.2 stops;
     read = read;
@@ -89,7 +89,7 @@ module _ (accepts : List (List ℕ) → Bool) (Whole : List (List ℕ) → List 
   }
 
   leaves_fault : (refused : Bool) (bytes : List ℕ) (left before now : Option (List ℕ)) (text read : List ℕ) → Takes (Some bytes) left read → length read ≤ MAX_INPUT
-      → AnswersCut accepts Whole refused (whole_lines (take MAX_INPUT read)) text → Puts before now text → LeavesStreams (writes_last accepts Whole) (status_at_end refused end.Fault) bytes left before now
+      → AnswersCut accepts Whole refused (whole_lines (take MAX_INPUT read)) text → Puts before now text → LeavesStreams (answering_of_all_lines accepts Whole) (status_at_end refused end.Fault) bytes left before now
   leaves_fault true bytes left before now text read took short cuts put = leaves_stopped bytes left before now text read took cuts put
   leaves_fault false bytes left before now text read took short cuts put = record {
     read = read;
@@ -100,7 +100,7 @@ module _ (accepts : List (List ℕ) → Bool) (Whole : List (List ℕ) → List 
   }
 
   leaves_long : (refused : Bool) (bytes : List ℕ) (left before now : Option (List ℕ)) (text read : List ℕ) → Takes (Some bytes) left read → MAX_INPUT < length read
-      → AnswersCut accepts Whole refused (whole_lines (take MAX_INPUT read)) text → Puts before now text → LeavesStreams (writes_last accepts Whole) (status_at_end refused end.TooLong) bytes left before now
+      → AnswersCut accepts Whole refused (whole_lines (take MAX_INPUT read)) text → Puts before now text → LeavesStreams (answering_of_all_lines accepts Whole) (status_at_end refused end.TooLong) bytes left before now
   leaves_long true bytes left before now text read took long cuts put = leaves_stopped bytes left before now text read took cuts put
   leaves_long false bytes left before now text read took long cuts put =
       record { read = read; took = took; long = long; text = text; answered = cuts; put = put }
@@ -109,7 +109,7 @@ module _ (accepts : List (List ℕ) → Bool) (Whole : List (List ℕ) → List 
   pub leaves_of : (ending : End) (old left before now : Option (List ℕ)) (read : List ℕ) (answer : Answer) → Takes old left read
       → (ending ≡ end.Whole → IsAtEnd left) → (ending ≢ end.TooLong → length read ≤ MAX_INPUT) → (ending ≡ end.TooLong → MAX_INPUT < length read)
       → WritesAnswer accepts Whole ending read answer → Puts before now answer.text.items
-      → IfSome old (λ bytes. LeavesStreams (writes_last accepts Whole) (status_at_end answer.refused ending) bytes left before now)
+      → IfSome old (λ bytes. LeavesStreams (answering_of_all_lines accepts Whole) (status_at_end answer.refused ending) bytes left before now)
   leaves_of ending None left before now read answer took none short long tells put = tt
   leaves_of end.Whole (Some bytes) left before now read answer took none short long tells put =
       let same : read ≡ bytes = (all_read bytes left read took (none refl)).1 in
@@ -125,14 +125,14 @@ module _ (accepts : List (List ℕ) → Bool) (Whole : List (List ℕ) → List 
   -- ---- what holds whether bytes are told or not
 
   refused_cut : (ending : End) (refused : Bool) (before now : Streams) (read text : List ℕ) → (ending ≡ end.Whole → ⊥) → Takes before.left now.left read
-      → AnswersCut accepts Whole refused (whole_lines (take MAX_INPUT read)) text → IsRefusedAt (writes_last accepts Whole) (status_at_end refused ending) before now
+      → AnswersCut accepts Whole refused (whole_lines (take MAX_INPUT read)) text → IsRefusedAt (answering_of_all_lines accepts Whole) (status_at_end refused ending) before now
   refused_cut ending true before now read text part took cuts = λ told. (read, took, inl (stops_refused (whole_lines (take MAX_INPUT read)) text cuts))
   refused_cut end.Whole false before now read text part took cuts = absurd (part refl)
   refused_cut end.Fault false before now read text part took cuts = λ told. cc
   refused_cut end.TooLong false before now read text part took cuts = λ told. cc
 
   pub refused_of : (ending : End) (before now : Streams) (read : List ℕ) (answer : Answer) → Takes before.left now.left read
-      → (ending ≡ end.Whole → MeetsEnd before.ends now.ends) → WritesAnswer accepts Whole ending read answer → IsRefusedAt (writes_last accepts Whole) (status_at_end answer.refused ending) before now
+      → (ending ≡ end.Whole → MeetsEnd before.ends now.ends) → WritesAnswer accepts Whole ending read answer → IsRefusedAt (answering_of_all_lines accepts Whole) (status_at_end answer.refused ending) before now
   refused_of end.Whole before now read answer took meets tells = λ told. (read, took, inr (meets refl))
   refused_of end.Fault before now read answer took meets tells = refused_cut end.Fault answer.refused before now read answer.text.items (λ is. cc) took tells
   refused_of end.TooLong before now read answer took meets tells = refused_cut end.TooLong answer.refused before now read answer.text.items (λ is. cc) took tells
@@ -140,19 +140,19 @@ module _ (accepts : List (List ℕ) → Bool) (Whole : List (List ℕ) → List 
   -- a write failed
   pub carries_broken : (ending : End) (before now : Streams) (read : List ℕ) (answer : Answer) → Takes before.left now.left read
       → (ending ≡ end.Whole → IsAtEnd now.left) → WritesAnswer accepts Whole ending read answer → PutsFront before.held now.held answer.text.items
-      → CountsFault before.write_faults now.write_faults → now.ends ≤ before.ends + 1 → Carries (meaning_of_all_lines accepts Whole) ends.WriteFault before now
+      → CountsFault before.write_faults now.write_faults → now.ends ≤ before.ends + 1 → CarriesOut (meaning_of_all_lines accepts Whole) ends.WriteFault before now
   carries_broken ending before now read answer took none tells put fault once =
-      let some : IfSome before.left (λ bytes. PutsSome (writes_last accepts Whole) bytes before.held now.held) =
+      let some : IfSome before.left (λ bytes. PutsSome (answering_of_all_lines accepts Whole) bytes before.held now.held) =
       some_of ending before.left now.left before.held now.held read answer took none tells put in
       record {
-        does = reads_lines (writes_last accepts Whole) ends.WriteFault before now some some fault (λ told. cc) (λ told. cc);
+        does = reads_lines (answering_of_all_lines accepts Whole) ends.WriteFault before now some some fault (λ told. cc) (λ told. cc);
         ended = record { causes = fault; over = λ told. cc; end_once = once; usage = λ told. cc };
       }
 
 -- ---- the cause of the status
 
 causes_of : (refused : Bool) (ending : End) (before now : Streams) → (ending ≡ end.Fault → CountsFault before.read_faults now.read_faults)
-    → Causes (status_at_end refused ending) before now
+    → HasCause (status_at_end refused ending) before now
 causes_of true ending before now fault = tt
 causes_of false end.Whole before now fault = tt
 causes_of false end.Fault before now fault = fault refl
@@ -202,12 +202,12 @@ pub record IsRead (ending : End) (before now : Streams) (read : List ℕ) : Type
 -- all was written
 pub carries_whole : (accepts : List (List ℕ) → Bool) (Whole : List (List ℕ) → List ℕ → Type 0) (ending : End) (before now : Streams) (read : List ℕ) (answer : Answer)
     → IsRead ending before now read → WritesAnswer accepts Whole ending read answer → Puts before.held now.held answer.text.items
-    → Carries (meaning_of_all_lines accepts Whole) (status_at_end answer.refused ending) before now
+    → CarriesOut (meaning_of_all_lines accepts Whole) (status_at_end answer.refused ending) before now
 carries_whole accepts Whole ending before now read answer is tells put =
-    let causes : Causes (status_at_end answer.refused ending) before now = causes_of answer.refused ending before now is.fault in
+    let causes : HasCause (status_at_end answer.refused ending) before now = causes_of answer.refused ending before now is.fault in
     let all : PutsFront before.held now.held answer.text.items = (answer.text.items, ([], sym (append-nil answer.text.items)), put) in
     record {
-      does = reads_lines (writes_last accepts Whole) (status_at_end answer.refused ending) before now
+      does = reads_lines (answering_of_all_lines accepts Whole) (status_at_end answer.refused ending) before now
           (leaves_of accepts Whole ending before.left now.left before.held now.held read answer is.took is.none is.short is.long tells put)
           (some_of accepts Whole ending before.left now.left before.held now.held read answer is.took is.none tells all)
           causes

@@ -9,15 +9,15 @@ use Rattle.span_script.specs.Tables.{History, Tables, tables, records_of}
 use Rattle.span_script.specs.calls.Spans.{open_spans}
 use Rattle.span_script.specs.Fits.{PipelineState, StandsFor}
 use Rattle.span_script.specs.Admission.{OpeningRead, opening_read}
-use Rattle.trace_stream.proofs.Common.{Signal, is_blank, Report, with_text_before, refused_report, effect_of_line, answer_text, answer_count, last_text, report_on, report_from, OpensLine, AnswersLine, IsAnswered, Opens, Runs, Stops, AnswersAt, is_refused, Cuts}
+use Rattle.trace_stream.proofs.Common.{Signal, is_blank, Report, with_text_before, refused_report, effect_of_line, answer_text, answer_count, last_text, report_on, report_from, OpensLine, AnswersLine, IsAnswered, IsOpening, IsRunning, IsStopped, AnswersAt, is_refused, AnswersBrokenOff}
 use Rattle.trace_lines.specs.declared.told.Told.{Told}
 use Rattle.trace_lines.specs.declared.told.Told.TheVariants as told
 use Rattle.trace_lines.specs.reading.Spelled.{settings_spelled}
 use Rattle.trace_lines.specs.text.Texts.{refusal_text}
 use Rattle.trace_lines.specs.Report as report
-use Rattle.trace_records.specs.declared.line.Opened.{Opened}
-use Rattle.trace_records.specs.declared.line.Answered.{Answered}
-use Rattle.trace_records.specs.Scripts.{setup_read, setup_of_settings, setup_of_line}
+use Rattle.trace_records.specs.declared.line.OpenedPipeline.{OpenedPipeline}
+use Rattle.trace_records.specs.declared.line.RequestAnswer.{RequestAnswer}
+use Rattle.trace_records.specs.Scripts.{setup_if_read, setup_of_settings, setup_of_line}
 use Rattle.input_lines.proofs.BlankLemmas.{some_before, one_not_blank}
 use Rattle.trace_records.proofs.FollowingLemmas.{stands_beside}
 use Rattle.trace_stream.specs.declared.answers.RunStage.{RunStage}
@@ -31,7 +31,7 @@ abbrev report_by : Result Setup Told → (Setup → Report) → ℕ → Report
 report_by (Ok setup) go line = go setup
 report_by (Err why) go line = refused_report line why
 
-read_by : (read : OpeningRead) (setup : Setup) (go : Setup → Report) (line : ℕ) → report.report_on_opening read (go setup) line ≡ report_by (setup_read read true setup) go line
+read_by : (read : OpeningRead) (setup : Setup) (go : Setup → Report) (line : ℕ) → report.report_on_opening read (go setup) line ≡ report_by (setup_if_read read true setup) go line
 read_by (Ok read) setup go line = refl
 read_by (Err unread) setup go line = refl
 
@@ -51,8 +51,8 @@ on_line : (signal : Signal) (lines more : List (List ℕ)) (line : List ℕ) (r 
 on_line signal lines more line r is = ap (report_from signal 0) (append_assoc lines (line ∷ []) more) ∙ is
 
 -- the settings line
-pub opened : (signal : Signal) (lines : List (List ℕ)) (count next : ℕ) (text : List ℕ) (tally : ℕ) (line : List ℕ) (came : Opened)
-    → Opens signal lines count text tally → next ≡ count + 1 → is_blank line ≡ false → OpensLine None line (Ok came) → Runs signal (lines ++ line ∷ []) next came.pipeline text tally
+pub opened : (signal : Signal) (lines : List (List ℕ)) (count next : ℕ) (text : List ℕ) (tally : ℕ) (line : List ℕ) (came : OpenedPipeline)
+    → IsOpening signal lines count text tally → next ≡ count + 1 → is_blank line ≡ false → OpensLine None line (Ok came) → IsRunning signal (lines ++ line ∷ []) next came.pipeline text tally
 opened signal lines count next text tally line came o counted is a = record {
   history = [];
   some = one_not_blank lines line o.blank is;
@@ -64,8 +64,8 @@ opened signal lines count next text tally line came o counted is a = record {
 
 -- a settings line that is refused
 pub unopened : (signal : Signal) (lines : List (List ℕ)) (count next : ℕ) (text : List ℕ) (tally : ℕ) (line out : List ℕ) (why : Told)
-    → Opens signal lines count text tally → next ≡ count + 1 → is_blank line ≡ false → setup_of_line None line ≡ Err why
-    → out ≡ text ++ refusal_text next why → Stops signal (lines ++ line ∷ []) out
+    → IsOpening signal lines count text tally → next ≡ count + 1 → is_blank line ≡ false → setup_of_line None line ≡ Err why
+    → out ≡ text ++ refusal_text next why → IsStopped signal (lines ++ line ∷ []) out
 unopened signal lines count next text tally line out why o counted is refuses tells = record {
   some = one_not_blank lines line o.blank is;
   report_is = λ more. on_line signal lines more line _ (o.report_is (line ∷ more) ∙ rw (is, tells, o.empty, counted)
@@ -74,8 +74,8 @@ unopened signal lines count next text tally line out why o counted is refuses te
 
 -- a request line that is refused
 pub unserved : (signal : Signal) (lines : List (List ℕ)) (count next : ℕ) (kept : PipelineState) (text : List ℕ) (tally : ℕ) (line out : List ℕ) (why : Told)
-    (r : Runs signal lines count kept text tally) → next ≡ count + 1 → is_blank line ≡ false → effect_of_line kept.setup (tables kept.setup r.history) line ≡ Err why
-    → out ≡ text ++ refusal_text next why → Stops signal (lines ++ line ∷ []) out
+    (r : IsRunning signal lines count kept text tally) → next ≡ count + 1 → is_blank line ≡ false → effect_of_line kept.setup (tables kept.setup r.history) line ≡ Err why
+    → out ≡ text ++ refusal_text next why → IsStopped signal (lines ++ line ∷ []) out
 unserved signal lines count next kept text tally line out why r counted is none tells = record {
   some = some_before lines (line ∷ []) r.some;
   report_is = λ more. on_line signal lines more line _ (r.report_is (line ∷ more) ∙ rw (is, none, tells, counted) refl);
@@ -89,9 +89,9 @@ pub put_behind : (put old more new : List ℕ) → new ≡ old ++ more → put +
 put_behind put old more new is = ap (λ (t : List ℕ). put ++ t) is ∙ sym (append_assoc put old more)
 
 -- a request that is answered
-pub answered : (signal : Signal) (put : List ℕ) (lines : List (List ℕ)) (count next : ℕ) (old mid new : PipelineState) (before after : Written) (line : List ℕ) (did : Answered)
-    (r : Runs signal lines count old (put ++ before.text.items) before.count) → next ≡ count + 1 → is_blank line ≡ false → AnswersLine line r.history old mid (Ok did)
-    → IsAnswered signal next did.reply mid new before after → Runs signal (lines ++ line ∷ []) next new (put ++ after.text.items) after.count
+pub answered : (signal : Signal) (put : List ℕ) (lines : List (List ℕ)) (count next : ℕ) (old mid new : PipelineState) (before after : Written) (line : List ℕ) (did : RequestAnswer)
+    (r : IsRunning signal lines count old (put ++ before.text.items) before.count) → next ≡ count + 1 → is_blank line ≡ false → AnswersLine line r.history old mid (Ok did)
+    → IsAnswered signal next did.reply mid new before after → IsRunning signal (lines ++ line ∷ []) next new (put ++ after.text.items) after.count
 answered signal put lines count next old mid new before after line did r counted is a told =
     let h : History = r.history in
     let t : Tables = tables old.setup h in
@@ -121,21 +121,21 @@ answered signal put lines count next old mid new before after line did r counted
 with_none : (signal : Signal) (lines : List (List ℕ)) → report_from signal 0 lines ≡ report_from signal 0 (lines ++ [])
 with_none signal lines = ap (report_from signal 0) (sym (append-nil lines))
 
-pub opens_end : (signal : Signal) (lines : List (List ℕ)) (count next : ℕ) (text out : List ℕ) (tally : ℕ) → Opens signal lines count text tally → next ≡ count + 1
+pub opens_end : (signal : Signal) (lines : List (List ℕ)) (count next : ℕ) (text out : List ℕ) (tally : ℕ) → IsOpening signal lines count text tally → next ≡ count + 1
     → out ≡ text ++ refusal_text next told.BadLine → report_from signal 0 lines ≡ record { written = out; accepted = false }
 opens_end signal lines count next text out tally o counted tells = with_none signal lines ∙ o.report_is [] ∙ sym (rw (tells, o.empty, counted) refl)
 
-pub runs_end : (signal : Signal) (lines : List (List ℕ)) (count : ℕ) (kept : PipelineState) (text out : List ℕ) (tally spans : ℕ) → Runs signal lines count kept text tally
+pub runs_end : (signal : Signal) (lines : List (List ℕ)) (count : ℕ) (kept : PipelineState) (text out : List ℕ) (tally spans : ℕ) → IsRunning signal lines count kept text tally
     → ((h : History) → StandsFor kept (tables kept.setup h) → spans ≡ open_spans (tables kept.setup h))
     → out ≡ text ++ last_text signal spans tally → report_from signal 0 lines ≡ record { written = out; accepted = true }
 runs_end signal lines count kept text out tally spans r counts tells =
     with_none signal lines ∙ r.report_is [] ∙ sym (rw (tells, counts r.history r.stands) refl)
 
-pub stops_end : (signal : Signal) (lines : List (List ℕ)) (text : List ℕ) → Stops signal lines text → report_from signal 0 lines ≡ record { written = text; accepted = false }
+pub stops_end : (signal : Signal) (lines : List (List ℕ)) (text : List ℕ) → IsStopped signal lines text → report_from signal 0 lines ≡ record { written = text; accepted = false }
 stops_end signal lines text stops = with_none signal lines ∙ stops.report_is []
 
 -- where the lines break off
-pub cut_at : (signal : Signal) (at : RunStage) (lines : List (List ℕ)) (count : ℕ) (text : List ℕ) (tally : ℕ) → AnswersAt signal at lines count text tally → Cuts signal (is_refused at) lines text
+pub cut_at : (signal : Signal) (at : RunStage) (lines : List (List ℕ)) (count : ℕ) (text : List ℕ) (tally : ℕ) → AnswersAt signal at lines count text tally → AnswersBrokenOff signal (is_refused at) lines text
 cut_at signal stage.Opening lines count text tally o =
     (inl (o.blank, o.empty), λ more. ((report_from signal 0 (lines ++ more)).written, rw o.empty refl))
 cut_at signal (stage.Running kept) lines count text tally r = (

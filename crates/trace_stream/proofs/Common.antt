@@ -7,15 +7,15 @@ pub use Rattle.trace_lines.specs.Report.{Report, accepts, answer_count, answer_t
 pub use Rattle.trace_lines.specs.declared.limits.TheConstants.{MAX_INPUT}
 pub use Rattle.trace_lines.specs.declared.signal.Signal.{Signal}
 pub use Rattle.input_lines.proofs.FirstLineLemmas.{NoFeed, ended_line, feedless_before, feedless_from, only_line}
-pub use Rattle.input_lines.specs.Refusals.{IsTold, NoneRefused, Refuses}
-pub use Rattle.trace_records.specs.Following.{without_taken}
+pub use Rattle.input_lines.specs.Refusals.{HasRefusalLine, NoneRefused, Refuses}
+pub use Rattle.trace_records.specs.Following.{without_outputs}
 pub use Rattle.trace_records.specs.Lines.{AnswersLine, OpensLine}
-pub use Rattle.trace_stream.specs.Carries.{Carries, Causes, StopsAtFault}
-pub use Rattle.trace_stream.specs.Progress.{HasFront, IsMidway, Keeps, Reports, last_status}
+pub use Rattle.trace_stream.specs.Carries.{CarriesOut, HasCause, StopsAtFault}
+pub use Rattle.trace_stream.specs.Progress.{HasFront, IsMidway, HasAnsweredLines, Reports, last_status}
 pub use Rattle.trace_stream.specs.Runs.{answering_of_run}
 pub use Rattle.trace_stream.specs.Streams.{CountsFault, IsFrontOf, MeetsEnd, Puts, PutsFront, Streams, Takes, streams_of}
 pub use Rattle.trace_stream.specs.declared.progress.Progress.{Progress}
 pub use Rattle.trace_stream.specs.declared.status.Status.{Status}
-pub use Rattle.trace_stream.specs.reading.Answers.{AnswersAt, AnswersTo, Cuts, IsAnswered, Opens, Runs, Stops, is_refused}
+pub use Rattle.trace_stream.specs.reading.Answers.{AnswersAt, AnswersTo, AnswersBrokenOff, IsAnswered, IsOpening, IsRunning, IsStopped, is_refused}
 pub use Rattle.trace_stream.specs.reading.Breaks.{AnswersAll, has_feed, whole_lines, whole_part}
 pub use Rattle.trace_stream.specs.reading.Reading.{Answering, Completes, HasRefused, IsRefusedAt, LeavesStreams, PutsSome, PutsWhole, ReadsLines}

@@ -1,6 +1,6 @@
 -- What a run leaves, from what was read, answered and written.
 use Rattle.std.proofs.Common.{◌≡◌, ℕ, List, [], ◌++◌, refl, sym, ap, subst, ◌∙◌, take, drop, length, ◌<◌, ◌≤◌, inl, inr, Bool, true, false, Option, Some, None, IfSome}
-use Rattle.trace_stream.proofs.Common.{IsAtEnd, lines_of, Signal, Report, report_from, report, output, accepts, MAX_INPUT, Progress, Status, Streams, Takes, Puts, PutsFront, whole_lines, AnswersAll, Stops, Cuts, is_refused, answering_of_run, HasRefused, PutsWhole, PutsSome, LeavesStreams, IsRefusedAt, Keeps, IsMidway, HasFront, Reports, last_status}
+use Rattle.trace_stream.proofs.Common.{IsAtEnd, lines_of, Signal, Report, report_from, report, output, accepts, MAX_INPUT, Progress, Status, Streams, Takes, Puts, PutsFront, whole_lines, AnswersAll, IsStopped, AnswersBrokenOff, is_refused, answering_of_run, HasRefused, PutsWhole, PutsSome, LeavesStreams, IsRefusedAt, HasAnsweredLines, IsMidway, HasFront, Reports, last_status}
 use Rattle.std.proofs.lemmas.List.{append-nil, take_all}
 use Rattle.trace_lines.proofs.laws.OutputsLaws.{alike}
 use Rattle.trace_stream.specs.declared.status.Status.TheVariants as ends
@@ -47,7 +47,7 @@ leaves_whole signal true bytes left before now text read took none short told pu
 
 -- a whole line is refused
 leaves_refused : (signal : Signal) (most : ℕ) (bytes : List ℕ) (left before now : Option (List ℕ)) (text read : List ℕ) → Takes (Some bytes) left read
-    → Stops signal (whole_lines (take most read)) text → Puts before now text
+    → IsStopped signal (whole_lines (take most read)) text → Puts before now text
     → (report signal bytes ≡ record { written = text; accepted = false }) × HasRefused accepts (whole_lines (take most read))
 leaves_refused signal most bytes left before now text read took stops put =
     let is : report signal (read ++ took.0) ≡ record { written = text; accepted = false } =
@@ -96,10 +96,10 @@ front_met signal old mid left before now read buf total count first second gone 
     (subst (λ (b : List ℕ). PutsFront before now (output signal b)) (take_all MAX_INPUT read short) put)
 
 -- what the lines that came whole are answered, where none is refused, is all written
-answered_all : (signal : Signal) (put front : List ℕ) (p : Progress) → Keeps signal put front p → p.answers.written.text.items ≡ [] → is_refused p.answers.stage ≡ false
+answered_all : (signal : Signal) (put front : List ℕ) (p : Progress) → HasAnsweredLines signal put front p → p.answers.written.text.items ≡ [] → is_refused p.answers.stage ≡ false
     → AnswersAll signal (whole_lines front) put
 answered_all signal put front p k empty going =
-    let cuts : Cuts signal (is_refused p.answers.stage) (whole_lines front) (put ++ p.answers.written.text.items) =
+    let cuts : AnswersBrokenOff signal (is_refused p.answers.stage) (whole_lines front) (put ++ p.answers.written.text.items) =
     cut_at signal p.answers.stage (whole_lines front) p.answers.lines (put ++ p.answers.written.text.items) p.answers.written.count k.answered in
     let text : put ++ p.answers.written.text.items ≡ put = ap (λ (r : List ℕ). put ++ r) empty ∙ append-nil put in
     (rw (going, text) at cuts).0
@@ -132,10 +132,10 @@ ends_long signal (Some bytes) left before now read p took long m empty going = r
 }
 
 -- a line was refused
-stopped : (signal : Signal) (put front : List ℕ) (p : Progress) → Keeps signal put front p → p.answers.written.text.items ≡ [] → is_refused p.answers.stage ≡ true
-    → Stops signal (whole_lines front) put
+stopped : (signal : Signal) (put front : List ℕ) (p : Progress) → HasAnsweredLines signal put front p → p.answers.written.text.items ≡ [] → is_refused p.answers.stage ≡ true
+    → IsStopped signal (whole_lines front) put
 stopped signal put front p k empty going =
-    let cuts : Cuts signal (is_refused p.answers.stage) (whole_lines front) (put ++ p.answers.written.text.items) =
+    let cuts : AnswersBrokenOff signal (is_refused p.answers.stage) (whole_lines front) (put ++ p.answers.written.text.items) =
     cut_at signal p.answers.stage (whole_lines front) p.answers.lines (put ++ p.answers.written.text.items) p.answers.written.count k.answered in
     let text : put ++ p.answers.written.text.items ≡ put = ap (λ (r : List ℕ). put ++ r) empty ∙ append-nil put in
     rw (going, text) at cuts
@@ -158,7 +158,7 @@ pub refused_at : (signal : Signal) (before now : Streams) (read : List ℕ) (p :
     → IsMidway signal before.held now.held (take MAX_INPUT read) p → p.answers.written.text.items ≡ [] → is_refused p.answers.stage ≡ true
     → IsRefusedAt (answering_of_run signal) ends.Refused before now
 refused_at signal before now read p took m empty is = λ same.
-    let stops : Stops signal (whole_lines (take MAX_INPUT read)) m.put = stopped signal m.put (take MAX_INPUT read) p m.keeps empty is in (
+    let stops : IsStopped signal (whole_lines (take MAX_INPUT read)) m.put = stopped signal m.put (take MAX_INPUT read) p m.keeps empty is in (
       read,
       took,
       inl (record {

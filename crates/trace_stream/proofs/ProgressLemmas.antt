@@ -1,6 +1,6 @@
 -- A run goes on behind a piece of its input.
 use Rattle.std.proofs.Common.{◌≡◌, ℕ, List, [], ◌∷◌, ◌++◌, refl, sym, ap, subst, ◌∙◌, append_assoc, take, length, ◌<◌, ◌≤◌, ◌+◌, ◌-◌, arith, zero, suc, inl, inr, Bool, true, false, min, Option, Result, Ok, Err, OnOk}
-use Rattle.trace_stream.proofs.Common.{cases_lt, lines_of, Signal, Report, report_from, report, output, IsFrontOf, Puts, PutsFront, has_feed, whole_part, whole_lines, AnswersTo, Stops, Cuts, is_refused, Keeps, IsMidway, HasFront, Progress, only_line}
+use Rattle.trace_stream.proofs.Common.{cases_lt, lines_of, Signal, Report, report_from, report, output, IsFrontOf, Puts, PutsFront, has_feed, whole_part, whole_lines, AnswersTo, IsStopped, AnswersBrokenOff, is_refused, HasAnsweredLines, IsMidway, HasFront, Progress, only_line}
 use Rattle.std.proofs.lemmas.List.{append-nil, take_all, take-take, length-append, length-take-le}
 use Rattle.trace_stream.specs.declared.answers.Answers.{Answers}
 use Rattle.trace_stream.proofs.StreamsLemmas.{puts_more}
@@ -10,36 +10,36 @@ use Rattle.trace_stream.proofs.AnswersLemmas.{cut_at}
 -- ---- what is kept
 
 -- a line ends
-pub ended : (signal : Signal) (put front line : List ℕ) (old new : Progress) → Keeps signal put front old → has_feed line ≡ false → new.kept.items ≡ []
-    → AnswersTo signal put (whole_lines front ++ (old.kept.items ++ line) ∷ []) new.answers → Keeps signal put (front ++ line ++ 10 ∷ []) new
+pub ended : (signal : Signal) (put front line : List ℕ) (old new : Progress) → HasAnsweredLines signal put front old → has_feed line ≡ false → new.partial_line.items ≡ []
+    → AnswersTo signal put (whole_lines front ++ (old.partial_line.items ++ line) ∷ []) new.answers → HasAnsweredLines signal put (front ++ line ++ 10 ∷ []) new
 ended signal put front line old new k none empty a =
     let all : List ℕ = front ++ line ++ 10 ∷ [] in
     record {
       parts = sym (ap (λ (r : List ℕ). whole_part all ++ r) empty ∙ append-nil (whole_part all) ∙ part_ended front line);
       rest = ap has_feed empty;
-      answered = subst (λ (ls : List (List ℕ)). AnswersTo signal put ls new.answers) (sym (lines_ended front old.kept.items line k.parts k.rest none)) a;
+      answered = subst (λ (ls : List (List ℕ)). AnswersTo signal put ls new.answers) (sym (lines_ended front old.partial_line.items line k.parts k.rest none)) a;
     }
 
 -- the same, where nothing was kept of it
-pub ended_whole : (signal : Signal) (put front line : List ℕ) (p : Progress) (answers : Answers) → Keeps signal put front p → has_feed line ≡ false → p.kept.items ≡ []
-    → AnswersTo signal put (whole_lines front ++ line ∷ []) answers → Keeps signal put (front ++ line ++ 10 ∷ []) (record p { answers = answers })
+pub ended_whole : (signal : Signal) (put front line : List ℕ) (p : Progress) (answers : Answers) → HasAnsweredLines signal put front p → has_feed line ≡ false → p.partial_line.items ≡ []
+    → AnswersTo signal put (whole_lines front ++ line ∷ []) answers → HasAnsweredLines signal put (front ++ line ++ 10 ∷ []) (record p { answers = answers })
 ended_whole signal put front line p answers k none empty a =
     ended signal put front line p (record p { answers = answers }) k none empty
     (subst (λ (kept : List ℕ). AnswersTo signal put (whole_lines front ++ (kept ++ line) ∷ []) answers) (sym empty) a)
 
 -- bytes came that end no line
-pub kept_on : (signal : Signal) (put front piece : List ℕ) (old new : Progress) → Keeps signal put front old → has_feed piece ≡ false
-    → new.kept.items ≡ old.kept.items ++ piece → new.answers ≡ old.answers → Keeps signal put (front ++ piece) new
+pub kept_on : (signal : Signal) (put front piece : List ℕ) (old new : Progress) → HasAnsweredLines signal put front old → has_feed piece ≡ false
+    → new.partial_line.items ≡ old.partial_line.items ++ piece → new.answers ≡ old.answers → HasAnsweredLines signal put (front ++ piece) new
 kept_on signal put front piece old new k none is same = record {
-  parts = kept_still front old.kept.items piece k.parts none ∙ ap (λ (r : List ℕ). whole_part (front ++ piece) ++ r) (sym is);
-  rest = ap has_feed is ∙ rest_still old.kept.items piece k.rest none;
+  parts = kept_still front old.partial_line.items piece k.parts none ∙ ap (λ (r : List ℕ). whole_part (front ++ piece) ++ r) (sym is);
+  rest = ap has_feed is ∙ rest_still old.partial_line.items piece k.rest none;
   answered = rw same (subst (λ (ls : List (List ℕ)). AnswersTo signal put ls old.answers) (ap lines_of (sym (part_still front piece none))) k.answered);
 }
 
 -- what was answered is put
-pub put_on : (signal : Signal) (put front : List ℕ) (old new : Progress) → Keeps signal put front old
+pub put_on : (signal : Signal) (put front : List ℕ) (old new : Progress) → HasAnsweredLines signal put front old
     → new.answers.stage ≡ old.answers.stage → new.answers.lines ≡ old.answers.lines → new.answers.written.count ≡ old.answers.written.count
-    → new.answers.written.text.items ≡ [] → new.kept ≡ old.kept → Keeps signal (put ++ old.answers.written.text.items) front new
+    → new.answers.written.text.items ≡ [] → new.partial_line ≡ old.partial_line → HasAnsweredLines signal (put ++ old.answers.written.text.items) front new
 put_on signal put front old new k stage lines count empty kept =
     let text : List ℕ = put ++ old.answers.written.text.items in
     let none : text ++ new.answers.written.text.items ≡ text = ap (λ (r : List ℕ). text ++ r) empty ∙ append-nil text in
@@ -52,7 +52,7 @@ put_on signal put front old new k stage lines count empty kept =
 pub midway_put : (signal : Signal) (before mid now : Option (List ℕ)) (front : List ℕ) (old new : Progress) → IsMidway signal before mid front old
     → Puts mid now old.answers.written.text.items
     → new.answers.stage ≡ old.answers.stage → new.answers.lines ≡ old.answers.lines → new.answers.written.count ≡ old.answers.written.count
-    → new.answers.written.text.items ≡ [] → new.kept ≡ old.kept → IsMidway signal before now front new
+    → new.answers.written.text.items ≡ [] → new.partial_line ≡ old.partial_line → IsMidway signal before now front new
 midway_put signal before mid now front old new m puts stage lines count empty kept = record {
   put = m.put ++ old.answers.written.text.items;
   puts = puts_more before mid now m.put old.answers.written.text.items m.puts puts;
@@ -65,10 +65,10 @@ pub same_front : (signal : Signal) (text bytes : List ℕ) (accepted : Bool) →
 same_front signal text bytes accepted is = ([], ap (λ (r : Report). r.written) is ∙ sym (append-nil text))
 
 -- a whole line is refused, whatever bytes follow
-pub stops_report : (signal : Signal) (bytes tail text : List ℕ) → Stops signal (whole_lines bytes) text → report signal (bytes ++ tail) ≡ record { written = text; accepted = false }
+pub stops_report : (signal : Signal) (bytes tail text : List ℕ) → IsStopped signal (whole_lines bytes) text → report signal (bytes ++ tail) ≡ record { written = text; accepted = false }
 stops_report signal bytes tail text stops = let on = lines_on bytes tail in ap (report_from signal 0) on.1 ∙ stops.report_is on.0
 
-cut_front : (signal : Signal) (refused : Bool) (bytes tail text : List ℕ) → Cuts signal refused (whole_lines bytes) text → IsFrontOf text (output signal (bytes ++ tail))
+cut_front : (signal : Signal) (refused : Bool) (bytes tail text : List ℕ) → AnswersBrokenOff signal refused (whole_lines bytes) text → IsFrontOf text (output signal (bytes ++ tail))
 cut_front signal true bytes tail text stops = same_front signal text (bytes ++ tail) false (stops_report signal bytes tail text stops)
 cut_front signal false bytes tail text cuts =
     let on = lines_on bytes tail in
@@ -80,7 +80,7 @@ front_again text part bytes first second =
     (first.0 ++ second.0, second.1 ∙ ap (λ (t : List ℕ). t ++ second.0) first.1 ∙ append_assoc part first.0 second.0)
 
 -- what is answered, written or not, is a front of the output
-answered_front : (signal : Signal) (put front tail : List ℕ) (p : Progress) → Keeps signal put front p → IsFrontOf (put ++ p.answers.written.text.items) (output signal (front ++ tail))
+answered_front : (signal : Signal) (put front tail : List ℕ) (p : Progress) → HasAnsweredLines signal put front p → IsFrontOf (put ++ p.answers.written.text.items) (output signal (front ++ tail))
 answered_front signal put front tail p k =
     cut_front signal (is_refused p.answers.stage) front tail (put ++ p.answers.written.text.items)
     (cut_at signal p.answers.stage (whole_lines front) p.answers.lines (put ++ p.answers.written.text.items) p.answers.written.count k.answered)
@@ -126,20 +126,20 @@ front_line front done line =
 
 -- a line of a piece is answered
 pub midway_line : (signal : Signal) (before now : Option (List ℕ)) (front done line : List ℕ) (old new : Progress) → IsMidway signal before now (front ++ done) old
-    → ((put behind : List ℕ) → Keeps signal put behind old → Keeps signal put (behind ++ line ++ 10 ∷ []) new) → IsMidway signal before now (front ++ (done ++ line ++ 10 ∷ [])) new
+    → ((put behind : List ℕ) → HasAnsweredLines signal put behind old → HasAnsweredLines signal put (behind ++ line ++ 10 ∷ []) new) → IsMidway signal before now (front ++ (done ++ line ++ 10 ∷ [])) new
 midway_line signal before now front done line old new m keeps = record {
   put = m.put;
   puts = m.puts;
-  keeps = subst (λ (f : List ℕ). Keeps signal m.put f new) (front_line front done line) (keeps m.put (front ++ done) m.keeps);
+  keeps = subst (λ (f : List ℕ). HasAnsweredLines signal m.put f new) (front_line front done line) (keeps m.put (front ++ done) m.keeps);
 }
 
 -- the rest of a piece is kept
 pub midway_kept : (signal : Signal) (before now : Option (List ℕ)) (front done rest piece : List ℕ) (old new : Progress) → IsMidway signal before now (front ++ done) old → piece ≡ done ++ rest
-    → has_feed rest ≡ false → new.kept.items ≡ old.kept.items ++ rest → new.answers ≡ old.answers → IsMidway signal before now (front ++ piece) new
+    → has_feed rest ≡ false → new.partial_line.items ≡ old.partial_line.items ++ rest → new.answers ≡ old.answers → IsMidway signal before now (front ++ piece) new
 midway_kept signal before now front done rest piece old new m is none items same = record {
   put = m.put;
   puts = m.puts;
-  keeps = subst (λ (f : List ℕ). Keeps signal m.put f new) (append_assoc front done rest ∙ ap (λ (p : List ℕ). front ++ p) (sym is))
+  keeps = subst (λ (f : List ℕ). HasAnsweredLines signal m.put f new) (append_assoc front done rest ∙ ap (λ (p : List ℕ). front ++ p) (sym is))
       (kept_on signal m.put (front ++ done) rest old new m.keeps none items same);
 }
 

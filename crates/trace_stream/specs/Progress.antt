@@ -10,16 +10,16 @@ use Rattle.trace_stream.specs.declared.status.Status.{Status}
 use Rattle.trace_stream.specs.declared.status.Status.TheVariants as ends
 
 -- Of these bytes the whole lines are answered, behind a text that was put, and what comes behind them is kept.
-pub record Keeps (signal : Signal) (put front : List ℕ) (progress : Progress) : Type 0 where
-  pub parts : front ≡ whole_part front ++ progress.kept.items
-  pub rest : has_feed progress.kept.items ≡ false
+pub record HasAnsweredLines (signal : Signal) (put front : List ℕ) (progress : Progress) : Type 0 where
+  pub parts : front ≡ whole_part front ++ progress.partial_line.items
+  pub rest : has_feed progress.partial_line.items ≡ false
   pub answered : AnswersTo signal put (whole_lines front) progress.answers
 
 -- the same, where a sink gained that text
 pub record IsMidway (signal : Signal) (before now : Option (List ℕ)) (front : List ℕ) (progress : Progress) : Type 0 where
   pub put : List ℕ
   pub puts : Puts before now put
-  pub keeps : Keeps signal put front progress
+  pub keeps : HasAnsweredLines signal put front progress
 
 -- Whatever bytes follow, the sink gained a front of their output.
 abbrev pub HasFront : Signal → Option (List ℕ) → Option (List ℕ) → List ℕ → Type 0

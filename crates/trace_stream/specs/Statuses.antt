@@ -4,11 +4,11 @@ use Rattle.trace_stream.specs.declared.status.Status.{Status}
 use Rattle.trace_stream.specs.declared.status.Status.TheVariants as ends
 
 -- the number of a status
-abbrev pub number_of : Status → ℕ
-number_of ends.Ok = 0
-number_of ends.Usage = 1
-number_of ends.Refused = 2
-number_of ends.ReadFault = 3
-number_of ends.WriteFault = 4
-number_of ends.Memory = 5
-number_of ends.TooLong = 6
+abbrev pub exit_number : Status → ℕ
+exit_number ends.Ok = 0
+exit_number ends.Usage = 1
+exit_number ends.Refused = 2
+exit_number ends.ReadFault = 3
+exit_number ends.WriteFault = 4
+exit_number ends.Memory = 5
+exit_number ends.TooLong = 6

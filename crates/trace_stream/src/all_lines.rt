@@ -3,7 +3,7 @@ ghost use Rattle.std.specs.Prelude.{◌≡◌, ℕ, List, Bool, not, None, IfSom
 ghost use Rattle.trace_lines.specs.Lines.{lines_of};
 ghost use Rattle.input_lines.specs.Refusals.{Refuses, NoneRefused};
 ghost use Rattle.trace_stream.specs.reading.AllLines.{meaning_of_all_lines, AnswersCut, WritesAnswer, status_at_end};
-ghost use Rattle.trace_stream.specs.Carries.{Carries, StopsAtFault};
+ghost use Rattle.trace_stream.specs.Carries.{CarriesOut, StopsAtFault};
 ghost use Rattle.trace_stream.specs.Streams.{StopsReading, StopsWriting, streams_of};
 
 use crate::failed::Failed;
@@ -46,7 +46,7 @@ pub fn answer_all<C: AllLinesCommand, R: Source, W: Sink>(
     sink: &mut W,
 ) -> Status
     ensures carries { let at = streams_of R.remaining R.ends R.faults W.holds W.faults in
-        Carries (meaning_of_all_lines (C.accepts command.old) (C.writes command.old)) result
+        CarriesOut (meaning_of_all_lines (C.accepts command.old) (C.writes command.old)) result
         (at source.old sink.old) (at source.new sink.new) }
     ensures stops { StopsAtFault result (StopsReading R.faults R.remaining source.old source.new)
         (StopsWriting W.faults W.holds sink.old sink.new) }

@@ -2,7 +2,7 @@
 ghost use Rattle.std.specs.Prelude.{◌≡◌, ℕ, List, [], ◌∷◌, ◌++◌, ◌+◌, false, true, IfOk, OnOk};
 ghost use Rattle.trace_lines.specs.Lines.{is_blank};
 ghost use Rattle.trace_lines.specs.Report.{report_from};
-ghost use Rattle.trace_stream.specs.reading.Answers.{Opens, Runs, AnswersAt, Goes, AnswersTo, is_refused};
+ghost use Rattle.trace_stream.specs.reading.Answers.{IsOpening, IsRunning, AnswersAt, StandsBehindRequest, AnswersTo, is_refused};
 
 use crate::written::Written;
 use input_lines::is_blank;
@@ -12,7 +12,7 @@ use std::mem;
 use trace_base::discard::Discard;
 use trace_lines::{Signal, Told};
 use trace_pipeline::pipeline::Pipeline;
-use trace_records::line::{Opened, answer_line, open_line};
+use trace_records::line::{OpenedPipeline, answer_line, open_line};
 
 /// Where a run stands between two lines.
 pub enum RunStage {
@@ -57,7 +57,7 @@ impl Discard for Answers {
 }
 
 // Goes on to another stage.
-fn go_on(stage: &mut RunStage, next: RunStage)
+fn set_stage(stage: &mut RunStage, next: RunStage)
     ensures { stage.new ≡ next }
 {
     mem::replace(stage, next).discard();
@@ -69,7 +69,7 @@ fn go_on(stage: &mut RunStage, next: RunStage)
 fn stop(stage: &mut RunStage)
     ensures { stage.new ≡ RunStage.Refused }
 {
-    go_on(stage, RunStage::Refused);
+    set_stage(stage, RunStage::Refused);
 }
 
 impl Answers {
@@ -91,12 +91,12 @@ impl Answers {
     #[inline(never)]
     fn begin(&mut self, alloc: Global, signal: Signal, line: &[u8]) -> Result<(), Memory>
         ensures { (put : List ℕ) (before : List (List ℕ)) (count : ℕ)
-            → Opens signal before count (put ++ self.old.written.text.items) self.old.written.count
+            → IsOpening signal before count (put ++ self.old.written.text.items) self.old.written.count
             → self.old.lines ≡ count + 1 → is_blank line.now ≡ false
             → OnOk result (AnswersTo signal put (before ++ line.now ∷ []) self.new) }
     {
         let next = open(alloc, signal, &mut self.written, self.lines, line)?;
-        go_on(&mut self.stage, next);
+        set_stage(&mut self.stage, next);
         Ok(())
     }
 
@@ -168,14 +168,14 @@ pub fn open(
     line: &[u8],
 ) -> Result<RunStage, Memory>
     ensures { (put : List ℕ) (before : List (List ℕ)) (count : ℕ)
-        → Opens signal before count (put ++ written.old.text.items) written.old.count → lines ≡ count + 1
+        → IsOpening signal before count (put ++ written.old.text.items) written.old.count → lines ≡ count + 1
         → is_blank line.now ≡ false
         → IfOk result (λ stage. AnswersAt signal stage (before ++ line.now ∷ []) lines
         (put ++ written.new.text.items) written.new.count) }
 {
     match open_line(alloc, None, line)? {
         Ok(opened) => {
-            let Opened {
+            let OpenedPipeline {
                 pipeline,
                 lane_count: _,
             } = opened;
@@ -198,9 +198,9 @@ pub fn answer(
     line: &[u8],
 ) -> Result<bool, Memory>
     ensures { (put : List ℕ) (before : List (List ℕ)) (count : ℕ)
-        → Runs signal before count pipeline.old (put ++ written.old.text.items) written.old.count
+        → IsRunning signal before count pipeline.old (put ++ written.old.text.items) written.old.count
         → lines ≡ count + 1 → is_blank line.now ≡ false
-        → IfOk result (λ served. Goes signal served (before ++ line.now ∷ []) lines pipeline.new
+        → IfOk result (λ served. StandsBehindRequest signal served (before ++ line.now ∷ []) lines pipeline.new
         (put ++ written.new.text.items) written.new.count) }
 {
     match answer_line(alloc, pipeline, line)? {

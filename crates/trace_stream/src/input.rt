@@ -10,7 +10,7 @@ use std::alloc::{AllocError, Global};
 use trace_lines::limits::MAX_INPUT;
 
 /// How many bytes are asked for at once.
-pub const BLOCK: usize = 65_536;
+pub const BLOCK_SIZE: usize = 65_536;
 
 /// How the reading of an input ended.
 #[derive(Clone, Copy, Debug, PartialEq, Eq)]
@@ -54,7 +54,7 @@ pub fn read_all<R: Source>(alloc: Global, source: &mut R) -> Result<Input, Memor
     ensures end_once { R.ends source.new ≤ R.ends source.old + 1 }
 {
     let mut bytes = Vec::new(alloc);
-    let mut room = zeros(alloc, BLOCK)?;
+    let mut room = zeros(alloc, BLOCK_SIZE)?;
     let block = room.as_mut_slice();
     while bytes.len() <= MAX_INPUT {
         match source.read(block) {

@@ -4,7 +4,7 @@ ghost use Rattle.trace_lines.specs.Report.{report};
 ghost use Rattle.trace_stream.specs.reading.Answers.{is_refused};
 ghost use Rattle.trace_stream.specs.reading.Breaks.{has_feed};
 ghost use Rattle.trace_stream.specs.Streams.{CountsFault, StopsWriting};
-ghost use Rattle.trace_stream.specs.Progress.{IsMidway, Keeps, FeedsTo, FinishesRun};
+ghost use Rattle.trace_stream.specs.Progress.{IsMidway, HasAnsweredLines, FeedsTo, FinishesRun};
 
 use crate::answers::Answers;
 use crate::failed::Failed;
@@ -16,20 +16,23 @@ use trace_base::discard::Discard;
 use trace_lines::Signal;
 
 // How many bytes are kept before they are written.
-const FULL: usize = 65_536;
+const FLUSH_SIZE: usize = 65_536;
 
 /// A run under way: what the lines that came whole are answered, and what came of the next line. It has to be spent.
 pub struct Progress {
     /// The answers to the lines that came whole.
     pub answers: Answers,
     /// What came of the next line.
-    pub kept: Vec<u8>,
+    pub partial_line: Vec<u8>,
 }
 
 /// What is kept is dropped.
 impl Discard for Progress {
     fn discard(self) {
-        let Progress { answers, kept: _ } = self;
+        let Progress {
+            answers,
+            partial_line: _,
+        } = self;
         answers.discard();
     }
 }
@@ -46,29 +49,29 @@ pub enum Stop {
 impl Progress {
     /// A run before its first byte.
     pub fn new(alloc: Global) -> Progress
-        ensures keeps { (signal : Signal) → Keeps signal [] [] result }
+        ensures keeps { (signal : Signal) → HasAnsweredLines signal [] [] result }
         ensures text { result.answers.written.text.items ≡ [] }
         ensures going { is_refused result.answers.stage ≡ false }
     {
         Progress {
             answers: Answers::new(alloc),
-            kept: Vec::new(alloc),
+            partial_line: Vec::new(alloc),
         }
     }
 
     // Answers the line that these bytes end. `Memory` freely.
     fn answer_line(&mut self, alloc: Global, signal: Signal, line: &[u8]) -> Result<(), Memory>
         requires { has_feed line.now ≡ false }
-        ensures { (put front : List ℕ) → Keeps signal put front self.old
-            → OnOk result (Keeps signal put (front ++ line.now ++ 10 ∷ []) self.new) }
+        ensures { (put front : List ℕ) → HasAnsweredLines signal put front self.old
+            → OnOk result (HasAnsweredLines signal put (front ++ line.now ++ 10 ∷ []) self.new) }
     {
-        if self.kept.is_empty() {
+        if self.partial_line.is_empty() {
             return self.answers.answer_line(alloc, signal, line);
         }
-        self.kept.extend_from_slice(line)?;
+        self.partial_line.extend_from_slice(line)?;
         self.answers
-            .answer_line(alloc, signal, self.kept.as_slice())?;
-        self.kept.clear();
+            .answer_line(alloc, signal, self.partial_line.as_slice())?;
+        self.partial_line.clear();
         Ok(())
     }
 
@@ -89,7 +92,7 @@ impl Progress {
     }
 
     // The same, once there is much of it.
-    fn relieve<W: Sink>(&mut self, sink: &mut W) -> Result<(), Failed>
+    fn flush_if_full<W: Sink>(&mut self, sink: &mut W) -> Result<(), Failed>
         ensures midway { (signal : Signal) (before : Option (List ℕ)) (front : List ℕ)
             → IsMidway signal before (W.holds sink.old) front self.old
             → FeedsTo signal result before (W.holds sink.new) front self.new }
@@ -97,7 +100,7 @@ impl Progress {
         ensures cause { OnErr result (CountsFault (W.faults sink.old) (W.faults sink.new)) }
         ensures stops { OnErr result (StopsWriting W.faults W.holds sink.old sink.new) }
     {
-        if self.answers.written.text.len() < FULL {
+        if self.answers.written.text.len() < FLUSH_SIZE {
             return Ok(());
         }
         self.flush(sink)
@@ -127,12 +130,12 @@ impl Progress {
             let Ok(()) = self.answer_line(alloc, signal, line) else {
                 return Err(Stop::Memory);
             };
-            let Ok(()) = self.relieve(sink) else {
+            let Ok(()) = self.flush_if_full(sink) else {
                 return Err(Stop::Write);
             };
             rest = after;
         }
-        let Ok(()) = self.kept.extend_from_slice(rest) else {
+        let Ok(()) = self.partial_line.extend_from_slice(rest) else {
             return Err(Stop::Memory);
         };
         let Ok(()) = self.flush(sink) else {
@@ -143,15 +146,15 @@ impl Progress {
 
     // Answers what came of the last line, and that no line follows. Whether the lines are accepted is told. `Memory` freely.
     fn end(&mut self, alloc: Global, signal: Signal) -> Result<bool, Memory>
-        ensures { (put front : List ℕ) → Keeps signal put front self.old
+        ensures { (put front : List ℕ) → HasAnsweredLines signal put front self.old
             → IfOk result (λ accepted. report signal front
             ≡ record { written = put ++ self.new.answers.written.text.items; accepted = accepted }) }
     {
-        if self.kept.is_empty() {
+        if self.partial_line.is_empty() {
             return self.answers.end(signal);
         }
         self.answers
-            .answer_line(alloc, signal, self.kept.as_slice())?;
+            .answer_line(alloc, signal, self.partial_line.as_slice())?;
         self.answers.end(signal)
     }
 

@@ -2,14 +2,14 @@
 //! the next block is read.
 ghost use Rattle.std.specs.Prelude.{◌≡◌, ◌≢◌, ◌+◌, ◌<◌, ◌≤◌, [], false, length, IfSome};
 ghost use Rattle.trace_stream.specs.reading.Answers.{is_refused};
-ghost use Rattle.trace_stream.specs.Carries.{Carries, Causes, IsOver, StopsAtFault};
+ghost use Rattle.trace_stream.specs.Carries.{CarriesOut, HasCause, IsTooLongForCause, StopsAtFault};
 ghost use Rattle.trace_stream.specs.Runs.{answering_of_run, meaning_of_runs};
-ghost use Rattle.trace_stream.specs.Progress.{Keeps};
+ghost use Rattle.trace_stream.specs.Progress.{HasAnsweredLines};
 ghost use Rattle.trace_stream.specs.reading.Reading.{LeavesStreams, PutsSome, IsRefusedAt};
 ghost use Rattle.trace_stream.specs.Streams.{MeetsEnd, StopsReading, StopsWriting, streams_of};
 
 use crate::failed::Failed;
-use crate::input::{BLOCK, zeros};
+use crate::input::{BLOCK_SIZE, zeros};
 use crate::progress::{Progress, Stop};
 use crate::sink::Sink;
 use crate::source::Source;
@@ -27,11 +27,11 @@ pub fn run<R: Source, W: Sink>(
     sink: &mut W,
 ) -> Status
     ensures carries { let at = streams_of R.remaining R.ends R.faults W.holds W.faults in
-        Carries (meaning_of_runs signal) result (at source.old sink.old) (at source.new sink.new) }
+        CarriesOut (meaning_of_runs signal) result (at source.old sink.old) (at source.new sink.new) }
     ensures stops { StopsAtFault result (StopsReading R.faults R.remaining source.old source.new)
         (StopsWriting W.faults W.holds sink.old sink.new) }
 {
-    let Ok(mut room) = zeros(alloc, BLOCK) else {
+    let Ok(mut room) = zeros(alloc, BLOCK_SIZE) else {
         return Status::Memory;
     };
     let mut progress = Progress::new(alloc);
@@ -58,7 +58,7 @@ fn run_blocks<R: Source, W: Sink>(
     sink: &mut W,
 ) -> Status
     requires room { 0 < length block.old }
-    requires keeps { Keeps signal [] [] progress.old }
+    requires keeps { HasAnsweredLines signal [] [] progress.old }
     requires empty { progress.old.answers.written.text.items ≡ [] }
     requires going { is_refused progress.old.answers.stage ≡ false }
 
@@ -69,14 +69,14 @@ fn run_blocks<R: Source, W: Sink>(
         PutsSome (answering_of_run signal) bytes (W.holds sink.old) (W.holds sink.new)) }
 
     ensures causes { let at = streams_of R.remaining R.ends R.faults W.holds W.faults in
-        Causes result (at source.old sink.old) (at source.new sink.new) }
+        HasCause result (at source.old sink.old) (at source.new sink.new) }
     ensures stops { StopsAtFault result (StopsReading R.faults R.remaining source.old source.new)
         (StopsWriting W.faults W.holds sink.old sink.new) }
     ensures refused { let at = streams_of R.remaining R.ends R.faults W.holds W.faults in
         IsRefusedAt (answering_of_run signal) result (at source.old sink.old) (at source.new sink.new) }
     ensures met { result ≡ Status.Ok → MeetsEnd (R.ends source.old) (R.ends source.new) }
     ensures over { let at = streams_of R.remaining R.ends R.faults W.holds W.faults in
-        IsOver result (at source.old sink.old) (at source.new sink.new) }
+        IsTooLongForCause result (at source.old sink.old) (at source.new sink.new) }
     ensures end_once { R.ends source.new ≤ R.ends source.old + 1 }
     ensures usage { result ≢ Status.Usage }
 {

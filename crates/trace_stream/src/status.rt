@@ -1,7 +1,7 @@
 //! How a call of the program ends.
 ghost use Rattle.std.specs.Prelude.{◌≡◌};
 ghost use Rattle.std.specs.Process.{exit_status};
-ghost use Rattle.trace_stream.specs.Statuses.{number_of};
+ghost use Rattle.trace_stream.specs.Statuses.{exit_number};
 
 use std::process::ExitCode;
 
@@ -27,7 +27,7 @@ pub enum Status {
 impl Status {
     /// The number of the status.
     pub fn number(self) -> u8
-        ensures { result ≡ number_of self }
+        ensures { result ≡ exit_number self }
     {
         match self {
             Status::Ok => 0,
@@ -42,7 +42,7 @@ impl Status {
 
     /// What the process ends with.
     pub fn exit_code(self) -> ExitCode
-        ensures { exit_status result ≡ number_of self }
+        ensures { exit_status result ≡ exit_number self }
     {
         ExitCode::from(self.number())
     }

@@ -2,7 +2,7 @@
 ghost use Rattle.std.specs.Prelude.{◌≡◌, ◌≢◌, ◌++◌, ◌+◌, ◌≤◌, [], length, OnOk, OnErr};
 ghost use Rattle.trace_lines.specs.Report.{record_lines, measure_lines, last_text};
 ghost use Rattle.trace_lines.specs.text.Texts.{reply_text, refusal_text};
-ghost use Rattle.trace_records.specs.Following.{without_taken};
+ghost use Rattle.trace_records.specs.Following.{without_outputs};
 ghost use Rattle.trace_stream.specs.reading.Answers.{IsAnswered};
 ghost use Rattle.trace_stream.specs.Streams.{CountsFault, Puts, PutsFront, StopsWriting};
 
@@ -89,7 +89,7 @@ impl Written {
         ensures count { OnOk result (
             self.new.count ≡ self.old.count + length pipeline.old.recording.finished) }
         ensures taken { OnOk result (pipeline.new.recording.finished ≡ []) }
-        ensures state { without_taken pipeline.new ≡ without_taken pipeline.old }
+        ensures state { without_outputs pipeline.new ≡ without_outputs pipeline.old }
     {
         while let Some(finished) = pipeline.take_record() {
             // No run has so many records that the sum wraps.
@@ -106,7 +106,7 @@ impl Written {
             self.new.text.items ≡ self.old.text.items ++ measure_lines line pipeline.old.measures) }
         ensures count { OnOk result (self.new.count ≡ self.old.count + length pipeline.old.measures) }
         ensures taken { OnOk result (pipeline.new.measures ≡ []) }
-        ensures state { without_taken pipeline.new ≡ without_taken pipeline.old }
+        ensures state { without_outputs pipeline.new ≡ without_outputs pipeline.old }
     {
         while let Some(measure) = pipeline.take_measure() {
             // No run has so many measures that the sum wraps.
@@ -150,7 +150,7 @@ impl Written {
 fn drop_records(pipeline: &mut Pipeline)
     ensures taken { pipeline.new.recording.finished ≡ [] }
     ensures measures { pipeline.new.measures ≡ pipeline.old.measures }
-    ensures state { without_taken pipeline.new ≡ without_taken pipeline.old }
+    ensures state { without_outputs pipeline.new ≡ without_outputs pipeline.old }
 {
     while pipeline.take_record().is_some() {}
 }

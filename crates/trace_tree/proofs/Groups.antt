@@ -12,7 +12,7 @@ use Rattle.std.proofs.lemmas.Map.Keys.{below_from_sorted}
 use Rattle.trace_tree.specs.declared.span.TreeSpan.{TreeSpan}
 use Rattle.trace_tree.specs.declared.adjacency.Adjacency.{Adjacency}
 use Rattle.trace_tree.specs.Paths.{path_at, tree_parent}
-use Rattle.trace_tree.specs.Walking.{Ordered, has, up_from, up_at, id_at, Children, Roots, IsAdjacency, IsIndex}
+use Rattle.trace_tree.specs.Walking.{Ordered, has, parent_place_from, parent_place_at, id_at, AreChildren, AreRoots, IsAdjacency, IsIndex}
 use Rattle.trace_tree.proofs.Parents.{up_within, up_parent, up_top, path_under, path_top, path_of_place}
 use Rattle.trace_tree.proofs.Visits.{up_is, id_is}
 
@@ -62,8 +62,8 @@ is_up p (Some q) = q == p
 -- the tables after the places ps
 pub record Grouped (rs : List TreeSpan) (roots : List ℕ) (under : List (List ℕ)) (ps : List ℕ) : Type 0 where
   pub size : length under ≡ length rs
-  pub roots_are : roots ≡ filter (λ k. is_none_up (up_at rs k)) ps
-  pub kids : (p : ℕ) → p < length rs → get_or under p [] ≡ filter (λ k. is_up p (up_at rs k)) ps
+  pub roots_are : roots ≡ filter (λ k. is_none_up (parent_place_at rs k)) ps
+  pub kids : (p : ℕ) → p < length rs → get_or under p [] ≡ filter (λ k. is_up p (parent_place_at rs k)) ps
 
 pub grouped_start : (rs : List TreeSpan) (under : List (List ℕ)) → length under ≡ length rs → ((p : ℕ) → get_or under p [] ≡ []) → Grouped rs [] under []
 grouped_start rs under size empty = record { size = size; roots_are = refl; kids = λ p less. empty p }
@@ -82,37 +82,37 @@ module _ (p : ℕ → Bool) (ps : List ℕ) (x : ℕ) where
   filter_without : p x ≡ false → filter p ps ≡ filter p (ps ++ x ∷ [])
   filter_without e = sym (append-nil (filter p ps)) ∙ ap (λ b. filter p ps ++ cond b (x ∷ []) []) (sym e) ∙ sym (filter-append p ps (x ∷ []))
 
-pub grouped_root : (rs : List TreeSpan) (roots : List ℕ) (under : List (List ℕ)) (ps : List ℕ) (x : ℕ) → Grouped rs roots under ps → up_at rs x ≡ None → Grouped rs (roots ++ x ∷ []) under (ps ++ x ∷ [])
+pub grouped_root : (rs : List TreeSpan) (roots : List ℕ) (under : List (List ℕ)) (ps : List ℕ) (x : ℕ) → Grouped rs roots under ps → parent_place_at rs x ≡ None → Grouped rs (roots ++ x ∷ []) under (ps ++ x ∷ [])
 grouped_root rs roots under ps x g e = record {
   size = g.size;
-  roots_are = ap (λ (l : List ℕ). l ++ x ∷ []) g.roots_are ∙ filter_with (λ k. is_none_up (up_at rs k)) ps x (ap is_none_up e);
-  kids = λ p less. g.kids p less ∙ filter_without (λ k. is_up p (up_at rs k)) ps x (ap (is_up p) e);
+  roots_are = ap (λ (l : List ℕ). l ++ x ∷ []) g.roots_are ∙ filter_with (λ k. is_none_up (parent_place_at rs k)) ps x (ap is_none_up e);
+  kids = λ p less. g.kids p less ∙ filter_without (λ k. is_up p (parent_place_at rs k)) ps x (ap (is_up p) e);
 }
 
-pub grouped_under : (rs : List TreeSpan) (roots : List ℕ) (under : List (List ℕ)) (ps : List ℕ) (x q : ℕ) → Grouped rs roots under ps → up_at rs x ≡ Some q → q < length rs
+pub grouped_under : (rs : List TreeSpan) (roots : List ℕ) (under : List (List ℕ)) (ps : List ℕ) (x q : ℕ) → Grouped rs roots under ps → parent_place_at rs x ≡ Some q → q < length rs
     → Grouped rs roots (set under q (get_or under q [] ++ x ∷ [])) (ps ++ x ∷ [])
 grouped_under rs roots under ps x q g e less = record {
   size = length-set under q (get_or under q [] ++ x ∷ []) ∙ g.size;
-  roots_are = g.roots_are ∙ filter_without (λ k. is_none_up (up_at rs k)) ps x (ap is_none_up e);
+  roots_are = g.roots_are ∙ filter_without (λ k. is_none_up (parent_place_at rs k)) ps x (ap is_none_up e);
   kids = λ p small. ⊎_elim
       (λ (h : p ≡ q).
       ap (λ n. get_or (set under q (get_or under q [] ++ x ∷ [])) n []) h
       ∙ get_or-set_same under q (get_or under q [] ++ x ∷ []) [] (let s = g.size in omega arith)
       ∙ ap (λ n. get_or under n [] ++ x ∷ []) (sym h)
       ∙ ap (λ (l : List ℕ). l ++ x ∷ []) (g.kids p small)
-      ∙ filter_with (λ k. is_up p (up_at rs k)) ps x (ap (is_up p) e ∙ eq-eqb q p (sym h)))
+      ∙ filter_with (λ k. is_up p (parent_place_at rs k)) ps x (ap (is_up p) e ∙ eq-eqb q p (sym h)))
       (λ (h : p ≢ q).
       get_or-set_other under q p (get_or under q [] ++ x ∷ []) [] h
       ∙ g.kids p small
-      ∙ filter_without (λ k. is_up p (up_at rs k)) ps x (ap (is_up p) e ∙ ne_eqb q p (λ z. h (sym z))))
+      ∙ filter_without (λ k. is_up p (parent_place_at rs k)) ps x (ap (is_up p) e ∙ ne_eqb q p (λ z. h (sym z))))
       (cases_eq p q);
 }
 
 -- ---- paths by places
 
-under_by : (rs : List TreeSpan) (d : TreeSpan) (k x : ℕ) → k < length rs → up_at rs k ≡ Some x → path_at rs k ≡ path_at rs x ++ id_at rs k ∷ []
+under_by : (rs : List TreeSpan) (d : TreeSpan) (k x : ℕ) → k < length rs → parent_place_at rs k ≡ Some x → path_at rs k ≡ path_at rs x ++ id_at rs k ∷ []
 under_by rs d k x less e =
-    let u : up_from 0 rs (get_or rs k d) ≡ Some x = sym (up_is rs rs k d less) ∙ e in
+    let u : parent_place_from 0 rs (get_or rs k d) ≡ Some x = sym (up_is rs rs k d less) ∙ e in
     let w = up_within 0 rs (get_or rs k d) x u in
     let z : x - 0 ≡ x = omega arith in
     let t : tree_parent rs (get_or rs k d) ≡ Some (get_or rs x d) = up_parent 0 rs (get_or rs k d) x d u ∙ ap (λ m. Some (get_or rs m d)) z in
@@ -120,16 +120,16 @@ under_by rs d k x less e =
     ∙ ap (λ (l : List ℕ). l ++ (get_or rs k d).span ∷ []) (sym (path_of_place rs rs x d (let h = w.1 in omega arith)))
     ∙ ap (λ n. path_at rs x ++ n ∷ []) (sym (id_is rs k d less))
 
-under_at : (rs : List TreeSpan) (k x : ℕ) → k < length rs → up_at rs k ≡ Some x → path_at rs k ≡ path_at rs x ++ id_at rs k ∷ []
+under_at : (rs : List TreeSpan) (k x : ℕ) → k < length rs → parent_place_at rs k ≡ Some x → path_at rs k ≡ path_at rs x ++ id_at rs k ∷ []
 under_at [] k x less e = absurd (omega arith)
 under_at (r ∷ rs) k x less e = under_by (r ∷ rs) r k x less e
 
-top_by : (rs : List TreeSpan) (d : TreeSpan) (k : ℕ) → k < length rs → up_at rs k ≡ None → path_at rs k ≡ id_at rs k ∷ []
+top_by : (rs : List TreeSpan) (d : TreeSpan) (k : ℕ) → k < length rs → parent_place_at rs k ≡ None → path_at rs k ≡ id_at rs k ∷ []
 top_by rs d k less e =
-    let u : up_from 0 rs (get_or rs k d) ≡ None = sym (up_is rs rs k d less) ∙ e in
+    let u : parent_place_from 0 rs (get_or rs k d) ≡ None = sym (up_is rs rs k d less) ∙ e in
     path_of_place rs rs k d less ∙ path_top rs (get_or rs k d) (up_top 0 rs (get_or rs k d) u) ∙ ap (λ n. n ∷ []) (sym (id_is rs k d less))
 
-top_at : (rs : List TreeSpan) (k : ℕ) → k < length rs → up_at rs k ≡ None → path_at rs k ≡ id_at rs k ∷ []
+top_at : (rs : List TreeSpan) (k : ℕ) → k < length rs → parent_place_at rs k ≡ None → path_at rs k ≡ id_at rs k ∷ []
 top_at [] k less e = absurd (omega arith)
 top_at (r ∷ rs) k less e = top_by (r ∷ rs) r k less e
 
@@ -148,31 +148,31 @@ pub record Places (rs : List TreeSpan) (ps : List ℕ) : Type 0 where
   pub ordered : Ordered (λ a b. id_at rs a < id_at rs b) ps
   pub whole : (k : ℕ) → k < length rs → has k ps ≡ true
 
-top_or : (rs : List TreeSpan) (ps : List ℕ) (k : ℕ) (o : Option ℕ) → up_at rs k ≡ o → has k ps ≡ true → (has k (filter (λ j. is_none_up (up_at rs j)) ps) ≡ true) ⊎ ((p : ℕ) × (up_at rs k ≡ Some p))
-top_or rs ps k None e h = inl (filter_has (λ j. is_none_up (up_at rs j)) k (ap is_none_up e) ps h)
+top_or : (rs : List TreeSpan) (ps : List ℕ) (k : ℕ) (o : Option ℕ) → parent_place_at rs k ≡ o → has k ps ≡ true → (has k (filter (λ j. is_none_up (parent_place_at rs j)) ps) ≡ true) ⊎ ((p : ℕ) × (parent_place_at rs k ≡ Some p))
+top_or rs ps k None e h = inl (filter_has (λ j. is_none_up (parent_place_at rs j)) k (ap is_none_up e) ps h)
 top_or rs ps k (Some p) e h = inr (p, e)
 
-pub roots_from : (rs : List TreeSpan) (ps : List ℕ) → Places rs ps → Roots (length rs) (path_at rs) (id_at rs) (up_at rs) (filter (λ k. is_none_up (up_at rs k)) ps)
+pub roots_from : (rs : List TreeSpan) (ps : List ℕ) → Places rs ps → AreRoots (length rs) (path_at rs) (id_at rs) (parent_place_at rs) (filter (λ k. is_none_up (parent_place_at rs k)) ps)
 roots_from rs ps a = record {
-  single = filter_all (λ k. is_none_up (up_at rs k)) (λ k. k < length rs) (λ c. (c < length rs) × (path_at rs c ≡ id_at rs c ∷ []))
-      (λ k less e. (less, top_at rs k less (is_none_from (up_at rs k) e))) ps a.within;
-  ordered = filter_ordered (λ k. is_none_up (up_at rs k)) (λ a b. id_at rs a < id_at rs b) ps a.ordered;
-  whole = λ k less. top_or rs ps k (up_at rs k) refl (a.whole k less);
+  single = filter_all (λ k. is_none_up (parent_place_at rs k)) (λ k. k < length rs) (λ c. (c < length rs) × (path_at rs c ≡ id_at rs c ∷ []))
+      (λ k less e. (less, top_at rs k less (is_none_from (parent_place_at rs k) e))) ps a.within;
+  ordered = filter_ordered (λ k. is_none_up (parent_place_at rs k)) (λ a b. id_at rs a < id_at rs b) ps a.ordered;
+  whole = λ k less. top_or rs ps k (parent_place_at rs k) refl (a.whole k less);
 }
 
-pub kids_from : (rs : List TreeSpan) (ps : List ℕ) (x : ℕ) → Places rs ps → Children (length rs) (path_at rs) (id_at rs) (up_at rs) x (filter (λ k. is_up x (up_at rs k)) ps)
+pub kids_from : (rs : List TreeSpan) (ps : List ℕ) (x : ℕ) → Places rs ps → AreChildren (length rs) (path_at rs) (id_at rs) (parent_place_at rs) x (filter (λ k. is_up x (parent_place_at rs k)) ps)
 kids_from rs ps x a = record {
-  under = filter_all (λ k. is_up x (up_at rs k)) (λ k. k < length rs) (λ c. (c < length rs) × (path_at rs c ≡ path_at rs x ++ id_at rs c ∷ []))
-      (λ k less e. (less, under_at rs k x less (is_up_from x (up_at rs k) e))) ps a.within;
-  ordered = filter_ordered (λ k. is_up x (up_at rs k)) (λ a b. id_at rs a < id_at rs b) ps a.ordered;
-  whole = λ k less e. filter_has (λ j. is_up x (up_at rs j)) k (ap (is_up x) e ∙ eq-eqb x x refl) ps (a.whole k less);
+  under = filter_all (λ k. is_up x (parent_place_at rs k)) (λ k. k < length rs) (λ c. (c < length rs) × (path_at rs c ≡ path_at rs x ++ id_at rs c ∷ []))
+      (λ k less e. (less, under_at rs k x less (is_up_from x (parent_place_at rs k) e))) ps a.within;
+  ordered = filter_ordered (λ k. is_up x (parent_place_at rs k)) (λ a b. id_at rs a < id_at rs b) ps a.ordered;
+  whole = λ k less e. filter_has (λ j. is_up x (parent_place_at rs j)) k (ap (is_up x) e ∙ eq-eqb x x refl) ps (a.whole k less);
 }
 
 pub grouped_end : (rs : List TreeSpan) (f : Adjacency) (ps : List ℕ) → Grouped rs f.roots f.children.items ps → Places rs ps → IsAdjacency rs f
 grouped_end rs f ps g a = record {
   size = g.size;
-  roots = subst (λ (l : List ℕ). Roots (length rs) (path_at rs) (id_at rs) (up_at rs) l) (sym g.roots_are) (roots_from rs ps a);
-  children = λ p less. subst (λ (l : List ℕ). Children (length rs) (path_at rs) (id_at rs) (up_at rs) p l) (sym (g.kids p less)) (kids_from rs ps p a);
+  roots = subst (λ (l : List ℕ). AreRoots (length rs) (path_at rs) (id_at rs) (parent_place_at rs) l) (sym g.roots_are) (roots_from rs ps a);
+  children = λ p less. subst (λ (l : List ℕ). AreChildren (length rs) (path_at rs) (id_at rs) (parent_place_at rs) p l) (sym (g.kids p less)) (kids_from rs ps p a);
 }
 
 -- ---- the places of an index

@@ -7,8 +7,8 @@ use Rattle.std.proofs.lemmas.Map.Steps.{length-le_from_distinct_below}
 use Rattle.trace_tree.specs.declared.span.TreeSpan.{TreeSpan}
 use Rattle.trace_tree.specs.declared.node.Node.{Node}
 use Rattle.trace_tree.specs.declared.adjacency.Adjacency.{Adjacency}
-use Rattle.trace_tree.specs.Paths.{IsBelow, path_at, IsForest}
-use Rattle.trace_tree.specs.Walking.{node_at, Ordered, has, up_from, up_in, up_at, id_at, IsAdjacency}
+use Rattle.trace_tree.specs.Paths.{ComesBefore, path_at, IsForest}
+use Rattle.trace_tree.specs.Walking.{node_at, Ordered, has, parent_place_from, parent_place_in, parent_place_at, id_at, IsAdjacency}
 use Rattle.trace_tree.proofs.Orders.{below_self}
 use Rattle.trace_tree.proofs.Parents.{up_within, up_parent, parent_less}
 use Rattle.trace_tree.proofs.Walks.{Walk, all_append, all_map, step, starts, all_done}
@@ -21,7 +21,7 @@ abbrev pub IsDeep : List TreeSpan → Node → Type 0
 IsDeep rs v = suc v.depth ≡ length (path_at rs v.place)
 
 pub record Visits (rs : List TreeSpan) (nodes waits : List Node) : Type 0 where
-  pub walk : Walk (length rs) (path_at rs) (id_at rs) (up_at rs) (places nodes) (places waits)
+  pub walk : Walk (length rs) (path_at rs) (id_at rs) (parent_place_at rs) (places nodes) (places waits)
   pub deep : AllByRecursion (IsDeep rs) nodes
   pub deep_waits : AllByRecursion (IsDeep rs) waits
   pub shallow : AllByRecursion (λ (w : Node). w.depth ≤ length nodes) waits
@@ -43,7 +43,7 @@ roots_shallow n (c ∷ ts) = (omega arith, roots_shallow n ts)
 
 pub visits_start : (rs : List TreeSpan) (f : Adjacency) → IsAdjacency rs f → Visits rs [] (map (node_at 0) f.roots)
 visits_start rs f is = record {
-  walk = subst (λ (l : List ℕ). Walk (length rs) (path_at rs) (id_at rs) (up_at rs) [] l) (sym (places_of 0 f.roots)) (starts (length rs) (path_at rs) (id_at rs) (up_at rs) f.roots is.roots);
+  walk = subst (λ (l : List ℕ). Walk (length rs) (path_at rs) (id_at rs) (parent_place_at rs) [] l) (sym (places_of 0 f.roots)) (starts (length rs) (path_at rs) (id_at rs) (parent_place_at rs) f.roots is.roots);
   deep = tt;
   deep_waits = roots_deep rs f.roots is.roots.single;
   shallow = roots_shallow 0 f.roots;
@@ -72,10 +72,10 @@ visits_step rs f nodes x waits is v =
     let ks : List ℕ = get_or f.children.items x.place [] in
     let kids = is.children x.place (next_within rs nodes x waits v) in
     let longer : length (nodes ++ x ∷ []) ≡ length nodes + 1 = length-append nodes (x ∷ []) in
-    let W : List ℕ × List ℕ → Type 0 = λ p. Walk (length rs) (path_at rs) (id_at rs) (up_at rs) p.0 p.1 in
+    let W : List ℕ × List ℕ → Type 0 = λ p. Walk (length rs) (path_at rs) (id_at rs) (parent_place_at rs) p.0 p.1 in
     record {
       walk = subst W (λ i. (sym (map-append (λ (n : Node). n.place) nodes (x ∷ [])) i, sym (places_front (x.depth + 1) ks waits) i))
-          (step (length rs) (path_at rs) (id_at rs) (up_at rs) (places nodes) x.place ks (places waits) v.walk kids);
+          (step (length rs) (path_at rs) (id_at rs) (parent_place_at rs) (places nodes) x.place ks (places waits) v.walk kids);
       deep = all_append (IsDeep rs) nodes (x ∷ []) v.deep (v.deep_waits.0, tt);
       deep_waits = all_append (IsDeep rs) (map (node_at (x.depth + 1)) ks) waits (kids_deep rs x ks v.deep_waits.0 kids.under) v.deep_waits.1;
       shallow = all_append (λ (w : Node). w.depth ≤ length (nodes ++ x ∷ [])) (map (node_at (x.depth + 1)) ks) waits
@@ -85,13 +85,13 @@ visits_step rs f nodes x waits is v =
 
 -- ---- no place is visited twice
 
-distinct_of : (rs : List TreeSpan) (ps : List ℕ) → Ordered (λ a b. IsBelow (path_at rs a) (path_at rs b)) ps → IsDistinct eqb ps
+distinct_of : (rs : List TreeSpan) (ps : List ℕ) → Ordered (λ a b. ComesBefore (path_at rs a) (path_at rs b)) ps → IsDistinct eqb ps
 unfolding IsDistinct
 distinct_of rs [] o = tt
 distinct_of rs (p ∷ ps) o =
     IsDistinct-cons eqb p ps
-    (all_map (λ b. IsBelow (path_at rs p) (path_at rs b)) (λ b. eqb p b ≡ false)
-    (λ b h. ne_eqb p b (λ e. below_self (path_at rs p) (subst (λ (q : ℕ). IsBelow (path_at rs p) (path_at rs q)) (sym e) h))) ps o.0)
+    (all_map (λ b. ComesBefore (path_at rs p) (path_at rs b)) (λ b. eqb p b ≡ false)
+    (λ b h. ne_eqb p b (λ e. below_self (path_at rs p) (subst (λ (q : ℕ). ComesBefore (path_at rs p) (path_at rs q)) (sym e) h))) ps o.0)
     (distinct_of rs ps o.1)
 
 any_at : (n q p : ℕ) (rest : Bool) (b : Bool) → eqb q p ≡ b → p < n → (rest ≡ true → q < n) → (b || rest) ≡ true → q < n
@@ -150,7 +150,7 @@ found k [] h = absurd (true≢false (sym h))
 found k (x ∷ ns) h = found_at k x ns (x.place == k) refl (λ e. found k ns e) h
 
 -- a tree parent has its place in the list, and its id is less
-pub up_is : (all rs : List TreeSpan) (k : ℕ) (d : TreeSpan) → k < length rs → up_in all rs k ≡ up_from 0 all (get_or rs k d)
+pub up_is : (all rs : List TreeSpan) (k : ℕ) (d : TreeSpan) → k < length rs → parent_place_in all rs k ≡ parent_place_from 0 all (get_or rs k d)
 up_is all [] k d less = absurd (omega arith)
 up_is all (r ∷ rs) zero d less = refl
 up_is all (r ∷ rs) (suc k) d less = up_is all rs k d (omega arith)
@@ -160,9 +160,9 @@ id_is [] k d less = absurd (omega arith)
 id_is (r ∷ rs) zero d less = refl
 id_is (r ∷ rs) (suc k) d less = id_is rs k d (omega arith)
 
-down_by : (rs : List TreeSpan) (d : TreeSpan) (k p : ℕ) → k < length rs → up_at rs k ≡ Some p → (p < length rs) × (id_at rs p < id_at rs k)
+down_by : (rs : List TreeSpan) (d : TreeSpan) (k p : ℕ) → k < length rs → parent_place_at rs k ≡ Some p → (p < length rs) × (id_at rs p < id_at rs k)
 down_by rs d k p less e =
-    let u : up_from 0 rs (get_or rs k d) ≡ Some p = sym (up_is rs rs k d less) ∙ e in
+    let u : parent_place_from 0 rs (get_or rs k d) ≡ Some p = sym (up_is rs rs k d less) ∙ e in
     let w = up_within 0 rs (get_or rs k d) p u in
     let in' : p < length rs = let h = w.1 in omega arith in
     let z : p - 0 ≡ p = omega arith in
@@ -171,19 +171,19 @@ down_by rs d k p less e =
     let b = id_is rs p d in' in
     (in', omega arith)
 
-down : (rs : List TreeSpan) (k p : ℕ) → k < length rs → up_at rs k ≡ Some p → (p < length rs) × (id_at rs p < id_at rs k)
+down : (rs : List TreeSpan) (k p : ℕ) → k < length rs → parent_place_at rs k ≡ Some p → (p < length rs) × (id_at rs p < id_at rs k)
 down [] k p less e = absurd (omega arith)
 down (r ∷ rs) k p less e = down_by (r ∷ rs) r k p less e
 
 pub visits_end : (rs : List TreeSpan) (nodes : List Node) → Visits rs nodes [] → IsForest rs nodes
 unfolding Found
 visits_end rs nodes v =
-    let R : ℕ → ℕ → Type 0 = λ a b. IsBelow (path_at rs a) (path_at rs b) in
+    let R : ℕ → ℕ → Type 0 = λ a b. ComesBefore (path_at rs a) (path_at rs b) in
     let sorted : Ordered R (places nodes) = subst (Ordered R) (append-nil (places nodes)) v.walk.sorted in
     let within : AllByRecursion (λ a. a < length rs) (places nodes) = subst (AllByRecursion (λ a. a < length rs)) (append-nil (places nodes)) v.walk.within in
     record {
       sorted = λ i j d less small. ordered_at (λ (a b : Node). R a.place b.place) nodes (ordered_places R nodes sorted) i j d less small;
       within = λ i d less. all_at (λ (n : Node). n.place < length rs) nodes (all_places (λ a. a < length rs) nodes within) i d less;
-      whole = λ k less. found k nodes (all_done (length rs) (path_at rs) (id_at rs) (up_at rs) (places nodes) v.walk (down rs) (suc (id_at rs k)) k (omega arith) less);
+      whole = λ k less. found k nodes (all_done (length rs) (path_at rs) (id_at rs) (parent_place_at rs) (places nodes) v.walk (down rs) (suc (id_at rs k)) k (omega arith) less);
       depths = λ i d less. all_at (IsDeep rs) nodes v.deep i d less;
     }

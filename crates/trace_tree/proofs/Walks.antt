@@ -3,8 +3,8 @@ use Rattle.std.proofs.Common.{zero, suc, true≢false, eqb-true, ◌≡◌, ℕ,
 use Rattle.std.specs.List.{AllByRecursion}
 use Rattle.std.proofs.lemmas.List.{append-nil}
 use mathlib.Core.Logic.{◌⊎◌, inl, inr}
-use Rattle.trace_tree.specs.Paths.{IsBelow}
-use Rattle.trace_tree.specs.Walking.{Ordered, has, Children, Roots}
+use Rattle.trace_tree.specs.Paths.{ComesBefore}
+use Rattle.trace_tree.specs.Walking.{Ordered, has, AreChildren, AreRoots}
 use Rattle.trace_tree.proofs.Orders.{IsBeside, below_trans, beside_below, beside_more, siblings, child_below}
 
 module _ {X : Type 0} (P : X → Type 0) where
@@ -43,7 +43,7 @@ module _ {X : Type 0} (R : X → X → Type 0) where
 
 module _ (n : ℕ) (path : ℕ → List ℕ) (id : ℕ → ℕ) (up : ℕ → Option ℕ) where
   abbrev pub Below : ℕ → ℕ → Type 0
-  Below a b = IsBelow (path a) (path b)
+  Below a b = ComesBefore (path a) (path b)
 
   abbrev pub Beside : ℕ → ℕ → Type 0
   Beside a b = IsBeside (path a) (path b)
@@ -64,7 +64,7 @@ module _ (n : ℕ) (path : ℕ → List ℕ) (id : ℕ → ℕ) (up : ℕ → Op
         (subst (λ (p : List ℕ × List ℕ). IsBeside p.0 p.1) (λ i. (sym e i, sym u.0.1 i)) (siblings (path x) (id c) (id b) o.0), kids_beside c ks e u.1 o.1)
 
   beside_self : (a b : ℕ) → Beside a b → Below a b
-  beside_self a b h = subst (λ (p : List ℕ × List ℕ). IsBelow p.0 p.1) (λ i. (append-nil (path a) i, append-nil (path b) i)) (beside_below (path a) (path b) [] [] h)
+  beside_self a b h = subst (λ (p : List ℕ × List ℕ). ComesBefore p.0 p.1) (λ i. (append-nil (path a) i, append-nil (path b) i)) (beside_below (path a) (path b) [] [] h)
 
   ordered_below : (ks : List ℕ) → Ordered Beside ks → Ordered Below ks
   ordered_below [] o = tt
@@ -83,7 +83,7 @@ module _ (n : ℕ) (path : ℕ → List ℕ) (id : ℕ → ℕ) (up : ℕ → Op
   all_below ks ws a = all_map (λ c. AllByRecursion (Beside c) ws) (λ c. AllByRecursion (Below c) ws) (λ c h. all_map (Beside c) (Below c) (λ y g. beside_self c y g) ws h) ks a
 
   kids_after : (x : ℕ) (ks : List ℕ) → AllByRecursion (λ c. (c < n) × (path c ≡ path x ++ id c ∷ [])) ks → AllByRecursion (Below x) ks
-  kids_after x ks u = all_map (λ c. (c < n) × (path c ≡ path x ++ id c ∷ [])) (Below x) (λ c h. subst (λ (p : List ℕ). IsBelow (path x) p) (sym h.1) (child_below (path x) (id c))) ks u
+  kids_after x ks u = all_map (λ c. (c < n) × (path c ≡ path x ++ id c ∷ [])) (Below x) (λ c h. subst (λ (p : List ℕ). ComesBefore (path x) p) (sym h.1) (child_below (path x) (id c))) ks u
 
   regroup : (done : List ℕ) (x : ℕ) (ks waits : List ℕ) → (done ++ x ∷ []) ++ (ks ++ waits) ≡ done ++ x ∷ (ks ++ waits)
   regroup done x ks waits = append_assoc done (x ∷ []) (ks ++ waits)
@@ -109,7 +109,7 @@ module _ (n : ℕ) (path : ℕ → List ℕ) (id : ℕ → ℕ) (up : ℕ → Op
   step_has k done x ks waits =
       has_append k (done ++ x ∷ []) (ks ++ waits) ∙ ap (λ b. b || has k (ks ++ waits)) (has_append k done (x ∷ [])) ∙ ap (λ b. (has k done || ((x == k) || false)) || b) (has_append k ks waits)
 
-  step_parent : (k p x : ℕ) (done ks waits : List ℕ) → Children n path id up x ks → k < n → up k ≡ Some p → has p done ≡ false → (b : Bool) → (x == p) ≡ b
+  step_parent : (k p x : ℕ) (done ks waits : List ℕ) → AreChildren n path id up x ks → k < n → up k ≡ Some p → has p done ≡ false → (b : Bool) → (x == p) ≡ b
       → (has k ((done ++ x ∷ []) ++ (ks ++ waits)) ≡ true) ⊎ ((q : ℕ) × (up k ≡ Some q) × (has q (done ++ x ∷ []) ≡ false))
   step_parent k p x done ks waits c less u not true e =
       let same : x ≡ p = eqb-true x p e in
@@ -118,7 +118,7 @@ module _ (n : ℕ) (path : ℕ → List ℕ) (id : ℕ → ℕ) (up : ℕ → Op
   step_parent k p x done ks waits c less u not false e =
       inr (p, u, has_append p done (x ∷ []) ∙ ap (λ b. b || ((x == p) || false)) not ∙ ap (λ b. b || false) e)
 
-  step_whole : (k x : ℕ) (done ks waits : List ℕ) → Children n path id up x ks → k < n → (has k (done ++ x ∷ waits) ≡ true) ⊎ ((p : ℕ) × (up k ≡ Some p) × (has p done ≡ false))
+  step_whole : (k x : ℕ) (done ks waits : List ℕ) → AreChildren n path id up x ks → k < n → (has k (done ++ x ∷ waits) ≡ true) ⊎ ((p : ℕ) × (up k ≡ Some p) × (has p done ≡ false))
       → (has k ((done ++ x ∷ []) ++ (ks ++ waits)) ≡ true) ⊎ ((p : ℕ) × (up k ≡ Some p) × (has p (done ++ x ∷ []) ≡ false))
   step_whole k x done ks waits c less h =
       ⊎_elim
@@ -127,7 +127,7 @@ module _ (n : ℕ) (path : ℕ → List ℕ) (id : ℕ → ℕ) (up : ℕ → Op
       h
 
   -- the next one is visited, and its children go onto the stack
-  pub step : (done : List ℕ) (x : ℕ) (ks waits : List ℕ) → Walk done (x ∷ waits) → Children n path id up x ks → Walk (done ++ x ∷ []) (ks ++ waits)
+  pub step : (done : List ℕ) (x : ℕ) (ks waits : List ℕ) → Walk done (x ∷ waits) → AreChildren n path id up x ks → Walk (done ++ x ∷ []) (ks ++ waits)
   step done x ks waits w c =
       let beside = kids_ordered x ks c.under c.ordered in
       let apart = kids_apart x ks waits c.under w.apart.0 in
@@ -151,7 +151,7 @@ module _ (n : ℕ) (path : ℕ → List ℕ) (id : ℕ → ℕ) (up : ℕ → Op
     roots_beside c (b ∷ ks) e u o =
         (subst (λ (p : List ℕ × List ℕ). IsBeside p.0 p.1) (λ i. (sym e i, sym u.0.1 i)) (siblings [] (id c) (id b) o.0), roots_beside c ks e u.1 o.1)
 
-  pub starts : (ts : List ℕ) → Roots n path id up ts → Walk [] ts
+  pub starts : (ts : List ℕ) → AreRoots n path id up ts → Walk [] ts
   starts ts t =
       let beside = roots_ordered ts t.single t.ordered in
       record {

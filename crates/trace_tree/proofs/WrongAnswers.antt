@@ -4,7 +4,7 @@ use mathlib.Core.Logic.{inl, inr}
 use Rattle.trace_tree.specs.declared.span.TreeSpan.{TreeSpan}
 use Rattle.trace_tree.specs.declared.node.Node.{Node}
 use Rattle.trace_tree.specs.declared.totals.TraceTotal.{TraceTotal}
-use Rattle.trace_tree.specs.Paths.{IsBelow, IsForest, path_at}
+use Rattle.trace_tree.specs.Paths.{ComesBefore, IsForest, path_at}
 use Rattle.trace_tree.specs.Totals.{of_trace, IsTotals}
 use Rattle.trace_tree.proofs.Orders.{below_self, below_trans}
 
@@ -12,7 +12,7 @@ use Rattle.trace_tree.proofs.Orders.{below_self, below_trans}
 pub refuses_drop : (rs : List TreeSpan) (nodes : List Node) (k : ℕ) (d : Node) → k < length rs → ((i : ℕ) → i < length nodes → (get_or nodes i d).place ≢ k) → IsForest rs nodes → ⊥
 refuses_drop rs nodes k d less none f = let w = f.whole k less in none w.0 w.1 (w.2 d)
 
-lower : (p : List ℕ) (a b : ℕ) → a < b → IsBelow (p ++ a ∷ []) (p ++ b ∷ [])
+lower : (p : List ℕ) (a b : ℕ) → a < b → ComesBefore (p ++ a ∷ []) (p ++ b ∷ [])
 lower [] a b l = inl l
 lower (x ∷ p) a b l = inr (refl, lower p a b l)
 
@@ -20,7 +20,7 @@ lower (x ∷ p) a b l = inr (refl, lower p a b l)
 pub refuses_order : (rs : List TreeSpan) (nodes : List Node) (i j : ℕ) (d : Node) (p : List ℕ) (a b : ℕ) → i < j → j < length nodes → a < b
     → path_at rs (get_or nodes i d).place ≡ p ++ b ∷ [] → path_at rs (get_or nodes j d).place ≡ p ++ a ∷ [] → IsForest rs nodes → ⊥
 refuses_order rs nodes i j d p a b less small l e g f =
-    let s : IsBelow (p ++ b ∷ []) (p ++ a ∷ []) = subst (λ (q : List ℕ × List ℕ). IsBelow q.0 q.1) (λ k. (e k, g k)) (f.sorted i j d less small) in
+    let s : ComesBefore (p ++ b ∷ []) (p ++ a ∷ []) = subst (λ (q : List ℕ × List ℕ). ComesBefore q.0 q.1) (λ k. (e k, g k)) (f.sorted i j d less small) in
     below_self (p ++ a ∷ []) (below_trans (p ++ a ∷ []) (p ++ b ∷ []) (p ++ a ∷ []) (lower p a b l) s)
 
 -- totals in which a trace stands twice

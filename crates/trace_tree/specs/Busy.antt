@@ -16,17 +16,17 @@ nanoseconds_of (value.Str t) = 0
 nanoseconds_of (value.List ts) = 0
 
 -- whether an attribute is named busy_ns
-abbrev pub is_busy : KeyValue → Bool
-is_busy a = bytes_eq a.key (codes "busy_ns")
+abbrev pub is_busy_attribute : KeyValue → Bool
+is_busy_attribute a = bytes_eq a.key (codes "busy_ns")
 
 -- what the last one is worth, or n where there is none
-abbrev pub latest : ℕ → List KeyValue → ℕ
-latest n [] = n
-latest n (a ∷ rest) = latest (nanoseconds_of a.value) rest
+abbrev pub last_nanoseconds : ℕ → List KeyValue → ℕ
+last_nanoseconds n [] = n
+last_nanoseconds n (a ∷ rest) = last_nanoseconds (nanoseconds_of a.value) rest
 
 -- what the last attribute named busy_ns is worth, 0 where there is none
 abbrev pub busy_attribute_of : Record → ℕ
-busy_attribute_of r = latest 0 (filter is_busy r.attributes)
+busy_attribute_of r = last_nanoseconds 0 (filter is_busy_attribute r.attributes)
 
 -- what trees need of a finished span
 abbrev pub tree_span : Record → TreeSpan

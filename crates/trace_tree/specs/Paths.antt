@@ -37,11 +37,11 @@ abbrev pub path_at : List TreeSpan → ℕ → List ℕ
 path_at rs k = path_in rs rs k
 
 -- one list of numbers comes before another; a prefix first
-abbrev pub IsBelow : List ℕ → List ℕ → Type 0
-IsBelow [] [] = ⊥
-IsBelow [] (y ∷ ys) = Unit {0}
-IsBelow (x ∷ xs) [] = ⊥
-IsBelow (x ∷ xs) (y ∷ ys) = (x < y) ⊎ ((x ≡ y) × IsBelow xs ys)
+abbrev pub ComesBefore : List ℕ → List ℕ → Type 0
+ComesBefore [] [] = ⊥
+ComesBefore [] (y ∷ ys) = Unit {0}
+ComesBefore (x ∷ xs) [] = ⊥
+ComesBefore (x ∷ xs) (y ∷ ys) = (x < y) ⊎ ((x ≡ y) × ComesBefore xs ys)
 
 -- the ids of spans differ
 abbrev pub AreDistinct : List TreeSpan → Type 0
@@ -49,7 +49,7 @@ AreDistinct rs = (i j : ℕ) (d : TreeSpan) → i < j → j < length rs → (get
 
 -- all spans, in the order of their paths, each with how deep it stands
 pub record IsForest (rs : List TreeSpan) (nodes : List Node) : Type 0 where
-  pub sorted : (i j : ℕ) (d : Node) → i < j → j < length nodes → IsBelow (path_at rs (get_or nodes i d).place) (path_at rs (get_or nodes j d).place)
+  pub sorted : (i j : ℕ) (d : Node) → i < j → j < length nodes → ComesBefore (path_at rs (get_or nodes i d).place) (path_at rs (get_or nodes j d).place)
   pub within : (i : ℕ) (d : Node) → i < length nodes → (get_or nodes i d).place < length rs
   pub whole : (k : ℕ) → k < length rs → (i : ℕ) × (i < length nodes) × ((d : Node) → (get_or nodes i d).place ≡ k)
   pub depths : (i : ℕ) (d : Node) → i < length nodes → suc (get_or nodes i d).depth ≡ length (path_at rs (get_or nodes i d).place)

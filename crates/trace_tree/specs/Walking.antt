@@ -20,18 +20,18 @@ abbrev pub has : ℕ → List ℕ → Bool
 has k xs = list_any (λ x. x == k) xs
 
 -- the place of the tree parent, in a list that begins at the place i
-abbrev pub up_from : ℕ → List TreeSpan → TreeSpan → Option ℕ
-up_from i [] r = None
-up_from i (q ∷ qs) r = cond (is_parent_of r q) (Some i) (up_from (suc i) qs r)
+abbrev pub parent_place_from : ℕ → List TreeSpan → TreeSpan → Option ℕ
+parent_place_from i [] r = None
+parent_place_from i (q ∷ qs) r = cond (is_parent_of r q) (Some i) (parent_place_from (suc i) qs r)
 
-abbrev pub up_in : List TreeSpan → List TreeSpan → ℕ → Option ℕ
-up_in all [] k = None
-up_in all (r ∷ rs) zero = up_from 0 all r
-up_in all (r ∷ rs) (suc k) = up_in all rs k
+abbrev pub parent_place_in : List TreeSpan → List TreeSpan → ℕ → Option ℕ
+parent_place_in all [] k = None
+parent_place_in all (r ∷ rs) zero = parent_place_from 0 all r
+parent_place_in all (r ∷ rs) (suc k) = parent_place_in all rs k
 
 -- the place of the tree parent of the span at a place
-abbrev pub up_at : List TreeSpan → ℕ → Option ℕ
-up_at rs k = up_in rs rs k
+abbrev pub parent_place_at : List TreeSpan → ℕ → Option ℕ
+parent_place_at rs k = parent_place_in rs rs k
 
 -- the id of the span at a place
 abbrev pub id_at : List TreeSpan → ℕ → ℕ
@@ -41,21 +41,21 @@ id_at (r ∷ rs) (suc k) = id_at rs k
 
 module _ (n : ℕ) (path : ℕ → List ℕ) (id : ℕ → ℕ) (up : ℕ → Option ℕ) where
   -- the children of a place, in the order of their ids
-  pub record Children (x : ℕ) (ks : List ℕ) : Type 0 where
+  pub record AreChildren (x : ℕ) (ks : List ℕ) : Type 0 where
     pub under : AllByRecursion (λ c. (c < n) × (path c ≡ path x ++ id c ∷ [])) ks
     pub ordered : Ordered (λ a b. id a < id b) ks
     pub whole : (k : ℕ) → k < n → up k ≡ Some x → has k ks ≡ true
 
   -- the places without a tree parent, in the order of their ids
-  pub record Roots (ts : List ℕ) : Type 0 where
+  pub record AreRoots (ts : List ℕ) : Type 0 where
     pub single : AllByRecursion (λ c. (c < n) × (path c ≡ id c ∷ [])) ts
     pub ordered : Ordered (λ a b. id a < id b) ts
     pub whole : (k : ℕ) → k < n → (has k ts ≡ true) ⊎ ((p : ℕ) × (up k ≡ Some p))
 
 pub record IsAdjacency (rs : List TreeSpan) (f : Adjacency) : Type 0 where
   pub size : length f.children.items ≡ length rs
-  pub roots : Roots (length rs) (path_at rs) (id_at rs) (up_at rs) f.roots
-  pub children : (p : ℕ) → p < length rs → Children (length rs) (path_at rs) (id_at rs) (up_at rs) p (get_or f.children.items p [])
+  pub roots : AreRoots (length rs) (path_at rs) (id_at rs) (parent_place_at rs) f.roots
+  pub children : (p : ℕ) → p < length rs → AreChildren (length rs) (path_at rs) (id_at rs) (parent_place_at rs) p (get_or f.children.items p [])
 
 -- the places of the first spans by their ids
 pub record IsIndex (rs : List TreeSpan) (n : ℕ) (m : BTreeMap ℕ ℕ) : Type 0 where

@@ -3,7 +3,7 @@ ghost use Rattle.std.specs.Prelude.{◌≡◌, ◌==◌, ◌&&◌, ltb, length, 
 ghost use Rattle.std.specs.Ordering.{nat_cmp};
 ghost use Rattle.std.specs.BTreeMap.{get};
 ghost use Rattle.trace_tree.specs.Paths.{AreDistinct};
-ghost use Rattle.trace_tree.specs.Walking.{up_from, IsIndex, IsAdjacency};
+ghost use Rattle.trace_tree.specs.Walking.{parent_place_from, IsIndex, IsAdjacency};
 
 use crate::span::TreeSpan;
 use otel_base::list::Items;
@@ -50,7 +50,7 @@ fn is_parent(parent: &TreeSpan, one: &TreeSpan) -> bool
 fn parent_place(finished: &[TreeSpan], index: &BTreeMap<u64, u64>, one: &TreeSpan) -> Option<u64>
     requires distinct { AreDistinct finished.now }
     requires index { IsIndex finished.now (length finished.now) index.now }
-    ensures { result ≡ up_from 0 finished.now one.now }
+    ensures { result ≡ parent_place_from 0 finished.now one.now }
 {
     match place_of(index, one.parent) {
         Some(place) => {

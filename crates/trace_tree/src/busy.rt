@@ -1,6 +1,6 @@
 //! Busy times, as attributes tell them.
 ghost use Rattle.std.specs.Prelude.{◌≡◌, cond};
-ghost use Rattle.trace_tree.specs.Busy.{busy_attribute_of, nanoseconds_of, is_busy};
+ghost use Rattle.trace_tree.specs.Busy.{busy_attribute_of, nanoseconds_of, is_busy_attribute};
 
 use otel_base::record::Record;
 use otel_base::value::{KeyValue, OtelValue};
@@ -17,7 +17,7 @@ fn nanoseconds(value: &OtelValue) -> u64
 
 // The busy time after one attribute more.
 fn busy_behind(pair: &KeyValue, before: u64) -> u64
-    ensures { result ≡ cond (is_busy pair.now) (nanoseconds_of pair.now.value) before }
+    ensures { result ≡ cond (is_busy_attribute pair.now) (nanoseconds_of pair.now.value) before }
 {
     if pair.key.as_str() == "busy_ns" {
         nanoseconds(&pair.value)

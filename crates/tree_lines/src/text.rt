@@ -13,7 +13,7 @@ use trace_tree::totals::totals;
 use trace_tree::{Node, TraceTotal, TreeSpan};
 
 // Adds the line of a node.
-fn add_placed(out: &mut TextBuffer, spans: &[TreeSpan], node: &Node) -> Result<(), AllocError>
+fn add_node_line(out: &mut TextBuffer, spans: &[TreeSpan], node: &Node) -> Result<(), AllocError>
     requires { node.now.place < length spans.now }
     ensures { OnOk result (out.new.items ≡ out.old.items ++ node_line spans.now node.now) }
 {
@@ -27,7 +27,7 @@ fn add_nodes(out: &mut TextBuffer, spans: &[TreeSpan], nodes: &[Node]) -> Result
     ensures { OnOk result (out.new.items ≡ out.old.items ++ flat_map (node_line spans.now) nodes.now) }
 {
     for node in nodes {
-        add_placed(out, spans, node)?;
+        add_node_line(out, spans, node)?;
     }
     Ok(())
 }

@@ -19,7 +19,7 @@ use Rattle.value_reader.proofs.numbered.InPlace.TheSendSync as shown
 use Rattle.value_reader.specs.contracts.numbered.InPlace as shown_row
 use Rattle.value_reader.specs.contracts.order.View as view_row
 use Rattle.value_reader.specs.contracts.order.InOrder as in_order_row
-use Rattle.value_reader.specs.contracts.order.InOrderProtocolShownView.TheImpl as rule
+use Rattle.value_reader.specs.contracts.order.InOrderProtocolInPlaceView.TheImpl as rule
 use Rattle.value_reader.specs.contracts.reader.ValueReader as reader
 use Rattle.value_reader.specs.contracts.reader.ValueReader.TheInside as reader_inside
 use Rattle.value_reader.specs.contracts.note.ValueNote as note

@@ -17,13 +17,13 @@ use turnstile::{OpenTurnstile, Turnstile};
 
 // A gate that answers by the script's filter, which it reads anew each time, and counts its questions.
 #[derive(Drop)]
-struct Counting {
+struct CountingGate {
     alloc: Global,
     text: Text,
     asked: Arc<AtomicU64, Global>,
 }
 
-impl EventGate for Counting {
+impl EventGate for CountingGate {
     ghost opening = { λ g. g.text };
 
     fn enabled(&mut self, callsite: &Callsite, levels: &Levels) -> Admission {
@@ -62,13 +62,13 @@ fn gates_of(
     alloc: Global,
     text: &Text,
     counts: &[Arc<AtomicU64, Global>],
-) -> Result<Vec<Counting>, Memory>
+) -> Result<Vec<CountingGate>, Memory>
     ensures count { IfOk result (λ gates. length gates.items ≡ length counts.now) }
     ensures texts { IfOk result (λ gates. All (λ g. g.text ≡ text.now) gates.items) }
 {
     let mut gates = Vec::with_capacity(alloc, counts.len())?;
     for asked in counts {
-        gates.push_reserved(Counting {
+        gates.push_reserved(CountingGate {
             alloc,
             text: text.clone()?,
             asked: Arc::try_clone(asked)?,
@@ -79,13 +79,13 @@ fn gates_of(
 
 /// What came of a script, and how often each worker's gate was asked.
 #[derive(Drop)]
-pub struct Ran {
+pub struct GateRun {
     pub ended: Vec<Ended>,
     pub counts: Vec<Arc<AtomicU64, Global>>,
 }
 
 /// How often the gate of a worker was asked, if there is such a worker.
-pub fn times_asked(ran: &Ran, worker: usize) -> Option<u64> {
+pub fn times_asked(ran: &GateRun, worker: usize) -> Option<u64> {
     let count = ran.counts.get(worker)?;
     Some(count.load(Ordering::SeqCst))
 }
@@ -96,12 +96,12 @@ pub fn run<R: Threads + Wait + Sync, T: Turnstile + Sync>(
     alloc: Global,
     lines: &str,
     turns: &T,
-) -> Result<Ran, Memory> {
+) -> Result<GateRun, Memory> {
     let script = script(alloc, lines)?.ok_or(Memory)?;
     let counts = counts_of(alloc, script.workers.as_slice().len())?;
     let gates = gates_of(alloc, &script.filter, counts.as_slice())?;
     let ended = run_gated(rt, alloc, script, gates, turns)?;
-    Ok(Ran { ended, counts })
+    Ok(GateRun { ended, counts })
 }
 
 // Worker 0 tells three events, of which the filter keeps two, and worker 1 records a field.

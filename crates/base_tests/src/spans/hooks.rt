@@ -5,7 +5,7 @@ ghost use Rattle.trace_base.specs.Conditions.{HasFewHolds, IsLive};
 ghost use Rattle.span_registry.specs.Registering.{no_spans};
 
 use crate::spans::registries::{Making, bare_making};
-use crate::worlds::asked::{Asked, Notes};
+use crate::worlds::asked::{Notes, NotingLayer};
 use otel_base::memory::Memory;
 use span_registry::layer::registry;
 use span_registry::layered::Layered;
@@ -20,14 +20,14 @@ use trace_base::subscriber::{Interest, Subscriber};
 use trace_base::world::World;
 
 // Such layers know no span, so they are in step with any registry.
-fn whole(stack: &Layered<Asked, Layered<Asked, Registry>>)
-    ensures { ⟦<Layered<Asked, Layered<Asked, Registry>> as Subscriber>⟧.is_whole stack.now }
+fn whole(stack: &Layered<NotingLayer, Layered<NotingLayer, Registry>>)
+    ensures { ⟦<Layered<NotingLayer, Layered<NotingLayer, Registry>> as Subscriber>⟧.is_whole stack.now }
 {
     stack.inner().inner().sound();
 }
 
 fn enter(
-    stack: &mut Layered<Asked, Layered<Asked, Registry>>,
+    stack: &mut Layered<NotingLayer, Layered<NotingLayer, Registry>>,
     id: Id,
     lane: &mut Lane,
 ) -> Result<(), Memory>
@@ -46,7 +46,7 @@ fn enter(
 
 // What each call notes, and whether the last one closed the span.
 fn call_notes(
-    stack: &mut Layered<Asked, Layered<Asked, Registry>>,
+    stack: &mut Layered<NotingLayer, Layered<NotingLayer, Registry>>,
     making: &mut Making,
     log: &Cell<u64>,
 ) -> Result<[u64; 10], Memory>
@@ -109,8 +109,8 @@ fn call_notes(
     ])
 }
 
-fn layer(number: u64, log: Rc<Cell<u64>>) -> Asked {
-    Asked {
+fn layer(number: u64, log: Rc<Cell<u64>>) -> NotingLayer {
+    NotingLayer {
         interest: Interest::Always,
         enables: true,
         hint: None,

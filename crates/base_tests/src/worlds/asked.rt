@@ -28,7 +28,7 @@ pub struct Notes {
 
 /// Answers what it is told to answer, and knows no span.
 #[derive(Drop)]
-pub struct Asked {
+pub struct NotingLayer {
     /// Its interest in each callsite.
     pub interest: Interest,
     /// Whether it enables each.
@@ -39,7 +39,7 @@ pub struct Asked {
     pub notes: Option<Notes>,
 }
 
-impl Asked {
+impl NotingLayer {
     fn note(&self, hook: u64) {
         if let Some(notes) = &self.notes {
             let log = notes.log.get().wrapping_mul(100);
@@ -53,7 +53,7 @@ impl Asked {
 #[derive(Drop)]
 pub struct Prepared {}
 
-impl Layer for Asked {
+impl Layer for NotingLayer {
     type Ready = Prepared;
 
     ghost seen = { λ s. no_known_spans };
@@ -214,6 +214,6 @@ impl Layer for Asked {
     }
 }
 
-impl Discard for Asked {
+impl Discard for NotingLayer {
     fn discard(self) {}
 }

@@ -1,7 +1,7 @@
 //! The gate of a world over a layer that answers what it is told to.
 ghost use Rattle.std.specs.Prelude.{◌≡◌, ◌<◌, ◌≤◌, [], length, IfOk, None};
 
-use crate::worlds::asked::Asked;
+use crate::worlds::asked::NotingLayer;
 use crate::worlds::callsites::bare;
 use crate::worlds::lanes::lane;
 use otel_base::memory::Memory;
@@ -18,8 +18,8 @@ use trace_base::world::World;
 // The registry with such a layer over it, added to a world.
 fn add(
     alloc: Global,
-    world: &mut World<Layered<Asked, Registry>>,
-    layer: Asked,
+    world: &mut World<Layered<NotingLayer, Registry>>,
+    layer: NotingLayer,
 ) -> Result<Dispatch, Memory>
     ensures there { IfOk result (λ dispatch. dispatch < length world.new.subscribers) }
     ensures more { length world.old.subscribers ≤ length world.new.subscribers }
@@ -38,8 +38,8 @@ fn add(
 type Answers = (Interest, bool, Option<LevelFilter>);
 
 // A layer that answers so.
-fn asked_layer((interest, enables, hint): Answers) -> Asked {
-    Asked {
+fn asked_layer((interest, enables, hint): Answers) -> NotingLayer {
+    NotingLayer {
         interest,
         enables,
         hint,
@@ -50,7 +50,7 @@ fn asked_layer((interest, enables, hint): Answers) -> Asked {
 // What the gate answers for a callsite of level INFO.
 fn gate(
     alloc: Global,
-    world: &mut World<Layered<Asked, Registry>>,
+    world: &mut World<Layered<NotingLayer, Registry>>,
     answers: Answers,
 ) -> Result<bool, Memory> {
     let site = world.add_site(bare(alloc))?;
@@ -85,13 +85,13 @@ fn admits_by_interest_hint_and_answer(rt: HostRuntime) {
 
 // The gate's answers without a subscriber, with one, after its interest changed, and after a rebuild; and whether the
 // place of the callsite names it, and it and the subscriber are read back.
-fn rebuilt(
+fn answers_around_rebuild(
     alloc: Global,
-    world: &mut World<Layered<Asked, Registry>>,
+    world: &mut World<Layered<NotingLayer, Registry>>,
     lane: &mut Lane,
 ) -> Result<[bool; 7], Memory>
     requires sites { world.old.sites ≡ [] }
-    requires own { lane.old.default ≡ None }
+    requires no_default { lane.old.default ≡ None }
 {
     let site = world.add_site(bare(alloc))?;
     let named = world.site_at(0) == Some(site) && world.site_at(1) == None;
@@ -111,7 +111,7 @@ fn rebuilt(
 #[test]
 fn caches_interests_until_they_are_rebuilt(rt: HostRuntime) {
     let mut world = World::new(rt.alloc());
-    let told = rebuilt(rt.alloc(), &mut world, &mut lane(rt.alloc()));
+    let told = answers_around_rebuild(rt.alloc(), &mut world, &mut lane(rt.alloc()));
     world.discard();
     assert_eq!(rt; told, Ok([false, true, true, false, true, true, true]));
 }

@@ -1,5 +1,5 @@
 //! What lies inside a future under a span, a future under a subscriber, and a layer that counts.
-use crate::scene::polls::Looks;
+use crate::scene::polls::SubscriberProbe;
 use crate::stack::tally::Tally;
 use env_directives::targets::Targets;
 use otel_base::memory::Memory;
@@ -37,7 +37,7 @@ fn under_no_span(alloc: Global) -> (bool, bool, bool) {
         default: None,
         contexts: ContextStack::new(alloc),
     };
-    let mut future = Looks { is_ready: false }.in_current_span(&mut world, &lane);
+    let mut future = SubscriberProbe { is_ready: false }.in_current_span(&mut world, &lane);
     let before = future.inner().is_ready;
     future.inner_mut().is_ready = true;
     let after = future.inner().is_ready;
@@ -50,7 +50,7 @@ fn under_no_span(alloc: Global) -> (bool, bool, bool) {
 }
 
 fn under_subscriber(dispatch: Dispatch) -> (bool, bool, bool) {
-    let mut future = Looks { is_ready: false }.with_subscriber(dispatch);
+    let mut future = SubscriberProbe { is_ready: false }.with_subscriber(dispatch);
     let before = future.inner().is_ready;
     future.inner_mut().is_ready = true;
     let after = future.inner().is_ready;

@@ -5,7 +5,7 @@ ghost use Rattle.explain_stack.specs.Places.{InPlay};
 
 use crate::handles::{Handles, Slot};
 use crate::scene::Scene;
-use crate::scene::polls::Looks;
+use crate::scene::polls::SubscriberProbe;
 use crate::stack::Stack;
 use crate::told;
 use futures::task::Context;
@@ -64,7 +64,7 @@ pub fn poll<S: Stack>(
         return told::refused_line(alloc);
     };
     let Slot { span, entry, other } = slot;
-    let future = Looks {
+    let future = SubscriberProbe {
         is_ready: word != "pending",
     };
     let (span, polled) = scene.poll(at, span, future, word == "served", cx);

@@ -7,7 +7,7 @@ ghost use Rattle.trace_base.specs.Gate.{dispatch_on};
 ghost use Rattle.span_handles.specs.Handles.{IsKnown, HasOn, IsCurrent};
 ghost use Rattle.span_handles.specs.Knowing.{KeepsHandles, KeepsOthers, GainsOne, LosesOne};
 ghost use Rattle.span_handles.specs.Worlds.{Has};
-ghost use Rattle.explain_stack.specs.Looking.{looks};
+ghost use Rattle.explain_stack.specs.Looking.{probe_answer};
 ghost use Rattle.explain_stack.specs.Order.{SceneInOrder, KeepsScene};
 ghost use Rattle.explain_stack.specs.Puts.{ClosesHeld, PollsUnder, PutsAround};
 
@@ -30,11 +30,11 @@ use trace_base::world::World;
 
 /// A future that is pending until it is told to be ready, and then answers whether a subscriber serves the lane.
 #[derive(Drop)]
-pub struct Looks {
+pub struct SubscriberProbe {
     pub(crate) is_ready: bool,
 }
 
-impl<S: Subscriber> TracedFuture<S> for Looks {
+impl<S: Subscriber> TracedFuture<S> for SubscriberProbe {
     type Output = bool;
 
     ghost can_poll = { λ f. Unit {0} };
@@ -49,7 +49,7 @@ impl<S: Subscriber> TracedFuture<S> for Looks {
 
     ghost polls = { λ f world lane at r g new later.
         (new ≡ world) × (later ≡ lane) × (g ≡ f)
-        × (r ≡ looks f.is_ready (dispatch_on lane.default world.global)) };
+        × (r ≡ probe_answer f.is_ready (dispatch_on lane.default world.global)) };
 
     ghost besides = { λ at s t. ⊥ };
 
@@ -76,7 +76,7 @@ impl<S: Stack> Scene<S> {
         &mut self,
         at: u64,
         span: Span,
-        future: Looks,
+        future: SubscriberProbe,
         is_served: bool,
         cx: &mut Context<'_>,
     ) -> (Span, Option<Result<Poll<bool>, EnterError>>)
@@ -85,11 +85,11 @@ impl<S: Stack> Scene<S> {
         ensures keeps { KeepsScene S.spans S.kept S.is_whole self.old self.new }
         ensures back { result.0 ≡ span }
         ensures polls { is_served ≡ false → IfSome result.1
-            (λ polled. PollsUnder S.same_but_room S.does S.activates ⟦<Looks as TracedFuture<S>>⟧.polls
+            (λ polled. PollsUnder S.same_but_room S.does S.activates ⟦<SubscriberProbe as TracedFuture<S>>⟧.polls
             (record { inner = future; span = span }) self.old.world self.old.lane at polled self.new.world
             self.new.lane) }
         ensures polls_served { is_served ≡ true → IfSome result.1
-            (λ polled. PollsUnder S.same_but_room S.does S.activates ⟦<WithDispatch<Looks> as TracedFuture<S>>⟧.polls
+            (λ polled. PollsUnder S.same_but_room S.does S.activates ⟦<WithDispatch<SubscriberProbe> as TracedFuture<S>>⟧.polls
             (record { inner = record { inner = future; dispatch = Some self.old.dispatch }; span = span })
             self.old.world self.old.lane at polled self.new.world self.new.lane) }
     {
@@ -153,7 +153,7 @@ impl<S: Stack> Scene<S> {
     }
 
     // A future under the lane's current span.
-    fn put_around(&mut self) -> Instrumented<Looks>
+    fn put_around(&mut self) -> Instrumented<SubscriberProbe>
         requires order { SceneInOrder S.spans S.kept S.is_whole self.old }
         requires served { dispatch_on self.old.lane.default self.old.world.global ≡ Some self.old.dispatch }
         requires few { Has (λ s. HasFewHoldsAbove (S.spans s) self.old.lane.id parent.Current) self.old.world
@@ -167,11 +167,11 @@ impl<S: Stack> Scene<S> {
         ensures more { GainsOne S.spans self.old.world self.new.world result.span.held }
         ensures sites { self.new.site_count ≡ self.old.site_count }
     {
-        Looks { is_ready: false }.in_current_span(&mut self.world, &self.lane)
+        SubscriberProbe { is_ready: false }.in_current_span(&mut self.world, &self.lane)
     }
 
     // Closes the handle of a future.
-    fn take_back(&mut self, at: u64, future: Instrumented<Looks>)
+    fn take_back(&mut self, at: u64, future: Instrumented<SubscriberProbe>)
         requires order { SceneInOrder S.spans S.kept S.is_whole self.old }
         requires known { IsKnown S.spans self.old.world future.span.held }
         ensures order { SceneInOrder S.spans S.kept S.is_whole self.new }

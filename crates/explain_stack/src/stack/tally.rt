@@ -3,7 +3,7 @@ ghost use Rattle.std.specs.Prelude.{◌≡◌, []};
 ghost use Rattle.explain_stack.specs.Tallies.{Tallies, one_more};
 ghost use Rattle.explain_stack.specs.Counting.{tally_counts};
 
-use crate::stack::ToldTracer;
+use crate::stack::ReportingTracer;
 use crate::told;
 use otel_base::context::{Context, SpanContext};
 use otel_base::memory::Memory;
@@ -56,7 +56,7 @@ impl Tally {
     }
 }
 
-impl ToldTracer for Tally {
+impl ReportingTracer for Tally {
     fn tell(&mut self, alloc: Global, told: &mut String) -> Result<(), Memory> {
         for _ in 0..100 {
             if !tell_next(alloc, told, self.recorder.take())? {

@@ -1,5 +1,5 @@
 //! Reads and writes that fail, one after another, and inputs that are too long.
-use crate::tests::{ANSWERS, FIRST, SETTINGS, front_and_status, ran, ran_as, script};
+use crate::tests::{ANSWERS, FIRST, SETTINGS, front_and_status, run_command, run_script, script};
 use std::random::RandomSource;
 use std::sync::Wait;
 use std::test::Fail;
@@ -21,7 +21,7 @@ fn size_of_lines(text: &str, lines: usize) -> usize {
 }
 
 // Whether the first span's script over these turns writes so many bytes of its answers, and ends so.
-fn goes<H: Threads + Wait + Sync + RandomSource + AllocGlobal>(
+fn ends_as<H: Threads + Wait + Sync + RandomSource + AllocGlobal>(
     rt: &H,
     reads: &[Turn],
     writes: &[Turn],
@@ -29,7 +29,7 @@ fn goes<H: Threads + Wait + Sync + RandomSource + AllocGlobal>(
     status: Status,
 ) -> Result<bool, Fail> {
     let input = script(rt, FIRST)?;
-    let got = ran(rt, input.as_bytes(), reads, writes)?;
+    let got = run_script(rt, input.as_bytes(), reads, writes)?;
     let wanted = front_and_status(rt, ANSWERS, size, status)?;
     Ok(got.as_str() == wanted.as_str())
 }
@@ -62,7 +62,7 @@ fn wrong_read<H: Threads + Wait + Sync + RandomSource + AllocGlobal>(
     for at in 0..reads {
         turns[at] = Turn::Fails;
         let size = answered_size(input.as_bytes(), at);
-        if !goes(rt, turns.as_slice(), &[], size, Status::ReadFault)? {
+        if !ends_as(rt, turns.as_slice(), &[], size, Status::ReadFault)? {
             return Ok(Some(at));
         }
         turns[at] = Turn::Moves { most: 1 };
@@ -77,7 +77,7 @@ fn wrong_write<H: Threads + Wait + Sync + RandomSource + AllocGlobal>(
     let mut turns = vec![in rt.alloc(); Turn::Moves { most: 1 }; ANSWERS.len()]?;
     for at in 0..ANSWERS.len() {
         turns[at] = Turn::Fails;
-        if !goes(rt, &[], turns.as_slice(), at, Status::WriteFault)? {
+        if !ends_as(rt, &[], turns.as_slice(), at, Status::WriteFault)? {
             return Ok(Some(at));
         }
         turns[at] = Turn::Moves { most: 1 };
@@ -102,9 +102,9 @@ fn breaks_off(rt: HostRuntime) -> Result<(), Fail> {
     let ten = Turn::Moves { most: 10 };
     let full = [ten, ten, ten, Turn::Moves { most: 0 }];
     let answers = size_of_lines(ANSWERS, 2);
-    assert!(rt; goes(&rt, &whole, &[], answers, Status::ReadFault)?);
-    assert!(rt; goes(&rt, &cut, &[], 0, Status::ReadFault)?);
-    assert!(rt; goes(&rt, &[], &full, 30, Status::WriteFault)?);
+    assert!(rt; ends_as(&rt, &whole, &[], answers, Status::ReadFault)?);
+    assert!(rt; ends_as(&rt, &cut, &[], 0, Status::ReadFault)?);
+    assert!(rt; ends_as(&rt, &[], &full, 30, Status::WriteFault)?);
     Ok(())
 }
 
@@ -117,7 +117,7 @@ fn broken_run<H: Threads + Wait + Sync + RandomSource + AllocGlobal>(
     let input = script(rt, rest)?;
     let most = size_of_lines(input.as_str(), 2);
     let reads = [Turn::Moves { most }, Turn::Fails];
-    ran_as(rt, word, input.as_bytes(), &reads, &[])
+    run_command(rt, word, input.as_bytes(), &reads, &[])
 }
 
 // A command that reads all lines before it writes leaves nothing of an input that breaks off, but for a refused line.
@@ -132,7 +132,7 @@ fn writes_nothing_of_a_broken_input(rt: HostRuntime) -> Result<(), Fail> {
 }
 
 // Whether a text that is filled up with blanks to so many bytes is answered so by the command of a word.
-fn fills<H: Threads + Wait + Sync + RandomSource + AllocGlobal>(
+fn fills_input<H: Threads + Wait + Sync + RandomSource + AllocGlobal>(
     rt: &H,
     word: &str,
     text: &str,
@@ -142,20 +142,20 @@ fn fills<H: Threads + Wait + Sync + RandomSource + AllocGlobal>(
     let mut input = Vec::new(rt.alloc());
     input.extend_from_slice(text.as_bytes())?;
     input.resize(size, b' ')?;
-    Ok(ran_as(rt, word, input.as_slice(), &[], &[])?.as_str() == wanted)
+    Ok(run_command(rt, word, input.as_slice(), &[], &[])?.as_str() == wanted)
 }
 
 #[test]
 fn tells_a_long_input(rt: HostRuntime) -> Result<(), Fail> {
     let refused = "{\"line\":1,\"refused\":\"BadLine\"}\n= 2\n";
-    assert!(rt; fills(&rt, "run", "7\n", MAX_INPUT + 2, refused)?);
+    assert!(rt; fills_input(&rt, "run", "7\n", MAX_INPUT + 2, refused)?);
     let longest = "{\"done\":true,\"open\":0,\"records\":0}\n= 0\n";
-    assert!(rt; fills(&rt, "run", SETTINGS, MAX_INPUT, longest)?);
+    assert!(rt; fills_input(&rt, "run", SETTINGS, MAX_INPUT, longest)?);
     let made = script(&rt, "{\"at\":0,\"do\":\"new\",\"lane\":0,\"site\":0}\n")?;
     let over = "{\"enabled\":true,\"handle\":0,\"reply\":2}\n= 6\n";
-    assert!(rt; fills(&rt, "run", made.as_str(), MAX_INPUT + 1, over)?);
+    assert!(rt; fills_input(&rt, "run", made.as_str(), MAX_INPUT + 1, over)?);
     let shared = script(&rt, SHARED)?;
-    assert!(rt; fills(&rt, "threads", shared.as_str(), MAX_INPUT + 1, "= 6\n")?);
+    assert!(rt; fills_input(&rt, "threads", shared.as_str(), MAX_INPUT + 1, "= 6\n")?);
     Ok(())
 }
 
@@ -166,7 +166,7 @@ fn tells_a_full_lane(rt: HostRuntime) -> Result<(), Fail> {
     for _ in 0..65_535 {
         input.push_str("{\"at\":0,\"do\":\"enter\",\"handle\":0,\"lane\":0}\n")?;
     }
-    let got = ran(&rt, input.as_bytes(), &[], &[])?;
+    let got = run_script(&rt, input.as_bytes(), &[], &[])?;
     let last =
         "{\"guard\":65533,\"reply\":65536}\n{\"lane\":0,\"line\":65537,\"refused\":\"Full\"}\n= 2\n";
     assert!(rt; got.as_str().ends_with(last));

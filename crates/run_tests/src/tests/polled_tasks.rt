@@ -90,7 +90,7 @@ fn text(alloc: Global, polls: u64, requests: &[Request]) -> Result<String, Memor
 }
 
 // How many polls the tasks take, and the requests that are on the tape then.
-fn polled(alloc: Global, cx: &mut Context<'_>) -> Result<String, Memory> {
+fn spelled_requests(alloc: Global, cx: &mut Context<'_>) -> Result<String, Memory> {
     let script = script(alloc)?;
     let callsites = generated_settings(alloc)?.callsites.into_vec();
     let (mut world, dispatch) = new_world(alloc, callsites, Tape::new(alloc))?;
@@ -115,7 +115,7 @@ fn polled(alloc: Global, cx: &mut Context<'_>) -> Result<String, Memory> {
 fn spells_the_flat_list(rt: HostRuntime) -> Result<(), Fail> {
     let task = MockTask::new(&rt)?;
     let alloc = rt.alloc();
-    let told = task.enter(|cx| polled(alloc, cx))?;
+    let told = task.enter(|cx| spelled_requests(alloc, cx))?;
     let wanted =
         "3, 0 new 0, 0 new 0, 10 enter 0, 10 event 2, 10 exit 0, 20 enter 1, 20 exit 1, 20 drop 1, 30 enter 0, 30 set_attribute 0, 30 exit 2, 30 drop 0";
     assert_eq!(rt; told.as_str(), wanted);

@@ -97,7 +97,10 @@ fn requests<R: AllocGlobal>(rt: &R, lines: &str) -> Result<Items<Request>, Fail>
 }
 
 // What is told of a run.
-fn ran<R: AllocGlobal>(rt: &R, ran: Result<Outcome, OpenError>) -> Result<String, Fail> {
+fn outcome_or_error_text<R: AllocGlobal>(
+    rt: &R,
+    ran: Result<Outcome, OpenError>,
+) -> Result<String, Fail> {
     match ran {
         Ok(outcome) => outcome_text(rt, &outcome),
         Err(OpenError::Directive { counting, piece }) => {
@@ -113,5 +116,5 @@ pub fn at_once<R: AllocGlobal>(rt: &R, script: &str) -> Result<String, Fail> {
     let (settings, lines) = script.split_once('\n').ok_or("a settings line")?;
     let requests = requests(rt, lines)?;
     let settings = read_settings(rt.alloc(), settings.as_bytes())?;
-    ran(rt, Pipeline::run(rt.alloc(), settings, requests))
+    outcome_or_error_text(rt, Pipeline::run(rt.alloc(), settings, requests))
 }

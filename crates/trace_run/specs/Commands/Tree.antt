@@ -5,14 +5,14 @@ use Rattle.span_script.specs.Outcomes.{records_of_history}
 use Rattle.span_script.specs.Tables.{tables}
 use Rattle.trace_lines.specs.Report.{accepts}
 use Rattle.trace_records.specs.Inputs.{TellsRun}
-use Rattle.trace_records.specs.Scripts.{ScriptRan, script_of}
+use Rattle.trace_records.specs.Scripts.{ScriptHistory, script_of}
 use Rattle.trace_stream.specs.reading.AllLines.{meaning_of_all_lines}
 use Rattle.trace_stream.specs.Meaning.{Meaning}
 use Rattle.trace_tree.specs.Busy.{tree_span}
 use Rattle.tree_lines.specs.Texts.{TellsTree}
 
 -- the trees of the records of a script, of each of which they tell what trees need
-abbrev pub TellsTreeOf : ScriptRan → List ℕ → Type 0
+abbrev pub TellsTreeOf : ScriptHistory → List ℕ → Type 0
 TellsTreeOf script text =
     TellsTree (map tree_span (records_of_history script.setup script.history)) (open_spans (tables script.setup script.history)) text
 

@@ -3,8 +3,8 @@ ghost use Rattle.std.specs.Prelude.{◌≡◌, ◌∷◌, ◌≤◌, ◌<◌, []
 ghost use Rattle.span_script.specs.Tables.{History};
 ghost use Rattle.trace_lines.specs.Generated.{generated_requests};
 ghost use Rattle.trace_lines.specs.Replay.{busy_in, busy_of};
-ghost use Rattle.trace_records.specs.Following.{without_taken};
-ghost use Rattle.trace_run.specs.Commands.Make.{LeavesSum, CompletesSum};
+ghost use Rattle.trace_records.specs.Following.{without_outputs};
+ghost use Rattle.trace_run.specs.Commands.Make.{LeavesSummary, CompletesSummary};
 ghost use Rattle.trace_run.specs.Making.{SumsUp, IsGeneratedLine, with_records, Counts, ServesRequests};
 ghost use Rattle.trace_stream.specs.Streams.{CountsFault, StopsWriting};
 
@@ -28,9 +28,9 @@ use trace_stream::status::Status;
 /// was to be had.
 pub fn make<W: Sink>(alloc: Global, rounds: u64, sink: &mut W) -> Status
     requires { rounds ≤ MAX_ROUNDS }
-    ensures leaves { LeavesSum result rounds (W.holds sink.old) (W.holds sink.new) }
+    ensures leaves { LeavesSummary result rounds (W.holds sink.old) (W.holds sink.new) }
     ensures cause { result ≡ Status.WriteFault → CountsFault (W.faults sink.old) (W.faults sink.new) }
-    ensures complete { CompletesSum result (W.faults sink.old) (W.faults sink.new) }
+    ensures complete { CompletesSummary result (W.faults sink.old) (W.faults sink.new) }
     ensures write_stops { result ≡ Status.WriteFault → StopsWriting W.faults W.holds sink.old sink.new }
 {
     let Ok(text) = generated_line(alloc, rounds) else {
@@ -148,7 +148,7 @@ fn serve(pipeline: &mut Pipeline, totals: &mut Totals, request: Request) -> Resu
 fn take_records(pipeline: &mut Pipeline, totals: &mut Totals) -> Result<(), Memory>
     ensures totals { OnOk result (totals.new ≡ with_records totals.old pipeline.old.recording.finished) }
     ensures taken { OnOk result (pipeline.new.recording.finished ≡ []) }
-    ensures state { without_taken pipeline.new ≡ without_taken pipeline.old }
+    ensures state { without_outputs pipeline.new ≡ without_outputs pipeline.old }
 {
     while let Some(finished) = pipeline.take_record() {
         totals.add(&finished)?;

@@ -13,8 +13,8 @@ use Rattle.trace_stream.specs.declared.status.Status.{Status}
 use Rattle.trace_stream.specs.declared.status.Status.TheVariants as ends
 
 -- Nothing is written for lines behind which an input breaks off.
-abbrev pub writes_last : (List (List ℕ) → Bool) → (List (List ℕ) → List ℕ → Type 0) → Answering
-writes_last accepts Whole = record {
+abbrev pub answering_of_all_lines : (List (List ℕ) → Bool) → (List (List ℕ) → List ℕ → Type 0) → Answering
+answering_of_all_lines accepts Whole = record {
   accepts = accepts;
   Whole = Whole;
   Broken = λ lines text. NoneRefused accepts lines × (text ≡ []);
@@ -23,7 +23,7 @@ writes_last accepts Whole = record {
 -- What such a command does, by the lines that it accepts and the texts that it may write for all lines of an input, which is
 -- the refusal line alone where one is refused.
 abbrev pub meaning_of_all_lines : (List (List ℕ) → Bool) → (List (List ℕ) → List ℕ → Type 0) → Meaning
-meaning_of_all_lines accepts Whole = meaning_of_reading (writes_last accepts Whole)
+meaning_of_all_lines accepts Whole = meaning_of_reading (answering_of_all_lines accepts Whole)
 
 -- ---- inner
 

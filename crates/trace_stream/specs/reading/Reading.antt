@@ -59,7 +59,7 @@ pub record BreaksOff (answers : Answering) (bytes : List ℕ) (left before now :
   pub put : Puts before now text
 
 -- More than the longest input came, no whole line within that is refused, and what is written is the text for those lines.
-pub record RunsOver (answers : Answering) (bytes : List ℕ) (left before now : Option (List ℕ)) : Type 0 where
+pub record StopsTooLong (answers : Answering) (bytes : List ℕ) (left before now : Option (List ℕ)) : Type 0 where
   pub read : List ℕ
   pub took : Takes (Some bytes) left read
   pub long : MAX_INPUT < length read
@@ -74,7 +74,7 @@ LeavesStreams answers ends.Refused bytes left before now = StopsRefused answers 
 LeavesStreams answers ends.ReadFault bytes left before now = BreaksOff answers bytes left before now
 LeavesStreams answers ends.WriteFault bytes left before now = PutsSome answers bytes before now
 LeavesStreams answers ends.Memory bytes left before now = PutsSome answers bytes before now
-LeavesStreams answers ends.TooLong bytes left before now = RunsOver answers bytes left before now
+LeavesStreams answers ends.TooLong bytes left before now = StopsTooLong answers bytes left before now
 
 -- ---- the whole of it
 

@@ -20,7 +20,7 @@ returns-in-None c =
     let ps = c.loop.invariant.0 in
     let b = c.in_ok-next.ensures in
     let p : Pair = (b.1.0, b.0) in
-    let kept = step_more ps p c.loop.steps.items c.keep.new.steps.items c.in_ok-next.next c.loop.invariant.3 b.2 c.in_ok-keep.ensures in
+    let kept = step_more ps p c.loop.steps.items c.push_step.new.steps.items c.in_ok-next.next c.loop.invariant.3 b.2 c.in_ok-push_step.ensures in
     let end = c.in_ok-end-in-None.end.now in
     let text = items_text_end c.in_ok-rest.rest.now c.loop.rest.now c.in_ok-next.after.now end ps p c.loop.invariant.2 b.1.1 c.in_ok-end-in-None.ensures in (
       read_items (ps ++ p ∷ []),
@@ -36,5 +36,5 @@ loop-preserved c =
       ps ++ p ∷ [],
       AllRead-push (MAX_DEPTH + 3) ps p c.loop.invariant.1 b.1.2,
       items_on c.in_ok-rest.rest.now c.loop.rest.now c.in_ok-next.after.now c.in-Some-word.more.now ps p c.loop.invariant.2 b.1.1 c.in-Some-word.ensures,
-      step_more ps p c.loop.steps.items c.keep.new.steps.items c.in_ok-next.next c.loop.invariant.3 b.2 c.in_ok-keep.ensures,
+      step_more ps p c.loop.steps.items c.push_step.new.steps.items c.in_ok-next.next c.loop.invariant.3 b.2 c.in_ok-push_step.ensures,
     )

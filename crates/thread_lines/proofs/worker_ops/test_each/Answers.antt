@@ -19,7 +19,7 @@ loop-op-preserved c =
     let step : c.loop-op.op-iterator.rest.items ≡ c.in-Some.op ∷ c.next.new.self.rest.items = c.in-Some.ensures.steps.0 in
     let len = c.in_ok-op.ensures.len in
     let before = i.len in
-    let entered = c.test_counted.new.entered in
+    let entered = c.test_and_count.new.entered in
     record {
       len = omega (arith, len, before);
       tested =

@@ -1,5 +1,5 @@
 use Rattle.std.proofs.Common.{rules, ap, sym, refl, subst, ◌∙◌, Err}
-use Rattle.input_lines.specs.Refusals.{IsTold}
+use Rattle.input_lines.specs.Refusals.{HasRefusalLine}
 use Rattle.trace_records.proofs.LinesLemmas.{not_request, not_served, answers, told_step}
 use Rattle.trace_records.proofs.line.answer_line.Goals as goal
 
@@ -14,10 +14,10 @@ pub returns-in_ok-told-in-Err-clause-answers : goal.returns-in_ok-told-in-Err-cl
 returns-in_ok-told-in-Err-clause-answers c h stands =
     let told = c.in_ok-told-in-Err.ensures in (
       not_served _ _ c.args.line.now c.in-Ok.request c.in-Err.refusal c.in-Ok.ensures.ok (c.in-Err.ensures.refused h stands told.other) ∙ ap Err (sym told.same),
-      subst IsTold (sym told.same) (told_step c.in-Err.refusal told.other),
+      subst HasRefusalLine (sym told.same) (told_step c.in-Err.refusal told.other),
     )
 
 pub returns-in_ok-told-in-Err-clause-told : goal.returns-in_ok-told-in-Err-clause-told
 returns-in_ok-told-in-Err-clause-told c =
     let told = c.in_ok-told-in-Err.ensures in
-    subst IsTold (sym told.same) (told_step c.in-Err.refusal told.other)
+    subst HasRefusalLine (sym told.same) (told_step c.in-Err.refusal told.other)

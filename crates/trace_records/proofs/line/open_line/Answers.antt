@@ -1,22 +1,22 @@
 use Rattle.std.proofs.Common.{rules, ap, sym, subst, length, ◌∙◌}
 use Rattle.span_script.specs.Admission.{opening_read, IsOpenError}
-use Rattle.trace_records.specs.Scripts.{takes_lanes}
+use Rattle.trace_records.specs.Scripts.{allows_lanes}
 use Rattle.trace_records.proofs.LinesLemmas.{not_settings, not_read, too_many, opens}
 use Rattle.trace_records.proofs.line.open_line.Goals as goal
 
 pub returns-in-Err-BadLine : goal.returns-in-Err-BadLine
 returns-in-Err-BadLine c = (not_settings c.args.most_lanes c.args.line.now _ (search rules), λ is. cc)
 
-pub returns-then-takes_lanes : goal.returns-then-takes_lanes
-returns-then-takes_lanes c =
+pub returns-then-allows_lanes : goal.returns-then-allows_lanes
+returns-then-allows_lanes c =
     opens c.args.most_lanes c.args.line.now c.in-Ok.settings _
-    c.in-Ok.ensures.ok c.in-Ok-open.ensures.read (sym c.takes_lanes.ensures ∙ c.if-takes_lanes.true) (ap length c.as_slice.ensures)
+    c.in-Ok.ensures.ok c.in-Ok-open.ensures.read (sym c.allows_lanes.ensures ∙ c.if-allows_lanes.true) (ap length c.as_slice.ensures)
     c.in-Ok-open.ensures.setup c.in-Ok-open.ensures.stands c.in-Ok-open.ensures.records c.in-Ok-open.ensures.measures
 
-pub returns-else-takes_lanes : goal.returns-else-takes_lanes
-returns-else-takes_lanes c = (
+pub returns-else-allows_lanes : goal.returns-else-allows_lanes
+returns-else-allows_lanes c = (
   too_many c.args.most_lanes c.args.line.now c.in-Ok.settings c.in-Ok.ensures.ok c.in-Ok-open.ensures.read
-      (ap (takes_lanes c.args.most_lanes) (sym (ap length c.as_slice.ensures)) ∙ sym c.takes_lanes.ensures ∙ c.if-takes_lanes.false),
+      (ap (allows_lanes c.args.most_lanes) (sym (ap length c.as_slice.ensures)) ∙ sym c.allows_lanes.ensures ∙ c.if-allows_lanes.false),
   λ is. cc,
 )
 

@@ -1,6 +1,6 @@
 -- What the lines come to is written.
 use Rattle.std.proofs.Common.{refl, subst, Some}
-use Rattle.trace_run.proofs.Common.{MAX_LANES, lines_of, TellsBatchesOf, accepts_few}
+use Rattle.trace_run.proofs.Common.{MAX_LANES, lines_of, TellsBatchesOf, accepts_batch}
 use Rattle.trace_run.proofs.ScriptsLemmas.{BatchEnds, as_many, each_within, few, tells_batches, batch_accepted, refused_text, refused_flag}
 use Rattle.trace_run.proofs.batch.batch_answer.Goals as goal
 
@@ -47,4 +47,4 @@ pub returns-in-Err-clause-refused : goal.returns-in-Err-clause-refused
 returns-in-Err-clause-refused g c =
     let lines = lines_of c.args.bytes.now in
     let ends = subst (BatchEnds lines) c.in-Err.is (c.in_ok-finished.ensures (Some MAX_LANES) lines c.in_ok-follow_lines.ensures) in
-    refused_flag (Some MAX_LANES) (accepts_few lines) lines c.in-Err.line c.refused_answer.result refl ends.0 c.refused_answer.ensures.refused
+    refused_flag (Some MAX_LANES) (accepts_batch lines) lines c.in-Err.line c.refused_answer.result refl ends.0 c.refused_answer.ensures.refused

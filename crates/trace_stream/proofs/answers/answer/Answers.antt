@@ -1,10 +1,10 @@
 use Rattle.std.proofs.Common.{◌++◌, subst, IfErr}
-use Rattle.trace_stream.proofs.Common.{IsTold, AnswersLine}
+use Rattle.trace_stream.proofs.Common.{HasRefusalLine, AnswersLine}
 use Rattle.trace_stream.proofs.AnswersLemmas.{unserved, answered, put_behind}
 use Rattle.trace_stream.proofs.answers.answer.Goals as goal
 
 pub refuse-requires : goal.refuse-requires
-refuse-requires c = subst (λ r. IfErr r IsTold) c.in-Err.is c.in_ok-answered.ensures.told
+refuse-requires c = subst (λ r. IfErr r HasRefusalLine) c.in-Err.is c.in_ok-answered.ensures.told
 
 pub returns-in_ok-answer-in-Ok : goal.returns-in_ok-answer-in-Ok
 returns-in_ok-answer-in-Ok c put before count runs next other =

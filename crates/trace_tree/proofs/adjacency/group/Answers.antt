@@ -8,7 +8,7 @@ use Rattle.std.proofs.lemmas.Cmp.{nat_cmp_total}
 use Rattle.std.proofs.lemmas.List.{get_or_default, map-append}
 use Rattle.std.proofs.lemmas.List.Elements.{recursion_from_All}
 use Rattle.std.proofs.lemmas.Map.Iter.{btree_map_turn, iter_end}
-use Rattle.trace_tree.specs.Walking.{up_from, up_at}
+use Rattle.trace_tree.specs.Walking.{parent_place_from, parent_place_at}
 use Rattle.trace_tree.proofs.Parents.{up_within}
 use Rattle.trace_tree.proofs.Visits.{up_is}
 use Rattle.trace_tree.proofs.Groups.{Grouped, empty_more, grouped_start, grouped_root, grouped_under, grouped_end, places_from}
@@ -61,8 +61,8 @@ loop-place-preserved-in-Continue-branch-2 c =
     let t = btree_map_turn deref_pair c.loop-place.yielded _ _ _ _ (c.in-Some.field-0-0, c.in-Some.place) c.loop-place.yielded_by c.in-Some.is c.next.ensures.steps nat_cmp_total c.args.index.now it.0 it.5 in
     let small = (c.requires.index.sound c.in-Some.field-0-0.now c.in-Some.place.now t.1).0 in
     let from = sym c.parent_place.ensures ∙ c.in-Some-parent_place.is in
-    let up : up_at c.args.finished.now c.in-Some.place.now ≡ Some c.in-Some-parent_place.parent =
-    up_is c.args.finished.now c.args.finished.now c.in-Some.place.now c.index-finished-place.result small ∙ ap (up_from 0 c.args.finished.now) (sym c.index-finished-place.is) ∙ from in
+    let up : parent_place_at c.args.finished.now c.in-Some.place.now ≡ Some c.in-Some-parent_place.parent =
+    up_is c.args.finished.now c.args.finished.now c.in-Some.place.now c.index-finished-place.result small ∙ ap (parent_place_from 0 c.args.finished.now) (sym c.index-finished-place.is) ∙ from in
     let w = up_within 0 c.args.finished.now c.index-finished-place.result c.in-Some-parent_place.parent from in
     let less : c.in-Some-parent_place.parent < length c.args.finished.now = (let h = w.1 in omega arith) in
     let inside : c.in-Some-parent_place.parent < length c.loop-place.children.items = (let s = c.loop-place.invariant.size in omega arith) in
@@ -78,8 +78,8 @@ loop-place-preserved c =
     let it = c.into_iter-place-iterator.ensures.into_iter_gives in
     let t = btree_map_turn deref_pair c.loop-place.yielded _ _ _ _ (c.in-Some.field-0-0, c.in-Some.place) c.loop-place.yielded_by c.in-Some.is c.next.ensures.steps nat_cmp_total c.args.index.now it.0 it.5 in
     let small = (c.requires.index.sound c.in-Some.field-0-0.now c.in-Some.place.now t.1).0 in
-    let up : up_at c.args.finished.now c.in-Some.place.now ≡ None =
-    up_is c.args.finished.now c.args.finished.now c.in-Some.place.now c.index-finished-place.result small ∙ ap (up_from 0 c.args.finished.now) (sym c.index-finished-place.is)
+    let up : parent_place_at c.args.finished.now c.in-Some.place.now ≡ None =
+    up_is c.args.finished.now c.args.finished.now c.in-Some.place.now c.index-finished-place.result small ∙ ap (parent_place_from 0 c.args.finished.now) (sym c.index-finished-place.is)
     ∙ sym c.parent_place.ensures ∙ c.in-None-parent_place.is in
     let G : List ℕ × List ℕ → Type 0 = λ p. Grouped c.args.finished.now p.0 c.loop-place.children.items p.1 in
     subst G (λ i. (sym c.in_ok-push-in-None-parent_place.ensures.ok i, sym (places_more c.loop-place.yielded c.in-Some.field-0-0 c.in-Some.place) i))

@@ -8,10 +8,10 @@ pub admits-enabled-requires-clause-current : goal.admits-enabled-requires-clause
 admits-enabled-requires-clause-current c = is_current _ _ (parts_of c.self.inside) _ _ stack_interest stack_shows c.self.invariant
 
 pub invariant_of-self : goal.invariant_of-self
-invariant_of-self c = keeps_enabled _ _ (λ x. false) _ _ (parts_of c.self.inside) c.args.at c.args.place c.index.result.now (within_view _ _ c.self.inside.lanes.items c.args.place c.self.view_is refl c.requires) (search rules) c.in-Some.found.0 c.args.site c.in-Some.ensures.id.0 c.in-Some.ensures.id.1 c.admits-enabled.result (λ f callsite in_force at. c.admits-enabled.ensures.served c.self.inside.dispatch f callsite (own_serves _ _ c.self.inside.world.global (own_lane _ _ _ _ (parts_of c.self.inside) c.self.invariant c.args.place c.index.result.now (within_view _ _ c.self.inside.lanes.items c.args.place c.self.view_is refl c.requires) (search rules))) in_force at) c.self.invariant
+invariant_of-self c = keeps_enabled _ _ (λ x. false) _ _ (parts_of c.self.inside) c.args.at c.args.place c.index.result.now (within_view _ _ c.self.inside.lanes.items c.args.place c.self.view_is refl c.requires) (search rules) c.in-Some.id c.args.site c.in-Some.ensures.some.0 c.in-Some.ensures.some.1 c.admits-enabled.result (λ f callsite in_force at. c.admits-enabled.ensures.served c.self.inside.dispatch f callsite (own_serves _ _ c.self.inside.world.global (own_lane _ _ _ _ (parts_of c.self.inside) c.self.invariant c.args.place c.index.result.now (within_view _ _ c.self.inside.lanes.items c.args.place c.self.view_is refl c.requires) (search rules))) in_force at) c.self.invariant
 
 pub returns : goal.returns
-returns c = by_view c.args.at c.args.place (call.Enabled c.args.site) _ _ _ _ c.self.view_is (λ t stands. serves_enabled _ _ (λ x. false) (λ x lane number. 0) (λ x. Unit {0}) (parts_of c.self.inside) c.args.at c.args.place c.index.result.now (within_view _ _ c.self.inside.lanes.items c.args.place c.self.view_is refl c.requires) (search rules) c.in-Some.found.0 c.args.site c.in-Some.ensures.id.0 c.in-Some.ensures.id.1 c.admits-enabled.result (λ f callsite in_force at. c.admits-enabled.ensures.served c.self.inside.dispatch f callsite (own_serves _ _ c.self.inside.world.global (own_lane _ _ _ _ (parts_of c.self.inside) c.self.invariant c.args.place c.index.result.now (within_view _ _ c.self.inside.lanes.items c.args.place c.self.view_is refl c.requires) (search rules))) in_force at) t stands)
+returns c = by_view c.args.at c.args.place (call.Enabled c.args.site) _ _ _ _ c.self.view_is (λ t stands. serves_enabled _ _ (λ x. false) (λ x lane number. 0) (λ x. Unit {0}) (parts_of c.self.inside) c.args.at c.args.place c.index.result.now (within_view _ _ c.self.inside.lanes.items c.args.place c.self.view_is refl c.requires) (search rules) c.in-Some.id c.args.site c.in-Some.ensures.some.0 c.in-Some.ensures.some.1 c.admits-enabled.result (λ f callsite in_force at. c.admits-enabled.ensures.served c.self.inside.dispatch f callsite (own_serves _ _ c.self.inside.world.global (own_lane _ _ _ _ (parts_of c.self.inside) c.self.invariant c.args.place c.index.result.now (within_view _ _ c.self.inside.lanes.items c.args.place c.self.view_is refl c.requires) (search rules))) in_force at) t stands)
 
 pub admits-enabled-requires-clause-own : goal.admits-enabled-requires-clause-own
 admits-enabled-requires-clause-own c = own_there c.self.inside.world _ _ (own_lane _ _ _ _ (parts_of c.self.inside) c.self.invariant c.args.place c.index.result.now (within_view _ _ c.self.inside.lanes.items c.args.place c.self.view_is refl c.requires) (search rules)) c.self.invariant.there

@@ -10,5 +10,5 @@ returns-in-Opening g c most lines follows =
 
 pub returns-in-Running : goal.returns-in-Running
 returns-in-Running g c most lines follows =
-    let r : IsRunning g.K.Kept.of_record most lines c.args.self.now.lines _ c.args.self.now.finished = rw c.in-Running.is at follows in
-    running_refuses_none g.K.Kept.of_record most lines c.args.self.now.lines _ c.args.self.now.finished r
+    let r : IsRunning g.K.FromRecord.of_record most lines c.args.self.now.lines _ c.args.self.now.finished = rw c.in-Running.is at follows in
+    running_refuses_none g.K.FromRecord.of_record most lines c.args.self.now.lines _ c.args.self.now.finished r

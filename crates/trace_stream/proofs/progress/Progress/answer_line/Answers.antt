@@ -5,8 +5,8 @@ use Rattle.trace_stream.proofs.progress.Progress.answer_line.Goals as goal
 
 pub returns-then-is_empty : goal.returns-then-is_empty
 returns-then-is_empty c put front k =
-    let size : length c.args.self.now.kept.items ≡ 0 = search rules in
-    let none : c.args.self.now.kept.items ≡ [] = nil_from_length c.args.self.now.kept.items size in
+    let size : length c.args.self.now.partial_line.items ≡ 0 = search rules in
+    let none : c.args.self.now.partial_line.items ≡ [] = nil_from_length c.args.self.now.partial_line.items size in
     on_ok_then c.answer_line.result (ended_whole c.args.signal put front c.args.line.now c.args.self.now c.answer_line.new.self k c.requires none)
     (c.answer_line.ensures put (whole_lines front) k.answered)
 

@@ -9,16 +9,16 @@ returns-in_default-answer_line-clause-midway g c before front m =
     front_of_piece c.args.signal before (g.W.Sink.holds c.loop-line.sink) front told.0 c.loop-line.rest.now c.args.piece.now told.1
     (left_front c.args.signal before (g.W.Sink.holds c.loop-line.sink) (front ++ told.0) c.loop-line.self (told.2 before front m))
 
-pub returns-in_default-relieve-clause-midway : goal.returns-in_default-relieve-clause-midway
-returns-in_default-relieve-clause-midway g c before front m =
+pub returns-in_default-flush_if_full-clause-midway : goal.returns-in_default-flush_if_full-clause-midway
+returns-in_default-flush_if_full-clause-midway g c before front m =
     let told = c.loop-line.invariant.told in
     let line : List ℕ = c.in-Some.line.now in
     let after : List ℕ = c.in-Some.after.now in
     let parts : c.loop-line.rest.now ≡ line ++ 10 ∷ after = c.in-Some.ensures.parts in
     let done : List ℕ = told.0 ++ line ++ 10 ∷ [] in
-    front_of_piece c.args.signal before (g.W.Sink.holds c.relieve.new.sink) front done after c.args.piece.now
+    front_of_piece c.args.signal before (g.W.Sink.holds c.flush_if_full.new.sink) front done after c.args.piece.now
     (piece_on c.args.piece.now told.0 c.loop-line.rest.now line after told.1 parts)
-    (c.in_default-relieve.ensures.midway c.args.signal before (front ++ done)
+    (c.in_default-flush_if_full.ensures.midway c.args.signal before (front ++ done)
     (midway_line c.args.signal before (g.W.Sink.holds c.loop-line.sink) front told.0 line c.loop-line.self c.answer_line.new.self (told.2 before front m) c.in-Ok.ensures))
 
 pub loop-line-preserved : goal.loop-line-preserved
@@ -32,10 +32,10 @@ loop-line-preserved g c =
       told = (
         done,
         piece_on c.args.piece.now told.0 c.loop-line.rest.now line after told.1 parts,
-        λ before front m. c.in-Ok-relieve.ensures.midway c.args.signal before (front ++ done)
+        λ before front m. c.in-Ok-flush_if_full.ensures.midway c.args.signal before (front ++ done)
             (midway_line c.args.signal before (g.W.Sink.holds c.loop-line.sink) front told.0 line c.loop-line.self c.answer_line.new.self (told.2 before front m) c.in-Ok.ensures),
       );
-      sure = c.in-Ok-relieve.ensures.sure ∙ c.loop-line.invariant.sure;
+      sure = c.in-Ok-flush_if_full.ensures.sure ∙ c.loop-line.invariant.sure;
     }
 
 pub returns-in_default-extend_from_slice-clause-midway : goal.returns-in_default-extend_from_slice-clause-midway

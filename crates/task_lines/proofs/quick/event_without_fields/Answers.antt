@@ -1,5 +1,5 @@
 use Rattle.task_lines.proofs.StepsLemmas.{alone_begins}
-use Rattle.task_lines.proofs.quick.event_alone.Goals as goal
+use Rattle.task_lines.proofs.quick.event_without_fields.Goals as goal
 
 pub returns : goal.returns
 returns c =

@@ -9,7 +9,7 @@ use trace_base::field::{Value, ValueSet};
 
 /// The moment of an order, in nanoseconds, and the callsites of its spans and events, with what is given to each.
 #[derive(Drop)]
-pub struct Given {
+pub struct OrderValues {
     pub at: u64,
     pub sites: Sites,
     pub order: ValueSet,
@@ -20,9 +20,9 @@ pub struct Given {
     ghost early: { at < 2 ^ 62 },
 }
 
-impl Given {
+impl OrderValues {
     /// What is given for the order of a user; there is no box for what they want.
-    pub fn new(alloc: Global, at: u64, sites: Sites, user: &str) -> Result<Given, Memory>
+    pub fn new(alloc: Global, at: u64, sites: Sites, user: &str) -> Result<OrderValues, Memory>
         requires { at < 2 ^ 62 }
         ensures { IfOk result (λ given. given.at ≡ at) }
     {
@@ -30,7 +30,7 @@ impl Given {
             message: text(alloc, "no box")?,
             chain: Items::new(alloc),
         };
-        Ok(Given {
+        Ok(OrderValues {
             at,
             sites,
             order: two_values(alloc, Value::Str(text(alloc, user)?), Value::U64(3))?,

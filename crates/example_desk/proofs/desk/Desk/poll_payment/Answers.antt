@@ -1,6 +1,6 @@
 -- What a poll inside the payment's span did.
 use Rattle.traced_futures.proofs.Programs.{refl, arith, may_lend, future_polled}
-use Rattle.example_desk.proofs.desk.Desk.is_made.Goals as goal
+use Rattle.example_desk.proofs.desk.Desk.poll_payment.Goals as goal
 
 pub poll-polled-requires-clause-lends : goal.poll-polled-requires-clause-lends
 poll-polled-requires-clause-lends g c = may_lend c.requires.ready.ready

@@ -1,6 +1,6 @@
 -- The counts so far are the same.
 use Rattle.std.proofs.Common.{◌≡◌, ℕ, ◌+◌, ◌-◌, slice_index_or, vec_len}
-use Rattle.thread_run.proofs.entry.reach.Given as goal
+use Rattle.thread_run.proofs.entry.ensure_count.Given as goal
 
 abbrev pub invariant-loop-counts : goal.invariant-loop-counts
 invariant-loop-counts l = (k : ℕ) → slice_index_or l.counts.items k 0 ≡ slice_index_or l.fn.counts.items k 0

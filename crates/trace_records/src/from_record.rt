@@ -6,31 +6,31 @@ use otel_base::record::Record;
 use trace_tree::TreeSpan;
 
 /// What is kept of a finished span. Whoever reads a script whole keeps no more than it needs, since there may be many.
-pub trait Kept: Drop {
+pub trait FromRecord: Drop {
     /// What is kept of a record.
     ghost of_record: { Record → Self };
 
     /// Keeps what is wanted of a record, and drops the rest.
-    fn keep(finished: Record) -> Self
+    fn from_record(finished: Record) -> Self
         ensures { result ≡ of_record finished };
 }
 
 /// The whole record.
-impl Kept for Record {
+impl FromRecord for Record {
     ghost of_record = { λ r. r };
 
-    fn keep(finished: Record) -> Record {
+    fn from_record(finished: Record) -> Record {
         finished
     }
 }
 
 /// What trees need.
-impl Kept for TreeSpan {
+impl FromRecord for TreeSpan {
     ghost use Rattle.trace_tree.specs.Busy.{tree_span};
 
     ghost of_record = { tree_span };
 
-    fn keep(finished: Record) -> TreeSpan {
+    fn from_record(finished: Record) -> TreeSpan {
         TreeSpan::of(finished)
     }
 }

@@ -1,7 +1,7 @@
 -- The line of the span at the node's place.
 use Rattle.std.proofs.Common.{ℕ, List, ◌++◌, sym, ap, ◌∙◌}
 use Rattle.tree_lines.proofs.NodesLemmas.{line_at}
-use Rattle.tree_lines.proofs.text.add_placed.Goals as goal
+use Rattle.tree_lines.proofs.text.add_node_line.Goals as goal
 
 pub returns : goal.returns
 returns c =

@@ -1,6 +1,6 @@
 use Rattle.std.proofs.Common.{arith}
 use Rattle.thread_lines.proofs.BalanceLemmas.{op_there}
-use Rattle.thread_lines.proofs.worker_ops.test_counted.Goals as goal
+use Rattle.thread_lines.proofs.worker_ops.test_and_count.Goals as goal
 
 pub count_entry-requires : goal.count_entry-requires
 count_entry-requires c =
