@@ -31,19 +31,6 @@ stays_stopped lines more refused s = record {
   lines_are = λ later. ap task_script_of (append_assoc lines more later) ∙ s.lines_are (more ++ later);
 }
 
--- a blank line
-pub blank_on : (at : ReadStage) (lines : List (List ℕ)) (count next : ℕ) (line : List ℕ) → StandsAt at lines count → next ≡ count + 1 → is_blank line ≡ true → StandsAt at (lines ++ line ∷ []) next
-blank_on stage.Opening lines count next line a counted is = record {
-  blank = all_blank lines line a.blank is;
-  lines_are = λ more. on_line lines more line _ (a.lines_are (line ∷ more) ∙ rw (is, counted) refl);
-}
-blank_on (stage.Reading script) lines count next line a counted is = record {
-  some = some_before lines (line ∷ []) a.some;
-  fit = a.fit;
-  lines_are = λ more. on_line lines more line _ (a.lines_are (line ∷ more) ∙ rw (is, counted) refl);
-}
-blank_on (stage.Refused refused) lines count next line a counted is = stays_stopped lines (line ∷ []) refused a
-
 -- the settings line
 pub opened_on : (lines : List (List ℕ)) (count next : ℕ) (line : List ℕ) (settings : Settings) → IsOpening lines count → next ≡ count + 1 → is_blank line ≡ false → settings_on line ≡ Ok settings → CanOpen settings
     → IsReading (lines ++ line ∷ []) next (record { settings = settings; tasks = [] })
@@ -51,15 +38,6 @@ opened_on lines count next line settings o counted is reads opens = record {
   some = one_not_blank lines line o.blank is;
   fit = record { opens = opens; tasks = All-nil (λ task. missing_name settings task ≡ None) };
   lines_are = λ more. on_line lines more line _ (o.lines_are (line ∷ more) ∙ rw (is, reads, counted) refl);
-}
-
--- a settings line that is refused
-pub unopened_on : (lines : List (List ℕ)) (count next : ℕ) (line : List ℕ) (why : Told) → IsOpening lines count → next ≡ count + 1 → is_blank line ≡ false → settings_on line ≡ Err why → HasRefusalLine why
-    → IsStopped (lines ++ line ∷ []) (record { line = next; told = why })
-unopened_on lines count next line why o counted is refused told = record {
-  some = one_not_blank lines line o.blank is;
-  is_told = told;
-  lines_are = λ more. on_line lines more line _ (o.lines_are (line ∷ more) ∙ rw (is, refused, counted) refl);
 }
 
 -- a task line
@@ -70,15 +48,6 @@ task_read_on lines count next line old new task r counted is reads fits settings
   fit = record { opens = r.fit.opens; tasks = All-append (λ t. missing_name old.settings t ≡ None) old.tasks (task ∷ []) r.fit.tasks (All-cons (λ t. missing_name old.settings t ≡ None) task [] fits (All-nil (λ t. missing_name old.settings t ≡ None))) };
   lines_are = λ more. on_line lines more line _ (r.lines_are (line ∷ more) ∙ rw (is, reads, counted) refl);
 })
-
--- a task line that is refused
-pub refused_on : (lines : List (List ℕ)) (count next : ℕ) (line : List ℕ) (script : TaskScript) (why : Told) → IsReading lines count script → next ≡ count + 1 → is_blank line ≡ false → task_on script.settings line ≡ Err why → HasRefusalLine why
-    → IsStopped (lines ++ line ∷ []) (record { line = next; told = why })
-refused_on lines count next line script why r counted is none told = record {
-  some = some_before lines (line ∷ []) r.some;
-  is_told = told;
-  lines_are = λ more. on_line lines more line _ (r.lines_are (line ∷ more) ∙ rw (is, none, counted) refl);
-}
 
 -- what holds where a task was pushed
 pub on_ok : {A E : Type 0} (r : Result A E) (P : TaskScript → Type 0) (new : TaskScript) {Q : Type 0} → (Q → P new) → OnOk r Q → OnOk r (P new)

@@ -1,52 +1,30 @@
 -- The event.
-use Rattle.std.proofs.Common.{rules, refl, ◌∙◌, Some, None}
+use Rattle.std.proofs.Common.{rules, ◌≡◌, Err, refl}
 use Rattle.span_script.specs.declared.request.Call.TheVariants as call
-use Rattle.trace_pipeline.proofs.Common.{stack_interest, stack_shows, is_current, within_view, has_own, own_serves, own_lane, own_there, on_err, found_parent, by_view, by_view_refused, serves_refusal, refuses_event, refuses_event_site, refuses_event_place, made_alike_own, tell_live, parts_of}
 use Rattle.span_script.proofs.events.EventsLemmas.{serves_told, keeps_told}
+use Rattle.trace_pipeline.proofs.Common.{stack_interest, stack_shows, is_current, within_view, by_view, by_view_error, refuses_event, made_alike, tell_live, parts_of}
 use Rattle.trace_pipeline.proofs.pipeline.Pipeline.event.Goals as goal
 
-pub tell_if-requires-clause-own : goal.tell_if-requires-clause-own
-tell_if-requires-clause-own c = own_there c.self.inside.world _ _ (own_lane _ _ _ _ (parts_of c.self.inside) c.self.invariant c.args.place c.index-on.result.now (within_view _ _ c.self.inside.lanes.items c.args.place c.self.view_is refl c.requires) (search rules)) c.self.invariant.there
-
-pub tell_if-requires-clause-whole : goal.tell_if-requires-clause-whole
-tell_if-requires-clause-whole c = has_own _ c.self.inside.world _ _ (own_lane _ _ _ _ (parts_of c.self.inside) c.self.invariant c.args.place c.index-on.result.now (within_view _ _ c.self.inside.lanes.items c.args.place c.self.view_is refl c.requires) (search rules)) c.self.invariant.whole
+pub tell_at-requires-clause-live : goal.tell_at-requires-clause-live
+tell_at-requires-clause-live c = tell_live _ _ _ _ (parts_of c.self.inside) c.self.invariant c.args.parent _ c.parent_for-parent.ensures
 
 pub invariant_of-self : goal.invariant_of-self
-invariant_of-self c = (made_alike_own _ _ _ _ _ _ c.same.ensures (parts_of c.self.inside) c.tell_if.new.world c.self.inside.handles.items refl _ (own_lane _ _ _ _ (parts_of c.self.inside) c.self.invariant c.args.place c.index-on.result.now (within_view _ _ c.self.inside.lanes.items c.args.place c.self.view_is refl c.requires) (search rules)) c.in_err-tell_if.ensures.memory_leaves).1 c.self.invariant
+invariant_of-self c = (made_alike _ _ _ _ _ _ c.same.ensures (parts_of c.self.inside) c.tell_at.new.world c.self.inside.handles.items refl c.in_err-enabled.ensures.leaves).1 c.self.invariant
 
-pub returns-in_err-tell_if : goal.returns-in_err-tell_if
-returns-in_err-tell_if c = record {
-  ok = (search rules);
-  refused = (search rules);
-  err = on_err _ _ ((made_alike_own _ _ _ _ _ _ c.same.ensures (parts_of c.self.inside) c.tell_if.new.world c.self.inside.handles.items refl _ (own_lane _ _ _ _ (parts_of c.self.inside) c.self.invariant c.args.place c.index-on.result.now (within_view _ _ c.self.inside.lanes.items c.args.place c.self.view_is refl c.requires) (search rules)) c.in_err-tell_if.ensures.memory_leaves).0 ∙ c.self.view_is);
-  room = (search rules);
-}
-
-pub tell_if-requires-clause-live : goal.tell_if-requires-clause-live
-tell_if-requires-clause-live c = has_own _ c.self.inside.world _ _ (own_lane _ _ _ _ (parts_of c.self.inside) c.self.invariant c.args.place c.index-on.result.now (within_view _ _ c.self.inside.lanes.items c.args.place c.self.view_is refl c.requires) (search rules)) (tell_live _ _ _ _ (parts_of c.self.inside) c.self.invariant c.args.parent _ (found_parent c.self.inside.handles.items c.self.inside.handles.items c.args.parent c.parent_for.result (Some c.in-Some-parent_for.parent) refl c.parent_for.ensures c.in-Some-parent_for.is))
+pub returns-in_err-enabled : goal.returns-in_err-enabled
+returns-in_err-enabled c =
+    let given = c.in_err-enabled.field-0.0 in
+    let is : c.from_residual.result ≡ Err given = (search rules) in
+    rw is (by_view_error c.args.at c.args.place (call.Event c.args.site c.args.parent c.args.fields) _ given _ _ c.self.view_is refl
+        (λ t stands memory. refuses_event _ t stands.fits c.args.at c.args.place c.args.site c.args.parent c.parent_for-parent.result c.parent_for-parent.ensures c.args.fields given (c.in_err-enabled.ensures.refused memory))
+        (made_alike _ _ _ _ _ _ c.same.ensures (parts_of c.self.inside) c.tell_at.new.world c.self.inside.handles.items refl c.in_err-enabled.ensures.leaves).0)
 
 pub invariant_of-self-2 : goal.invariant_of-self-2
-invariant_of-self-2 c = keeps_told _ _ _ _ _ (parts_of c.self.inside) c.tell_if.new.world _ c.calls.ensures c.args.at c.args.place
-    c.args.parent _ (found_parent c.self.inside.handles.items c.self.inside.handles.items c.args.parent c.parent_for.result (Some c.in-Some-parent_for.parent) refl c.parent_for.ensures c.in-Some-parent_for.is) c.in-Some.found.0 c.args.site (search rules) c.in-Some.found.1.now (search rules) c.args.fields c.in-Some-2.values (search rules) c.index-on.result.now (within_view _ _ c.self.inside.lanes.items c.args.place c.self.view_is refl c.requires) (search rules) c.admits-enabled.result (λ f callsite in_force at. c.admits-enabled.ensures.served c.self.inside.dispatch f callsite (own_serves _ _ c.self.inside.world.global (own_lane _ _ _ _ (parts_of c.self.inside) c.self.invariant c.args.place c.index-on.result.now (within_view _ _ c.self.inside.lanes.items c.args.place c.self.view_is refl c.requires) (search rules))) in_force at) (own_lane _ _ _ _ (parts_of c.self.inside) c.self.invariant c.args.place c.index-on.result.now (within_view _ _ c.self.inside.lanes.items c.args.place c.self.view_is refl c.requires) (search rules)) c.in_ok-tell_if.ensures.ok c.statics.ensures c.self.invariant
+invariant_of-self-2 c = keeps_told _ _ _ _ _ (parts_of c.self.inside) c.tell_at.new.world _ c.calls.ensures c.args.at c.args.place
+    c.args.parent c.parent_for-parent.result c.parent_for-parent.ensures c.args.site c.args.fields c.index-on.result.now (within_view _ _ c.self.inside.lanes.items c.args.place c.self.view_is refl c.requires) (search rules) c.in_ok-enabled.enabled
+    (λ f callsite in_force there. c.passes.ensures c.self.inside.world c.self.inside.dispatch c.index-on.result.now.id c.args.site c.in_ok-enabled.enabled c.in_ok-enabled.ensures.gate (is_current _ _ (parts_of c.self.inside) _ _ stack_interest stack_shows c.self.invariant) c.self.invariant.whole f callsite in_force there) c.in_ok-enabled.ensures.ok c.statics.ensures c.self.invariant
 
 pub returns : goal.returns
-returns c = by_view c.args.at c.args.place (call.Event c.args.site c.args.parent c.args.fields) _ _ _ _ c.self.view_is (λ t stands. serves_told _ _ _ _ _ (parts_of c.self.inside) c.tell_if.new.world _ c.calls.ensures c.args.at c.args.place
-    c.args.parent _ (found_parent c.self.inside.handles.items c.self.inside.handles.items c.args.parent c.parent_for.result (Some c.in-Some-parent_for.parent) refl c.parent_for.ensures c.in-Some-parent_for.is) c.in-Some.found.0 c.args.site (search rules) c.in-Some.found.1.now (search rules) c.args.fields c.in-Some-2.values (search rules) c.index-on.result.now (within_view _ _ c.self.inside.lanes.items c.args.place c.self.view_is refl c.requires) (search rules) c.admits-enabled.result (λ f callsite in_force at. c.admits-enabled.ensures.served c.self.inside.dispatch f callsite (own_serves _ _ c.self.inside.world.global (own_lane _ _ _ _ (parts_of c.self.inside) c.self.invariant c.args.place c.index-on.result.now (within_view _ _ c.self.inside.lanes.items c.args.place c.self.view_is refl c.requires) (search rules))) in_force at) (own_lane _ _ _ _ (parts_of c.self.inside) c.self.invariant c.args.place c.index-on.result.now (within_view _ _ c.self.inside.lanes.items c.args.place c.self.view_is refl c.requires) (search rules)) c.in_ok-tell_if.ensures.ok c.statics.ensures t stands)
-
-pub returns-in_default-2 : goal.returns-in_default-2
-returns-in_default-2 c = serves_refusal _ _ _ _ _ (λ t stands. by_view_refused c.args.at c.args.place (call.Event c.args.site c.args.parent c.args.fields) _ _ _ c.self.view_is (λ t stands. refuses_event _ t stands.fits c.args.at c.args.place c.args.site c.args.parent c.args.fields c.in-Some.found.1.now _ (found_parent c.self.inside.handles.items c.self.inside.handles.items c.args.parent c.parent_for.result (Some c.in-Some-parent_for.parent) refl c.parent_for.ensures c.in-Some-parent_for.is) (search rules) (search rules)) t stands) (search rules) refl
-
-pub admits-enabled-requires-clause-current : goal.admits-enabled-requires-clause-current
-admits-enabled-requires-clause-current c = is_current _ _ (parts_of c.self.inside) _ _ stack_interest stack_shows c.self.invariant
-
-pub returns-in_default : goal.returns-in_default
-returns-in_default c = serves_refusal _ _ _ _ _ (λ t stands. by_view_refused c.args.at c.args.place (call.Event c.args.site c.args.parent c.args.fields) _ _ _ c.self.view_is (λ t stands. refuses_event_site _ t stands.fits c.args.at c.args.place c.args.site c.args.parent c.args.fields (search rules)) t stands) (search rules) refl
-
-pub returns-in_default-parent_for : goal.returns-in_default-parent_for
-returns-in_default-parent_for c = serves_refusal _ _ _ _ _ (λ t stands. by_view_refused c.args.at c.args.place (call.Event c.args.site c.args.parent c.args.fields) _ _ _ c.self.view_is (λ t stands. refuses_event_place _ t stands.fits c.args.at c.args.place c.args.site c.args.parent c.args.fields c.in-Some.found.1.now (search rules) (found_parent c.self.inside.handles.items c.self.inside.handles.items c.args.parent c.parent_for.result None refl c.parent_for.ensures (search rules))) t stands) (search rules) refl
-
-pub admits-enabled-requires-clause-own : goal.admits-enabled-requires-clause-own
-admits-enabled-requires-clause-own c = own_there c.self.inside.world _ _ (own_lane _ _ _ _ (parts_of c.self.inside) c.self.invariant c.args.place c.index-on.result.now (within_view _ _ c.self.inside.lanes.items c.args.place c.self.view_is refl c.requires) (search rules)) c.self.invariant.there
-
-pub admits-enabled-requires-clause-whole : goal.admits-enabled-requires-clause-whole
-admits-enabled-requires-clause-whole c = has_own _ c.self.inside.world _ _ (own_lane _ _ _ _ (parts_of c.self.inside) c.self.invariant c.args.place c.index-on.result.now (within_view _ _ c.self.inside.lanes.items c.args.place c.self.view_is refl c.requires) (search rules)) c.self.invariant.whole
+returns c = by_view c.args.at c.args.place (call.Event c.args.site c.args.parent c.args.fields) _ _ _ _ c.self.view_is (λ t stands. serves_told _ _ _ _ _ (parts_of c.self.inside) c.tell_at.new.world _ c.calls.ensures c.args.at c.args.place
+    c.args.parent c.parent_for-parent.result c.parent_for-parent.ensures c.args.site c.args.fields c.index-on.result.now (within_view _ _ c.self.inside.lanes.items c.args.place c.self.view_is refl c.requires) (search rules) c.in_ok-enabled.enabled
+    (λ f callsite in_force there. c.passes.ensures c.self.inside.world c.self.inside.dispatch c.index-on.result.now.id c.args.site c.in_ok-enabled.enabled c.in_ok-enabled.ensures.gate (is_current _ _ (parts_of c.self.inside) _ _ stack_interest stack_shows c.self.invariant) c.self.invariant.whole f callsite in_force there) c.in_ok-enabled.ensures.ok c.statics.ensures t stands)
