@@ -37,7 +37,7 @@ pub fn leave_open<S: Stack>(
     let (after, around) = (current(world, stack, lane), context(lane));
     let Leaves { span } = future.into_inner(world, 20);
     span.discard();
-    let live = lane.contexts.live_count();
+    let live = lane.contexts.live();
     let holds = world.subscriber(stack).registry().holds(Id::at(0));
     let told = records(alloc, world, stack)?;
     Ok(format!(in alloc; "{answer} {after} {around} {live} {holds}: {told}")?)

@@ -1,5 +1,4 @@
 pub mod Words
-pub mod Texts
 pub mod Statuses
 pub mod Ids
 pub mod RecorderIds

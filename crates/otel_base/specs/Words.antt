@@ -1,5 +1,7 @@
--- The fixed keys and words of records.
-use Rattle.std.specs.Prelude.{ℕ, List, codes}
+-- The fixed keys and words of records, and what contracts see of a text.
+use Rattle.std.specs.Prelude.{ℕ, List, codes, string_bytes}
+use Rattle.otel_base.specs.declared.text.Content.{Content}
+use Rattle.otel_base.specs.declared.text.Content.TheVariants as contents
 use Rattle.otel_base.specs.declared.word.Word.{Word}
 use Rattle.otel_base.specs.declared.word.Word.TheVariants as words
 
@@ -24,3 +26,9 @@ word_text words.WarnLevel = codes "WARN"
 word_text words.InfoLevel = codes "INFO"
 word_text words.DebugLevel = codes "DEBUG"
 word_text words.TraceLevel = codes "TRACE"
+
+-- the bytes of a text, wherever they lie
+abbrev pub text_bytes : Content → List ℕ
+text_bytes (contents.Fixed word) = word_text word
+text_bytes (contents.Short short) = short.bytes
+text_bytes (contents.Long string) = string_bytes string

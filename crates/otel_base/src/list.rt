@@ -29,7 +29,7 @@ impl<T> Items<T> {
         }
     }
 
-    /// An empty list with room for so many items; `Memory` where there is none for them.
+    /// An empty list with room for so many items. `Memory` where there is none for them.
     pub fn with_capacity(alloc: Global, capacity: usize) -> Result<Items<T>, Memory>
         ensures { IfOk result (λ list. list ≡ []) }
     {

@@ -125,7 +125,7 @@ impl ContextStack {
     }
 
     /// How many contexts are live.
-    pub fn live_count(&self) -> u64
+    pub fn live(&self) -> u64
         ensures value { result ≡ length self.now.live }
         ensures most { result ≤ 65534 }
     {

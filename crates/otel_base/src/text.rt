@@ -1,7 +1,6 @@
 //! Texts that contracts see as the list of their bytes.
 ghost use Rattle.std.specs.Prelude.{◌≡◌, ◌≤◌, List, ℕ, string_bytes, length, IfOk, IsOk};
 ghost use Rattle.otel_base.specs.Words.{word_text};
-ghost use Rattle.otel_base.specs.Texts.{text_bytes};
 ghost use Rattle.std.proofs.Common.{rules};
 ghost use Rattle.std.specs.Cmp.Rules.{comparing};
 ghost use Rattle.std.specs.Prelude.{bytes_eq};
@@ -33,7 +32,7 @@ enum Content {
 
 impl Model for Text {
     ghost use Rattle.std.specs.Prelude.{List, ℕ};
-    ghost use Rattle.otel_base.specs.Texts.{text_bytes};
+    ghost use Rattle.otel_base.specs.Words.{text_bytes};
 
     ghost Value = { List ℕ };
 

@@ -53,9 +53,9 @@ pub use Rattle.span_script.specs.Admission.{IsCountingFilter, IsTextFilter, IsOp
 pub use Rattle.span_script.specs.Balance.{Balanced, OpenGuard, guards_span, named_span, names_span, open_guard_by, open_guard_on}
 pub use Rattle.span_script.specs.Effects.{effect_of, effect_of_call, is_bad_moment}
 pub use Rattle.span_script.specs.Fields.{Fields, all_values, declared_by, declared_value, declares, values_by, values_of}
-pub use Rattle.span_script.specs.Fits.{AllContextsFit, ContextSlots, ContextsFit, FilteringFits, HaveDistinctNumbers, PipelineInvariant, IsLaterThanParent, IsRefusal, IsScope, LaneValue, LanesFit, SpansFit, Parts, RecordingFits, IsServed, IsServedByHistory, Serves, ServesResolved, ShownFilter, StandsFor, PipelineState, Views, counting_filter_by, first_of, guard_of, held_by, held_of, is_for_memory, attach_numbers_on, lane_at, lane_place_of, lane_value, no_lane_value, owner_numbers, live_numbers_of, parent_in, shown_of, site_by, stack_views, state_of, token_numbers_of}
+pub use Rattle.span_script.specs.Fits.{AllContextsFit, ContextSlots, ContextsFit, FilteringFits, HaveDistinctNumbers, PipelineInvariant, IsLaterThanParent, IsRefusal, IsScope, LaneValue, LanesFit, SpansFit, Parts, RecordingFits, IsServed, IsServedByHistory, Serves, ServesResolved, ShownFilter, StandsFor, PipelineState, Views, counting_filter_by, values_below, guard_of, held_by, held_of, is_for_memory, attach_numbers_on, lane_at, lane_place_of, lane_value, no_lane_value, owner_numbers, live_numbers_of, parent_in, shown_of, site_by, stack_views, state_of, token_numbers_of}
 pub use Rattle.span_script.specs.Setups.{HaveDistinctIds, Setup, event_site, id_at, if_event, if_span, name_at, span_site}
-pub use Rattle.span_script.specs.Slots.{AreNamed, LetsThrough, MakesNamed, MakesSpanOrNothing, TellsNamed, TellsEventOrNothing, is_named_by_guard, is_shared_by, named_values, names_handle, parent_for}
+pub use Rattle.span_script.specs.Slots.{HasWhatItNames, LetsThrough, MakesSpanOfRequest, MakesSpanOrNothing, TellsEventOfRequest, TellsEventOrNothing, is_named_by_guard, is_shared_by, named_values, names_handle, parent_for}
 pub use Rattle.span_script.specs.SubscriberLaws.{AddsMeasures, Aside, AsksLaw, CallsLaw, ChainsLaw, SameLaw, aside_in}
 pub use Rattle.span_script.specs.Tables.{Attached, Effect, EntryOf, FilterHook, GuardOf, History, HookClose, HookEnter, HookExit, HookNew, HookRecord, MadeSpan, Owner, Scope, ScopeGuard, SpanOp, Tables, after_effect, either_after, hooks_since, is_attached_by, is_owner, with_lane_entries, with_entry_on, with_exit_on, made_span_at, newer_text, no_made_span, no_tables, nothing_recorded, open_part, span_of_scope, quiet_effect, recording_after, records_of, scope_of, site_of, slot_at, slots_after, spend, tables, with_attached, with_detached, with_either, with_item, with_span_made}
 pub use Rattle.span_script.specs.calls.Contexts.{attach_effect, context_effect, detach_effect, context_of_scope}

@@ -77,12 +77,12 @@ pub record ShownFilter : Type 0 where
   pub spans : List (Option MatchState)
   pub lanes : List (List OpenLevel)
 
-abbrev pub first_of : {X : Type 0} → (ℕ → X) → ℕ → List X
-first_of f zero = []
-first_of f (suc n) = f n ∷ first_of f n
+abbrev pub values_below : {X : Type 0} → (ℕ → X) → ℕ → List X
+values_below f zero = []
+values_below f (suc n) = f n ∷ values_below f n
 
 abbrev pub shown_of : ℕ → List ℕ → FilterState → ShownFilter
-shown_of many ids f = record { statics = f.statics; dynamics = f.dynamics; spans = first_of f.spans many; lanes = map f.lanes ids }
+shown_of many ids f = record { statics = f.statics; dynamics = f.dynamics; spans = values_below f.spans many; lanes = map f.lanes ids }
 
 -- what is kept, without spare room; the interests that are cached; and the measures that weren't taken
 pub record PipelineState : Type 0 where

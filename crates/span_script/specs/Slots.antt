@@ -40,7 +40,7 @@ is_named_by_guard guards handle = list_any (names_handle handle) guards
 
 -- what a request for a new span or an event names is there: its callsite, under what it is put, and the values of all its
 -- fields
-pub record AreNamed (callsite : Option Callsite) (parent : Option Parent) (fields : Fields) : Type 0 where
+pub record HasWhatItNames (callsite : Option Callsite) (parent : Option Parent) (fields : Fields) : Type 0 where
   pub given : Callsite
   pub given_is : callsite ≡ Some given
   pub under : Parent
@@ -61,8 +61,8 @@ MakesSpanOrNothing spans does true old new lane at parent site values dispatch h
 MakesSpanOrNothing spans does false old new lane at parent site values dispatch handle = (handle ≡ no_handle) × (new ≡ old)
 
 -- the same, as a request names it
-pub record MakesNamed {S : Type 0} (spans : S → Spans) (does : S → SubscriberCall → S → Type 0) (old new : WorldValue S) (lane : Lane) (at : ℕ) (parent : Option Parent) (site : ℕ) (fields : Fields) (dispatch : ℕ) (made : Handle × Bool) : Type 0 where
-  pub named : AreNamed (span_site old.sites site) parent fields
+pub record MakesSpanOfRequest {S : Type 0} (spans : S → Spans) (does : S → SubscriberCall → S → Type 0) (old new : WorldValue S) (lane : Lane) (at : ℕ) (parent : Option Parent) (site : ℕ) (fields : Fields) (dispatch : ℕ) (made : Handle × Bool) : Type 0 where
+  pub named : HasWhatItNames (span_site old.sites site) parent fields
   pub did : MakesSpanOrNothing spans does made.1 old new lane at named.under site named.values dispatch made.0
 
 -- an event was told by one call, or nothing happened
@@ -71,8 +71,8 @@ TellsEventOrNothing does true old new lane at parent site values dispatch = Tell
 TellsEventOrNothing does false old new lane at parent site values dispatch = new ≡ old
 
 -- the same, as a request names it
-pub record TellsNamed {S : Type 0} (does : S → SubscriberCall → S → Type 0) (old new : WorldValue S) (lane : Lane) (at : ℕ) (parent : Option Parent) (site : ℕ) (fields : Fields) (dispatch : ℕ) (enabled : Bool) : Type 0 where
-  pub named : AreNamed (event_site old.sites site) parent fields
+pub record TellsEventOfRequest {S : Type 0} (does : S → SubscriberCall → S → Type 0) (old new : WorldValue S) (lane : Lane) (at : ℕ) (parent : Option Parent) (site : ℕ) (fields : Fields) (dispatch : ℕ) (enabled : Bool) : Type 0 where
+  pub named : HasWhatItNames (event_site old.sites site) parent fields
   pub did : TellsEventOrNothing does enabled old new lane at named.under site named.values dispatch
 
 -- the gate's answer for a callsite on a lane, by the filter in place

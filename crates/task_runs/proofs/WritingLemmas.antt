@@ -18,7 +18,7 @@ use Rattle.trace_lines.specs.Report.{record_lines}
 use Rattle.trace_lines.specs.text.Texts.{record_text, end_text}
 use Rattle.trace_records.specs.Following.{without_outputs}
 use Rattle.trace_records.proofs.FollowingLemmas.{stands_beside}
-use Rattle.trace_tape.specs.Sinks.{TakesAll}
+use Rattle.trace_tasks.specs.TapeTurns.{TakesAll}
 use Rattle.task_runs.specs.declared.runner.Runner.{Runner}
 use Rattle.task_runs.specs.declared.text.RecordLines.{RecordLines}
 use Rattle.task_runs.specs.Texts.{TellsOutcome}

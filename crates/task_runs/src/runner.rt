@@ -13,7 +13,7 @@ use span_script::settings::Settings;
 use std::alloc::Global;
 use trace_base::discard::Discard;
 use trace_pipeline::pipeline::Pipeline;
-use trace_tape::request_sink::RequestSink;
+use trace_tasks::request_sink::RequestSink;
 
 /// A pipeline that runs requests as they come, and the lines of the records so far.
 pub(crate) struct Runner {

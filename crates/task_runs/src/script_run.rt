@@ -2,7 +2,7 @@
 ghost use Rattle.std.specs.Prelude.{◌≡◌, Some, IfOk, OnOk};
 ghost use Rattle.futures.specs.Task.{Keeps};
 ghost use Rattle.trace_tasks.specs.Flat.{flat_list};
-ghost use Rattle.trace_tape.specs.Sinks.{TakesAll};
+ghost use Rattle.trace_tasks.specs.TapeTurns.{TakesAll};
 ghost use Rattle.task_runs.specs.Reading.{IsFit};
 ghost use Rattle.task_runs.specs.Runs.{CanSpell, CanRun};
 ghost use Rattle.task_runs.specs.Texts.{tasks_outcome, TellsOutcome};

@@ -36,7 +36,7 @@ struct RowDetails {
 /// The lines of traces, each but the first of all behind a comma. Rows are numbered from 1.
 #[derive(Clone, Copy, Default)]
 pub struct Rows {
-    given: u64,
+    row_count: u64,
 }
 
 // The rows of one trace: its spans that haven't ended where the last one of the row began, by their ends.
@@ -52,14 +52,14 @@ impl Rows {
     pub fn lines(&mut self, alloc: Global, trace: Trace) -> Result<String, Fault> {
         let mut lines = String::new(alloc);
         let mut rows = TraceRows {
-            first: self.given.saturating_add(1),
+            first: self.row_count.saturating_add(1),
             open: Vec::new(alloc),
         };
         for record in trace.records {
             let (row, is_new) = rows.row(alloc, record.start, record.end)?;
             if is_new {
-                self.given = self.given.saturating_add(1);
-                if self.given > 1 {
+                self.row_count = self.row_count.saturating_add(1);
+                if self.row_count > 1 {
                     lines.push_str(",\n")?;
                 }
                 lines.push_str(row_line(alloc, row, trace.id.as_str())?.as_str())?;

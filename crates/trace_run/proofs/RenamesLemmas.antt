@@ -21,6 +21,6 @@ by_left before now (Some bytes) leaves =
 
 pub renames_ids : (told : Signal) (status : Status) (before now : Streams) → CarriesOut (meaning_of_runs told) status before now → RenamesIds (invocation.Script (command.Run told)) status before now
 renames_ids signal.Metrics status before now carries = tt
-renames_ids signal.Traces status before now carries ok =
+renames_ids signal.Traces status before now carries = λ ok.
     let done = subst (λ (s : Status). CarriesOut (meaning_of_runs signal.Traces) s before now) ok carries in
     by_left before now before.left done.does.leaves

@@ -7,9 +7,7 @@ pub mod copies;
 mod naming;
 mod opened;
 pub mod part;
-pub mod request_sink;
 mod roll;
 pub mod tape;
 
-pub use request_sink::RequestSink;
 pub use tape::Tape;

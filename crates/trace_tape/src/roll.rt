@@ -1,8 +1,6 @@
 //! Requests in order, with room for some that come later.
-ghost use Rattle.std.specs.Prelude.{◌≡◌, ◌+◌, ◌<◌, ◌≤◌, [], ◌∷◌, ◌++◌, OnOk, OnErr, vec_len, vec_capacity};
-ghost use Rattle.trace_tape.specs.Sinks.{TakesAll};
+ghost use Rattle.std.specs.Prelude.{◌≡◌, ◌+◌, ◌<◌, ◌≤◌, [], ◌∷◌, ◌++◌, OnOk, OnErr};
 
-use crate::request_sink::RequestSink;
 use otel_base::memory::Memory;
 use span_script::request::Request;
 use std::alloc::Global;
@@ -45,13 +43,14 @@ impl Roll {
         self.requests.as_slice()
     }
 
-    // Hands the requests on, the first one first. The spare places stay.
-    pub(crate) fn hand_on<K: RequestSink>(&mut self, sink: &mut K) -> Result<(), Memory>
-        ensures taken { OnOk result (TakesAll K.takes self.old.requests sink.old sink.new) }
-        ensures emptied { OnOk result (self.new.requests ≡ []) }
-        ensures spare { self.new.spare ≡ self.old.spare }
+    // Moves the requests behind others, in order. The spare places stay.
+    pub(crate) fn move_to(&mut self, others: &mut Vec<Request>) -> Result<(), Memory>
+        ensures moved { OnOk result (others.new.items ≡ others.old.items ++ self.old.requests) }
+        ensures emptied { OnOk result (self.new ≡ record self.old { requests = [] }) }
+        ensures memory_leaves { OnErr result (self.new ≡ self.old) }
     {
-        push_all(sink, &mut self.requests)
+        others.append(&mut self.requests)?;
+        Ok(())
     }
 
     // Takes the room for one request more.
@@ -74,18 +73,4 @@ impl Roll {
         self.spare -= 1;
         self.requests.push_reserved(request);
     }
-}
-
-// Hands requests on, the first one first. Their room stays.
-fn push_all<K: RequestSink>(sink: &mut K, requests: &mut Vec<Request>) -> Result<(), Memory>
-    ensures taken { OnOk result (TakesAll K.takes requests.old.items sink.old sink.new) }
-    ensures none { OnOk result (requests.new.items ≡ []) }
-    ensures fewer { vec_len requests.new ≤ vec_len requests.old }
-    ensures room { vec_capacity requests.new ≡ vec_capacity requests.old }
-{
-    requests.reverse();
-    while let Some(request) = requests.pop() {
-        sink.push(request)?;
-    }
-    Ok(())
 }

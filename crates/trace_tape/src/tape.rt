@@ -4,13 +4,11 @@ ghost use Rattle.std.proofs.Common.{refl, ◌∙◌, ap};
 ghost use Rattle.trace_base.specs.declared.lane.Lane.{Lane};
 ghost use Rattle.trace_base.specs.declared.subscriber.Interest.TheVariants as interests;
 ghost use Rattle.trace_tape.specs.Tapes.{TapeValue, DoesTape, blank_tape, one_more, one_more_handle, handles_of, drop_requests, has_handles, spelled_parent};
-ghost use Rattle.trace_tape.specs.Sinks.{TakesAll};
 ghost use Rattle.trace_tape.specs.TapeLaws.{tape_same, tape_lanes};
 ghost use Rattle.span_registry.specs.Registering.{no_spans};
 
 use crate::naming::named_values;
 use crate::opened::{OpenEntry, take_last};
-use crate::request_sink::RequestSink;
 use crate::roll::Roll;
 use otel_base::enter_error::EnterError;
 use otel_base::memory::Memory;
@@ -72,13 +70,13 @@ impl Tape {
         self.roll.requests()
     }
 
-    /// Hands the requests that the calls so far spelled on, the first one first. `Memory` freely, and where the sink wants it.
-    pub fn hand_on<K: RequestSink>(&mut self, sink: &mut K) -> Result<(), Memory>
-        ensures taken { OnOk result (TakesAll K.takes self.old.requests sink.old sink.new) }
-        ensures emptied { OnOk result (self.new.requests ≡ []) }
-        ensures others { self.new ≡ record self.old { requests = self.new.requests } }
+    /// Moves the requests that the calls so far spelled behind others, in order. `Memory` leaves the tape as it is.
+    pub fn move_requests(&mut self, others: &mut Vec<Request>) -> Result<(), Memory>
+        ensures moved { OnOk result (others.new.items ≡ others.old.items ++ self.old.requests) }
+        ensures emptied { OnOk result (self.new ≡ record self.old { requests = [] }) }
+        ensures memory_leaves { OnErr result (self.new ≡ self.old) }
     {
-        self.roll.hand_on(sink)
+        self.roll.move_to(others)
     }
 }
 

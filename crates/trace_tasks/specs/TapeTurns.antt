@@ -9,7 +9,6 @@ use Rattle.span_handles.specs.Worlds.{Replaced}
 use Rattle.span_handles.specs.Handles.{Handle, HeldSpan, handle_of}
 use Rattle.span_futures.specs.declared.instrument.Instrumented.{Instrumented}
 use Rattle.span_script.specs.declared.request.Request.{Request}
-use Rattle.trace_tape.specs.Sinks.{TakesAll}
 use Rattle.trace_tape.specs.Tapes.{TapeValue, handles_of}
 use Rattle.trace_tasks.specs.declared.running.TaskFuture.{TaskFuture}
 use Rattle.trace_tasks.specs.Carrying.{TaskScene}
@@ -61,6 +60,11 @@ pub record WaitOnTape (d : ℕ) (sites : List Callsite) (k : ℕ) (ts : List Unf
   pub none : tape.requests ≡ []
 
 -- ---- handing on
+
+-- a sink took requests, one after another
+abbrev pub TakesAll : {K : Type 0} → (K → Request → K → Type 0) → List Request → K → K → Type 0
+TakesAll takes [] old new = new ≡ old
+TakesAll {K} takes (r ∷ rs) old new = (m : K) × takes old r m × TakesAll takes rs m new
 
 -- only what was spelled on the tape is another
 abbrev pub OnlyRequestsChange : ℕ → WorldValue TapeValue → WorldValue TapeValue → Type 0

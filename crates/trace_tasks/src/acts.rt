@@ -21,7 +21,7 @@ use trace_base::span::Parent;
 use trace_base::world::World;
 
 // Does a step by the subscriber that serves the lane.
-pub(crate) fn act<S: OtelSubscriber>(
+pub(crate) fn do_step<S: OtelSubscriber>(
     alloc: Global,
     world: &mut World<S>,
     lane: &Lane,
@@ -42,15 +42,15 @@ pub(crate) fn act<S: OtelSubscriber>(
         return Ok(());
     };
     match step {
-        Step::Event { site, fields } => tell(alloc, world, lane, dispatch, at, site, fields),
+        Step::Event { site, fields } => tell_event(alloc, world, lane, dispatch, at, site, fields),
         Step::Record { fields } => record(alloc, world, lane, dispatch, at, fields),
-        Step::SetAttribute { key, value } => set(world, lane, dispatch, at, key, value),
+        Step::SetAttribute { key, value } => set_attribute(world, lane, dispatch, at, key, value),
         Step::Yield => Ok(()),
     }
 }
 
 // Tells an event, if it is let through.
-fn tell<S: OtelSubscriber>(
+fn tell_event<S: OtelSubscriber>(
     alloc: Global,
     world: &mut World<S>,
     lane: &Lane,
@@ -117,7 +117,7 @@ fn record<S: OtelSubscriber>(
 }
 
 // Sets an attribute on the current span, if there is one.
-fn set<S: OtelSubscriber>(
+fn set_attribute<S: OtelSubscriber>(
     world: &mut World<S>,
     lane: &Lane,
     dispatch: Dispatch,

@@ -11,12 +11,14 @@ mod begin;
 mod copies;
 mod fields;
 mod queue;
+pub mod request_sink;
 pub mod run;
 pub mod running;
 pub mod script;
 pub mod taped;
 mod turn;
 
+pub use request_sink::RequestSink;
 pub use run::run_tasks;
 pub use script::{Step, Task, TaskScript};
 pub use taped::{run_on_tape, runs_over_a_tape};

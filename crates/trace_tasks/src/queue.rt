@@ -8,7 +8,7 @@ ghost use Rattle.trace_tasks.specs.Turning.{ReadyToPoll, dispatch_serving};
 ghost use Rattle.trace_tasks.specs.Waiting.{AllWait, AllKnown, AllStand, TakesTurnIf, TakesTurns, polls_in, queue_with};
 
 use crate::running::TaskFuture;
-use crate::turn::turn;
+use crate::turn::poll_task;
 use futures::task::Context;
 use otel_base::enter_error::EnterError;
 use otel_layer::part::OtelSubscriber;
@@ -42,7 +42,7 @@ pub(crate) fn take_turn<S: OtelSubscriber>(
     let Some(task) = queue.pop_front() else {
         return Ok(false);
     };
-    match turn(task, world, lane, at, cx) {
+    match poll_task(task, world, lane, at, cx) {
         Ok(left) => {
             put_back(queue, left);
             Ok(true)

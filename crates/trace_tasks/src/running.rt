@@ -2,7 +2,7 @@
 ghost use Rattle.std.specs.Prelude.{◌≡◌};
 ghost use Rattle.trace_tasks.specs.Acts.{PollsSteps, Asks};
 
-use crate::acts::act;
+use crate::acts::do_step;
 use crate::script::Step;
 use futures::task::{Context, Poll};
 use otel_base::enter_error::EnterError;
@@ -56,7 +56,7 @@ impl<S: OtelSubscriber> TracedFuture<S> for TaskFuture {
                 drop(step);
                 return Ok(cx.yield_now());
             }
-            match act(self.alloc, world, lane, at, step) {
+            match do_step(self.alloc, world, lane, at, step) {
                 Ok(()) => {}
                 Err(Memory) => return Err(EnterError::Memory),
             }

@@ -5,7 +5,6 @@ ghost use Rattle.otel_base.specs.declared.enter_error.EnterError.TheVariants as 
 ghost use Rattle.trace_base.specs.declared.callsite.Callsite.{Callsite};
 ghost use Rattle.trace_base.specs.declared.lane.Lane.{Lane};
 ghost use Rattle.trace_base.specs.Gate.{WorldValue};
-ghost use Rattle.trace_tape.specs.Sinks.{TakesAll};
 ghost use Rattle.trace_tape.specs.Tapes.{TapeValue, DoesTape};
 ghost use Rattle.trace_tape.specs.PartCalls.{TouchesTape};
 ghost use Rattle.trace_tasks.specs.declared.script.Task.{Task};
@@ -14,12 +13,13 @@ ghost use Rattle.trace_tasks.specs.Carrying.{TaskScene};
 ghost use Rattle.trace_tasks.specs.Flat.{all_polls, tasks_at_first, flat_list, yield_count};
 ghost use Rattle.trace_tasks.specs.Spelled.{TasksAreDeclared, IsNewTape, KeepsOnTape, tape_spans};
 ghost use Rattle.trace_tasks.specs.Stops.{GaveUp};
-ghost use Rattle.trace_tasks.specs.TapeTurns.{WaitOnTape, OnlyRequestsChange, HandsOn, HandsTurnsOn};
+ghost use Rattle.trace_tasks.specs.TapeTurns.{WaitOnTape, TakesAll, OnlyRequestsChange, HandsOn, HandsTurnsOn};
 ghost use Rattle.trace_tasks.specs.Turning.{ReadyToPoll, dispatch_serving};
 ghost use Rattle.trace_tasks.specs.Waiting.{AllWait, polls_in};
 
 use crate::begin::begin_all;
 use crate::queue::{close_all, take_turn};
+use crate::request_sink::RequestSink;
 use crate::running::TaskFuture;
 use crate::script::Task;
 use futures::task::Context;
@@ -27,12 +27,12 @@ use otel_base::enter_error::EnterError;
 use otel_base::list::Items;
 use otel_base::memory::Memory;
 use span_futures::instrument::Instrumented;
+use span_script::request::Request;
 use std::alloc::Global;
 use std::collections::VecDeque;
 use trace_base::dispatcher::Dispatch;
 use trace_base::lane::Lane;
 use trace_base::world::World;
-use trace_tape::request_sink::RequestSink;
 use trace_tape::tape::Tape;
 
 /// What `run_tasks` comes to over a new tape: the tape keeps exactly the flat list, and the run is never `Full`.
@@ -113,7 +113,8 @@ fn begin_and_spell<K: RequestSink>(
             return Err(EnterError::Memory);
         }
     }
-    match hand_on(world, dispatch, sink) {
+    let mut makings = Vec::new(alloc);
+    match hand_on(world, dispatch, &mut makings, sink) {
         Ok(()) => spell_turns(queue, world, lane, dispatch, cx, sink),
         Err(Memory) => {
             close_all(queue, world, 0);
@@ -142,9 +143,11 @@ fn spell_turns<K: RequestSink>(
     ensures empty { queue.new.items ≡ [] }
     ensures context { Keeps cx.old cx.new }
 {
+    // The requests of a poll, in room that is taken once.
+    let mut batch = Vec::new(world.allocator());
     let mut polls = 0;
     while take_turn(queue, world, lane, 10 * (polls + 1), cx)? {
-        if let Err(Memory) = hand_on(world, dispatch, sink) {
+        if let Err(Memory) = hand_on(world, dispatch, &mut batch, sink) {
             close_all(queue, world, 10 * (polls + 1));
             return Err(EnterError::Memory);
         }
@@ -153,15 +156,31 @@ fn spell_turns<K: RequestSink>(
     Ok(polls)
 }
 
-// Hands the requests on a tape on. None is left on it.
+// Hands the requests on a tape on, by way of an empty batch. None is left on it.
 fn hand_on<K: RequestSink>(
     world: &mut World<Tape>,
     dispatch: Dispatch,
+    batch: &mut Vec<Request>,
     sink: &mut K,
 ) -> Result<(), Memory>
-    requires { dispatch < length world.old.subscribers }
+    requires there { dispatch < length world.old.subscribers }
+    requires empty { batch.old.items ≡ [] }
     ensures changes { OnlyRequestsChange dispatch world.old world.new }
     ensures ok { OnOk result (HandsOn K.takes dispatch world.old world.new sink.old sink.new) }
+    ensures empty { OnOk result (batch.new.items ≡ []) }
 {
-    world.subscriber_mut(dispatch).hand_on(sink)
+    world.subscriber_mut(dispatch).move_requests(batch)?;
+    push_all(sink, batch)
+}
+
+// Hands requests on, the first one first.
+fn push_all<K: RequestSink>(sink: &mut K, requests: &mut Vec<Request>) -> Result<(), Memory>
+    ensures taken { OnOk result (TakesAll K.takes requests.old.items sink.old sink.new) }
+    ensures none { OnOk result (requests.new.items ≡ []) }
+{
+    requests.reverse();
+    while let Some(request) = requests.pop() {
+        sink.push(request)?;
+    }
+    Ok(())
 }

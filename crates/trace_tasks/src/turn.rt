@@ -18,7 +18,7 @@ use trace_base::lane::Lane;
 use trace_base::world::World;
 
 /// Polls a task once, and ends it if it is finished or refused.
-pub(crate) fn turn<S: OtelSubscriber>(
+pub(crate) fn poll_task<S: OtelSubscriber>(
     task: Instrumented<TaskFuture>,
     world: &mut World<S>,
     lane: &mut Lane,

@@ -62,7 +62,7 @@ fn after_detaches(stack: &mut ContextStack) -> Result<[(u128, u64); 3], EnterErr
 
 // The trace of the current context, and how many are live.
 fn top(stack: &ContextStack) -> (u128, u64) {
-    (stack.current().span_context().trace, stack.live_count())
+    (stack.current().span_context().trace, stack.live())
 }
 
 #[test]
@@ -96,7 +96,7 @@ fn holds_65534_contexts(rt: HostRuntime) -> Result<(), Fail> {
     fill(&mut stack, 65_533)?;
     stack.reserve()?;
     assert_eq!(rt; refills(&mut stack), Ok(true));
-    assert_eq!(rt; stack.live_count(), 65_534);
+    assert_eq!(rt; stack.live(), 65_534);
     assert!(rt; fill(&mut stack, 1) == Err(EnterError::Full));
     Ok(())
 }

@@ -1,5 +1,5 @@
 -- Ops on spans that leave all else as it is, served; and events.
-use Rattle.span_script.proofs.Common.{length-map, Measure, Token, Recording, no_recording, with_start, with_applied, Lane, Callsite, Kind, ValueSet, Parent, WorldValue, FilterState, IsNewFilter, enables_in, Spans, span_at, entries_on, parent_on, SubscriberCall, read_subscriber, spans_in, kept_in, Has, Reply, RequestParent, id_at, if_event, event_site, Scope, SpanOp, FilterHook, Effect, Tables, span_of_scope, recording_after, quiet_effect, Fields, all_values, text_filter, here_at, Resolved, ◌>>=◌, need, ops_on, effect_of_call, if_enabled, event_ops, event_effect, after_filter_hook, scope_at, parent_for, AreNamed, TellsNamed, TellsEventOrNothing, LetsThrough, Views, shown_of, PipelineState, state_of, lane_value, held_by, StandsFor, LanesFit, PipelineInvariant, IsServed, Parts, with_counted, with_event_by, AddsMeasures, CallsLaw, aside_in}
+use Rattle.span_script.proofs.Common.{length-map, Measure, Token, Recording, no_recording, with_start, with_applied, Lane, Callsite, Kind, ValueSet, Parent, WorldValue, FilterState, IsNewFilter, enables_in, Spans, span_at, entries_on, parent_on, SubscriberCall, read_subscriber, spans_in, kept_in, Has, Reply, RequestParent, id_at, if_event, event_site, Scope, SpanOp, FilterHook, Effect, Tables, span_of_scope, recording_after, quiet_effect, Fields, all_values, text_filter, here_at, Resolved, ◌>>=◌, need, ops_on, effect_of_call, if_enabled, event_ops, event_effect, after_filter_hook, scope_at, parent_for, HasWhatItNames, TellsEventOfRequest, TellsEventOrNothing, LetsThrough, Views, shown_of, PipelineState, state_of, lane_value, held_by, StandsFor, LanesFit, PipelineInvariant, IsServed, Parts, with_counted, with_event_by, AddsMeasures, CallsLaw, aside_in}
 use Rattle.std.proofs.Common.{◌≡◌, ℕ, ◌<◌, List, [], ◌∷◌, length, Bool, true, false, fold, get_or, Option, Some, None, Ok, option_map, map, refl, sym, ap, subst, ◌∙◌, arith, slice_get, option_and_then, IfSome}
 use Rattle.otel_state.specs.fields.EventFields.{event_of}
 use Rattle.otel_state.specs.declared.op.Op.TheVariants as ops
@@ -171,8 +171,8 @@ module _ {S : Type 0} (spans : S → Spans) (views : Views S) (attaches : S → 
       (at place : ℕ) where
     module _ (under : RequestParent) (parent : Option Parent) (found : parent ≡ parent_for (map held_by parts.handles) under) (site : ℕ) (fields : Fields)
         (before : Lane) (within : place < length parts.lanes) (here : before ≡ get_or parts.lanes place before) (enabled : Bool) (gate : LetsThrough (read_subscriber views.filtered None parts.world parts.dispatch) parts.world.sites before.id site enabled)
-        (did : TellsNamed does parts.world new before at parent site fields parts.dispatch enabled) (decides : Decides) where
-      abbrev named : AreNamed (event_site parts.world.sites site) parent fields
+        (did : TellsEventOfRequest does parts.world new before at parent site fields parts.dispatch enabled) (decides : Decides) where
+      abbrev named : HasWhatItNames (event_site parts.world.sites site) parent fields
       named = did.named
 
       abbrev given : Callsite

@@ -1,6 +1,6 @@
 -- The filter in force, and the cache, after one effect more.
 use Rattle.std.proofs.Common.{◌≡◌, ℕ, zero, suc, ◌+◌, ◌<◌, List, [], ◌∷◌, ◌++◌, length, fold, Option, Some, None, option_map, map, slice_get, refl, sym, ap, subst, ◌∙◌, arith, inl, inr, is_some, nat_eq, IfSome}
-use Rattle.span_script.proofs.Common.{cases_eq, cond-true, cond-false, option_map_or, Callsite, Interest, WorldValue, IsFresh, interests_of_sites, read_subscriber, Stacks, filter_in_place, stack_interest, layer_or, sometimes, Directive, FilterState, FilterWithRoom, IsNewFilter, plain_filter, interest_in, is_admitted, enables_in, Setup, id_at, FilterHook, HookNew, HookRecord, HookEnter, HookExit, HookClose, Effect, Tables, after_effect, with_item, newer_text, hooks_since, after_filter_hook, text_in_force, filter_in_force, text_filter, Views, ShownFilter, first_of, shown_of, counting_filter_by, PipelineState, FilteringFits}
+use Rattle.span_script.proofs.Common.{cases_eq, cond-true, cond-false, option_map_or, Callsite, Interest, WorldValue, IsFresh, interests_of_sites, read_subscriber, Stacks, filter_in_place, stack_interest, layer_or, sometimes, Directive, FilterState, FilterWithRoom, IsNewFilter, plain_filter, interest_in, is_admitted, enables_in, Setup, id_at, FilterHook, HookNew, HookRecord, HookEnter, HookExit, HookClose, Effect, Tables, after_effect, with_item, newer_text, hooks_since, after_filter_hook, text_in_force, filter_in_force, text_filter, Views, ShownFilter, values_below, shown_of, counting_filter_by, PipelineState, FilteringFits}
 use Rattle.std.proofs.lemmas.Bool.{eq-eqb, ne_eqb}
 use Rattle.trace_base.specs.declared.subscriber.Interest.TheVariants as interests
 use Rattle.span_registry.specs.Both.{joint_interest}
@@ -43,7 +43,7 @@ pub record Agree (many : ℕ) (ids : List ℕ) (f g : FilterState) : Type 0 wher
   pub spans : (s : ℕ) → s < many → f.spans s ≡ g.spans s
   pub lanes : map f.lanes ids ≡ map g.lanes ids
 
-firsts_agree : {X : Type 0} (f g : ℕ → X) (n : ℕ) → first_of f n ≡ first_of g n → (s : ℕ) → s < n → f s ≡ g s
+firsts_agree : {X : Type 0} (f g : ℕ → X) (n : ℕ) → values_below f n ≡ values_below g n → (s : ℕ) → s < n → f s ≡ g s
 firsts_agree f g zero e s below = absurd (omega (arith, below))
 firsts_agree {X} f g (suc n) e s below = elim (cases_eq s n) [
   | inl here ↦ ap f here ∙ heads e ∙ ap g (sym here)
@@ -56,9 +56,9 @@ firsts_agree {X} f g (suc n) e s below = elim (cases_eq s n) [
     tails : {x y : X} {xs ys : List X} → x ∷ xs ≡ y ∷ ys → xs ≡ ys
     tails e = cc e
 
-firsts_same : {X : Type 0} (f g : ℕ → X) (n : ℕ) → ((s : ℕ) → s < n → f s ≡ g s) → first_of f n ≡ first_of g n
+firsts_same : {X : Type 0} (f g : ℕ → X) (n : ℕ) → ((s : ℕ) → s < n → f s ≡ g s) → values_below f n ≡ values_below g n
 firsts_same f g zero same = refl
-firsts_same {X} f g (suc n) same = ap (λ (x : X). x ∷ first_of f n) (same n (omega arith)) ∙ ap (λ (xs : List X). g n ∷ xs) (firsts_same f g n (λ s below. same s (omega (arith, below))))
+firsts_same {X} f g (suc n) same = ap (λ (x : X). x ∷ values_below f n) (same n (omega arith)) ∙ ap (λ (xs : List X). g n ∷ xs) (firsts_same f g n (λ s below. same s (omega (arith, below))))
 
 pub agree_by : (many : ℕ) (ids : List ℕ) (f g : FilterState) → shown_of many ids f ≡ shown_of many ids g → Agree many ids f g
 agree_by many ids f g same = record {

@@ -1,6 +1,6 @@
 -- Makings, served.
 use Rattle.std.proofs.Common.{◌≡◌, ℕ, ◌+◌, ◌<◌, ◌≤◌, ◌^◌, List, [], ◌∷◌, ◌++◌, length, Bool, true, false, fold, get_or, Option, Some, None, Ok, option_map, map, refl, sym, ap, subst, ◌∙◌, arith, inl, inr, IfSome, slice_get, ◌≢◌, option_and_then}
-use Rattle.span_script.proofs.Common.{cases_eq, cases_lt, cond-true, cond-false, length-map, length_push, map_push, get_or_past, get_or_push, get_or_append_left, Lane, Parent, Callsite, ValueSet, WorldValue, FilterState, Span, Spans, no_span, span_at, with_hold_of_child, entries_on, parent_on, current_of, SubscriberCall, NewSpan, with_new_span, IsLiveParent, HasFewHolds, AreFew, HasFewHoldsAbove, OneEach, ChangesPlainData, Replaced, read_subscriber, spans_in, kept_in, no_spans, Has, Handle, Makes, MayMake, no_handle, RequestParent, Setup, id_at, name_at, if_span, span_site, Context, KeyValue, empty_context, LayerSettings, SpanData, data_at_making, after_op, Token, parent_source, lane_context, context_from, new_span_data, data_at, with_span_data, Recording, source_of, no_recording, with_start, with_starts, Kind, length_held, holds_other, Scope, MadeSpan, Attached, no_made_span, HookNew, Effect, Tables, recording_after, open_part, span_of_scope, made_span_at, here_at, ◌>>=◌, need, effect_of_call, after_filter_hook, admits_on, lane_in, new_span_data_at, context_around, parent_under, new_effect, span_effect, disabled_effect, scope_at, Fields, all_values, parent_for, AreNamed, MakesNamed, MakesSpanOrNothing, LetsThrough, Balanced, named_span, open_guard_by, Views, PipelineState, state_of, lane_value, StandsFor, SpansFit, LanesFit, PipelineInvariant, IsServed, IsScope, held_of, guard_of, held_by, site_by, Parts, parent_in, CallsLaw, SameLaw, aside_in}
+use Rattle.span_script.proofs.Common.{cases_eq, cases_lt, cond-true, cond-false, length-map, length_push, map_push, get_or_past, get_or_push, get_or_append_left, Lane, Parent, Callsite, ValueSet, WorldValue, FilterState, Span, Spans, no_span, span_at, with_hold_of_child, entries_on, parent_on, current_of, SubscriberCall, NewSpan, with_new_span, IsLiveParent, HasFewHolds, AreFew, HasFewHoldsAbove, OneEach, ChangesPlainData, Replaced, read_subscriber, spans_in, kept_in, no_spans, Has, Handle, Makes, MayMake, no_handle, RequestParent, Setup, id_at, name_at, if_span, span_site, Context, KeyValue, empty_context, LayerSettings, SpanData, data_at_making, after_op, Token, parent_source, lane_context, context_from, new_span_data, data_at, with_span_data, Recording, source_of, no_recording, with_start, with_starts, Kind, length_held, holds_other, Scope, MadeSpan, Attached, no_made_span, HookNew, Effect, Tables, recording_after, open_part, span_of_scope, made_span_at, here_at, ◌>>=◌, need, effect_of_call, after_filter_hook, admits_on, lane_in, new_span_data_at, context_around, parent_under, new_effect, span_effect, disabled_effect, scope_at, Fields, all_values, parent_for, HasWhatItNames, MakesSpanOfRequest, MakesSpanOrNothing, LetsThrough, Balanced, named_span, open_guard_by, Views, PipelineState, state_of, lane_value, StandsFor, SpansFit, LanesFit, PipelineInvariant, IsServed, IsScope, held_of, guard_of, held_by, site_by, Parts, parent_in, CallsLaw, SameLaw, aside_in}
 use Rattle.span_handles.proofs.ChangedSubscriberLemmas.{seen_before}
 use Rattle.span_script.specs.declared.reply.Reply.TheVariants as reply
 use Rattle.span_script.specs.declared.request.Call.TheVariants as call
@@ -307,8 +307,8 @@ module _ {S : Type 0} (spans : S → Spans) (views : Views S) (attaches : S → 
     -- let through or not, as a request names it
     module _ (under : RequestParent) (parent : Option Parent) (found : parent ≡ parent_for (map held_by parts.handles) under) (site : ℕ) (fields : Fields) (made : Handle × Bool) (one : hs' ≡ parts.handles ++ Some made.0 ∷ [])
         (before : Lane) (within : place < length parts.lanes) (seen_is : before ≡ get_or parts.lanes place before) (gate : LetsThrough (read_subscriber views.filtered None parts.world parts.dispatch) parts.world.sites before.id site made.1)
-        (did : MakesNamed spans does parts.world new before at parent site fields parts.dispatch made) where
-      abbrev named : AreNamed (span_site parts.world.sites site) parent fields
+        (did : MakesSpanOfRequest spans does parts.world new before at parent site fields parts.dispatch made) where
+      abbrev named : HasWhatItNames (span_site parts.world.sites site) parent fields
       named = did.named
 
       its_parent : parent_for (map held_by parts.handles) under ≡ Some named.under

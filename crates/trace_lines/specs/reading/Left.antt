@@ -16,9 +16,9 @@ value_data (value.Plain plain) = plain_data plain
 value_data (value.Tree tree) = view tree
 
 -- the members of a text that are left: those behind the ones that are taken
-abbrev pub flat_left : FlatMembers → List (Bor (List ℕ) × Plain)
-flat_left flat = drop flat.taken flat.members.items
+abbrev pub flat_members_left : FlatMembers → List (Bor (List ℕ) × Plain)
+flat_members_left flat = drop flat.taken flat.members.items
 
 abbrev pub members_left : Object → Members
-members_left (Flat members) = members_of (flat_left members)
+members_left (Flat members) = members_of (flat_members_left members)
 members_left (Tree members) = members_view members.entries

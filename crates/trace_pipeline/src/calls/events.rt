@@ -6,7 +6,7 @@ ghost use Rattle.span_handles.specs.Worlds.{Has, Replaced};
 ghost use Rattle.span_script.specs.declared.request.Call.{Call};
 ghost use Rattle.span_script.specs.Fits.{is_for_memory};
 ghost use Rattle.span_script.specs.Setups.{event_site};
-ghost use Rattle.span_script.specs.Slots.{TellsNamed, named_values};
+ghost use Rattle.span_script.specs.Slots.{TellsEventOfRequest, named_values};
 
 use crate::fields::named_at;
 use crate::laws;
@@ -41,7 +41,7 @@ fn tell_at<S: Subscriber>(
     requires live { IfSome parent (λ parent.
         Has (λ s. IsLiveParent (S.spans s).made parent) world.old dispatch) }
 
-    ensures ok { IfOk result (TellsNamed S.does world.old world.new lane.now at parent site fields dispatch) }
+    ensures ok { IfOk result (TellsEventOfRequest S.does world.old world.new lane.now at parent site fields dispatch) }
     ensures gate { IfOk result (Admits S.hint S.enables world.old lane.now.id site (Some dispatch)) }
     ensures refused { IfErr result (λ refusal. is_for_memory refusal ≡ false
         → named_values (event_site world.old.sites site) parent fields ≡ Err refusal) }

@@ -6,7 +6,7 @@ ghost use Rattle.span_handles.specs.Worlds.{Replaced};
 ghost use Rattle.span_script.specs.declared.request.Call.{Call};
 ghost use Rattle.span_script.specs.Fits.{is_for_memory};
 ghost use Rattle.span_script.specs.Setups.{span_site};
-ghost use Rattle.span_script.specs.Slots.{MakesNamed, named_values};
+ghost use Rattle.span_script.specs.Slots.{MakesSpanOfRequest, named_values};
 
 use crate::fields::named_at;
 use crate::laws;
@@ -41,7 +41,7 @@ fn make_at<S: Subscriber>(
     requires may { IfSome parent (λ parent.
         MayMake S.spans S.is_whole world.old lane.now.id parent dispatch) }
 
-    ensures ok { IfOk result (MakesNamed S.spans S.does world.old world.new lane.now at parent site fields dispatch) }
+    ensures ok { IfOk result (MakesSpanOfRequest S.spans S.does world.old world.new lane.now at parent site fields dispatch) }
     ensures gate { IfOk result (λ made.
         Admits S.hint S.enables world.old lane.now.id site (Some dispatch) made.1) }
     ensures refused { IfErr result (λ refusal. is_for_memory refusal ≡ false

@@ -2,11 +2,9 @@
 use Rattle.std.proofs.Common.{◌≡◌, ℕ, ◌+◌, List, [], ◌++◌, length, true, None, Result, Ok, Err, sym, ap, subst, ◌∙◌, arith, IfOk}
 use Rattle.std.specs.Prelude.{sum_by}
 use Rattle.trace_tasks.proofs.Common.{EnterError, Callsite, Lane, WorldValue, Instrumented, TaskFuture, Request, TapeValue, DoesTape, TouchesTape, Task, yield_count, all_polls, tasks_at_first, makings, rounds_requests, turns_requests, flat_list, TasksAreDeclared, IsNewTape, tape_spans, ReadyToPoll, dispatch_serving, AreBegun}
-use Rattle.trace_tape.proofs.ItemsLemmas.{takes_after}
-use Rattle.trace_tape.specs.Sinks.{TakesAll}
-use Rattle.trace_tasks.specs.TapeTurns.{WaitOnTape, HandsOn, HandsTurnsOn}
+use Rattle.trace_tasks.specs.TapeTurns.{WaitOnTape, TakesAll, HandsOn, HandsTurnsOn}
 use Rattle.trace_tasks.proofs.queues.BegunTasksLemmas.{answer_is}
-use Rattle.trace_tasks.proofs.tapes.HandingOnLemmas.{waits_emptied, taken_from}
+use Rattle.trace_tasks.proofs.tapes.HandingOnLemmas.{takes_after, waits_emptied, taken_from}
 use Rattle.trace_tasks.proofs.tapes.RoundsLemmas.{rounds_are_turns}
 use Rattle.trace_tasks.proofs.tapes.RunsLemmas.{begun_spells}
 

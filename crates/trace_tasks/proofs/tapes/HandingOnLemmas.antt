@@ -6,9 +6,7 @@ use Rattle.trace_tasks.proofs.Common.{EnterError, Memory, Callsite, Lane, WorldV
 use Rattle.span_futures.specs.Lent.{more_parts}
 use Rattle.span_handles.specs.Knowing.{KeepsHandles}
 use Rattle.span_handles.proofs.KnownHandlesLemmas.{handles_same}
-use Rattle.trace_tape.proofs.ItemsLemmas.{takes_after}
-use Rattle.trace_tape.specs.Sinks.{TakesAll}
-use Rattle.trace_tasks.specs.TapeTurns.{BetweenPolls, AllCanBePolled, WaitOnTape, OnlyRequestsChange, HandsOn, HandsTurnsOn}
+use Rattle.trace_tasks.specs.TapeTurns.{BetweenPolls, AllCanBePolled, WaitOnTape, TakesAll, OnlyRequestsChange, HandsOn, HandsTurnsOn}
 use Rattle.trace_tasks.proofs.queues.BegunTasksLemmas.{known_stays}
 use Rattle.trace_tasks.proofs.queues.QueueLemmas.{left_less, stand_after}
 use Rattle.trace_tasks.proofs.queues.TurnsLemmas.{one_poll_less}
@@ -57,20 +55,41 @@ module _ (d : ℕ) (old new : WorldValue TapeValue) (r : OnlyRequestsChange d ol
             (ap (λ (x : Spans). entries_on lane.id x.lanes) spans_same ∙ subst (λ (n : ℕ). entries_on lane.id (spans_in tape_spans old n).lanes ≡ []) serves ready.none_open);
       }
 
+-- ---- what a sink took
+
+pub takes_after : {K : Type 0} (takes : K → Request → K → Type 0) (rs more : List Request) (old mid new : K) → TakesAll takes rs old mid → TakesAll takes more mid new → TakesAll takes (rs ++ more) old new
+takes_after {K} takes [] more old mid new is rest = subst (λ (k : K). TakesAll takes more k new) is rest
+takes_after takes (r ∷ rs) more old mid new (m, one, later) rest = (m, one, takes_after takes rs more m mid new later rest)
+
 -- ---- requests are taken off the tape
 
-pub left_on : (d : ℕ) (old : WorldValue TapeValue) (tape now : TapeValue) → slice_get old.subscribers d ≡ Some tape → now ≡ record tape { requests = now.requests } → OnlyRequestsChange d old (record old { subscribers = slice_set old.subscribers d now })
-left_on d old tape now there is = record { before = tape; later = now; there = there; did = is; others = refl }
+pub taken_off : (d : ℕ) (old : WorldValue TapeValue) (tape now : TapeValue) → slice_get old.subscribers d ≡ Some tape → now ≡ record tape { requests = [] } → OnlyRequestsChange d old (record old { subscribers = slice_set old.subscribers d now })
+taken_off d old tape now there is = record {
+  before = tape;
+  later = now;
+  there = there;
+  did = is ∙ ap (λ (x : TapeValue). let y : TapeValue = record tape { requests = x.requests } in y) (sym is);
+  others = refl;
+}
 
-pub taken_off : {K : Type 0} (takes : K → Request → K → Type 0) (d : ℕ) (old : WorldValue TapeValue) (tape now : TapeValue) (start end : K) (result : Result (Unit {0}) Memory) → slice_get old.subscribers d ≡ Some tape → now ≡ record tape { requests = now.requests }
-    → OnOk result (now.requests ≡ []) → OnOk result (TakesAll takes tape.requests start end) → OnOk result (HandsOn takes d old (record old { subscribers = slice_set old.subscribers d now }) start end)
-taken_off takes d old tape now start end (Ok x) there is none taken = record {
+pub left_on : (d : ℕ) (old : WorldValue TapeValue) (tape now : TapeValue) → slice_get old.subscribers d ≡ Some tape → now ≡ tape → OnlyRequestsChange d old (record old { subscribers = slice_set old.subscribers d now })
+left_on d old tape now there is = record {
+  before = tape;
+  later = now;
+  there = there;
+  did = is ∙ ap (λ (x : TapeValue). let y : TapeValue = record tape { requests = x.requests } in y) (sym is);
+  others = refl;
+}
+
+pub pushed : {K : Type 0} (takes : K → Request → K → Type 0) (d : ℕ) (old : WorldValue TapeValue) (tape now : TapeValue) (start end : K) (result : Result (Unit {0}) Memory) (requests : List Request) → slice_get old.subscribers d ≡ Some tape → requests ≡ tape.requests → now ≡ record tape { requests = [] }
+    → OnOk result (TakesAll takes requests start end) → OnOk result (HandsOn takes d old (record old { subscribers = slice_set old.subscribers d now }) start end)
+pushed takes d old tape now start end (Ok x) requests there same is taken = record {
   tape = tape;
   there = there;
-  emptied = ap (λ (t : TapeValue). let w : WorldValue TapeValue = record old { subscribers = slice_set old.subscribers d t } in w) (is ∙ ap (λ (rs : List Request). let t : TapeValue = record tape { requests = rs } in t) none);
-  taken = taken;
+  emptied = ap (λ (t : TapeValue). let w : WorldValue TapeValue = record old { subscribers = slice_set old.subscribers d t } in w) is;
+  taken = subst (λ (rs : List Request). TakesAll takes rs start end) same taken;
 }
-taken_off takes d old tape now start end (Err e) there is none taken = tt
+pushed takes d old tape now start end (Err e) requests there same is taken = tt
 
 -- ---- the tape is emptied
 

@@ -1,6 +1,6 @@
 -- Drawing a ticket, and looking whether it is served.
 use Rattle.std.proofs.Common.{◌≡◌, inl, inr, ℕ, ◌+◌, ◌<◌, ◌==◌, Bool, true, false, List, [], ◌∷◌, length, set, refl, ap, sym, ◌∙◌, subst, arith, if◌then◌else◌, MatchBool}
-use Rattle.trace_threads.proofs.Common.{nat_tests, get_elem?, either, step, keeps, takes, Allows, set_here, set_again, Making, View, TicketStage, Idle, Waits, Holds, MAX_TURNS, Turn, Slot, SeatValue, entries, home_of, view, Staged, ViewFitsRule, IsHolder, IsHome, KeepsRule, KeepsWords, with_stage, Drawn, HasTurn, LookedAs, Looked, Noticed}
+use Rattle.trace_threads.proofs.Common.{nat_tests, get_elem?, either, step, keeps, takes, Allows, set_here, set_again, Making, View, TicketStage, Idle, Waits, Holds, MAX_TURNS, Turn, Slot, SeatValue, entries, home_of, view, Staged, ViewFitsRule, IsHolder, IsHomeOrOut, KeepsRule, KeepsWords, with_stage, Drawn, HasTurn, LookedAs, Looked, Noticed}
 use mathlib.Core.Option as core
 use Rattle.trace_threads.proofs.queue.SeatsLemmas.{prefix_self, Goes, allows, fits_set, there, same_view, home_else, no_holder, at_own, sides}
 
@@ -69,7 +69,7 @@ is_home making turns owner place tickets home views id t v r at is own served = 
     owned h (Waits k) seen i s = absurd i
     owned h (Holds k) seen i s = sym s.2 ∙ ap owner (sym s.0 ∙ served) ∙ own
 
-    home_in : IsHome making turns home views → home ≡ core.some (home_of making (entries turns))
+    home_in : IsHomeOrOut making turns home views → home ≡ core.some (home_of making (entries turns))
     home_in (inl e) = e
     home_in (inr h) =
         let same = owned h.1 h.2.stage h.2.seen h.4 (r.each h.1 h.2 h.3).staged in

@@ -1,6 +1,6 @@
 -- A view is cut in two, two views are made one, and the first view opens the table.
 use Rattle.std.proofs.Common.{◌≡◌, ◌≢◌, ◌⊎◌, inl, inr, ⊎_elim, ℕ, zero, suc, ◌<◌, ◌==◌, Bool, true, false, List, [], ◌∷◌, ◌++◌, length, set, refl, ap, sym, ◌∙◌, subst, arith, Some, None, length-set, Option, if◌then◌else◌, nat_lt}
-use Rattle.trace_threads.proofs.Common.{nat_tests, IsPrefix, dite, ℕ_discrete, get_elem?, Splits, Joins, opening, at_set, set_here, set_else, at_longer, Making, View, Idle, shared_of, Turn, Earlier, Slot, AllBegin, Staged, Placed, ViewFitsRule, IsHolder, IsHome, KeepsRule, KeepsWords, first_view, left_of, right_of, longer_turns, both_of, spent_view}
+use Rattle.trace_threads.proofs.Common.{nat_tests, IsPrefix, dite, ℕ_discrete, get_elem?, Splits, Joins, opening, at_set, set_here, set_else, at_longer, Making, View, Idle, shared_of, Turn, Earlier, Slot, AllBegin, Staged, Placed, ViewFitsRule, IsHolder, IsHomeOrOut, KeepsRule, KeepsWords, first_view, left_of, right_of, longer_turns, both_of, spent_view}
 use mathlib.Core.Option as core
 use Rattle.trace_threads.proofs.queue.SeatsLemmas.{prefix_self, fits_set, there, same_view, home_else, no_holder, sides}
 
@@ -51,7 +51,7 @@ module _ (making : Making) (turns : List Turn) (owner : ℕ → ℕ) (place : �
   right_fits : ViewFitsRule making turns owner (moved place v.other (length views, false)) tickets (length views) (right_of v)
   right_fits = record { same = λ _. fit.same live; begins = fit.begins; before = tt; staged = tt; own_entries = fit.other; own_place = moved_here place v.other (length views, false); other = tt; other_place = tt }
 
-  split_home : IsHome making turns home views → IsHome making turns home (set views id (left_of v) ++ right_of v ∷ [])
+  split_home : IsHomeOrOut making turns home views → IsHomeOrOut making turns home (set views id (left_of v) ++ right_of v ∷ [])
   split_home (inl e) = inl e
   split_home (inr t) =
       dite (ℕ_discrete t.1 id)

@@ -4,7 +4,7 @@ use Rattle.span_script.specs.declared.request.Request.{Request}
 use Rattle.span_script.specs.Setups.{setup_by}
 use Rattle.trace_base.specs.declared.callsite.Callsite.{Callsite}
 use Rattle.trace_tasks.specs.Flat.{flat_list}
-use Rattle.trace_tape.specs.Sinks.{TakesAll}
+use Rattle.trace_tasks.specs.TapeTurns.{TakesAll}
 use Rattle.task_runs.specs.Runs.{CanSpell}
 use Rattle.task_runs.specs.Writing.{RunsRequest}
 use Rattle.task_runs.proofs.WritingLemmas.{runs_these}

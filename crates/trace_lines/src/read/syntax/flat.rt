@@ -195,19 +195,19 @@ pub struct FlatMembers<'a> {
 impl<'a> FlatMembers<'a> {
     ghost use Rattle.std.specs.Prelude.{◌<◌, drop, get_or, remove};
     ghost use Rattle.std.specs.Borrow.{Bor};
-    ghost use Rattle.trace_lines.specs.reading.Left.{flat_left};
+    ghost use Rattle.trace_lines.specs.reading.Left.{flat_members_left};
     ghost use Rattle.trace_lines.specs.declared.read.plain.Plain.{Plain as PlainData};
 
     /// Those of a list, of which none is taken.
     pub(crate) fn new(members: Vec<(&'a [u8], Plain<'a>)>) -> FlatMembers<'a>
-        ensures { flat_left result ≡ members.entry.items }
+        ensures { flat_members_left result ≡ members.entry.items }
     {
         FlatMembers { members, taken: 0 }
     }
 
     #[tactic(auto, using(std::proofs::lemmas::List::drop_min))]
     fn as_slice(&self) -> &[(&'a [u8], Plain<'a>)]
-        ensures { result.now ≡ flat_left self.now }
+        ensures { result.now ≡ flat_members_left self.now }
     {
         let taken = self.taken.min(self.members.len());
         &self.members[taken..]
@@ -215,7 +215,7 @@ impl<'a> FlatMembers<'a> {
 
     /// Whether all are taken.
     pub(crate) fn is_empty(&self) -> bool
-        ensures { Decides result (length (flat_left self.now) ≡ 0) }
+        ensures { Decides result (length (flat_members_left self.now) ≡ 0) }
     {
         self.as_slice().is_empty()
     }
@@ -224,9 +224,9 @@ impl<'a> FlatMembers<'a> {
     #[inline(always)]
     #[tactic(auto, using(crate::proofs::readings::PlacesLemmas::first_left))]
     fn take_first(&mut self) -> Plain<'a>
-        requires { 0 < length (flat_left self.old) }
-        ensures plain { (e : Bor (List ℕ) × PlainData) → result ≡ (get_or (flat_left self.old) 0 e).1 }
-        ensures left { flat_left self.new ≡ drop 1 (flat_left self.old) }
+        requires { 0 < length (flat_members_left self.old) }
+        ensures plain { (e : Bor (List ℕ) × PlainData) → result ≡ (get_or (flat_members_left self.old) 0 e).1 }
+        ensures left { flat_members_left self.new ≡ drop 1 (flat_members_left self.old) }
     {
         let plain = self.members[self.taken].1;
         self.taken += 1;
@@ -237,9 +237,9 @@ impl<'a> FlatMembers<'a> {
     #[inline(always)]
     #[tactic(auto, using(crate::proofs::readings::PlacesLemmas::other_left))]
     fn take_at(&mut self, at: usize) -> Plain<'a>
-        requires { at < length (flat_left self.old) }
-        ensures plain { (e : Bor (List ℕ) × PlainData) → result ≡ (get_or (flat_left self.old) at e).1 }
-        ensures left { flat_left self.new ≡ remove (flat_left self.old) at }
+        requires { at < length (flat_members_left self.old) }
+        ensures plain { (e : Bor (List ℕ) × PlainData) → result ≡ (get_or (flat_members_left self.old) at e).1 }
+        ensures left { flat_members_left self.new ≡ remove (flat_members_left self.old) at }
     {
         if at == 0 {
             return self.take_first();
@@ -250,8 +250,8 @@ impl<'a> FlatMembers<'a> {
     /// Takes the member of a name, if it is there.
     #[inline(always)]
     pub(crate) fn take(&mut self, name: &[u8]) -> Option<Plain<'a>>
-        ensures found { option_map plain_data result ≡ get_member name.now (members_of (flat_left self.old)) }
-        ensures left { members_of (flat_left self.new) ≡ without_member name.now (members_of (flat_left self.old)) }
+        ensures found { option_map plain_data result ≡ get_member name.now (members_of (flat_members_left self.old)) }
+        ensures left { members_of (flat_members_left self.new) ≡ without_member name.now (members_of (flat_members_left self.old)) }
     {
         match place_of(self.as_slice(), name) {
             Some(at) => Some(self.take_at(at)),

@@ -16,7 +16,7 @@ pub hand_on-requires : goal.hand_on-requires
 hand_on-requires g c = (
     let there = c.in-Ok.ensures.ok.ready.there in
     let same = c.requires.serves in
-    omega (arith, there, same))
+    record { there = omega (arith, there, same); empty = c.new-makings.ensures.items })
 
 pub close_all-requires-in-Err-hand_on-clause-known : goal.close_all-requires-in-Err-hand_on-clause-known
 close_all-requires-in-Err-hand_on-clause-known g c = known_still c.args.dispatch c.begin_all.new.world c.hand_on.new.world c.hand_on.ensures.changes c.begin_all.new.queue.items c.begin_all.ensures.known

@@ -25,6 +25,6 @@ returns-in_ok-debug-in_default c =
     let e = c.args.event.now in
     let name = c.args.name.now in
     subst (λ (f : Event). OnOk c.tell_texts.result (c.tell_texts.new.event ≡ f))
-        ((λ i. with_texts settings e name (c.in_ok-text-in_default.ensures i) (c.in_ok-debug-in_default.ensures i))
-            ∙ told_as_texts settings e name c.args.value.now c.in_default.not-Bool c.in_default.not-I64 c.in_default.not-Error)
-        c.tell_texts.ensures
+    ((λ i. with_texts settings e name (c.in_ok-text-in_default.ensures i) (c.in_ok-debug-in_default.ensures i))
+    ∙ told_as_texts settings e name c.args.value.now c.in_default.not-Bool c.in_default.not-I64 c.in_default.not-Error)
+    c.tell_texts.ensures

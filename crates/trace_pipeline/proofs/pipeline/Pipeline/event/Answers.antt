@@ -16,8 +16,8 @@ returns-in_err-enabled c =
     let given = c.in_err-enabled.field-0.0 in
     let is : c.from_residual.result ≡ Err given = (search rules) in
     rw is (by_view_error c.args.at c.args.place (call.Event c.args.site c.args.parent c.args.fields) _ given _ _ c.self.view_is refl
-        (λ t stands memory. refuses_event _ t stands.fits c.args.at c.args.place c.args.site c.args.parent c.parent_for-parent.result c.parent_for-parent.ensures c.args.fields given (c.in_err-enabled.ensures.refused memory))
-        (made_alike _ _ _ _ _ _ c.same.ensures (parts_of c.self.inside) c.tell_at.new.world c.self.inside.handles.items refl c.in_err-enabled.ensures.leaves).0)
+    (λ t stands memory. refuses_event _ t stands.fits c.args.at c.args.place c.args.site c.args.parent c.parent_for-parent.result c.parent_for-parent.ensures c.args.fields given (c.in_err-enabled.ensures.refused memory))
+    (made_alike _ _ _ _ _ _ c.same.ensures (parts_of c.self.inside) c.tell_at.new.world c.self.inside.handles.items refl c.in_err-enabled.ensures.leaves).0)
 
 pub invariant_of-self-2 : goal.invariant_of-self-2
 invariant_of-self-2 c = keeps_told _ _ _ _ _ (parts_of c.self.inside) c.tell_at.new.world _ c.calls.ensures c.args.at c.args.place

@@ -15,8 +15,8 @@ returns-in_err-span c =
     let given = c.in_err-span.field-0.0 in
     let is : c.from_residual-in_err-span.result ≡ Err given = (search rules) in
     rw is (by_view_error c.args.at c.args.place (call.New c.args.site c.args.parent c.args.fields) _ given _ _ c.self.view_is refl
-        (λ t stands memory. refuses_new _ t stands.fits c.args.at c.args.place c.args.site c.args.parent c.parent_for-parent.result c.parent_for-parent.ensures c.args.fields given (c.in_err-span.ensures.refused memory))
-        (made_alike _ _ _ _ _ _ c.same.ensures (parts_of c.self.inside) c.make_at.new.world c.reserve.new.self.items (search rules) c.in_err-span.ensures.leaves).0)
+    (λ t stands memory. refuses_new _ t stands.fits c.args.at c.args.place c.args.site c.args.parent c.parent_for-parent.result c.parent_for-parent.ensures c.args.fields given (c.in_err-span.ensures.refused memory))
+    (made_alike _ _ _ _ _ _ c.same.ensures (parts_of c.self.inside) c.make_at.new.world c.reserve.new.self.items (search rules) c.in_err-span.ensures.leaves).0)
 
 pub invariant_of-self-2 : goal.invariant_of-self-2
 invariant_of-self-2 c = keeps_new _ _ _ _ _ (parts_of c.self.inside) c.make_at.new.world _ c.calls.ensures c.push_reserved.new.self.items c.args.at c.args.place c.len-number.result (search rules) c.self.invariant

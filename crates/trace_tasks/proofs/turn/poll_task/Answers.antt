@@ -2,7 +2,7 @@
 use Rattle.futures.specs.declared.task.Poll.TheVariants as polls
 use Rattle.trace_tasks.proofs.polls.TurnLemmas.{inside_of, pending, finished, closed_whole}
 use Rattle.trace_tasks.proofs.polls.RefusedPollLemmas.{stops}
-use Rattle.trace_tasks.proofs.turn.turn.Goals as goal
+use Rattle.trace_tasks.proofs.turn.poll_task.Goals as goal
 
 pub returns-in-Ok-Pending-clause-ok : goal.returns-in-Ok-Pending-clause-ok
 returns-in-Ok-Pending-clause-ok g c =

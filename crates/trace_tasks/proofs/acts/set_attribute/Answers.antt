@@ -1,6 +1,6 @@
 -- An op from outside was applied, whatever was answered.
 use Rattle.trace_tasks.proofs.polls.ChangesLemmas.{ask_changes, ask_wants}
-use Rattle.trace_tasks.proofs.acts.set.Goals as goal
+use Rattle.trace_tasks.proofs.acts.set_attribute.Goals as goal
 
 pub returns-in-Some-Err-clause-changes : goal.returns-in-Some-Err-clause-changes
 returns-in-Some-Err-clause-changes g c =

@@ -1,6 +1,6 @@
 -- An event was told, or memory was wanted.
 use Rattle.trace_tasks.proofs.polls.ChangesLemmas.{tell_changes, tell_wants}
-use Rattle.trace_tasks.proofs.acts.tell.Goals as goal
+use Rattle.trace_tasks.proofs.acts.tell_event.Goals as goal
 
 pub returns-clause-changes : goal.returns-clause-changes
 returns-clause-changes g c =

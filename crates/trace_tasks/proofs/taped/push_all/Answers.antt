@@ -1,12 +1,12 @@
 -- One request more.
-use Rattle.std.proofs.Common.{◌≡◌, ◌∷◌, ◌++◌, ◌∙◌, [], List, append_assoc, sym, ap, refl, reverse, arith}
+use Rattle.std.proofs.Common.{◌≡◌, ◌∷◌, ◌++◌, ◌∙◌, [], List, append_assoc, sym, ap, refl, reverse}
 use Rattle.std.proofs.lemmas.List.{reverse-append, reverse-reverse}
-use Rattle.span_script.specs.declared.request.Request.{Request}
-use Rattle.trace_tape.proofs.ItemsLemmas.{takes_after}
-use Rattle.trace_tape.proofs.roll.push_all.Goals as goal
+use Rattle.trace_tasks.proofs.Common.{Request}
+use Rattle.trace_tasks.proofs.tapes.HandingOnLemmas.{takes_after}
+use Rattle.trace_tasks.proofs.taped.push_all.Goals as goal
 
 pub loop-request-init : goal.loop-request-init
-loop-request-init g c = ([], ap reverse c.reverse.ensures.items ∙ reverse-reverse c.args.requests.now.items, refl, (let e = c.reverse.ensures.len in omega (arith, e)), c.reverse.ensures.capacity)
+loop-request-init g c = ([], ap reverse c.reverse.ensures.items ∙ reverse-reverse c.args.requests.now.items, refl)
 
 pub loop-request-preserved : goal.loop-request-preserved
 loop-request-preserved g c =
@@ -16,6 +16,4 @@ loop-request-preserved g c =
       done ++ c.in-Some.request ∷ [],
       append_assoc done (c.in-Some.request ∷ []) (reverse c.pop.new.self.items) ∙ ap (λ (rs : List Request). done ++ rs) (sym first) ∙ c.loop-request.invariant.1,
       takes_after g.K.RequestSink.takes done (c.in-Some.request ∷ []) c.args.sink.now c.loop-request.sink c.push.new.self c.loop-request.invariant.2 (c.push.new.self, c.in_ok-push.ensures, refl),
-      (let one = c.pop.ensures.len in let before = c.loop-request.invariant.3 in omega (arith, one, before)),
-      c.pop.ensures.capacity ∙ c.loop-request.invariant.4,
     )
