@@ -1,22 +1,8 @@
 -- What a run that tells traces writes last for the same lines.
-use Rattle.std.proofs.Common.{◌≡◌, ℕ, ◌+◌, List, [], ◌∷◌, ◌++◌, refl, sym, ap, ◌∙◌, length, append_assoc, length-append}
-use Rattle.std.specs.Prelude.{Bool, true, false, None, Result, Ok, Err, if◌then◌else◌}
-use Rattle.otel_base.specs.declared.record.Record.{Record}
-use Rattle.span_script.specs.declared.settings.Settings.{Settings}
-use Rattle.span_script.specs.Admission.{OpeningRead, opening_read}
-use Rattle.span_script.specs.calls.Spans.{open_spans}
-use Rattle.span_script.specs.Outcomes.{records_of_history}
-use Rattle.span_script.specs.Setups.{Setup, setup_by}
-use Rattle.span_script.specs.Tables.{History, Effect, no_tables, tables, records_of}
-use Rattle.span_script.proofs.runs.RunLemmas.{records_push}
+use Rattle.std.proofs.Common.{◌≡◌, ℕ, ◌+◌, List, [], ◌∷◌, ◌++◌, refl, sym, ap, ◌∙◌, length, append_assoc, length-append, Bool, true, false, None, Result, Ok, Err, if◌then◌else◌}
+use Rattle.trace_records.proofs.Common.{Record, Settings, OpeningRead, opening_read, open_spans, records_of_history, Setup, setup_by, History, Effect, no_tables, tables, records_of, records_push, Told, is_blank, settings_spelled, Report, report_on_effect, effect_of_line, answer_text, report_on, report_from, report_on_settings, report_on_opening, ScriptResult, run_unless_refused, setup_if_read, setup_of_settings, setup_of_line, lanes_on, script_on, script_from, script_of, EndsWith, last_line_of}
 use Rattle.trace_lines.specs.declared.signal.Signal.TheVariants as signal
-use Rattle.trace_lines.specs.declared.told.Told.{Told}
-use Rattle.trace_lines.specs.Lines.{is_blank}
-use Rattle.trace_lines.specs.reading.Spelled.{settings_spelled}
 use Rattle.trace_lines.specs.text.Texts.{end_text}
-use Rattle.trace_lines.specs.Report.{Report, report_on_effect, effect_of_line, answer_text, report_on, report_from, report_on_settings, report_on_opening}
-use Rattle.trace_records.specs.Scripts.{ScriptResult, run_unless_refused, setup_if_read, setup_of_settings, setup_of_line, lanes_on, script_on, script_from, script_of}
-use Rattle.trace_records.specs.Inputs.{EndsWith, last_line_of}
 
 ends_if : (b : Bool) (v w : ScriptResult) (x y : Report) → EndsWith (last_line_of v) x.written → EndsWith (last_line_of w) y.written → EndsWith (last_line_of (if b then v else w)) (if b then x else y).written
 ends_if true v w x y first second = first

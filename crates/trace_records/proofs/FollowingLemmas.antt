@@ -1,26 +1,12 @@
 -- One line more is followed, and the lines end.
-use Rattle.std.proofs.Common.{◌≡◌, ℕ, List, [], ◌∷◌, ◌++◌, refl, sym, ap, subst, ◌∙◌, append_assoc, ◌+◌, length, map, inr}
-use Rattle.std.specs.Prelude.{Option, Some, None, Result, Ok, Err, OnOk, true, false}
-use Rattle.std.proofs.lemmas.List.{append-nil, map-append}
-use Rattle.otel_base.specs.declared.record.Record.{Record}
-use Rattle.span_script.specs.Setups.{Setup}
-use Rattle.span_script.specs.Tables.{History, Tables, no_tables, tables, records_of}
-use Rattle.span_script.specs.calls.Spans.{open_spans}
-use Rattle.span_script.specs.Outcomes.{records_of_history}
-use Rattle.span_script.specs.Fits.{PipelineState, StandsFor}
-use Rattle.span_script.proofs.runs.RunLemmas.{records_push}
+use Rattle.std.proofs.Common.{◌≡◌, ℕ, List, [], ◌∷◌, ◌++◌, refl, sym, ap, subst, ◌∙◌, append_assoc, ◌+◌, length, map, inr, Option, Some, None, Result, Ok, Err, OnOk, true, false}
+use Rattle.trace_records.proofs.Common.{map-append, Record, Setup, History, Tables, no_tables, tables, records_of, open_spans, records_of_history, PipelineState, StandsFor, records_push, is_blank, FinishedSpans, OpenedPipeline, RequestAnswer, ScriptResult, lanes_on, script_of, Opens, AnswersRequest, without_outputs, IsOpening, IsRunning, IsStopped, StandsAt, EndsAs, IsRefusedBy}
+use Rattle.std.proofs.lemmas.List.{append-nil}
 use Rattle.trace_lines.specs.declared.told.Told.TheVariants as told
-use Rattle.trace_lines.specs.Lines.{is_blank}
 use Rattle.input_lines.proofs.BlankLemmas.{some_before, one_not_blank}
-use Rattle.trace_records.specs.declared.finished.FinishedSpans.{FinishedSpans}
 use Rattle.input_lines.specs.declared.refused_line.RefusedLine.{RefusedLine}
-use Rattle.trace_records.specs.declared.line.OpenedPipeline.{OpenedPipeline}
-use Rattle.trace_records.specs.declared.line.RequestAnswer.{RequestAnswer}
 use Rattle.trace_records.specs.declared.script.ScriptStage.{ScriptStage}
 use Rattle.trace_records.specs.declared.script.ScriptStage.TheVariants as stage
-use Rattle.trace_records.specs.Scripts.{ScriptResult, lanes_on, script_of}
-use Rattle.trace_records.specs.Lines.{Opens, AnswersRequest}
-use Rattle.trace_records.specs.Following.{without_outputs, IsOpening, IsRunning, IsStopped, StandsAt, EndsAs, IsRefusedBy}
 
 -- ---- one line more
 

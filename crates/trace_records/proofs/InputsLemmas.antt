@@ -1,9 +1,6 @@
 -- What is written where a line is refused.
-use Rattle.std.proofs.Common.{ℕ, List, [], ap}
-use Rattle.std.specs.Prelude.{Option, is_ok}
-use Rattle.input_lines.specs.Refusals.{Refuses}
-use Rattle.trace_records.specs.Scripts.{ScriptHistory, script_of}
-use Rattle.trace_records.specs.Inputs.{accepts_within, TellsRun, AreRefused}
+use Rattle.std.proofs.Common.{ℕ, List, [], ap, Option, is_ok}
+use Rattle.trace_records.proofs.Common.{Refuses, ScriptHistory, script_of, accepts_within, TellsRun, AreRefused}
 
 -- whatever is told of a script, the refusal line alone is written
 pub refuses : (most : Option ℕ) (Tells : ScriptHistory → List ℕ → Type 0) (lines : List (List ℕ)) (text : List ℕ) → AreRefused most lines text

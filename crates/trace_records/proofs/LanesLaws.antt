@@ -1,17 +1,7 @@
 -- A script may have so many lanes exactly where any number is taken and it has no more.
-use Rattle.std.proofs.Common.{◌≡◌, ℕ, ◌+◌, ◌≤◌, List, [], ◌∷◌, ◌++◌, refl, sym, ap, subst, ◌∙◌, length, map}
+use Rattle.std.proofs.Common.{◌≡◌, ℕ, ◌+◌, ◌≤◌, List, [], ◌∷◌, ◌++◌, refl, sym, ap, subst, ◌∙◌, length, map, Bool, true, false, Option, Some, None, Result, Ok, Err, if◌then◌else◌}
 use Rattle.std.proofs.lemmas.Bool.{leb-true, le-leb}
-use Rattle.std.proofs.lemmas.List.{length-map}
-use Rattle.std.specs.Prelude.{Bool, true, false, Option, Some, None, Result, Ok, Err, if◌then◌else◌}
-use Rattle.span_script.specs.declared.settings.Settings.{Settings}
-use Rattle.span_script.specs.Admission.{OpeningRead, opening_read}
-use Rattle.span_script.specs.Setups.{Setup, setup_by}
-use Rattle.span_script.specs.Tables.{History, tables, records_of}
-use Rattle.trace_lines.specs.declared.told.Told.{Told}
-use Rattle.trace_lines.specs.Lines.{is_blank}
-use Rattle.trace_lines.specs.reading.Spelled.{settings_spelled}
-use Rattle.trace_lines.specs.Report.{effect_of_line}
-use Rattle.trace_records.specs.Scripts.{ScriptHistory, ScriptResult, run_unless_refused, allows_lanes, setup_if_read, setup_of_settings, setup_of_line, lanes_on, script_on, script_from, script_of}
+use Rattle.trace_records.proofs.Common.{length-map, Settings, OpeningRead, opening_read, Setup, setup_by, History, tables, records_of, Told, is_blank, settings_spelled, effect_of_line, ScriptHistory, ScriptResult, run_unless_refused, allows_lanes, setup_if_read, setup_of_settings, setup_of_line, lanes_on, script_on, script_from, script_of}
 use Rattle.trace_records.proofs.ScriptsLaws.{going_either}
 
 count : (settings : Settings) → length (setup_by settings).ids ≡ length settings.lanes

@@ -1,26 +1,9 @@
 -- What a line spells decides what it does.
-use Rattle.std.proofs.Common.{◌≡◌, ℕ, List, [], refl, sym, ap, subst, ◌∙◌, length, map}
-use Rattle.std.proofs.lemmas.List.{length-map}
-use Rattle.std.specs.Prelude.{Bool, true, false, Option, Ok, Err}
+use Rattle.std.proofs.Common.{◌≡◌, ℕ, List, [], refl, sym, ap, subst, ◌∙◌, length, map, Bool, true, false, Option, Ok, Err}
+use Rattle.trace_records.proofs.Common.{length-map, Settings, Setup, setup_by, Request, Refusal, History, Effect, Tables, tables, effect_of, PipelineState, StandsFor, IsServedByHistory, is_for_memory, opening_read, Told, settings_spelled, request_spelled, effect_of_line, effect_of_request, HasRefusalLine, OpenedPipeline, RequestAnswer, allows_lanes, setup_of_settings, setup_of_line, lane_spelled, Opens, AnswersRequest}
 use Rattle.std.proofs.lemmas.Bool.{true≢false}
-use Rattle.span_script.specs.declared.settings.Settings.{Settings}
-use Rattle.span_script.specs.Setups.{Setup, setup_by}
-use Rattle.span_script.specs.declared.request.Request.{Request}
-use Rattle.span_script.specs.declared.reply.Refusal.{Refusal}
 use Rattle.span_script.specs.declared.reply.Refusal.TheVariants as refusal
-use Rattle.span_script.specs.Tables.{History, Effect, Tables, tables}
-use Rattle.span_script.specs.Effects.{effect_of}
-use Rattle.span_script.specs.Fits.{PipelineState, StandsFor, IsServedByHistory, is_for_memory}
-use Rattle.span_script.specs.Admission.{opening_read}
-use Rattle.trace_lines.specs.declared.told.Told.{Told}
 use Rattle.trace_lines.specs.declared.told.Told.TheVariants as told
-use Rattle.trace_lines.specs.reading.Spelled.{settings_spelled, request_spelled}
-use Rattle.trace_lines.specs.Report.{effect_of_line, effect_of_request}
-use Rattle.input_lines.specs.Refusals.{HasRefusalLine}
-use Rattle.trace_records.specs.declared.line.OpenedPipeline.{OpenedPipeline}
-use Rattle.trace_records.specs.declared.line.RequestAnswer.{RequestAnswer}
-use Rattle.trace_records.specs.Scripts.{allows_lanes, setup_of_settings, setup_of_line, lane_spelled}
-use Rattle.trace_records.specs.Lines.{Opens, AnswersRequest}
 
 -- the refusal of a step has a line but for want of memory
 pub told_step : (why : Refusal) → is_for_memory why ≡ false → HasRefusalLine (told.Step why)

@@ -1,31 +1,15 @@
 -- What holds of whole scripts: the report of a run accepts the same lines, and the history is legal.
-use Rattle.std.proofs.Common.{◌≡◌, ℕ, ◌+◌, ◌<◌, List, [], ◌∷◌, ◌++◌, refl, sym, ap, ◌∙◌, length, map, length-append}
-use Rattle.std.proofs.lemmas.List.{length-map}
+use Rattle.std.proofs.Common.{◌≡◌, ℕ, ◌+◌, ◌<◌, List, [], ◌∷◌, ◌++◌, refl, sym, ap, ◌∙◌, length, map, length-append, Bool, true, false, Option, Some, None, Result, Ok, Err, is_ok, if◌then◌else◌, slice_get}
+use Rattle.trace_records.proofs.Common.{length-map, Record, Settings, Request, OpeningRead, opening_read, Setup, setup_by, History, Effect, Tables, no_tables, tables, records_of, Refusal, is_bad_moment, effect_of_call, effect_of, records_of_history, records_push, Told, is_blank, settings_spelled, request_spelled, Report, report_on_effect, effect_of_line, effect_of_request, step_or_refusal, report_on, report_from, report_on_settings, report_on_opening, accepts, answer_count, ScriptHistory, ScriptResult, run_unless_refused, setup_if_read, setup_of_settings, setup_of_line, lane_spelled, lanes_on, script_on, script_from, script_of}
 use Rattle.std.proofs.lemmas.List.Elements.{All-nil, All-cons, All-append}
 use Rattle.std.proofs.lemmas.Option.{slice_get_within}
 use Rattle.std.specs.List.{All}
-use Rattle.std.specs.Prelude.{Bool, true, false, Option, Some, None, Result, Ok, Err, is_ok, if◌then◌else◌, slice_get}
-use Rattle.otel_base.specs.declared.record.Record.{Record}
-use Rattle.span_script.specs.declared.settings.Settings.{Settings}
-use Rattle.span_script.specs.declared.request.Request.{Request}
-use Rattle.span_script.specs.Admission.{OpeningRead, opening_read}
-use Rattle.span_script.specs.Setups.{Setup, setup_by}
-use Rattle.span_script.specs.Tables.{History, Effect, Tables, no_tables, tables, records_of}
-use Rattle.span_script.specs.declared.reply.Refusal.{Refusal}
 use Rattle.span_script.specs.declared.reply.Refusal.TheVariants as refusal
 use Rattle.span_script.specs.declared.reply.What.{What}
 use Rattle.span_script.specs.declared.reply.What.TheVariants as what
 use Rattle.span_script.specs.calls.Here.{Resolved, ◌>>=◌, need}
-use Rattle.span_script.specs.Effects.{is_bad_moment, effect_of_call, effect_of}
-use Rattle.span_script.specs.Outcomes.{records_of_history}
-use Rattle.span_script.proofs.runs.RunLemmas.{records_push}
 use Rattle.span_laws.specs.LegalHistories.{IsHistory, none, more}
 use Rattle.trace_lines.specs.declared.signal.Signal.TheVariants as signal
-use Rattle.trace_lines.specs.declared.told.Told.{Told}
-use Rattle.trace_lines.specs.Lines.{is_blank}
-use Rattle.trace_lines.specs.reading.Spelled.{settings_spelled, request_spelled}
-use Rattle.trace_lines.specs.Report.{Report, report_on_effect, effect_of_line, effect_of_request, step_or_refusal, report_on, report_from, report_on_settings, report_on_opening, accepts, answer_count}
-use Rattle.trace_records.specs.Scripts.{ScriptHistory, ScriptResult, run_unless_refused, setup_if_read, setup_of_settings, setup_of_line, lane_spelled, lanes_on, script_on, script_from, script_of}
 
 -- ---- the same lines are accepted
 

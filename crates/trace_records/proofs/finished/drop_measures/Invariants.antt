@@ -1,5 +1,5 @@
 use Rattle.std.proofs.Common.{◌≡◌, length}
-use Rattle.trace_records.specs.Following.{without_outputs}
+use Rattle.trace_records.proofs.Common.{without_outputs}
 use Rattle.trace_records.proofs.finished.drop_measures.Given as goal
 
 abbrev pub invariant-loop : goal.invariant-loop

@@ -1,7 +1,6 @@
 -- The lines so far were followed.
 use Rattle.std.proofs.Common.{◌≡◌, ◌++◌, length, List, ℕ}
-use Rattle.trace_lines.specs.Lines.{lines_of}
-use Rattle.trace_records.specs.Following.{HasFollowed}
+use Rattle.trace_records.proofs.Common.{lines_of, HasFollowed}
 use Rattle.trace_records.proofs.follow.follow_lines.Given as goal
 
 abbrev pub invariant-loop-rest : goal.invariant-loop-rest

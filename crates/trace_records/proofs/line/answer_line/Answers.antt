@@ -1,5 +1,5 @@
 use Rattle.std.proofs.Common.{rules, ap, sym, refl, subst, ◌∙◌, Err}
-use Rattle.input_lines.specs.Refusals.{HasRefusalLine}
+use Rattle.trace_records.proofs.Common.{HasRefusalLine}
 use Rattle.trace_records.proofs.LinesLemmas.{not_request, not_served, answers, told_step}
 use Rattle.trace_records.proofs.line.answer_line.Goals as goal
 

@@ -1,6 +1,5 @@
 use Rattle.std.proofs.Common.{rules, ap, sym, subst, length, ◌∙◌}
-use Rattle.span_script.specs.Admission.{opening_read, IsOpenError}
-use Rattle.trace_records.specs.Scripts.{allows_lanes}
+use Rattle.trace_records.proofs.Common.{opening_read, IsOpenError, allows_lanes}
 use Rattle.trace_records.proofs.LinesLemmas.{not_settings, not_read, too_many, opens}
 use Rattle.trace_records.proofs.line.open_line.Goals as goal
 

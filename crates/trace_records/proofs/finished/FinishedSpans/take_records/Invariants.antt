@@ -1,6 +1,6 @@
 -- What is kept so far, and what will be of the records that are left.
 use Rattle.std.proofs.Common.{◌≡◌, ◌++◌, length, map}
-use Rattle.trace_records.specs.Following.{without_outputs}
+use Rattle.trace_records.proofs.Common.{without_outputs}
 use Rattle.trace_records.proofs.finished.FinishedSpans.take_records.Given as goal
 
 abbrev pub invariant-loop-finished : goal.invariant-loop-finished

@@ -1,10 +1,6 @@
 -- The settings line opens the run, and a request that is answered is one effect more.
 use Rattle.std.proofs.Common.{◌≡◌, ◌++◌, List, [], ◌∷◌, refl, sym, ap, subst, map, ◌∙◌}
-use Rattle.otel_base.specs.declared.record.Record.{Record}
-use Rattle.span_script.specs.Fits.{PipelineState}
-use Rattle.trace_records.specs.declared.finished.FinishedSpans.{FinishedSpans}
-use Rattle.trace_records.specs.Lines.{AnswersRequest, OpensLine, AnswersLine}
-use Rattle.trace_records.specs.Following.{IsRunning}
+use Rattle.trace_records.proofs.Common.{Record, PipelineState, FinishedSpans, AnswersRequest, OpensLine, AnswersLine, IsRunning}
 use Rattle.trace_records.proofs.FollowingLemmas.{opened_on, answered_on, on_ok}
 use Rattle.trace_records.proofs.script.ScriptRun.line.Goals as goal
 

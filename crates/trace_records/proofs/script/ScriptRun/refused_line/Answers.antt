@@ -1,5 +1,5 @@
 use Rattle.std.proofs.Common.{inl}
-use Rattle.trace_records.specs.Following.{IsOpening, IsRunning}
+use Rattle.trace_records.proofs.Common.{IsOpening, IsRunning}
 use Rattle.trace_records.proofs.FollowingLemmas.{running_refuses_none}
 use Rattle.trace_records.proofs.script.ScriptRun.refused_line.Goals as goal
 
