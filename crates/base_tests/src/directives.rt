@@ -14,7 +14,7 @@ use trace_base::level::{Level, LevelFilter};
 const STRUCT: &str = "MyStruct { answer: 42, question: \"life, the universe, and everything\" }";
 
 // Fixed texts, and whether that debug form with commas meets them.
-const STRUCTS: [(&str, bool); 5] = [
+const FIXED_TEXTS: [(&str, bool); 5] = [
     (
         "MyStruct { answer: 42, question: \"life, the universe, and everything\" }",
         true,
@@ -48,7 +48,7 @@ fn is_met(alloc: Global, fixed: &str) -> Result<bool, Memory> {
 
 #[test]
 fn meets_fixed_texts(rt: HostRuntime) {
-    for (fixed, wanted) in STRUCTS {
+    for (fixed, wanted) in FIXED_TEXTS {
         assert_eq!(rt; is_met(rt.alloc(), fixed), Ok(wanted));
     }
 }
@@ -72,14 +72,14 @@ fn pattern_of_copy(alloc: Global) -> Result<ValueMatch, Fail> {
 }
 
 // Whether a pattern that was made a fixed text is met by its own text, and by what it would match.
-fn fixed_is_met(alloc: Global) -> Result<[Result<bool, Memory>; 2], Fail> {
+fn fixed_text_answers(alloc: Global) -> Result<[Result<bool, Memory>; 2], Fail> {
     let fixed = pattern_of_copy(alloc)?;
     Ok([meets(alloc, &fixed, "a.c"), meets(alloc, &fixed, "abc")])
 }
 
 #[test]
 fn makes_fixed_texts_of_patterns(rt: HostRuntime) -> Result<(), Fail> {
-    assert!(rt; fixed_is_met(rt.alloc())? == [Ok(true), Ok(false)]);
+    assert!(rt; fixed_text_answers(rt.alloc())? == [Ok(true), Ok(false)]);
     let told = pattern_of_copy(rt.alloc())?.to_string(rt.alloc())?;
     assert_eq!(rt; told.as_str(), "a.c");
     Ok(())
@@ -93,14 +93,14 @@ fn level_directives(alloc: Global) -> Result<String, Fail> {
 }
 
 // Those that are made of nothing.
-fn defaults(alloc: Global) -> Result<String, Fail> {
+fn defaults_text(alloc: Global) -> Result<String, Fail> {
     let default = Directive::default(alloc);
     let errors = StaticDirective::default(alloc);
     Ok(format!(in alloc; "{default} {errors}")?)
 }
 
 // A name that isn't valid.
-fn fault(alloc: Global) -> Result<String, Fail> {
+fn fault_text(alloc: Global) -> Result<String, Fail> {
     let name = text(alloc, "x")?;
     let fault: BadFieldName = BadName { name };
     Ok(format!(in alloc; "{fault} {fault:?}")?)
@@ -109,8 +109,8 @@ fn fault(alloc: Global) -> Result<String, Fail> {
 #[test]
 fn makes_directives_of_levels(rt: HostRuntime) -> Result<(), Fail> {
     assert_eq!(rt; level_directives(rt.alloc())?.as_str(), "debug warn");
-    assert_eq!(rt; defaults(rt.alloc())?.as_str(), "off error");
-    let fault = fault(rt.alloc())?;
+    assert_eq!(rt; defaults_text(rt.alloc())?.as_str(), "off error");
+    let fault = fault_text(rt.alloc())?;
     assert_eq!(rt;
         fault.as_str(),
         "invalid field name `x` BadName { name: \"x\" }"
@@ -139,7 +139,7 @@ fn directive_set(alloc: Global) -> Result<Set, Fail> {
 }
 
 // A set of what a copy of a set hands out.
-fn again(alloc: Global, set: &Set) -> Result<Set, Fail> {
+fn remade_set(alloc: Global, set: &Set) -> Result<Set, Fail> {
     let mut listed = Vec::new(alloc);
     for directive in set.clone_set()?.into_iter() {
         listed.push(directive)?;
@@ -160,7 +160,7 @@ fn set_text(alloc: Global, set: &Set) -> Result<String, Fail> {
 }
 
 // Whether a set has nothing, and its greatest level.
-fn is_empty(set: &Set) -> (bool, LevelFilter) {
+fn emptiness_and_level(set: &Set) -> (bool, LevelFilter) {
     (set.is_empty(), set.max_level())
 }
 
@@ -171,14 +171,14 @@ fn set_text_once(alloc: Global) -> Result<String, Fail> {
 }
 
 fn set_text_again(alloc: Global) -> Result<String, Fail> {
-    let again = again(alloc, &directive_set(alloc)?)?;
+    let again = remade_set(alloc, &directive_set(alloc)?)?;
     set_text(alloc, &again)
 }
 
 #[test]
 fn keeps_directives_in_order(rt: HostRuntime) -> Result<(), Fail> {
     assert_eq!(rt;
-        is_empty(&DirectiveSet::new(rt.alloc())),
+        emptiness_and_level(&DirectiveSet::new(rt.alloc())),
         (true, LevelFilter::OFF)
     );
     assert_eq!(rt;
@@ -192,10 +192,10 @@ fn keeps_directives_in_order(rt: HostRuntime) -> Result<(), Fail> {
     Ok(())
 }
 
-const FIVE: &str = "crate1::mod1=error,crate1::mod2,crate2=debug,crate3=off,warn";
+const FIVE_TARGETS: &str = "crate1::mod1=error,crate1::mod2,crate2=debug,crate3=off,warn";
 
 // Targets that are set in three ways.
-fn with_three(alloc: Global) -> Result<Targets, Fail> {
+fn targets_set_three_ways(alloc: Global) -> Result<Targets, Fail> {
     let app = String::from_str(alloc, "app")?;
     let Ok(targets) = Targets::new(alloc).with_target(app, LevelFilter::INFO) else {
         return Err(Fail::from("no memory"));
@@ -210,8 +210,8 @@ fn with_three(alloc: Global) -> Result<Targets, Fail> {
 }
 
 // Targets that are set in each of the four ways.
-fn with_four(alloc: Global) -> Result<Targets, Fail> {
-    let mut targets = with_three(alloc)?;
+fn targets_set_four_ways(alloc: Global) -> Result<Targets, Fail> {
+    let mut targets = targets_set_three_ways(alloc)?;
     targets.extend(one_target(alloc, "web", LevelFilter::WARN)?)?;
     Ok(targets)
 }
@@ -227,26 +227,26 @@ fn one_target(
 
 // The level of targets where none is met, and how they print.
 fn targets_text(alloc: Global) -> Result<(Option<LevelFilter>, String), Fail> {
-    let targets = with_four(alloc)?;
+    let targets = targets_set_four_ways(alloc)?;
     Ok((targets.default_level(), targets.to_string(alloc)?))
 }
 
 // Whether a copy is equal.
-fn is_copied(alloc: Global) -> Result<bool, Fail> {
-    let five = Targets::from_str(alloc, FIVE)?;
+fn copy_is_equal(alloc: Global) -> Result<bool, Fail> {
+    let five = Targets::from_str(alloc, FIVE_TARGETS)?;
     Ok(five.clone_targets()? == five)
 }
 
 // Whether other targets aren't.
-fn is_other(alloc: Global) -> Result<bool, Fail> {
-    let four = with_four(alloc)?;
-    Ok(Targets::from_str(alloc, FIVE)? != four)
+fn others_differ(alloc: Global) -> Result<bool, Fail> {
+    let four = targets_set_four_ways(alloc)?;
+    Ok(Targets::from_str(alloc, FIVE_TARGETS)? != four)
 }
 
 // The pairs that targets give by value, each with a blank behind it.
-fn pairs_by_value(alloc: Global) -> Result<String, Fail> {
+fn pairs_text(alloc: Global) -> Result<String, Fail> {
     let mut told = String::new(alloc);
-    for (target, level) in Targets::from_str(alloc, FIVE)?.into_iter() {
+    for (target, level) in Targets::from_str(alloc, FIVE_TARGETS)?.into_iter() {
         write!(told, "{}={level} ", target.as_str())?;
     }
     Ok(told)
@@ -258,9 +258,9 @@ fn sets_targets(rt: HostRuntime) -> Result<(), Fail> {
     assert!(rt;
         level == Some(LevelFilter::DEBUG) && told.as_str() == "web=warn,app=info,db=off,debug"
     );
-    assert!(rt; is_copied(rt.alloc())? && is_other(rt.alloc())?);
+    assert!(rt; copy_is_equal(rt.alloc())? && others_differ(rt.alloc())?);
     assert_eq!(rt;
-        pairs_by_value(rt.alloc())?.as_str(),
+        pairs_text(rt.alloc())?.as_str(),
         "crate1::mod2=trace crate1::mod1=error crate3=off crate2=debug "
     );
     Ok(())

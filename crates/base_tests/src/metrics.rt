@@ -60,7 +60,11 @@ fn event_measures(alloc: Global) -> Result<Vec<Measure>, Memory> {
 }
 
 // The place of the instrument of each.
-fn places(alloc: Global, instruments: &mut Instruments, told: &[Measure]) -> Result<String, Fail> {
+fn places_text(
+    alloc: Global,
+    instruments: &mut Instruments,
+    told: &[Measure],
+) -> Result<String, Fail> {
     let mut places = String::new(alloc);
     for measure in told {
         let place = instruments.update_metric(measure)?;
@@ -79,7 +83,7 @@ fn keeps_an_instrument_for_each_kind_and_name(rt: HostRuntime) -> Result<(), Fai
     let told = event_measures(rt.alloc())?;
     let mut instruments = Instruments::new(rt.alloc());
     for _ in 0..2 {
-        let places = places(rt.alloc(), &mut instruments, told.as_slice())?;
+        let places = places_text(rt.alloc(), &mut instruments, told.as_slice())?;
         assert_eq!(rt; places.as_str(), "0 1 1 2 3 4 ");
     }
     Ok(())

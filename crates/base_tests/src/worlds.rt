@@ -74,16 +74,16 @@ fn nested_defaults(alloc: Global, world: &mut World<Registry>) -> Result<[Option
     let mut lane = lane(alloc);
     let outer = set_default(&mut lane, first);
     let inner = set_default(&mut lane, second);
-    let before = number(&lane);
-    let inside = with_default(&mut lane, third, |lane: &mut Lane| number(lane));
-    let behind = number(&lane);
+    let before = default_number(&lane);
+    let inside = with_default(&mut lane, third, |lane: &mut Lane| default_number(lane));
+    let behind = default_number(&lane);
     inner.end(&mut lane);
-    let after = number(&lane);
+    let after = default_number(&lane);
     outer.end(&mut lane);
-    Ok([before, inside, behind, after, number(&lane)])
+    Ok([before, inside, behind, after, default_number(&lane)])
 }
 
-fn number(lane: &Lane) -> Option<u64> {
+fn default_number(lane: &Lane) -> Option<u64> {
     lane.default.map(|dispatch| dispatch.number())
 }
 
@@ -97,7 +97,7 @@ fn puts_defaults_back_in_order(rt: HostRuntime) {
 
 // Whether nothing serves a lane before a global subscriber is set, the first that is set then does, a second is refused, and
 // the lane's own one goes before it.
-fn globals(
+fn global_default_answers(
     world: &mut World<Registry>,
     lane: &mut Lane,
     first: Dispatch,
@@ -119,7 +119,7 @@ fn globals(
 fn in_two_registries(alloc: Global, world: &mut World<Registry>) -> Result<[bool; 5], Memory> {
     let first = add(alloc, world)?;
     let second = add(alloc, world)?;
-    Ok(globals(world, &mut lane(alloc), first, second))
+    Ok(global_default_answers(world, &mut lane(alloc), first, second))
 }
 
 #[test]
@@ -131,7 +131,7 @@ fn sets_the_global_default_once(rt: HostRuntime) {
 }
 
 // What a subscriber that admits nothing answers.
-fn nothing(alloc: Global) -> (Interest, bool, Option<LevelFilter>) {
+fn no_subscriber_answers(alloc: Global) -> (Interest, bool, Option<LevelFilter>) {
     let callsite = bare(alloc);
     let nothing = NoSubscriber {};
     (
@@ -143,6 +143,6 @@ fn nothing(alloc: Global) -> (Interest, bool, Option<LevelFilter>) {
 
 #[test]
 fn admits_nothing_without_a_subscriber(rt: HostRuntime) {
-    let told = nothing(rt.alloc());
+    let told = no_subscriber_answers(rt.alloc());
     assert!(rt; told == (Interest::Never, false, Some(LevelFilter::OFF)));
 }

@@ -55,7 +55,7 @@ fn send_all<H: Threads + Wait + Sync, T: Turnstile + Sync>(
 }
 
 // The lines of batches, and the end line.
-fn lines_of(
+fn text_of_batches(
     alloc: Global,
     batches: &Vec<Vec<Sent>>,
     open_spans: u64,
@@ -91,6 +91,6 @@ pub fn batches_text<H: Threads + Wait + Sync, T: Turnstile + Sync>(
     let count = records.len() as u64;
     let sent = send_all(rt, alloc, turns, records, lanes, lane_count)?;
     let cut = batches(alloc, sent, size)?;
-    let text = lines_of(alloc, &cut, open_spans, count)?;
+    let text = text_of_batches(alloc, &cut, open_spans, count)?;
     Ok(text)
 }

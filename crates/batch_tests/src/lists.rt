@@ -8,12 +8,12 @@ use trace_batch::{Finished, Item, Sent};
 
 /// Stands for a record: its text is its number, the lane and the place.
 #[derive(Drop)]
-pub struct Number {
+pub struct NumberedRecord {
     /// The number.
     pub number: u64,
 }
 
-impl Finished for Number {
+impl Finished for NumberedRecord {
     ghost use Rattle.std.specs.Prelude.{◌++◌, codes, decimal};
 
     ghost text = { λ finished lane place.
@@ -30,7 +30,7 @@ fn number_of(lane: u64, place: u64) -> u64 {
 }
 
 // So many items of a lane.
-fn list(alloc: Global, lane: u64, count: u64) -> Result<Items<Item<Number>>, Memory>
+fn list(alloc: Global, lane: u64, count: u64) -> Result<Items<Item<NumberedRecord>>, Memory>
     ensures { IfOk result (λ items. All (λ i. i.lane ≡ lane) items) }
 {
     let mut items = Items::new(alloc);
@@ -39,14 +39,14 @@ fn list(alloc: Global, lane: u64, count: u64) -> Result<Items<Item<Number>>, Mem
         items.push(Item {
             lane,
             place,
-            finished: Number { number },
+            finished: NumberedRecord { number },
         })?;
     }
     Ok(items)
 }
 
 /// Lists of so many items for the lanes from 0 on.
-pub fn lists(alloc: Global, counts: &[u64]) -> Result<Vec<Items<Item<Number>>>, Memory>
+pub fn lists(alloc: Global, counts: &[u64]) -> Result<Vec<Items<Item<NumberedRecord>>>, Memory>
     ensures len { IfOk result (λ v. length v.items ≡ length counts.now) }
     ensures own { IfOk result (λ v. (l : ℕ) → l < length v.items → All (λ i. i.lane ≡ l) (get_or v.items l [])) }
 {
@@ -59,7 +59,7 @@ pub fn lists(alloc: Global, counts: &[u64]) -> Result<Vec<Items<Item<Number>>>, 
 }
 
 // Whether an item is the next one of its lane, with its text. Then that lane has one more.
-fn is_next(alloc: Global, one: &Sent, next: &mut [u64]) -> Result<bool, Memory> {
+fn count_if_next(alloc: Global, one: &Sent, next: &mut [u64]) -> Result<bool, Memory> {
     let lane = usize::try_from(one.lane).unwrap_or(usize::MAX);
     if lane >= next.len() || next[lane] != one.place {
         return Ok(false);
@@ -74,7 +74,7 @@ fn is_next(alloc: Global, one: &Sent, next: &mut [u64]) -> Result<bool, Memory> 
 pub fn is_merge(alloc: Global, sent: &[Sent], counts: &[u64]) -> Result<bool, Memory> {
     let mut next = Vec::from_elem(alloc, 0u64, counts.len())?;
     for one in sent {
-        if !is_next(alloc, one, next.as_mut_slice())? {
+        if !count_if_next(alloc, one, next.as_mut_slice())? {
             return Ok(false);
         }
     }

@@ -9,13 +9,13 @@ use turnstile::{OpenTurnstile, Turnstile};
 
 // Holds the first push of sender 0 until that of sender 1 is done, for a number of turns at most.
 #[derive(Drop)]
-struct Gate {
+struct FirstPushHold {
     held: AtomicU64,
     done: AtomicU64,
     missed: AtomicU64,
 }
 
-impl Turnstile for Gate {
+impl Turnstile for FirstPushHold {
     fn before(&self, worker: u64, call: u64) {
         if worker == 0 && call == 0 {
             self.held.store(1, Ordering::SeqCst);
@@ -54,7 +54,7 @@ impl Turnstile for Count {
 #[test]
 fn two_senders_at_once(rt: HostRuntime) -> Result<(), Fail> {
     let counts = [3, 2];
-    let gate = Gate {
+    let gate = FirstPushHold {
         held: AtomicU64::new(0),
         done: AtomicU64::new(0),
         missed: AtomicU64::new(0),

@@ -45,16 +45,16 @@ pub use Rattle.env_directives.specs.declared.env.directive.Directive.{Directive}
 pub use Rattle.env_directives.specs.declared.env.field.Match.{Match}
 pub use Rattle.env_directives.specs.declared.env.field.ValueMatch.{ValueMatch}
 pub use Rattle.env_directives.specs.declared.env.field.ValueMatch.TheVariants.{Debug, I64, Pat, U64}
-pub use Rattle.env_directives.specs.orders.Choice.{admits_target, is_longer, lets_through, with_longer_target, longest_from, longest_prefix}
+pub use Rattle.env_directives.specs.orders.Choice.{admits_target, is_longer, lets_through, with_longer_target, longest_from, longest_covering}
 pub use Rattle.env_directives.specs.orders.FieldOrder.{field_cmp, text_cmp, value_cmp}
 pub use Rattle.env_directives.specs.orders.StaticOrder.{most_specific_first, target_length}
 pub use Rattle.env_directives.specs.orders.Table.{AddsSome, IsTableOf, DirectiveTable, empty_table, greatest_of, more_verbose, with_added, with_all_added, with_item_in_order}
 pub use Rattle.env_directives.specs.printed.Printed.{HasNoMinusZero, bracket_text, directive_text, equals_text, fields_text, match_text, text_if_any, value_text}
 pub use Rattle.env_directives.specs.reading.Cuts.{Pieces, is_among, lacks, pieces_at}
-pub use Rattle.env_directives.specs.reading.Faults.{HasEmptyField, HasFault, HasNoLevel, HasNoPattern, IsEnd}
-pub use Rattle.env_directives.specs.reading.Forms.{DirectiveForm, Front, HasForm, IsDirective, IsDirectiveFront, IsFieldText, IsForm, IsHead, IsLevelText, IsOpened, IsSpanName, alone, bare, begins, directive_alone, directive_at, directive_of_form, each_with_comma, fielded, form_text, front_text, head_alone, head_comma, level_behind, level_or_target, leveled, leveled_comma, may_begin, spanned, target_at, text_up_to_fields, unless_empty}
-pub use Rattle.env_directives.specs.reading.Reading.{AnswersRead, FieldsRead, LeadsToNoPattern, DirectiveRead, SpanLeadsToNoPattern, at_level, field_ends, more_fields, read_behind, read_fielded, read_head, read_leveled, read_span}
-unfoldable pub use Rattle.env_directives.specs.reading.Reading.{read_bracket, read_close, read_end, read_fields, read_last, read_level, read_directive}
+pub use Rattle.env_directives.specs.reading.Faults.{HasEmptyField, HasFault, HasBadLevel, HasRefusedPattern, IsEnd}
+pub use Rattle.env_directives.specs.reading.Forms.{DirectiveForm, Front, HasForm, IsDirective, IsDirectiveFront, IsFieldText, IsForm, IsHead, IsLevelText, IsOpened, IsSpanName, alone, bare, begins_as_directive, directive_alone, directive_at, directive_of_form, fields_with_commas, fielded, form_text, front_text, head_alone, head_comma, level_behind, level_or_target, leveled, leveled_comma, may_begin, spanned, directive_of_target, text_up_to_fields, unless_empty}
+pub use Rattle.env_directives.specs.reading.Reading.{AnswersRead, FieldsRead, LeadsToRefusedPattern, DirectiveRead, SpanLeadsToRefusedPattern, at_level, field_ends, more_fields, read_behind, read_fielded, read_head, read_leveled, read_span}
+unfoldable pub use Rattle.env_directives.specs.reading.Reading.{read_bracket, read_close, read_level_if_any, read_fields, read_nothing_more, read_level, read_directive}
 pub use Rattle.env_directives.specs.reading.Separators.{comma_pieces, cut_once, is_closers, nonempty, without_closers}
 pub use Rattle.env_directives.specs.reading.Values.{HavePatterns, IsNoPatternField, IsPatternIfAny, MayFail, fits_i64, truth_of, value_of}
 unfoldable pub use Rattle.env_directives.specs.reading.Values.{field_of, i64_of, plain_value, u64_of}

@@ -12,7 +12,7 @@ ghost use Rattle.trace_base.specs.declared.level.LevelFilter.{LevelFilter};
 ghost use Rattle.env_directives.specs.Cares.{begins_with, covers, cares_about_target, declares_all, cares};
 ghost use Rattle.env_directives.specs.reading.Separators.{nonempty, comma_pieces};
 ghost use Rattle.env_directives.specs.printed.StaticPrinted.{static_text, comma_joined};
-ghost use Rattle.env_directives.specs.reading.StaticText.{ReadsOrFails, static_of, bare_of, with_equals, front_of, with_names, names_of, level_behind_equals};
+ghost use Rattle.env_directives.specs.reading.StaticText.{ReadsOrFails, static_of, bare_of, static_with_equals, front_of, front_with_names, names_of, level_behind_equals};
 ghost use Rattle.env_directives.specs.orders.StaticOrder.{most_specific_first, specificity_cmp, target_length};
 
 use crate::env::field::text_of;
@@ -82,7 +82,7 @@ impl StaticDirective {
         if level.contains("=") {
             return Err(ParseError::Equals);
         }
-        with_equals(alloc, front, level)
+        static_with_equals(alloc, front, level)
     }
 
     fn target_len(&self) -> Option<usize>
@@ -150,8 +150,12 @@ fn bare(alloc: Global, text: &str) -> Result<StaticDirective, ParseError>
     }
 }
 
-fn with_equals(alloc: Global, front: &str, level: &str) -> Result<StaticDirective, ParseError>
-    ensures { ReadsOrFails result (with_equals front.now level.now) }
+fn static_with_equals(
+    alloc: Global,
+    front: &str,
+    level: &str,
+) -> Result<StaticDirective, ParseError>
+    ensures { ReadsOrFails result (static_with_equals front.now level.now) }
 {
     let (target, field_names) = target_and_names(alloc, front)?;
     let level = level_filter(level)?;
@@ -166,19 +170,23 @@ fn target_and_names(alloc: Global, front: &str) -> Result<(Text, Items<Text>), P
     ensures { ReadsOrFails result (front_of front.now) }
 {
     match front.split_once("[{") {
-        Some((target, fields)) => with_names(alloc, target, fields),
-        None => without_names(alloc, front),
+        Some((target, fields)) => front_with_names(alloc, target, fields),
+        None => front_without_names(alloc, front),
     }
 }
 
-fn with_names(alloc: Global, target: &str, fields: &str) -> Result<(Text, Items<Text>), ParseError>
-    ensures { ReadsOrFails result (with_names target.now fields.now) }
+fn front_with_names(
+    alloc: Global,
+    target: &str,
+    fields: &str,
+) -> Result<(Text, Items<Text>), ParseError>
+    ensures { ReadsOrFails result (front_with_names target.now fields.now) }
 {
     let names = names_between(alloc, fields)?;
     Ok((copy_of(alloc, target)?, names))
 }
 
-fn without_names(alloc: Global, target: &str) -> Result<(Text, Items<Text>), ParseError>
+fn front_without_names(alloc: Global, target: &str) -> Result<(Text, Items<Text>), ParseError>
     ensures { ReadsOrFails result (Ok (target.now, [])) }
 {
     Ok((copy_of(alloc, target)?, Items::new(alloc)))

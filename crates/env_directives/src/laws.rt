@@ -3,9 +3,9 @@
 ghost use Rattle.std.specs.Prelude.{◌≡◌, ◌≢◌, Bool, List, ℕ, Ok, Err, false, ◌↔◌};
 ghost use Rattle.std.specs.Str.{IsUtf8, trim};
 ghost use Rattle.std.specs.declared.cmp.Ordering.TheVariants.{Equal};
-ghost use Rattle.env_directives.specs.orders.Choice.{admits_target, lets_through, longest_prefix};
+ghost use Rattle.env_directives.specs.orders.Choice.{admits_target, lets_through, longest_covering};
 ghost use Rattle.env_directives.specs.orders.DirectiveOrder.{directive_cmp, SameButLevel};
-ghost use Rattle.env_directives.specs.reading.Faults.{HasNoLevel, HasEmptyField, HasFault};
+ghost use Rattle.env_directives.specs.reading.Faults.{HasBadLevel, HasEmptyField, HasFault};
 ghost use Rattle.env_directives.specs.reading.Forms.{IsDirective};
 ghost use Rattle.env_directives.specs.printed.Printed.{directive_text, HasNoMinusZero};
 ghost use Rattle.env_directives.specs.reading.Reading.{read_directive};
@@ -23,9 +23,9 @@ use crate::directive::Match;
 /// directive's, and hasn't both.
 pub fn readings()
     ensures directive { (patterns : Bool) (text : List ℕ) (d e : Directive) → IsDirective patterns text d → IsDirective patterns text e → d ≡ e }
-    ensures level { (patterns : Bool) (text : List ℕ) (d : Directive) → IsDirective patterns text d → HasNoLevel text → ⊥ }
+    ensures level { (patterns : Bool) (text : List ℕ) (d : Directive) → IsDirective patterns text d → HasBadLevel text → ⊥ }
     ensures field { (patterns : Bool) (text : List ℕ) (d : Directive) → IsDirective patterns text d → HasEmptyField text → ⊥ }
-    ensures fault { (text : List ℕ) → HasNoLevel text → HasEmptyField text → ⊥ }
+    ensures fault { (text : List ℕ) → HasBadLevel text → HasEmptyField text → ⊥ }
 {}
 
 /// Without patterns a text is read as a directive exactly where it is that directive's by the grammar of forms, and as a
@@ -53,7 +53,7 @@ pub fn tables<T: Ord + Match>()
 /// The longest of the added targets that begin a target decides on it, the default where there is none.
 pub fn prefixes()
     ensures { (ds : List StaticDirective) (target : List ℕ) (level : Level)
-        → admits_target (with_statics ds empty_table).directives target level ≡ lets_through level (longest_prefix ds target) }
+        → admits_target (with_statics ds empty_table).directives target level ≡ lets_through level (longest_covering ds target) }
 {}
 
 /// Two directives are equal by the order exactly where they differ in their level at most.

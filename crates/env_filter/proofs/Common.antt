@@ -20,7 +20,7 @@ pub use Rattle.trace_base.specs.declared.field.Value.{Value}
 pub use Rattle.trace_base.specs.declared.level.Level.{Level}
 pub use Rattle.trace_base.specs.declared.level.LevelFilter.{LevelFilter}
 pub use Rattle.trace_base.specs.declared.level.LevelFilter.TheVariants.{OFF}
-pub use Rattle.trace_base.specs.lanes.Contexts.{AreAttached, CallLanes}
+pub use Rattle.trace_base.specs.lanes.Contexts.{AreAttached, CallKeepsLanes}
 pub use Rattle.trace_base.specs.layers.Hooks.{Hook, OnClose, OnEnter, OnEvent, OnExit, OnFollows, OnNewSpan, OnRecord}
 pub use Rattle.trace_base.specs.layers.Unseeing.{LeavesLanes, no_known_spans}
 pub use Rattle.trace_base.specs.words.Level.{level_filter_text, greatest_verbosity, is_within}
@@ -37,17 +37,17 @@ pub use Rattle.env_directives.specs.orders.Table.{IsTableOf, DirectiveTable, emp
 pub use Rattle.env_directives.specs.printed.Printed.{HasNoMinusZero, bracket_text, directive_text, equals_text, fields_text, has_bracket, match_text, text_if_any, value_text}
 pub use Rattle.env_directives.specs.printed.StaticPrinted.{comma_joined, static_text}
 pub use Rattle.env_directives.specs.reading.Cuts.{is_among, lacks, pieces_at}
-pub use Rattle.env_directives.specs.reading.Forms.{DirectiveForm, Front, IsDirective, IsDirectiveFront, IsFieldText, IsForm, alone, bare, begins, directive_at, directive_of_form, each_with_comma, fielded, form_text, front_text, head_alone, head_comma, level_behind, level_or_target, leveled, leveled_comma, spanned, target_at, unless_empty}
+pub use Rattle.env_directives.specs.reading.Forms.{DirectiveForm, Front, IsDirective, IsDirectiveFront, IsFieldText, IsForm, alone, bare, begins_as_directive, directive_at, directive_of_form, fields_with_commas, fielded, form_text, front_text, head_alone, head_comma, level_behind, level_or_target, leveled, leveled_comma, spanned, directive_of_target, unless_empty}
 pub use Rattle.env_directives.specs.reading.Separators.{comma_pieces}
 pub use Rattle.env_filter.specs.Filtering.{IsWholeFilter, DoesFilter, Each, FilterState, FilterWithRoom, IsAtMostLevel, IsNewFilter, after_hook, asks_value, enables_in, fresh_filter, hint_in, interest_in, levels_admit, plain_filter, span_level}
 pub use Rattle.env_filter.specs.Gating.{first_below, gate_is_admitted, second_below}
-pub use Rattle.env_filter.specs.Reloading.{Both, IsLent, layer_or, never_enabled, none_kept, sometimes}
-pub use Rattle.env_filter.specs.Tables.{all_static, dynamics_of, filter_of, fixed_directive, fixed_field, has_no_directives, is_dynamic, is_static, or_default, with_in_table, static_of, statics_of, with_directive, with_tables}
+pub use Rattle.env_filter.specs.Reloading.{BothOrNeither, HoldsInPlace, layer_or, never_enabled, none_kept, sometimes}
+pub use Rattle.env_filter.specs.Tables.{with_all_static, dynamics_of, filter_of, fixed_directive, fixed_field, has_no_directives, is_dynamic, is_static, or_default, with_in_table, static_of, statics_of, with_directive, with_tables}
 pub use Rattle.env_filter.specs.Worlds.{AdmitsBy, EachSubscriber, GateFollows, IsWholeInPlace, filter_rule, in_place_rule}
 pub use Rattle.env_filter.specs.declared.pieces.Ignored.{Ignored}
 pub use Rattle.env_filter.specs.declared.watch.Ask.{Ask}
 pub use Rattle.env_filter.specs.declared.watch.Care.{Care}
-pub use Rattle.env_filter.specs.spans.Histories.{AreInOrder, HasNoCalls, IsNext, NeverFalls, all_values_given, is_close_of, is_ended, is_met, level_by, level_by_calls, level_if, levels_after_call, levels_by_calls, levels_from, callsite_by_calls, callsite_if_made, greatest_from, values_given_by}
+pub use Rattle.env_filter.specs.spans.Histories.{AreInOrder, HasNoCalls, MayComeNext, NeverFalls, all_values_given, is_close_of, is_ended, is_met, level_by, level_by_calls, level_if, levels_after_call, levels_by_calls, levels_from, callsite_by_calls, callsite_if_made, greatest_from, values_given_by}
 pub use Rattle.env_filter.specs.spans.Levels.{LaneLevels, OpenLevel, is_of_span, open_levels}
 pub use Rattle.env_filter.specs.spans.Watching.{MatchState, all_asks, asks_of, cares_of, found_in, is_given, level_from, level_of_match, match_state_by, more_met, new_match_state, with_met_at, with_values}
 pub use Rattle.env_filter.specs.texts.Building.{HasFilterFault, HasFilterFaultAt, IsFilterOf}

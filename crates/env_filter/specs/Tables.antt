@@ -24,12 +24,12 @@ abbrev pub static_of : Directive → StaticDirective
 static_of d = record { target = d.target; field_names = map (λ field. field.name) d.fields; level = d.level }
 
 -- a table after the static ones of some directives were added in turn
-abbrev pub all_static : List Directive → DirectiveTable StaticDirective → DirectiveTable StaticDirective
-all_static ds t = with_all_added most_specific_first (λ d. d.level) (map static_of (filter is_static ds)) t
+abbrev pub with_all_static : List Directive → DirectiveTable StaticDirective → DirectiveTable StaticDirective
+with_all_static ds t = with_all_added most_specific_first (λ d. d.level) (map static_of (filter is_static ds)) t
 
 -- the tables of some directives, in the order in which their text gave them
 abbrev pub statics_of : List Directive → DirectiveTable StaticDirective
-statics_of ds = all_static ds empty_table
+statics_of ds = with_all_static ds empty_table
 
 abbrev pub dynamics_of : List Directive → DirectiveTable Directive
 dynamics_of ds = with_all_added directive_cmp (λ d. d.level) (filter is_dynamic ds) empty_table

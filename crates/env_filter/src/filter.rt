@@ -168,7 +168,7 @@ fn asks_values(directives: &[Directive]) -> bool
 {
     directives
         .iter()
-        .any(|directive| tables::asks_value(directive.fields()))
+        .any(|directive| tables::some_asks_value(directive.fields()))
 }
 
 /// It decides as the layer does.

@@ -1,6 +1,6 @@
 //! The levels of each lane, by the lane's id.
 ghost use Rattle.std.specs.Prelude.{◌≡◌, ◌<◌, OnOk, true, None, Some};
-ghost use Rattle.env_filter.specs.spans.Keyed.{at_key, map_at};
+ghost use Rattle.env_filter.specs.spans.Keyed.{value_at_key, map_at};
 ghost use Rattle.env_filter.specs.spans.Levels.{levels_of};
 ghost use Rattle.env_filter.specs.spans.Kept.{levels_in, room_in, with_open_level, without_open_level};
 
@@ -38,7 +38,7 @@ pub(crate) fn prepare(
 
 // Adds a lane without levels, with the room for one.
 fn add(alloc: Global, lanes: &mut HashMap<u64, Levels>, lane: u64) -> Result<(), Memory>
-    requires { at_key lanes.old.entries lane ≡ None }
+    requires { value_at_key lanes.old.entries lane ≡ None }
     ensures leaves { levels_in lanes.new.entries ≡ levels_in lanes.old.entries }
     ensures room { OnOk result (0 < room_in lanes.new.entries lane) }
 {

@@ -3,7 +3,7 @@ ghost use Rattle.std.specs.Prelude.{◌≡◌, true, false, Some, None, is_some,
 ghost use Rattle.std.specs.Fn.{FnOnceReturnsAt, FnOnceReturnsAtMut};
 ghost use Rattle.env_directives.specs.declared.targets.Targets.{Targets};
 ghost use Rattle.env_filter.specs.Filtering.{plain_filter, fresh_filter};
-ghost use Rattle.env_filter.specs.Reloading.{Swaps, Both, IsLent, IsChanged};
+ghost use Rattle.env_filter.specs.Reloading.{Swaps, BothOrNeither, HoldsInPlace, IsChanged};
 
 use crate::filter::EnvFilter;
 use env_directives::targets::Targets;
@@ -55,7 +55,7 @@ impl<L> Layer<L> {
     /// Lends the layer to a closure; `reload::Handle::with_current`. An error where it was retired.
     pub fn with_current<T, F: FnOnce(&L) -> T>(&self, f: F) -> Result<T, Error>
         requires { F.IsAlwaysCallable f }
-        ensures ok { IfOk result (λ r. IsLent (λ l. FnOnceReturnsAt F.FnOnce f l r) self.now.inner) }
+        ensures ok { IfOk result (λ r. HoldsInPlace (λ l. FnOnceReturnsAt F.FnOnce f l r) self.now.inner) }
         ensures retired { OnErr result (self.now.inner ≡ None) }
     {
         match &self.inner {
@@ -105,7 +105,7 @@ impl<L: Discard> Discard for Layer<L> {
 impl<L: CloneLayer> Layer<L> {
     /// The layer in place once more, none exactly where it was retired; `reload::Handle::clone_current`.
     pub fn clone_current(&self) -> Result<Option<L>, Memory>
-        ensures { IfOk result (λ copy. Both L.is_copy (Unit {0}) self.now.inner copy) }
+        ensures { IfOk result (λ copy. BothOrNeither L.is_copy (Unit {0}) self.now.inner copy) }
     {
         match &self.inner {
             Some(layer) => Ok(Some(layer.clone_layer()?)),

@@ -5,7 +5,7 @@ ghost use Rattle.env_directives.specs.orders.DirectiveOrder.{directive_cmp};
 ghost use Rattle.env_directives.specs.orders.StaticOrder.{most_specific_first};
 ghost use Rattle.env_directives.specs.orders.Table.{empty_table, with_added, with_all_added};
 ghost use Rattle.env_filter.specs.Filtering.{asks_value};
-ghost use Rattle.env_filter.specs.Tables.{is_static, is_dynamic, static_of, all_static, statics_of, dynamics_of, as_fixed_text, fixed_field, fixed_directive};
+ghost use Rattle.env_filter.specs.Tables.{is_static, is_dynamic, static_of, with_all_static, statics_of, dynamics_of, as_fixed_text, fixed_field, fixed_directive};
 
 use env_directives::directive::StaticDirective;
 use env_directives::directive::set::DirectiveSet;
@@ -20,7 +20,7 @@ use std::alloc::Global;
 pub(crate) fn is_static(directive: &Directive) -> bool
     ensures { result ≡ is_static directive.now }
 {
-    directive.in_span.is_none() && !asks_value(directive.fields())
+    directive.in_span.is_none() && !some_asks_value(directive.fields())
 }
 
 // A dynamic one may speak of spans: it has a span name or a field.
@@ -30,7 +30,7 @@ pub(crate) fn is_dynamic(directive: &Directive) -> bool
     directive.in_span.is_some() || !directive.fields().is_empty()
 }
 
-pub(crate) fn asks_value(fields: &[Match]) -> bool
+pub(crate) fn some_asks_value(fields: &[Match]) -> bool
     ensures { result ≡ list_any asks_value fields.now }
 {
     fields.iter().any(|field| field.value.is_some())
@@ -66,17 +66,17 @@ pub(crate) fn statics(
 {
     let mut statics = DirectiveSet::new(alloc);
     for directive in directives {
-        add_static(alloc, &mut statics, directive)?;
+        add_if_static(alloc, &mut statics, directive)?;
     }
     Ok(statics)
 }
 
-fn add_static(
+fn add_if_static(
     alloc: Global,
     statics: &mut DirectiveSet<StaticDirective>,
     directive: &Directive,
 ) -> Result<(), Memory>
-    ensures { OnOk result (statics.new ≡ all_static (directive.now ∷ []) statics.old) }
+    ensures { OnOk result (statics.new ≡ with_all_static (directive.now ∷ []) statics.old) }
 {
     if is_static(directive) {
         put_static(alloc, statics, directive)

@@ -12,11 +12,11 @@ use std::marker::Model;
 /// Variables by name. In Rust they are the process's own.
 pub trait Vars {
     /// What stands under each name, where that is told.
-    ghost told: { Self → KnownVariables };
+    ghost known_variables: { Self → KnownVariables };
 
     /// What stands under a name, if anything does; `std::env::var`.
     fn read(&self, name: &str) -> Result<Option<String>, Memory>
-        ensures { IfOk result (λ read. IsReadUnder (told self.now) name.now (option_map string_bytes read)) };
+        ensures { IfOk result (λ read. IsReadUnder (known_variables self.now) name.now (option_map string_bytes read)) };
 }
 
 /// Variables in memory: pairs of names and texts, of which the first with a name counts.
@@ -44,7 +44,7 @@ impl MemVars {
 }
 
 impl Vars for MemVars {
-    ghost told = { λ v. Some (first_named v) };
+    ghost known_variables = { λ v. Some (first_named v) };
 
     fn read(&self, name: &str) -> Result<Option<String>, Memory> {
         match named_text(self.pairs.as_slice(), name) {
@@ -79,7 +79,7 @@ impl<'a, R: Env> SysVars<'a, R> {
 }
 
 impl<'a, R: Env> Vars for SysVars<'a, R> {
-    ghost told = { λ v. None };
+    ghost known_variables = { λ v. None };
 
     fn read(&self, name: &str) -> Result<Option<String>, Memory> {
         match env::var(&(self.rt, self.alloc), name) {

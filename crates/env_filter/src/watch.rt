@@ -76,7 +76,7 @@ impl Matches {
 }
 
 /// What a filter keeps of a new span, if a directive cares for its callsite.
-pub fn watch(
+pub fn new_matches(
     alloc: Global,
     directives: &[Directive],
     callsite: &Callsite,

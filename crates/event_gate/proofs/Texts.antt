@@ -14,23 +14,23 @@ use Rattle.env_filter.specs.Filtering.{FilterWithRoom, plain_filter, IsNewFilter
 use Rattle.env_filter.specs.texts.Pieces.{ReadsPiece, ReadsAll, IsFirstFault}
 use Rattle.env_filter.specs.texts.Printing.{fixed_builder}
 use Rattle.event_gate.specs.declared.error.GateError.{GateError}
-use Rattle.event_gate.specs.Rules.{directive_read, directive_in, IsTextFilter, GivesGate}
+use Rattle.event_gate.specs.Rules.{directives_if_read, directives_in_piece, IsTextFilter, GivesGate}
 
 -- one piece
-one_read : (n : ℕ) (piece : List ℕ) (ds : List Directive) → ReadsPiece false n piece ds [] → ds ≡ directive_in piece
+one_read : (n : ℕ) (piece : List ℕ) (ds : List Directive) → ReadsPiece false n piece ds [] → ds ≡ directives_in_piece piece
 one_read n [] [] r = refl
 one_read n [] (d ∷ ds) r = absurd r
 one_read n (b ∷ bs) [] r = absurd r
-one_read n (b ∷ bs) (d ∷ []) r = sym (ap directive_read (directive_reads false (trim (b ∷ bs)) d r))
+one_read n (b ∷ bs) (d ∷ []) r = sym (ap directives_if_read (directive_reads false (trim (b ∷ bs)) d r))
 one_read n (b ∷ bs) (d ∷ c ∷ ds) r = absurd r
 
 -- all pieces, of which none is faulty
-all_read : (n : ℕ) (pieces : List (List ℕ)) (ds : List Directive) → ReadsAll false n pieces ds [] → ds ≡ flat_map directive_in pieces
+all_read : (n : ℕ) (pieces : List (List ℕ)) (ds : List Directive) → ReadsAll false n pieces ds [] → ds ≡ flat_map directives_in_piece pieces
 all_read n [] ds r = r.0
 all_read n (piece ∷ pieces) ds r = by_ignored (λ behind. all_read (n + 1) pieces r.later behind) r.ignored r.later_ignored r.all_ignored r.reads r.behind
   where
-    by_ignored : (ReadsAll false (n + 1) pieces r.later [] → r.later ≡ flat_map directive_in pieces) → (is js : List Ignored) → [] ≡ is ++ js → ReadsPiece false n piece r.directives is → ReadsAll false (n + 1) pieces r.later js → ds ≡ directive_in piece ++ flat_map directive_in pieces
-    by_ignored later [] [] e one behind = r.all ∙ (ap (λ (xs : List Directive). xs ++ r.later) (one_read n piece r.directives one) ∙ ap (λ (xs : List Directive). directive_in piece ++ xs) (later behind))
+    by_ignored : (ReadsAll false (n + 1) pieces r.later [] → r.later ≡ flat_map directives_in_piece pieces) → (is js : List Ignored) → [] ≡ is ++ js → ReadsPiece false n piece r.directives is → ReadsAll false (n + 1) pieces r.later js → ds ≡ directives_in_piece piece ++ flat_map directives_in_piece pieces
+    by_ignored later [] [] e one behind = r.all ∙ (ap (λ (xs : List Directive). xs ++ r.later) (one_read n piece r.directives one) ∙ ap (λ (xs : List Directive). directives_in_piece piece ++ xs) (later behind))
     by_ignored later [] (j ∷ js) e one behind = absurd (cc e)
     by_ignored later (i ∷ is) js e one behind = absurd (cc e)
 

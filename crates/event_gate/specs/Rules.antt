@@ -20,18 +20,18 @@ use Rattle.event_gate.specs.declared.error.GateError.TheVariants as error
 use Rattle.event_gate.specs.declared.levels.Levels.{Levels}
 
 -- the directive that was read, if one was
-abbrev pub directive_read : DirectiveRead → List Directive
-directive_read (Ok d) = d ∷ []
-directive_read (Err fault) = []
+abbrev pub directives_if_read : DirectiveRead → List Directive
+directives_if_read (Ok d) = d ∷ []
+directives_if_read (Err fault) = []
 
 -- the directive that a piece of a text is; an empty one is none
-abbrev pub directive_in : List ℕ → List Directive
-directive_in [] = []
-directive_in (b ∷ bs) = directive_read (read_directive false (trim (b ∷ bs)))
+abbrev pub directives_in_piece : List ℕ → List Directive
+directives_in_piece [] = []
+directives_in_piece (b ∷ bs) = directives_if_read (read_directive false (trim (b ∷ bs)))
 
 -- the directives of a text are those of its pieces, in order
 abbrev pub directives_of : List ℕ → List Directive
-directives_of text = flat_map directive_in (comma_pieces text)
+directives_of text = flat_map directives_in_piece (comma_pieces text)
 
 -- the filter of a text, which takes no patterns and has no span and no level
 abbrev pub fixed_text_filter : List ℕ → FilterState

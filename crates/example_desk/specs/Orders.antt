@@ -1,6 +1,6 @@
 -- Orders at a desk: what its functions leave behind, and what an order makes of the stack, with the moment of each call.
 use Rattle.std.specs.Prelude.{◌≡◌, ◌+◌, ◌⊎◌, ℕ, Bool, true, false, List, [], ◌∷◌, Result}
-use Rattle.traced_futures.specs.Programs.{Lane, Current, Ghosts, WorldValue, Handle, as_parent, MakesAndCloses, EntersAndExits, TellsIfAnswered, TellsWhen, StandsAlone, StandsWith, RestoresAndDid, Instrumented, Plain, PollsOnce, KeepsFuture, RunsUnder}
+use Rattle.traced_futures.specs.Programs.{Lane, Current, Ghosts, WorldValue, Handle, as_parent, MakesAndCloses, EntersAndExits, TellsIfGateAdmits, TellsWhen, StandsAlone, StandsWith, RestoresAndDid, Instrumented, Plain, PollsOnce, KeepsFuture, RunsUnder}
 use Rattle.traced_layer.specs.Programs.{Context, AsksParent, PartCall}
 use Rattle.example_desk.specs.declared.desk.Desk.{Desk}
 use Rattle.example_desk.specs.declared.order_values.OrderValues.{OrderValues}
@@ -35,19 +35,19 @@ abbrev pub Asks : {S T : Type 0} → Ghosts S → ℕ → Bool → Instrumented 
 Asks sub at made payment old later new = PollsOnce (Unit {0}) sub payment old.world old.front at made later new.world new.front
 
 -- one poll, and another where that one didn't find it made
-abbrev pub Waits : {S T : Type 0} → Ghosts S → OrderValues → Bool → Instrumented T → Desk S → Instrumented T → Desk S → Type 0
-Waits {S} {T} sub given made payment old later new = (Asks sub (given.at + 22) true payment old later new × (made ≡ true))
+abbrev pub AsksTwice : {S T : Type 0} → Ghosts S → OrderValues → Bool → Instrumented T → Desk S → Instrumented T → Desk S → Type 0
+AsksTwice {S} {T} sub given made payment old later new = (Asks sub (given.at + 22) true payment old later new × (made ≡ true))
     ⊎ ((asked : Instrumented T) × (mid : Desk S) × Asks sub (given.at + 22) false payment old asked mid × Asks sub (given.at + 24) made asked mid later new)
 
 -- a payment's span, under which a payment is waited for that nobody has asked for, and an event where it is made
 abbrev pub Pays : {S : Type 0} → Ghosts S → OrderValues → Desk S → Desk S → Type 0
 Pays {S} sub given old new = (made : Bool) × (closed : WorldValue S)
-    × RunsUnder {T = Plain Payment} sub old.front Current given.sites.pay given.pay (given.at + 20) (given.at + 26) (record { future = record { asked = false } }) (λ payment begun later ended. Waits sub given made payment (record old { world = begun }) later (record new { world = ended })) old.world closed
+    × RunsUnder {T = Plain Payment} sub old.front Current given.sites.pay given.pay (given.at + 20) (given.at + 26) (record { future = record { asked = false } }) (λ payment begun later ended. AsksTwice sub given made payment (record old { world = begun }) later (record new { world = ended })) old.world closed
     × TellsWhen made sub closed new.world new.front (given.at + 27) Current given.sites.paid given.paid
 
 -- the event of an order that isn't served, inside the span of a packing
 abbrev pub Wraps : {S : Type 0} → Handle → Ghosts S → OrderValues → Desk S → Desk S → Type 0
-Wraps pack sub given old new = EntersAndExits sub pack (given.at + 35) (given.at + 40) (λ world lane told left. (left ≡ lane) × TellsIfAnswered sub world told lane (given.at + 40) Current given.sites.failed given.failed) old.world new.world old.back new.back
+Wraps pack sub given old new = EntersAndExits sub pack (given.at + 35) (given.at + 40) (λ world lane told left. (left ≡ lane) × TellsIfGateAdmits sub world told lane (given.at + 40) Current given.sites.failed given.failed) old.world new.world old.back new.back
 
 -- a packing's span, a child of the order's
 abbrev pub Packs : {S : Type 0} → Handle → Ghosts S → OrderValues → Desk S → Desk S → Type 0

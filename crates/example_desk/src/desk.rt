@@ -2,7 +2,7 @@
 ghost use Rattle.std.specs.Prelude.{◌≡◌, ◌<◌, ◌^◌, ◌+◌, ◌⊎◌, IfOk, Ok, Err};
 ghost use Rattle.traced_futures.specs.Programs.{IsFull, IsUnused};
 ghost use Rattle.example_desk.specs.declared.fault.Fault.TheVariants as fault;
-ghost use Rattle.example_desk.specs.Orders.{front_first, back_first, CanCall, CanCallWith, Leaves, KeepsPayment, Asks, Waits, Pays, Wraps, Packs, PaysAndPacks, Inside, ServesOrder};
+ghost use Rattle.example_desk.specs.Orders.{front_first, back_first, CanCall, CanCallWith, Leaves, KeepsPayment, Asks, AsksTwice, Pays, Wraps, Packs, PaysAndPacks, Inside, ServesOrder};
 
 use crate::fault::Fault;
 use crate::order_values::OrderValues;
@@ -126,7 +126,7 @@ impl<S: OtelSubscriber> Desk<S> {
         let span = traced::span(&mut self.world, &self.front, at + 20, pay, &given.pay)?;
         let future = Payment { asked: false };
         let mut payment = Plain { future }.instrument(span);
-        let made = self.wait(given, &mut payment, cx);
+        let made = self.ask_twice(given, &mut payment, cx);
         traced_futures::into_inner(payment, &mut self.world, at + 26);
         if made {
             traced::event(&mut self.world, &self.front, at + 27, paid, &given.paid)
@@ -136,7 +136,7 @@ impl<S: OtelSubscriber> Desk<S> {
     }
 
     // Asks twice for a payment.
-    fn wait(
+    fn ask_twice(
         &mut self,
         given: &OrderValues,
         payment: &mut Instrumented<Plain<Payment>>,
@@ -144,7 +144,7 @@ impl<S: OtelSubscriber> Desk<S> {
     ) -> bool
         requires { CanCallWith S.Subscriber (given.now.at + 21) front_first payment.old.span self.old }
         ensures keeps { KeepsPayment S.Subscriber (given.now.at + 26) payment.old self.old payment.new self.new }
-        ensures waits { Waits S.Subscriber given.now result payment.old self.old payment.new self.new }
+        ensures asks_twice { AsksTwice S.Subscriber given.now result payment.old self.old payment.new self.new }
     {
         let made = self.poll_payment(given.at + 22, payment, cx);
         if made {

@@ -33,14 +33,14 @@ fn add_attributes(
     attributes: &Items<KeyValue>,
 ) -> Result<(), Memory> {
     for pair in attributes.as_slice() {
-        told.push_str(attribute(alloc, pair)?.as_str())?;
+        told.push_str(attribute_text(alloc, pair)?.as_str())?;
     }
     told.push('\n')?;
     Ok(())
 }
 
 // An attribute. Of lists it tells only that they are there.
-fn attribute(alloc: Global, pair: &KeyValue) -> Result<String, Memory> {
+fn attribute_text(alloc: Global, pair: &KeyValue) -> Result<String, Memory> {
     let key = pair.key.as_str();
     match &pair.value {
         OtelValue::I64(value) => Ok(format!(in alloc; ", {key} {value}")?),

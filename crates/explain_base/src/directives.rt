@@ -1,6 +1,6 @@
 //! The lines that tell of directives.
 ghost use Rattle.std.specs.Prelude.{◌≡◌, ◌++◌, flat_map, string_bytes, IfOk, OnOk};
-ghost use Rattle.explain_base.specs.Directives.{tables_text, asks_values, kind_text, directive_line, target_part, span_part, field_part};
+ghost use Rattle.explain_base.specs.Directives.{tables_text, asks_values, value_kind_text, directive_line, target_part, span_part, field_part};
 
 use env_directives::{Directive, DirectiveSet, FieldMatch, ValueMatch};
 use otel_base::memory::Memory;
@@ -22,7 +22,7 @@ pub fn push_directive(alloc: Global, told: &mut String, directive: &Directive) -
     ensures { OnOk result (string_bytes told.new ≡ string_bytes told.old ++ directive_line directive.now) }
 {
     told.push_str("  ")?;
-    told.push_str(tables(directive))?;
+    told.push_str(tables_text(directive))?;
     push_target(told, directive)?;
     push_span(told, directive)?;
     push_fields(alloc, told, directive.fields())?;
@@ -66,13 +66,13 @@ fn push_fields(alloc: Global, told: &mut String, fields: &[FieldMatch]) -> Resul
 fn push_field(alloc: Global, told: &mut String, field: &FieldMatch) -> Result<(), Memory>
     ensures { OnOk result (string_bytes told.new ≡ string_bytes told.old ++ field_part field.now) }
 {
-    let part = format!(in alloc; " field {field} ({})", kind(field))?;
+    let part = format!(in alloc; " field {field} ({})", value_kind_text(field))?;
     told.push_str(part.as_str())?;
     Ok(())
 }
 
 // Whether a directive is judged by callsites alone, by spans, or both.
-fn tables(directive: &Directive) -> &'static str
+fn tables_text(directive: &Directive) -> &'static str
     ensures { result.now ≡ tables_text directive.now }
 {
     if directive.in_span().is_some() || asks_values(directive.fields()) {
@@ -91,8 +91,8 @@ fn asks_values(fields: &[FieldMatch]) -> bool
 }
 
 // Of which kind a field's value is.
-fn kind(field: &FieldMatch) -> &'static str
-    ensures { result.now ≡ kind_text field.now.value }
+fn value_kind_text(field: &FieldMatch) -> &'static str
+    ensures { result.now ≡ value_kind_text field.now.value }
 {
     match &field.value {
         Some(ValueMatch::Bool(_)) => "truth value",

@@ -13,7 +13,11 @@ use trace_base::field::Value;
 const NO_QUESTION: &str = "  no question\n";
 
 /// Whether each field of a directive is met by a value.
-pub fn answer_value(alloc: Global, directive: &Directive, asked: &str) -> Result<String, Memory> {
+pub fn answer_about_value(
+    alloc: Global,
+    directive: &Directive,
+    asked: &str,
+) -> Result<String, Memory> {
     let Some(value) = value_of(alloc, asked)? else {
         return Ok(String::from_str(alloc, NO_QUESTION)?);
     };
@@ -40,7 +44,7 @@ fn push_met(
 }
 
 /// The directives of a set that speak of a callsite, in order.
-pub fn answer_set(
+pub fn answer_of_set(
     alloc: Global,
     set: &DirectiveSet<Directive>,
     asked: &str,
@@ -55,7 +59,7 @@ pub fn answer_set(
 
 /// The static directives that speak of a callsite, in order, whether they let it through, and whether targets let
 /// through what has its target and level.
-pub fn answer_targets(
+pub fn answer_of_targets(
     alloc: Global,
     text: &str,
     targets: &Targets,

@@ -1,5 +1,5 @@
 //! What a text is read as, in lines that are indented.
-use crate::answer::{answer_set, answer_targets, answer_value};
+use crate::answer::{answer_about_value, answer_of_set, answer_of_targets};
 use env_directives::{Directive, DirectiveSet, ParseError, Targets};
 use explain_base::directives::{directive_lines, push_directive};
 use explain_base::{Reading, push};
@@ -15,16 +15,16 @@ pub fn explain(alloc: Global, reading: Reading, line: &str) -> Result<String, Me
         None => (line, None),
     };
     match reading {
-        Reading::Filter => filter(alloc, text, asked),
-        Reading::Directive => directive(alloc, text, asked, true),
-        Reading::Fixed => directive(alloc, text, asked, false),
-        Reading::Targets => targets(alloc, text, asked),
-        Reading::Levels => levels(alloc, line),
+        Reading::Filter => explain_as_filter(alloc, text, asked),
+        Reading::Directive => explain_as_directive(alloc, text, asked, true),
+        Reading::Fixed => explain_as_directive(alloc, text, asked, false),
+        Reading::Targets => explain_as_targets(alloc, text, asked),
+        Reading::Levels => explain_as_levels(alloc, line),
     }
 }
 
 // One directive, and whether the value that is asked about meets its fields.
-fn directive(
+fn explain_as_directive(
     alloc: Global,
     text: &str,
     asked: Option<&str>,
@@ -44,26 +44,26 @@ fn directive_answer(
     let mut told = String::new(alloc);
     push_directive(alloc, &mut told, directive)?;
     if let Some(asked) = asked {
-        push(&mut told, answer_value(alloc, directive, asked))?;
+        push(&mut told, answer_about_value(alloc, directive, asked))?;
     }
     Ok(told)
 }
 
 // The level that a text reads as, and the filter.
-fn levels(alloc: Global, text: &str) -> Result<String, Memory> {
-    let mut told = level(alloc, text)?;
-    push(&mut told, level_filter(alloc, text))?;
+fn explain_as_levels(alloc: Global, text: &str) -> Result<String, Memory> {
+    let mut told = level_text(alloc, text)?;
+    push(&mut told, level_filter_text(alloc, text))?;
     Ok(told)
 }
 
-fn level(alloc: Global, text: &str) -> Result<String, Memory> {
+fn level_text(alloc: Global, text: &str) -> Result<String, Memory> {
     match text.parse::<Level>() {
         Ok(level) => Ok(format!(in alloc; "  {level}")?),
         Err(fault) => Ok(format!(in alloc; "  {fault}")?),
     }
 }
 
-fn level_filter(alloc: Global, text: &str) -> Result<String, Memory> {
+fn level_filter_text(alloc: Global, text: &str) -> Result<String, Memory> {
     match text.parse::<LevelFilter>() {
         Ok(filter) => Ok(format!(in alloc; "; {filter}\n")?),
         Err(fault) => Ok(format!(in alloc; "; {fault}\n")?),
@@ -71,12 +71,12 @@ fn level_filter(alloc: Global, text: &str) -> Result<String, Memory> {
 }
 
 // The faults of a list's pieces, each with the piece's number and text, and then the directives of the others in order.
-fn filter(alloc: Global, text: &str, asked: Option<&str>) -> Result<String, Memory> {
+fn explain_as_filter(alloc: Global, text: &str, asked: Option<&str>) -> Result<String, Memory> {
     let mut told = String::new(alloc);
     let set = read_pieces(alloc, text, &mut told)?;
     push(&mut told, directive_lines(alloc, &set))?;
     if let Some(asked) = asked {
-        push(&mut told, answer_set(alloc, &set, asked))?;
+        push(&mut told, answer_of_set(alloc, &set, asked))?;
     }
     Ok(told)
 }
@@ -109,11 +109,11 @@ fn read_piece(
     match Directive::parse(alloc, piece, true) {
         Ok(directive) => set.add(directive),
         Err(ParseError::Memory) => Err(Memory),
-        Err(fault) => push(told, piece_fault(alloc, number, piece, fault)),
+        Err(fault) => push(told, piece_fault_line(alloc, number, piece, fault)),
     }
 }
 
-fn piece_fault(
+fn piece_fault_line(
     alloc: Global,
     number: u64,
     piece: &str,
@@ -123,7 +123,7 @@ fn piece_fault(
 }
 
 // The targets with their levels in order, and the level of all others, if there is one.
-fn targets(alloc: Global, text: &str, asked: Option<&str>) -> Result<String, Memory> {
+fn explain_as_targets(alloc: Global, text: &str, asked: Option<&str>) -> Result<String, Memory> {
     match Targets::from_str(alloc, text) {
         Ok(targets) => targets_answer(alloc, text, &targets, asked),
         Err(fault) => fault_line(alloc, fault),
@@ -139,7 +139,7 @@ fn targets_answer(
     let mut told = format!(in alloc; "  prints {targets}\n")?;
     push_targets(alloc, &mut told, targets)?;
     if let Some(asked) = asked {
-        push(&mut told, answer_targets(alloc, text, targets, asked))?;
+        push(&mut told, answer_of_targets(alloc, text, targets, asked))?;
     }
     Ok(told)
 }

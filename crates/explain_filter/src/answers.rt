@@ -45,7 +45,7 @@ pub fn fault_line(alloc: Global, fault: ParseError) -> Result<String, Memory> {
 }
 
 /// Whether a filter lets a callsite through on a lane, and what `enabled` answers, which the gate alone may differ from.
-pub fn gate(
+pub fn gate_line(
     alloc: Global,
     filter: &EnvFilter,
     lane: u64,

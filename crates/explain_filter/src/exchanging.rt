@@ -55,13 +55,13 @@ fn change_line(
     callsite: &Callsite,
 ) -> Result<String, Memory> {
     let before = lent_answer(layer, lane, callsite);
-    let changed = is_changed_in_place(layer, EnvFilter::new(alloc, "off")?);
+    let changed = change_in_place(layer, EnvFilter::new(alloc, "off")?);
     let after = lent_answer(layer, lane, callsite);
     Ok(format!(in alloc; "  enabled {before:?}, changed {changed}, enabled {after:?}")?)
 }
 
 // Whether a layer's filter is changed in place for another.
-fn is_changed_in_place(layer: &mut reload::Layer<EnvFilter>, next: EnvFilter) -> bool {
+fn change_in_place(layer: &mut reload::Layer<EnvFilter>, next: EnvFilter) -> bool {
     layer.modify(|filter| *filter = next).is_ok()
 }
 
@@ -73,7 +73,7 @@ fn push_retired(
     lane: u64,
     callsite: &Callsite,
 ) -> Result<(), Memory> {
-    let dropped = is_dropped(layer, lane, callsite);
+    let dropped = retires_as_dropped(layer, lane, callsite);
     push(told, retired_line(alloc, layer, lane, callsite, dropped))
 }
 
@@ -101,7 +101,11 @@ fn lent_answer(layer: &reload::Layer<EnvFilter>, lane: u64, callsite: &Callsite)
 
 // Takes the filter of a layer out, and tells whether the layer says so, and not that it is poisoned: where it gets
 // another, where it lends it, and where it changes it.
-fn is_dropped(layer: &mut reload::Layer<EnvFilter>, lane: u64, callsite: &Callsite) -> bool {
+fn retires_as_dropped(
+    layer: &mut reload::Layer<EnvFilter>,
+    lane: u64,
+    callsite: &Callsite,
+) -> bool {
     let Some(filter) = layer.retire() else {
         return false;
     };

@@ -42,12 +42,12 @@ impl Session {
             "add" => self.add(words),
             "span" => self.declare(Kind::Span, words),
             "event" => self.declare(Kind::Event, words),
-            _ => self.answer_around(call, words),
+            _ => self.answer_on_filter(call, words),
         }
     }
 
     // The calls that make a filter of the one in place, or of variables.
-    fn answer_around(&mut self, call: &str, words: &str) -> Result<String, Memory> {
+    fn answer_on_filter(&mut self, call: &str, words: &str) -> Result<String, Memory> {
         match call {
             "default" => self.renew_with_default(words),
             "clone" => self.copy(),
@@ -58,12 +58,12 @@ impl Session {
             "vars" => variables::read_memory_variables(self.alloc, words),
             "vars_lossy" => variables::read_variables_lossy(self.alloc, words),
             "var" => variables::read_value(self.alloc, words),
-            _ => self.answer_on(call, words),
+            _ => self.answer_on_number(call, words),
         }
     }
 
     // The calls on a span, or on a callsite, of which the first word is the number.
-    fn answer_on(&mut self, call: &str, words: &str) -> Result<String, Memory> {
+    fn answer_on_number(&mut self, call: &str, words: &str) -> Result<String, Memory> {
         let (first, more) = words.split_once(' ').unwrap_or((words, ""));
         let Some(number) = words::number(first) else {
             return answers::no_call_line(self.alloc);
@@ -133,7 +133,7 @@ impl Session {
         let Ok(directive) = Directive::parse(self.alloc, text, true) else {
             return answers::no_call_line(self.alloc);
         };
-        let filter = default_filter(self.alloc, directive)?;
+        let filter = filter_with_default(self.alloc, directive)?;
         self.put(filter)
     }
 
@@ -251,7 +251,7 @@ impl Session {
             return answers::no_call_line(self.alloc);
         };
         match self.callsites.get(callsite as usize) {
-            Some(callsite) => answers::gate(self.alloc, &self.filter, lane, callsite),
+            Some(callsite) => answers::gate_line(self.alloc, &self.filter, lane, callsite),
             None => answers::no_call_line(self.alloc),
         }
     }
@@ -326,20 +326,20 @@ fn record_on(
 }
 
 // The filter of the empty text, by a copy of a builder that takes no patterns and has a default directive.
-fn default_filter(alloc: Global, directive: Directive) -> Result<EnvFilter, Memory> {
+fn filter_with_default(alloc: Global, directive: Directive) -> Result<EnvFilter, Memory> {
     let builder = Builder::default(alloc)
         .with_regex(false)
         .with_default_directive(directive);
-    empty_text_by_copy(&builder)
+    empty_text_filter_by_copy(&builder)
 }
 
-fn empty_text_by_copy(builder: &Builder) -> Result<EnvFilter, Memory> {
+fn empty_text_filter_by_copy(builder: &Builder) -> Result<EnvFilter, Memory> {
     let copy = builder.clone_builder()?;
-    empty_text(&copy)
+    empty_text_filter(&copy)
 }
 
 // What a builder makes of the empty text, in which no piece has a fault.
-fn empty_text(builder: &Builder) -> Result<EnvFilter, Memory> {
+fn empty_text_filter(builder: &Builder) -> Result<EnvFilter, Memory> {
     match builder.parse("") {
         Ok(filter) => Ok(filter),
         Err(_) => Err(Memory),

@@ -11,18 +11,18 @@ use std::env::Env;
 /// What is read of variables in memory, of words `NAME=TEXT`: leniently, and where it has to be set.
 pub fn read_memory_variables(alloc: Global, words: &str) -> Result<String, Memory> {
     let vars = MemVars::new(alloc, pairs(alloc, words)?);
-    let mut told = read_default(alloc, &vars)?;
+    let mut told = read_default_env(alloc, &vars)?;
     push_required(alloc, &mut told, &vars)?;
     Ok(told)
 }
 
-fn read_default(alloc: Global, vars: &MemVars) -> Result<String, Memory> {
+fn read_default_env(alloc: Global, vars: &MemVars) -> Result<String, Memory> {
     let filter = EnvFilter::from_default_env(alloc, vars)?;
     filter_line(alloc, &filter)
 }
 
 fn push_required(alloc: Global, told: &mut String, vars: &MemVars) -> Result<(), Memory> {
-    let line = read_as(alloc, EnvFilter::try_from_default_env(alloc, vars))?;
+    let line = read_result_line(alloc, EnvFilter::try_from_default_env(alloc, vars))?;
     told.push_str(line.as_str())?;
     Ok(())
 }
@@ -57,7 +57,7 @@ fn push_pair(alloc: Global, pairs: &mut Items<(Text, Text)>, word: &str) -> Resu
 pub fn read_value(alloc: Global, words: &str) -> Result<String, Memory> {
     let held = value_of(alloc, words)?;
     let builder = EnvFilter::builder(alloc);
-    read_as(alloc, builder.from_var(held))
+    read_result_line(alloc, builder.from_var(held))
 }
 
 fn value_of(alloc: Global, words: &str) -> Result<Option<String>, Memory> {
@@ -73,9 +73,9 @@ pub fn read_process_variable<R: Env>(alloc: Global, rt: &R, words: &str) -> Resu
     let (reader, name) = words.split_once(' ').unwrap_or((words, ""));
     match reader {
         "from_env" => read(alloc, name, &vars),
-        "try_from_env" => read_as(alloc, EnvFilter::try_from_env(alloc, name, &vars)),
+        "try_from_env" => read_result_line(alloc, EnvFilter::try_from_env(alloc, name, &vars)),
         "builder.from_env" => read_by_builder(alloc, name, &vars),
-        "builder.try_from_env" => required_by_builder(alloc, name, &vars),
+        "builder.try_from_env" => try_read_by_builder(alloc, name, &vars),
         _ => answers::no_call_line(alloc),
     }
 }
@@ -87,12 +87,12 @@ fn read<V: Vars>(alloc: Global, name: &str, vars: &V) -> Result<String, Memory> 
 
 fn read_by_builder<V: Vars>(alloc: Global, name: &str, vars: &V) -> Result<String, Memory> {
     let builder = builder(alloc, name)?;
-    read_as(alloc, builder.from_env(vars))
+    read_result_line(alloc, builder.from_env(vars))
 }
 
-fn required_by_builder<V: Vars>(alloc: Global, name: &str, vars: &V) -> Result<String, Memory> {
+fn try_read_by_builder<V: Vars>(alloc: Global, name: &str, vars: &V) -> Result<String, Memory> {
     let builder = builder(alloc, name)?;
-    read_as(alloc, builder.try_from_env(vars))
+    read_result_line(alloc, builder.try_from_env(vars))
 }
 
 // A builder that reads the variable of a name.
@@ -101,7 +101,10 @@ fn builder(alloc: Global, name: &str) -> Result<Builder, Memory> {
     Ok(EnvFilter::builder(alloc).with_env_var(name))
 }
 
-fn read_as(alloc: Global, read: Result<EnvFilter, FromEnvError>) -> Result<String, Memory> {
+fn read_result_line(
+    alloc: Global,
+    read: Result<EnvFilter, FromEnvError>,
+) -> Result<String, Memory> {
     match read {
         Ok(filter) => filter_line(alloc, &filter),
         Err(fault) => fault_line(alloc, fault),

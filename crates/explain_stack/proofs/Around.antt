@@ -6,8 +6,8 @@ use Rattle.trace_base.specs.declared.lane.Lane.{Lane}
 use Rattle.trace_base.specs.Gate.{WorldValue}
 use Rattle.trace_base.specs.Spans.{Spans, current_on}
 use Rattle.trace_base.specs.Calls.{SubscriberCall, CloneSpan, spans_after_call}
-use Rattle.trace_base.specs.lanes.Contexts.{CallLanes}
-use Rattle.span_handles.specs.Handles.{Handle, HeldSpan, IsKnown, IsCurrent, Copies}
+use Rattle.trace_base.specs.lanes.Contexts.{CallKeepsLanes}
+use Rattle.span_handles.specs.Handles.{Handle, HeldSpan, IsKnown, CopiesCurrent, Copies}
 use Rattle.span_handles.specs.Knowing.{KeepsKnown, KeepsHandles, KeepsOthers, GainsOne, LosesOne}
 use Rattle.explain_stack.specs.Order.{Stands}
 use Rattle.explain_stack.proofs.Quiet.{quiet_call}
@@ -33,13 +33,13 @@ known_again spans old now new closed keeps gains others loses held known = elim 
 ]
 
 module _ {S : Type 0} (spans : S → Spans) (attaches : S → Bool) (kept : S → ℕ → ℕ → ℕ) (is_whole : S → Type 0) (does : S → SubscriberCall → S → Type 0)
-    (shows : (s : S) (call : SubscriberCall) (t : S) → does s call t → spans t ≡ spans_after_call (spans s) call) (lanes : (s : S) (call : SubscriberCall) (t : S) → does s call t → CallLanes (attaches s) (kept s) call (kept t))
+    (shows : (s : S) (call : SubscriberCall) (t : S) → does s call t → spans t ≡ spans_after_call (spans s) call) (lanes : (s : S) (call : SubscriberCall) (t : S) → does s call t → CallKeepsLanes (attaches s) (kept s) call (kept t))
     (keeps_whole : (s : S) (call : SubscriberCall) (t : S) → does s call t → is_whole s → is_whole t) (dispatch span_count site_count : ℕ) (lane other : Lane) (old new : WorldValue S) where
   copied_stands : (d : ℕ) (current : Option (ℕ × ℕ)) (handle : Handle) → Copies does old new d current handle → Stands spans kept is_whole dispatch span_count site_count old lane other → Stands spans kept is_whole dispatch span_count site_count new lane other
   copied_stands d None handle did stands = subst (λ (w : WorldValue S). Stands spans kept is_whole dispatch span_count site_count w lane other) (sym did.1) stands
   copied_stands d (Some c) handle did stands = quiet_stands spans kept is_whole (λ s t. does s (CloneSpan c.0) t) (quiet_call spans attaches kept is_whole does shows lanes keeps_whole (CloneSpan c.0) tt) old new d dispatch span_count site_count lane other did.1 stands
 
-  pub current_stands : (id : ℕ) (handle : Handle) → IsCurrent spans does old new id (Some dispatch) handle → Stands spans kept is_whole dispatch span_count site_count old lane other → Stands spans kept is_whole dispatch span_count site_count new lane other
+  pub current_stands : (id : ℕ) (handle : Handle) → CopiesCurrent spans does old new id (Some dispatch) handle → Stands spans kept is_whole dispatch span_count site_count old lane other → Stands spans kept is_whole dispatch span_count site_count new lane other
   current_stands id handle is stands = elim (slice_get_cases old.subscribers dispatch).1 [
     | inl here ↦ copied_stands dispatch (current_on id (spans here.0)) handle (is here.0 here.2) stands
     | inr past ↦ absurd (let there = stands.there in let beyond = past.0 in omega (arith, there, beyond))

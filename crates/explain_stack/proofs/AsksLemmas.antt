@@ -12,7 +12,7 @@ use Rattle.trace_base.specs.Calls.{SubscriberCall, Records, Follows, Event, span
 use Rattle.trace_base.specs.Conditions.{Allowed}
 use Rattle.trace_base.specs.Sound.{IsSound}
 use Rattle.trace_base.specs.declared.span.Parent.{Parent}
-use Rattle.trace_base.specs.lanes.Contexts.{CallLanes}
+use Rattle.trace_base.specs.lanes.Contexts.{CallKeepsLanes}
 use Rattle.otel_state.specs.declared.op.Op.{Op}
 use Rattle.otel_state.specs.declared.op.OpReply.{OpReply}
 use Rattle.span_handles.specs.Worlds.{Replaced}
@@ -50,7 +50,7 @@ module _ {S : Type 0} (spans : S → Spans) (kept : S → ℕ → ℕ → ℕ) (
   shows_goes old new at (Some h) answer did = part_goes (GivesContext h.1 at answer) old new h.0 did
 
 module _ {S : Type 0} (spans : S → Spans) (attaches : S → Bool) (kept : S → ℕ → ℕ → ℕ) (is_whole : S → Type 0) (does : S → SubscriberCall → S → Type 0)
-    (shows : (s : S) (call : SubscriberCall) (t : S) → does s call t → spans t ≡ spans_after_call (spans s) call) (lanes : (s : S) (call : SubscriberCall) (t : S) → does s call t → CallLanes (attaches s) (kept s) call (kept t))
+    (shows : (s : S) (call : SubscriberCall) (t : S) → does s call t → spans t ≡ spans_after_call (spans s) call) (lanes : (s : S) (call : SubscriberCall) (t : S) → does s call t → CallKeepsLanes (attaches s) (kept s) call (kept t))
     (keeps_whole : (s : S) (call : SubscriberCall) (t : S) → does s call t → is_whole s → is_whole t) (old new : WorldValue S) (at : ℕ) (dispatch span_count site_count : ℕ) (lane other : Lane) (stands : Stands spans kept is_whole dispatch span_count site_count old lane other) where
   pub recorded_stands : (values : ValueSet) (held : HeldSpan) (callsite : Option Callsite) → RecordsAt does old new at values held callsite → Stands spans kept is_whole dispatch span_count site_count new lane other
   recorded_stands values None callsite did = (goes_nowhere spans kept is_whole old new did).stands dispatch span_count site_count lane other stands
@@ -72,7 +72,7 @@ links_go spans kept attaches is_whole touches stays old new at op held result fa
 -- an event, or room alone
 pub event_goes : {S : Type 0} (spans : S → Spans) (attaches : S → Bool) (kept : S → ℕ → ℕ → ℕ) (is_whole : S → Type 0) (does : S → SubscriberCall → S → Type 0)
     (sound : (s : S) (call : SubscriberCall) (t : S) → does s call t → IsSound (spans s)) (allowed : (s : S) (call : SubscriberCall) (t : S) → does s call t → Allowed (spans s) call)
-    (shows : (s : S) (call : SubscriberCall) (t : S) → does s call t → spans t ≡ spans_after_call (spans s) call) (lanes : (s : S) (call : SubscriberCall) (t : S) → does s call t → CallLanes (attaches s) (kept s) call (kept t))
+    (shows : (s : S) (call : SubscriberCall) (t : S) → does s call t → spans t ≡ spans_after_call (spans s) call) (lanes : (s : S) (call : SubscriberCall) (t : S) → does s call t → CallKeepsLanes (attaches s) (kept s) call (kept t))
     (keeps_whole : (s : S) (call : SubscriberCall) (t : S) → does s call t → is_whole s → is_whole t)
     (same : S → S → Type 0) → ((s t : S) → same s t → spans t ≡ spans s) → ((s t : S) → same s t → kept t ≡ kept s) → ((s t : S) → same s t → is_whole s → is_whole t)
     → (old new : WorldValue S) (d : ℕ) (lane : Lane) (at : ℕ) (parent : Parent) (site : ℕ) (values : ValueSet) (result : Result (Unit {0}) Memory)

@@ -10,20 +10,20 @@ use Rattle.trace_base.specs.declared.span.Parent.{Parent}
 use Rattle.trace_base.specs.Gate.{WorldValue, IsInWorld}
 use Rattle.trace_base.specs.Spans.{Span, Spans, entries_on, times_in, is_in, parent_on, with_hold, without_hold, with_hold_of_child}
 use Rattle.trace_base.specs.Calls.{SubscriberCall, NewSpan, Enter, Exit, spans_after_call, with_span_entry, with_span_exit}
-use Rattle.trace_base.specs.Conditions.{HasOwnHold, MayExit}
-use Rattle.trace_base.specs.lanes.Contexts.{CallLanes, KeepsAttached, attached_as}
+use Rattle.trace_base.specs.Conditions.{HasUnboundHold, MayExit}
+use Rattle.trace_base.specs.lanes.Contexts.{CallKeepsLanes, TracksAttached, attached_count}
 use Rattle.trace_base.proofs.EntryLemmas.{counted_if_any, length_held}
 use Rattle.trace_base.proofs.HoldLemmas.{first_if_in}
 use Rattle.span_handles.specs.Worlds.{Replaced}
 use Rattle.span_handles.specs.Handles.{HeldSpan, IsKnown, HasOn, ReplacedOn}
 use Rattle.span_handles.specs.Entries.{KeepsLaneButRoom}
 use Rattle.span_handles.proofs.ChangedSubscriberLemmas.{as_many, now_there}
-use Rattle.span_futures.specs.Lent.{all_kept, AreAllAttached}
+use Rattle.span_futures.specs.Lent.{total_kept, AreAllAttached}
 use Rattle.span_futures.proofs.KeptLemmas.{keeps_all, others_same, same_kept, own_after, attached_after}
 use Rattle.explain_stack.specs.Order.{Stands}
 
 -- a span with its own hold may be exited where it has an entry
-may_exit : (x : Spans) (id lane : ℕ) → HasOwnHold x id → is_in id (entries_on lane x.lanes) ≡ true → MayExit x id lane
+may_exit : (x : Spans) (id lane : ℕ) → HasUnboundHold x id → is_in id (entries_on lane x.lanes) ≡ true → MayExit x id lane
 may_exit x id lane own here =
     let first = first_if_in x.lanes lane id here in
     (counted_if_any (λ y. y == id) (entries_on lane x.lanes) here, λ one. omega (arith, first, own))
@@ -51,18 +51,18 @@ exit_made x id lane = if_length (times_in id (entries_on lane x.lanes) == 1) (wi
 
 -- what one lane's entries attach is nothing of another lane
 attached_elsewhere : {S : Type 0} (R : S → S → Type 0) (old new : WorldValue S) (d : ℕ) (r : Replaced R old new d) (kept : S → ℕ → ℕ → ℕ) (before later other : Lane) → later.id ≡ before.id → (other.id ≡ before.id → ⊥)
-    → KeepsAttached (kept r.before) before later (kept r.later) → AreAllAttached kept old other → AreAllAttached kept new other
+    → TracksAttached (kept r.before) before later (kept r.later) → AreAllAttached kept old other → AreAllAttached kept new other
 attached_elsewhere R old new d r kept before later other same apart moves still =
     attached_after R old new d r (λ s lane number. kept s other.id number) other other refl
     (λ lane number. (
     let k = moves other.id number in
-    let x = cond-false {A = ℕ} (before.id == other.id) (attached_as number before) 0 (ne_eqb before.id other.id (λ e. apart (sym e))) in
-    let y = cond-false {A = ℕ} (later.id == other.id) (attached_as number later) 0 (ne_eqb later.id other.id (λ e. apart (sym e ∙ same))) in
+    let x = cond-false {A = ℕ} (before.id == other.id) (attached_count number before) 0 (ne_eqb before.id other.id (λ e. apart (sym e))) in
+    let y = cond-false {A = ℕ} (later.id == other.id) (attached_count number later) 0 (ne_eqb later.id other.id (λ e. apart (sym e ∙ same))) in
     omega (arith, k, x, y)))
     still
 
 module _ {S : Type 0} (spans : S → Spans) (attaches : S → Bool) (kept : S → ℕ → ℕ → ℕ) (is_whole : S → Type 0) (does : S → SubscriberCall → S → Type 0)
-    (shows : (s : S) (call : SubscriberCall) (t : S) → does s call t → spans t ≡ spans_after_call (spans s) call) (lanes : (s : S) (call : SubscriberCall) (t : S) → does s call t → CallLanes (attaches s) (kept s) call (kept t))
+    (shows : (s : S) (call : SubscriberCall) (t : S) → does s call t → spans t ≡ spans_after_call (spans s) call) (lanes : (s : S) (call : SubscriberCall) (t : S) → does s call t → CallKeepsLanes (attaches s) (kept s) call (kept t))
     (keeps_whole : (s : S) (call : SubscriberCall) (t : S) → does s call t → is_whole s → is_whole t) (dispatch span_count site_count : ℕ) where
   -- a span more
   pub grown_stands : (old new : WorldValue S) (d id : ℕ) (in_lane : Lane) (at : ℕ) (parent : Parent) (site : ℕ) (callsite : Callsite) (values : ValueSet)
@@ -100,7 +100,7 @@ module _ {S : Type 0} (spans : S → Spans) (attaches : S → Bool) (kept : S �
       }
 
   -- the lane has other contexts
-  moved_stands : (call : SubscriberCall) (old new : WorldValue S) (d : ℕ) (before later other : Lane) (r : Replaced (λ s t. does s call t) old new d) → later.id ≡ before.id → later.default ≡ before.default → KeepsAttached (kept r.before) before later (kept r.later)
+  moved_stands : (call : SubscriberCall) (old new : WorldValue S) (d : ℕ) (before later other : Lane) (r : Replaced (λ s t. does s call t) old new d) → later.id ≡ before.id → later.default ≡ before.default → TracksAttached (kept r.before) before later (kept r.later)
       → ((x : Spans) → length (spans_after_call x call).made ≡ length x.made) → Stands spans kept is_whole dispatch span_count site_count old before other → Stands spans kept is_whole dispatch span_count site_count new later other
   moved_stands call old new d before later other r same default moves as_many_made stands =
       let R : S → S → Type 0 = λ s t. does s call t in
@@ -141,7 +141,7 @@ lane_left spans kept is_whole dispatch span_count site_count world before later 
   few = stands.few;
   declared = stands.declared;
   attached = λ number. (
-      let i = ap (λ (l : ℕ). all_kept kept world l number) left.id in
+      let i = ap (λ (l : ℕ). total_kept kept world l number) left.id in
       let a = ap (λ xs. count_by (λ item. item.0 == number) xs) left.live in
       let b = stands.attached number in
       omega (arith, i, a, b));

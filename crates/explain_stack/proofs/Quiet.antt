@@ -3,7 +3,7 @@ use Rattle.std.proofs.Common.{◌≡◌, ℕ, length, Bool, Option, Some, refl, 
 use Rattle.std.proofs.lemmas.List.{length-set}
 use Rattle.trace_base.specs.Spans.{Spans, parent_to_release}
 use Rattle.trace_base.specs.Calls.{SubscriberCall, NewSpan, Records, Follows, Event, Enter, Exit, CloneSpan, TryClose, spans_after_call}
-use Rattle.trace_base.specs.lanes.Contexts.{CallLanes}
+use Rattle.trace_base.specs.lanes.Contexts.{CallKeepsLanes}
 use Rattle.span_handles.specs.Worlds.{Chain, ended, closes}
 use Rattle.otel_layer.specs.Parts.{PartCall, StaysStack}
 use Rattle.explain_stack.proofs.Steps.{IsQuiet}
@@ -29,7 +29,7 @@ quiet_made x (Enter id at before later) q = absurd q
 quiet_made x (Exit id at before later) q = absurd q
 quiet_made x (CloneSpan id) q = length-set x.made id _
 
-quiet_kept : (attaches : Bool) (kept now : ℕ → ℕ → ℕ) (call : SubscriberCall) → IsQuietCall call → CallLanes attaches kept call now → now ≡ kept
+quiet_kept : (attaches : Bool) (kept now : ℕ → ℕ → ℕ) (call : SubscriberCall) → IsQuietCall call → CallKeepsLanes attaches kept call now → now ≡ kept
 quiet_kept attaches kept now (NewSpan lane at parent site callsite values) q l = absurd q
 quiet_kept attaches kept now (TryClose id at) q l = l
 quiet_kept attaches kept now (Records id at callsite values) q l = l
@@ -40,7 +40,7 @@ quiet_kept attaches kept now (Exit id at before later) q l = absurd q
 quiet_kept attaches kept now (CloneSpan id) q l = l
 
 module _ {S : Type 0} (spans : S → Spans) (attaches : S → Bool) (kept : S → ℕ → ℕ → ℕ) (is_whole : S → Type 0) (does : S → SubscriberCall → S → Type 0)
-    (shows : (s : S) (call : SubscriberCall) (t : S) → does s call t → spans t ≡ spans_after_call (spans s) call) (lanes : (s : S) (call : SubscriberCall) (t : S) → does s call t → CallLanes (attaches s) (kept s) call (kept t))
+    (shows : (s : S) (call : SubscriberCall) (t : S) → does s call t → spans t ≡ spans_after_call (spans s) call) (lanes : (s : S) (call : SubscriberCall) (t : S) → does s call t → CallKeepsLanes (attaches s) (kept s) call (kept t))
     (keeps_whole : (s : S) (call : SubscriberCall) (t : S) → does s call t → is_whole s → is_whole t) where
   pub quiet_call : (call : SubscriberCall) → IsQuietCall call → IsQuiet spans kept is_whole (λ s t. does s call t)
   quiet_call call q = record {

@@ -5,4 +5,4 @@ use Rattle.explain_stack.specs.declared.stack.tally.Tally.{Tally}
 use Rattle.explain_stack.specs.Tallies.{Tallies}
 
 pub tally_counts : (s : Tally) (call : TracerCall) (t : Tally) → Tallies s call t → CountsSpares s.recorder.spare call t.recorder.spare × CountsStarts s.recorder.started call t.recorder.started
-tally_counts s call t did = recorder_counts s.recorder call t.recorder did.records
+tally_counts s call t did = recorder_counts s.recorder call t.recorder did.recorder_does

@@ -31,6 +31,6 @@ pub record KeepsScene {S : Type 0} (spans : S → Spans) (kept : S → ℕ → �
   pub site_count : new.site_count ≡ old.site_count
 
 -- a handle that is known, with a callsite of the world
-pub record IsHeld {S : Type 0} (spans : S → Spans) (site_count : ℕ) (world : WorldValue S) (handle : Handle) : Type 0 where
+pub record IsKnownWithSite {S : Type 0} (spans : S → Spans) (site_count : ℕ) (world : WorldValue S) (handle : Handle) : Type 0 where
   pub known : IsKnown spans world handle.held
   pub site : IfSome handle.site (λ k. k < site_count)

@@ -20,7 +20,7 @@ finished_after (Finish span) count = one_more count
 
 -- what it makes of a recorder, and the counts; whether they are told stays
 pub record Tallies (old : Tally) (call : TracerCall) (new : Tally) : Type 0 where
-  pub records : DoesRecorder old.recorder call new.recorder
-  pub told : new.is_told ≡ old.is_told
+  pub recorder_does : DoesRecorder old.recorder call new.recorder
+  pub same_telling : new.tells_counts ≡ old.tells_counts
   pub reserved : new.reserved ≡ reserved_after call old.reserved
   pub finished : new.finished ≡ finished_after call old.finished

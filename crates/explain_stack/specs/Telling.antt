@@ -20,9 +20,9 @@ polled_line (Err errors.Full) = codes "  full\n"
 polled_line (Err errors.Memory) = []
 
 -- the same of a poll that may have been refused
-abbrev pub answer_line : Option (PollResult Bool) → List ℕ
-answer_line None = done_line false
-answer_line (Some polled) = polled_line polled
+abbrev pub poll_line : Option (PollResult Bool) → List ℕ
+poll_line None = done_line false
+poll_line (Some polled) = polled_line polled
 
 -- the status of a word
 abbrev pub status_of_word : List ℕ → Status

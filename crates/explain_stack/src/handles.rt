@@ -121,7 +121,7 @@ impl Handles {
 
     /// The same, unless the handle is entered or another one is of its span.
     #[tactic(auto, using(crate::proofs::Held::put_back))]
-    pub fn take_last(&mut self, name: &str) -> Option<Slot>
+    pub fn take_sole(&mut self, name: &str) -> Option<Slot>
         ensures value { IfSome result (λ slot. Some slot ≡ handle_named name.now self.old) }
         ensures rest { IfSome result (λ slot. self.new ≡ with_named name.now no_handle self.old) }
         ensures last { IfSome result (IsNoneOf self.new) }

@@ -1,6 +1,6 @@
 //! Lines of calls, made on the handles of a scene.
 ghost use Rattle.std.specs.Prelude.{◌≡◌, ◌⊎◌, ◌<◌, IfOk, IfSome};
-ghost use Rattle.explain_stack.specs.Order.{SceneInOrder, IsHeld};
+ghost use Rattle.explain_stack.specs.Order.{SceneInOrder, IsKnownWithSite};
 ghost use Rattle.explain_stack.specs.Places.{InPlay, ClosesNamed};
 
 mod inside;
@@ -68,16 +68,16 @@ fn make<S: Stack>(
     let Some(site) = scene.site_at(words::number(site).unwrap_or(0)) else {
         return told::refused_line(alloc);
     };
-    if !scene.admits(alloc, scene.lanes().0, site) {
+    if !scene.admits(alloc, scene.lane_ids().0, site) {
         handles.put(name, Slot::of(Span::none()));
         return told::done_line(alloc, false);
     }
-    make_at(alloc, scene, handles, at, name, parent, site, words)
+    make_admitted(alloc, scene, handles, at, name, parent, site, words)
 }
 
 // A new span of a callsite that is taken.
 #[tactic(auto, using(crate::proofs::Held::put_held))]
-fn make_at<S: Stack>(
+fn make_admitted<S: Stack>(
     alloc: Global,
     scene: &mut Scene<S>,
     handles: &mut Handles,
@@ -116,7 +116,7 @@ fn new_span<S: Stack>(
     requires play { InPlay S.spans S.kept S.is_whole scene.old handles.now }
     requires site { site < scene.old.site_count }
     ensures play { InPlay S.spans S.kept S.is_whole scene.new handles.now }
-    ensures made { IfOk result (λ made. IfSome made (IsHeld S.spans scene.new.site_count scene.new.world)) }
+    ensures made { IfOk result (λ made. IfSome made (IsKnownWithSite S.spans scene.new.site_count scene.new.world)) }
 {
     if parent == "root" {
         let root = Span::none();
@@ -125,7 +125,7 @@ fn new_span<S: Stack>(
         return made;
     }
     if parent == "current" {
-        return scene.make_current(at, site, values);
+        return scene.make_under_current(at, site, values);
     }
     match handles.get(parent) {
         Some(slot) => scene.make_under(at, slot.span(), site, values),
@@ -146,7 +146,7 @@ fn admits<S: Stack>(
         return told::refused_line(alloc);
     };
     let admits = scene.admits(alloc, words::number(lane).unwrap_or(0), site);
-    told::answer(alloc, "admits", admits)
+    told::fact_line(alloc, "admits", admits)
 }
 
 // Calls are made on the lane of an id from here on.
@@ -160,7 +160,7 @@ fn swap_lanes<S: Stack>(
     ensures play { InPlay S.spans S.kept S.is_whole scene.new handles.new }
     ensures handles { handles.new ≡ handles.old }
 {
-    let (here, there) = scene.lanes();
+    let (here, there) = scene.lane_ids();
     let lane = words::number(lane).unwrap_or(0);
     if lane == there {
         scene.swap_lanes();
@@ -204,9 +204,9 @@ fn close<S: Stack>(
     ensures closes { ((scene.new ≡ scene.old) × (handles.new ≡ handles.old))
         ⊎ ClosesNamed S.spans S.does at name.now handles.old scene.old.world handles.new scene.new.world }
 {
-    let Some(slot) = handles.take_last(name) else {
+    let Some(slot) = handles.take_sole(name) else {
         return told::refused_line(alloc);
     };
     let closed = scene.close(at, slot.into_span());
-    told::answer(alloc, "closed", closed)
+    told::fact_line(alloc, "closed", closed)
 }

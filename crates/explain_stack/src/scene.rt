@@ -1,13 +1,13 @@
 //! A world with one stack, and the two lanes on which calls are made in it.
 ghost use Rattle.std.specs.Prelude.{◌≡◌, ◌<◌, ◌≤◌, ℕ, true, length, Some, None, IfOk, IfSome, IsTrue};
-ghost use Rattle.trace_base.specs.Conditions.{HasFewHolds, HasFewHoldsAbove};
+ghost use Rattle.trace_base.specs.Conditions.{HasFewHolds, ParentHasFewHolds};
 ghost use Rattle.trace_base.specs.declared.span.Parent.TheVariants as parent;
 ghost use Rattle.trace_base.specs.Spans.{entries_on, is_in};
 ghost use Rattle.span_registry.specs.Registering.{no_spans};
 ghost use Rattle.span_handles.specs.Handles.{IsKnown, HasOn, IsOf};
 ghost use Rattle.span_handles.specs.Worlds.{Has};
 ghost use Rattle.span_handles.specs.Knowing.{KeepsKnown, KeepsOthers};
-ghost use Rattle.explain_stack.specs.Order.{SceneInOrder, IsHeld};
+ghost use Rattle.explain_stack.specs.Order.{SceneInOrder, IsKnownWithSite};
 
 mod asks;
 mod calls;
@@ -92,7 +92,7 @@ impl<S: Stack> Scene<S> {
     }
 
     /// The ids of the lane on which calls are made, and of the other one.
-    pub fn lanes(&self) -> (u64, u64)
+    pub fn lane_ids(&self) -> (u64, u64)
         ensures { result ≡ (self.now.lane.id, self.now.other.id) }
     {
         (self.lane.id, self.other.id)
@@ -125,7 +125,7 @@ impl<S: Stack> Scene<S> {
     }
 
     /// Whether a span may be held once more.
-    pub(crate) fn has_room(&self, span: &Span) -> bool
+    pub(crate) fn can_hold(&self, span: &Span) -> bool
         requires order { SceneInOrder S.spans S.kept S.is_whole self.now }
         ensures own { IsTrue result → IsOf span.now.held self.now.dispatch }
         ensures few { IsTrue result
@@ -144,7 +144,7 @@ impl<S: Stack> Scene<S> {
     pub(crate) fn can_hold_current(&self) -> bool
         requires order { SceneInOrder S.spans S.kept S.is_whole self.now }
         ensures few { IsTrue result
-            → Has (λ s. HasFewHoldsAbove (S.spans s) self.now.lane.id parent.Current) self.now.world
+            → Has (λ s. ParentHasFewHolds (S.spans s) self.now.lane.id parent.Current) self.now.world
             self.now.dispatch }
     {
         let stack = self.world.subscriber(self.dispatch);
@@ -155,7 +155,7 @@ impl<S: Stack> Scene<S> {
     }
 
     /// Whether an entry of a span is open on the lane.
-    pub(crate) fn is_open(&self, span: &Span) -> bool
+    pub(crate) fn has_open_entry(&self, span: &Span) -> bool
         requires order { SceneInOrder S.spans S.kept S.is_whole self.now }
         ensures { IsTrue result
             → HasOn (λ s id. is_in id (entries_on self.now.lane.id (S.spans s).lanes) ≡ true) self.now.world

@@ -1,6 +1,6 @@
 //! The lines that tell what became of a span.
 ghost use Rattle.std.specs.Prelude.{◌≡◌, false, IfOk, string_bytes};
-ghost use Rattle.explain_stack.specs.Telling.{done_line, answer_line};
+ghost use Rattle.explain_stack.specs.Telling.{done_line, poll_line};
 
 use futures::task::Poll;
 use otel_base::enter_error::EnterError;
@@ -13,7 +13,7 @@ use std::alloc::Global;
 /// Adds a record: ids, times, and behind them its status, links, events and attributes, each on a line of its own.
 pub fn add_record(alloc: Global, told: &mut String, record: &Record) -> Result<(), Memory> {
     add(told, head(alloc, record)?)?;
-    add(told, status(alloc, &record.status)?)?;
+    add(told, status_line(alloc, &record.status)?)?;
     add_links(alloc, told, record)?;
     add_events(alloc, told, record)?;
     add_attributes(alloc, told, record)
@@ -25,10 +25,10 @@ fn head(alloc: Global, record: &Record) -> Result<String, Memory> {
     Ok(format!(in alloc; "  record {id} `{name}` in {trace} under {parent}, {start} to {end}\n")?)
 }
 
-fn status(alloc: Global, status: &Status) -> Result<String, Memory> {
+fn status_line(alloc: Global, status: &Status) -> Result<String, Memory> {
     match status {
         Status::Unset => Ok(String::new(alloc)),
-        Status::Error { description } => quote(alloc, "error", description.as_str()),
+        Status::Error { description } => quoted_line(alloc, "error", description.as_str()),
         Status::Ok => Ok(String::from_str(alloc, "    ok\n")?),
     }
 }
@@ -51,17 +51,17 @@ fn add_events(alloc: Global, told: &mut String, record: &Record) -> Result<(), M
 
 fn add_attributes(alloc: Global, told: &mut String, record: &Record) -> Result<(), Memory> {
     for pair in record.attributes.as_slice() {
-        add(told, attribute(alloc, pair)?)?;
+        add(told, attribute_line(alloc, pair)?)?;
     }
     Ok(())
 }
 
-fn attribute(alloc: Global, pair: &KeyValue) -> Result<String, Memory> {
+fn attribute_line(alloc: Global, pair: &KeyValue) -> Result<String, Memory> {
     let key = pair.key.as_str();
     match &pair.value {
         OtelValue::Bool(value) => Ok(format!(in alloc; "    {key} {value}\n")?),
         OtelValue::I64(value) => Ok(format!(in alloc; "    {key} {value}\n")?),
-        OtelValue::Str(value) => quote(alloc, key, value.as_str()),
+        OtelValue::Str(value) => quoted_line(alloc, key, value.as_str()),
         OtelValue::List(values) => {
             let count = values.as_slice().len();
             Ok(format!(in alloc; "    {key} of {count} texts\n")?)
@@ -69,7 +69,7 @@ fn attribute(alloc: Global, pair: &KeyValue) -> Result<String, Memory> {
     }
 }
 
-fn quote(alloc: Global, key: &str, value: &str) -> Result<String, Memory> {
+fn quoted_line(alloc: Global, key: &str, value: &str) -> Result<String, Memory> {
     Ok(format!(in alloc; "    {key} `{value}`\n")?)
 }
 
@@ -91,7 +91,7 @@ pub fn poll_line(
     alloc: Global,
     polled: Option<Result<Poll<bool>, EnterError>>,
 ) -> Result<String, Memory>
-    ensures { IfOk result (λ told. string_bytes told ≡ answer_line polled) }
+    ensures { IfOk result (λ told. string_bytes told ≡ poll_line polled) }
 {
     match polled {
         None => refused_line(alloc),
@@ -104,7 +104,7 @@ pub fn poll_line(
 }
 
 /// Whether something is so.
-pub fn answer(alloc: Global, word: &str, is_so: bool) -> Result<String, Memory> {
+pub fn fact_line(alloc: Global, word: &str, is_so: bool) -> Result<String, Memory> {
     Ok(format!(in alloc; "  {word} {is_so}\n")?)
 }
 

@@ -24,13 +24,13 @@ pub fn callsite(alloc: Global, words: &str) -> Result<Option<Callsite>, Memory> 
         return Ok(None);
     };
     match level.parse::<Level>() {
-        Ok(level) => Ok(Some(callsite_at(alloc, level, rest)?)),
+        Ok(level) => Ok(Some(callsite_of_level(alloc, level, rest)?)),
         Err(_) => Ok(None),
     }
 }
 
 // The callsite of a level and the words `NAME FIELD ..`.
-fn callsite_at(alloc: Global, level: Level, words: &str) -> Result<Callsite, Memory> {
+fn callsite_of_level(alloc: Global, level: Level, words: &str) -> Result<Callsite, Memory> {
     let (name, names) = words.split_once(' ').unwrap_or((words, ""));
     let mut callsite = Callsite {
         name: text(alloc, name)?,

@@ -8,7 +8,7 @@ use otel_base::memory::Memory;
 use std::alloc::Global;
 use std::sync::Wait;
 use std::thread::Threads;
-use thread_run::threads_answer;
+use thread_run::threads_outcome;
 
 /// Whether an output fits a script for threads: the script is run once more, in the order that the output tells, and has to
 /// write the same. Yes is answered only where the output fits. `Memory` freely.
@@ -22,6 +22,6 @@ pub fn fits<R: Threads + Wait + Sync>(
     ensures { IfOk result (λ yes. yes ≡ true → TellsThreads (lines_of script.now) output.now) }
 {
     let replay = Replay::of(alloc, script, output)?;
-    let outcome = threads_answer(rt, alloc, &replay, script)?;
+    let outcome = threads_outcome(rt, alloc, &replay, script)?;
     Ok(outcome.answer.text.as_slice() == output)
 }

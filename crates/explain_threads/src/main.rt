@@ -7,7 +7,7 @@ mod output;
 mod replay;
 
 use crate::fits::fits;
-use crate::output::output_at;
+use crate::output::output_start;
 use std::io::{self, Read};
 use std::process::ExitCode;
 
@@ -18,7 +18,7 @@ fn main(rt: HostRuntime) -> ExitCode {
     let Ok(bytes) = read(&rt) else {
         return ExitCode::from(FAILED);
     };
-    let (script, output) = bytes.split_at(output_at(bytes.as_slice()));
+    let (script, output) = bytes.split_at(output_start(bytes.as_slice()));
     let Ok(is_fit) = fits(&rt, rt.alloc(), script, output) else {
         return ExitCode::from(FAILED);
     };

@@ -7,12 +7,12 @@ use input_lines::first_line;
 const BEGINNINGS: [&[u8]; 3] = [b"{\"history\":", b"{\"done\":", b"{\"line\":"];
 
 /// How many bytes stand before the output.
-pub fn output_at(bytes: &[u8]) -> usize
+pub fn output_start(bytes: &[u8]) -> usize
     ensures { result ≤ length bytes.now }
 {
     let mut rest = bytes;
     while !rest.is_empty() {
-        if is_output(rest) {
+        if begins_output(rest) {
             return bytes.len() - rest.len();
         }
         let (_, after) = first_line(rest);
@@ -22,7 +22,7 @@ pub fn output_at(bytes: &[u8]) -> usize
 }
 
 // Whether a line of an output begins here.
-fn is_output(rest: &[u8]) -> bool {
+fn begins_output(rest: &[u8]) -> bool {
     for beginning in BEGINNINGS {
         if rest.starts_with(beginning) {
             return true;

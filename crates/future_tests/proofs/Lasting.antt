@@ -8,10 +8,10 @@ use Rattle.trace_base.specs.Spans.{Spans}
 use Rattle.span_handles.specs.Entries.{KeepsEntry}
 use Rattle.span_futures.specs.Lent.{KeepsLent}
 use Rattle.span_futures.proofs.Inside.{keeps_nothing}
-use Rattle.future_tests.specs.Ready.{IsReady}
+use Rattle.future_tests.specs.Ready.{IsReadyForCalls}
 
 -- after what is lent a world and a lane
-pub goes_on : {S : Type 0} (spans : S → Spans) (kept : S → ℕ → ℕ → ℕ) (is_whole : S → Type 0) (old new : WorldValue S) (before later : Lane) → KeepsLent spans kept is_whole old new before later → IsReady kept is_whole old before → IsReady kept is_whole new later
+pub goes_on : {S : Type 0} (spans : S → Spans) (kept : S → ℕ → ℕ → ℕ) (is_whole : S → Type 0) (old new : WorldValue S) (before later : Lane) → KeepsLent spans kept is_whole old new before later → IsReadyForCalls kept is_whole old before → IsReadyForCalls kept is_whole new later
 goes_on spans kept is_whole old new before later lent ready = record {
   whole = lent.whole ready.whole;
   still = lent.attached ready.still;

@@ -8,7 +8,7 @@ use Rattle.trace_base.specs.declared.span.Parent.{Parent}
 use Rattle.trace_base.specs.Gate.{WorldValue}
 use Rattle.trace_base.specs.Spans.{Spans, entries_on, times_in}
 use Rattle.trace_base.specs.Calls.{SubscriberCall, NewSpan, CloneSpan, spans_after_call}
-use Rattle.trace_base.specs.lanes.Contexts.{CallLanes}
+use Rattle.trace_base.specs.lanes.Contexts.{CallKeepsLanes}
 use Rattle.span_handles.specs.Worlds.{Replaced, spans_in, no_spans}
 use Rattle.span_handles.specs.Handles.{HeldSpan, Handle, MakesIf, ReplacedIf, ReplacedOn}
 use Rattle.span_handles.specs.Knowing.{KeepsKnown}
@@ -52,7 +52,7 @@ module _ {S : Type 0} (spans : S → Spans) (kept : S → ℕ → ℕ → ℕ) (
     ]
 
   pub made_lent : (attaches : S → Bool) (does : S → SubscriberCall → S → Type 0) → ((s : S) (call : SubscriberCall) (t : S) → does s call t → spans t ≡ spans_after_call (spans s) call)
-      → ((s : S) (call : SubscriberCall) (t : S) → does s call t → CallLanes (attaches s) (kept s) call (kept t)) → ((s : S) (call : SubscriberCall) (t : S) → does s call t → is_whole s → is_whole t)
+      → ((s : S) (call : SubscriberCall) (t : S) → does s call t → CallKeepsLanes (attaches s) (kept s) call (kept t)) → ((s : S) (call : SubscriberCall) (t : S) → does s call t → is_whole s → is_whole t)
       → (old new : WorldValue S) (lane : Lane) (at : ℕ) (parent : Parent) (site : ℕ) (values : ValueSet) (dispatch : Option ℕ) (handle : Handle) → KeepsKnown spans old new → MakesIf spans does old new lane at parent site values dispatch handle → KeepsLent spans kept is_whole old new lane lane
   made_lent attaches does shows lanes keeps_whole old new lane at parent site values None handle known made = subst (λ (w : WorldValue S). KeepsLent spans kept is_whole old w lane lane) (sym made.1) (keeps_nothing spans kept is_whole old lane)
   made_lent attaches does shows lanes keeps_whole old new lane at parent site values (Some d) handle known made =
@@ -62,7 +62,7 @@ module _ {S : Type 0} (spans : S → Spans) (kept : S → ℕ → ℕ → ℕ) (
       old new d lane made.made known
 
   pub copied_lent : (attaches : S → Bool) (does : S → SubscriberCall → S → Type 0) → ((s : S) (call : SubscriberCall) (t : S) → does s call t → spans t ≡ spans_after_call (spans s) call)
-      → ((s : S) (call : SubscriberCall) (t : S) → does s call t → CallLanes (attaches s) (kept s) call (kept t)) → ((s : S) (call : SubscriberCall) (t : S) → does s call t → is_whole s → is_whole t)
+      → ((s : S) (call : SubscriberCall) (t : S) → does s call t → CallKeepsLanes (attaches s) (kept s) call (kept t)) → ((s : S) (call : SubscriberCall) (t : S) → does s call t → is_whole s → is_whole t)
       → (old new : WorldValue S) (lane : Lane) (held : HeldSpan) → KeepsKnown spans old new → ReplacedOn (λ id s t. does s (CloneSpan id) t) old new held → KeepsLent spans kept is_whole old new lane lane
   copied_lent attaches does shows lanes keeps_whole old new lane None known copied = subst (λ (w : WorldValue S). KeepsLent spans kept is_whole old w lane lane) (sym copied) (keeps_nothing spans kept is_whole old lane)
   copied_lent attaches does shows lanes keeps_whole old new lane (Some h) known copied =

@@ -7,12 +7,12 @@ use Rattle.trace_base.specs.declared.span.Parent.{Parent}
 use Rattle.trace_base.specs.declared.span.Parent.TheVariants as parent
 use Rattle.trace_base.specs.Gate.{WorldValue, AreSame, IsInWorld, dispatch_on}
 use Rattle.trace_base.specs.Spans.{Spans}
-use Rattle.trace_base.specs.Conditions.{AreFew, HasFewHoldsAbove, IsLiveParent}
+use Rattle.trace_base.specs.Conditions.{AreFew, ParentHasFewHolds, IsLiveParent}
 use Rattle.span_registry.specs.Registering.{no_spans}
 use Rattle.span_handles.specs.Handles.{MayMake, MayMakeIf}
 use Rattle.span_futures.specs.Lent.{HasAll, AreAllAttached}
 use Rattle.span_futures.specs.Served.{served_lane}
-use Rattle.future_tests.specs.Ready.{IsUnused, IsReady}
+use Rattle.future_tests.specs.Ready.{IsUnused, IsReadyForCalls}
 
 -- one of a list with one more is of the list, or is that one
 last_or_before : {S : Type 0} (xs : List S) (s : S) (d : ℕ) (x : S) → slice_get (xs ++ s ∷ []) d ≡ Some x → (slice_get xs d ≡ Some x) ⊎ (s ≡ x)
@@ -57,7 +57,7 @@ module _ {S : Type 0} (spans : S → Spans) (kept : S → ℕ → ℕ → ℕ) (
       omega (arith, e)
 
   -- a lane whose default is of the world
-  pub starts : (world : WorldValue S) (lane : Lane) → HasAll (IsUnused spans kept is_whole) world → IsInWorld world lane.default → IsReady kept is_whole world lane
+  pub starts : (world : WorldValue S) (lane : Lane) → HasAll (IsUnused spans kept is_whole) world → IsInWorld world lane.default → IsReadyForCalls kept is_whole world lane
   starts world lane all own = record {
     whole = λ d s there. (all d s there).whole;
     still = none_kept world lane all;
@@ -65,14 +65,14 @@ module _ {S : Type 0} (spans : S → Spans) (kept : S → ℕ → ℕ → ℕ) (
   }
 
   -- a span may be made there
-  pub may_make : (world : WorldValue S) (lane : ℕ) (parent : Parent) (d : ℕ) → HasAll (IsUnused spans kept is_whole) world → d < length world.subscribers → IsLiveParent [] parent → HasFewHoldsAbove no_spans lane parent
+  pub may_make : (world : WorldValue S) (lane : ℕ) (parent : Parent) (d : ℕ) → HasAll (IsUnused spans kept is_whole) world → d < length world.subscribers → IsLiveParent [] parent → ParentHasFewHolds no_spans lane parent
       → MayMake spans is_whole world lane parent d
   may_make world lane parent d all there live few = record {
     there = there;
     whole = λ s is. (all d s is).whole;
     live = λ s is. subst (λ (x : Spans). IsLiveParent x.made parent) (sym (all d s is).none) live;
     few = λ s is. subst (λ (x : Spans). AreFew x) (sym (all d s is).none) (omega arith);
-    few_holds = λ s is. subst (λ (x : Spans). HasFewHoldsAbove x lane parent) (sym (all d s is).none) few;
+    few_holds = λ s is. subst (λ (x : Spans). ParentHasFewHolds x lane parent) (sym (all d s is).none) few;
   }
 
   -- the same in a poll under one of them

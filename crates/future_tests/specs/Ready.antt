@@ -13,7 +13,7 @@ pub record IsUnused {S : Type 0} (spans : S → Spans) (kept : S → ℕ → ℕ
   pub nothing_kept : (lane number : ℕ) → kept s lane number ≡ 0
 
 -- all stacks are whole, what they keep attached to a lane is attached there, and the lane's default is of the world
-pub record IsReady {S : Type 0} (kept : S → ℕ → ℕ → ℕ) (is_whole : S → Type 0) (world : WorldValue S) (lane : Lane) : Type 0 where
+pub record IsReadyForCalls {S : Type 0} (kept : S → ℕ → ℕ → ℕ) (is_whole : S → Type 0) (world : WorldValue S) (lane : Lane) : Type 0 where
   pub whole : HasAll is_whole world
   pub still : AreAllAttached kept world lane
   pub in_world : IsInWorld world lane.default

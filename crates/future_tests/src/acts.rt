@@ -5,11 +5,11 @@ ghost use Rattle.trace_base.specs.Conditions.{HasFewHolds};
 ghost use Rattle.trace_base.specs.Gate.{IsInWorld, dispatch_on};
 ghost use Rattle.span_handles.specs.Handles.{IsKnown, HasOn, MayMakeIf};
 ghost use Rattle.span_futures.specs.Calling.{ChangesUpTo};
-ghost use Rattle.span_futures.specs.Lent.{HasAll, KeepsLent, more_parts};
+ghost use Rattle.span_futures.specs.Lent.{HasAll, KeepsLent, keeps_subscriber};
 ghost use Rattle.span_futures.specs.Polls.{IfEnded};
 ghost use Rattle.future_tests.specs.Carrying.{site_stays};
 
-use crate::stack::{Stack, context, current};
+use crate::stack::{Stack, context_span_number, current_span_number};
 use futures::Future;
 use futures::task::{Context, Poll};
 use otel_base::enter_error::EnterError;
@@ -24,11 +24,11 @@ use trace_base::world::World;
 
 /// Pending once, and then 7.
 #[derive(Drop)]
-pub struct Twice {
+pub struct PendingOnce {
     pub(crate) polled: bool,
 }
 
-impl Future for Twice {
+impl Future for PendingOnce {
     type Output = u64;
 
     fn poll(&mut self, cx: &mut Context<'_>) -> Poll<u64> {
@@ -43,12 +43,12 @@ impl Future for Twice {
 /// Answers the last digits of the numbers of the lane's subscriber, of its current span in a stack, and of the span of its
 /// current context; or `Full`.
 #[derive(Drop)]
-pub struct Looks {
+pub struct LaneProbe {
     pub(crate) stack: Dispatch,
     pub(crate) refuses: bool,
 }
 
-impl<S: Stack> TracedFuture<S> for Looks {
+impl<S: Stack> TracedFuture<S> for LaneProbe {
     type Output = u64;
 
     ghost can_poll = { λ f. Unit {0} };
@@ -65,7 +65,7 @@ impl<S: Stack> TracedFuture<S> for Looks {
 
     ghost besides = { λ at s t. ⊥ };
 
-    ghost carries = { λ f old new known parts was. more_parts old new f.stack parts was };
+    ghost carries = { λ f old new known parts was. keeps_subscriber old new f.stack parts was };
 
     fn poll_in(
         &mut self,
@@ -78,8 +78,8 @@ impl<S: Stack> TracedFuture<S> for Looks {
             return Err(EnterError::Full);
         }
         let on = number(get_default(world, lane)) % 10;
-        let inside = current(world, self.stack, lane) % 10;
-        Ok(Poll::Ready(100 * on + 10 * inside + context(lane) % 10))
+        let inside = current_span_number(world, self.stack, lane) % 10;
+        Ok(Poll::Ready(100 * on + 10 * inside + context_span_number(lane) % 10))
     }
 }
 
@@ -92,18 +92,18 @@ pub fn number(dispatch: Option<Dispatch>) -> u64 {
 }
 
 /// The subscriber of a handle.
-pub fn maker(span: &Span) -> Option<Dispatch> {
+pub fn subscriber_of(span: &Span) -> Option<Dispatch> {
     span.with_subscriber(|(_, dispatch)| dispatch)
 }
 
 /// Makes a span under the lane's current one, and answers its handle.
 #[derive(Drop)]
-pub struct Makes {
+pub struct SpanMaker {
     pub(crate) site: SiteId,
     pub(crate) values: ValueSet,
 }
 
-impl<S: Stack> TracedFuture<S> for Makes {
+impl<S: Stack> TracedFuture<S> for SpanMaker {
     type Output = Span;
 
     ghost can_poll = { λ f. Unit {0} };
@@ -158,11 +158,11 @@ fn make_here<S: Stack>(
 }
 
 /// Enters a span for good, and answers 7.
-pub struct Leaves {
+pub struct EntryLeaver {
     pub(crate) span: Span,
 }
 
-impl<S: Stack> TracedFuture<S> for Leaves {
+impl<S: Stack> TracedFuture<S> for EntryLeaver {
     type Output = u64;
 
     ghost can_poll = { λ f. Unit {0} };
@@ -188,7 +188,7 @@ impl<S: Stack> TracedFuture<S> for Leaves {
         at: u64,
         _cx: &mut Context<'_>,
     ) -> Result<Poll<u64>, EnterError> {
-        if !has_room(world, &self.span) {
+        if !can_hold(world, &self.span) {
             return Err(EnterError::Full);
         }
         enter_for_good(world, lane, &self.span, at)?;
@@ -197,7 +197,7 @@ impl<S: Stack> TracedFuture<S> for Leaves {
 }
 
 /// Whether a span may be held once more; none gets a thousand holds here.
-pub fn has_room<S: Stack>(world: &World<S>, span: &Span) -> bool
+pub fn can_hold<S: Stack>(world: &World<S>, span: &Span) -> bool
     requires { IsKnown S.spans world.now span.now.held }
     ensures { IsTrue result
         → HasOn (λ s id. HasFewHolds (S.spans s).made id) world.now span.now.held }

@@ -4,7 +4,7 @@ ghost use Rattle.std.specs.Prelude.{◌≡◌, [], None};
 use crate::leaving::leave_open;
 use crate::polls::{end_in_span, look_around, poll_twice};
 use crate::scopes::run_in_scope;
-use crate::served::{made_under, taken_default};
+use crate::served::{make_under_second, poll_under_taken_default};
 use crate::stack::lane;
 use futures::task::Context;
 use futures::test::MockTask;
@@ -21,11 +21,11 @@ use trace_base::world::World;
 #[derive(Clone, Copy)]
 pub enum Play {
     Scoped,
-    Twice,
+    PolledTwice,
     Looked,
     Refused,
     Ended,
-    Left,
+    LeftOpen,
     MadeUnder,
     TakenDefault,
 }
@@ -59,12 +59,12 @@ fn play_text(
 {
     match play {
         Play::Scoped => run_in_scope(alloc, world, lane),
-        Play::Twice => poll_twice(alloc, world, lane, cx),
+        Play::PolledTwice => poll_twice(alloc, world, lane, cx),
         Play::Looked => look_around(alloc, world, lane, false, cx),
         Play::Refused => look_around(alloc, world, lane, true, cx),
         Play::Ended => end_in_span(alloc, world, lane),
-        Play::Left => leave_open(alloc, world, lane, cx),
-        Play::MadeUnder => made_under(alloc, world, lane, cx),
-        Play::TakenDefault => taken_default(alloc, world, lane, cx),
+        Play::LeftOpen => leave_open(alloc, world, lane, cx),
+        Play::MadeUnder => make_under_second(alloc, world, lane, cx),
+        Play::TakenDefault => poll_under_taken_default(alloc, world, lane, cx),
     }
 }

@@ -1,12 +1,12 @@
 //! Polls of futures under spans.
 ghost use Rattle.std.specs.Prelude.{◌≡◌, ◌<◌, ◌≤◌, ℕ, [], length, None};
 ghost use Rattle.span_handles.specs.Handles.{IsKnown};
-ghost use Rattle.future_tests.specs.Ready.{IsReady};
+ghost use Rattle.future_tests.specs.Ready.{IsReadyForCalls};
 
-use crate::acts::{Looks, Twice, has_room};
+use crate::acts::{LaneProbe, PendingOnce, can_hold};
 use crate::plays::{Play, play_in_new_world};
-use crate::records::records;
-use crate::stack::{Stack, context, current, first};
+use crate::records::take_record_texts;
+use crate::stack::{Stack, add_first_span, context_span_number, current_span_number};
 use futures::task::{Context, Poll};
 use otel_base::enter_error::EnterError;
 use otel_base::memory::Memory;
@@ -40,14 +40,14 @@ pub fn poll<S: Stack, T: TracedFuture<S, Output = u64>>(
     requires known { IsKnown S.spans world.old future.old.span.held }
     requires inner { T.knows future.old.inner world.old }
     requires room { (f : T) (w : _) (l : _) (m : ℕ) → T.has_room f w l m }
-    requires ready { IsReady S.kept S.is_whole world.old lane.old }
+    requires ready { IsReadyForCalls S.kept S.is_whole world.old lane.old }
 
     ensures known { IsKnown S.spans world.new future.new.span.held }
     ensures inner { T.knows future.new.inner world.new }
-    ensures ready { IsReady S.kept S.is_whole world.new lane.new }
+    ensures ready { IsReadyForCalls S.kept S.is_whole world.new lane.new }
     ensures more { length world.old.subscribers ≤ length world.new.subscribers }
 {
-    if !has_room(world, future.span()) {
+    if !can_hold(world, future.span()) {
         return 1003;
     }
     poll_number(future.poll_in(world, lane, at, cx))
@@ -63,16 +63,16 @@ pub fn poll_twice<S: Stack>(
     requires empty { world.old ≡ record { sites = []; subscribers = []; cached = []; global = None } }
     requires own { lane.old.default ≡ None }
 {
-    let (stack, span) = first(alloc, world, lane)?;
+    let (stack, span) = add_first_span(alloc, world, lane)?;
     let future = Plain {
-        future: Twice { polled: false },
+        future: PendingOnce { polled: false },
     };
     let mut future = future.instrument(span);
     let one = poll(world, lane, 10, &mut future, cx);
     let two = poll(world, lane, 20, &mut future, cx);
-    let after = current(world, stack, lane);
+    let after = current_span_number(world, stack, lane);
     future.into_inner(world, 30);
-    let told = records(alloc, world, stack)?;
+    let told = take_record_texts(alloc, world, stack)?;
     Ok(format!(in alloc; "{one} {two} {after}: {told}")?)
 }
 
@@ -88,12 +88,15 @@ pub fn look_around<S: Stack>(
     requires empty { world.old ≡ record { sites = []; subscribers = []; cached = []; global = None } }
     requires own { lane.old.default ≡ None }
 {
-    let (stack, span) = first(alloc, world, lane)?;
-    let mut future = Looks { stack, refuses }.instrument(span);
+    let (stack, span) = add_first_span(alloc, world, lane)?;
+    let mut future = LaneProbe { stack, refuses }.instrument(span);
     let seen = poll(world, lane, 10, &mut future, cx);
-    let (after, left) = (current(world, stack, lane), context(lane));
+    let (after, left) = (
+        current_span_number(world, stack, lane),
+        context_span_number(lane),
+    );
     future.into_inner(world, 20);
-    let told = records(alloc, world, stack)?;
+    let told = take_record_texts(alloc, world, stack)?;
     Ok(format!(in alloc; "{seen} {after} {left}: {told}")?)
 }
 
@@ -106,14 +109,14 @@ pub fn end_in_span<S: Stack>(
     requires empty { world.old ≡ record { sites = []; subscribers = []; cached = []; global = None } }
     requires own { lane.old.default ≡ None }
 {
-    let (stack, span) = first(alloc, world, lane)?;
-    let looks = Looks {
+    let (stack, span) = add_first_span(alloc, world, lane)?;
+    let looks = LaneProbe {
         stack,
         refuses: false,
     };
     end(world, lane, looks.instrument(span))?;
-    let left = context(lane);
-    let told = records(alloc, world, stack)?;
+    let left = context_span_number(lane);
+    let told = take_record_texts(alloc, world, stack)?;
     Ok(format!(in alloc; "{left}: {told}")?)
 }
 
@@ -121,13 +124,13 @@ pub fn end_in_span<S: Stack>(
 fn end<S: Stack>(
     world: &mut World<S>,
     lane: &mut Lane,
-    future: Instrumented<Looks>,
+    future: Instrumented<LaneProbe>,
 ) -> Result<(), Memory>
     requires known { IsKnown S.spans world.old future.span.held }
-    requires ready { IsReady S.kept S.is_whole world.old lane.old }
+    requires ready { IsReadyForCalls S.kept S.is_whole world.old lane.old }
     ensures { length world.new.subscribers ≡ length world.old.subscribers }
 {
-    if has_room(world, future.span()) {
+    if can_hold(world, future.span()) {
         match future.end(world, lane, 10, |_| {}) {
             Ok(()) => return Ok(()),
             Err((future, _)) => future.into_inner(world, 20),
@@ -140,7 +143,7 @@ fn end<S: Stack>(
 
 #[test]
 fn instrumented_poll(rt: HostRuntime) -> Result<(), Fail> {
-    let told = play_in_new_world(&rt, Play::Twice)?;
+    let told = play_in_new_world(&rt, Play::PolledTwice)?;
     let wanted =
         "1000 7 0: work 1 under 0, 0 to 20, thread.id 1, target tests, busy_ns 0, idle_ns 20";
     assert_eq!(rt; told.as_str(), wanted);

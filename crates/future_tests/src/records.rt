@@ -10,7 +10,7 @@ use trace_base::dispatcher::Dispatch;
 use trace_base::world::World;
 
 /// The records that a stack still has, nine at most.
-pub fn records<S: Stack>(
+pub fn take_record_texts<S: Stack>(
     alloc: Global,
     world: &mut World<S>,
     stack: Dispatch,

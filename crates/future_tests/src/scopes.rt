@@ -2,12 +2,12 @@
 ghost use Rattle.std.specs.Prelude.{◌≡◌, ◌<◌, [], length, None};
 ghost use Rattle.span_handles.specs.Handles.{IsKnown};
 ghost use Rattle.span_futures.specs.Lent.{HasAll};
-ghost use Rattle.future_tests.specs.Ready.{IsReady};
+ghost use Rattle.future_tests.specs.Ready.{IsReadyForCalls};
 
-use crate::acts::has_room;
+use crate::acts::can_hold;
 use crate::plays::{Play, play_in_new_world};
-use crate::records::records;
-use crate::stack::{Stack, context, current, first};
+use crate::records::take_record_texts;
+use crate::stack::{Stack, add_first_span, context_span_number, current_span_number};
 use otel_base::enter_error::EnterError;
 use otel_base::memory::Memory;
 use span_handles::span::Span;
@@ -26,12 +26,12 @@ fn inside<S: Stack>(
 ) -> Result<(u64, u64, u64), EnterError>
     requires there { stack < length world.old.subscribers }
     requires known { IsKnown S.spans world.old span.now.held }
-    requires ready { IsReady S.kept S.is_whole world.old lane.old }
+    requires ready { IsReadyForCalls S.kept S.is_whole world.old lane.old }
     ensures there { length world.new.subscribers ≡ length world.old.subscribers }
     ensures known { IsKnown S.spans world.new span.now.held }
     ensures whole { HasAll S.is_whole world.new }
 {
-    if !has_room(world, span) {
+    if !can_hold(world, span) {
         return Err(EnterError::Full);
     }
     span.in_scope(
@@ -43,7 +43,13 @@ fn inside<S: Stack>(
             requires whole { HasAll S.is_whole world.old }
             ensures world { world.new ≡ world.old }
             ensures lane { lane.new ≡ lane.old }
-        { (7, current(world, stack, lane), context(lane)) },
+        {
+            (
+                7,
+                current_span_number(world, stack, lane),
+                context_span_number(lane),
+            )
+        },
     )
 }
 
@@ -57,14 +63,17 @@ pub fn run_in_scope<S: Stack>(
     requires empty { world.old ≡ record { sites = []; subscribers = []; cached = []; global = None } }
     requires own { lane.old.default ≡ None }
 {
-    let (stack, span) = first(alloc, world, lane)?;
+    let (stack, span) = add_first_span(alloc, world, lane)?;
     let (seven, inside, around) = match inside(world, lane, stack, &span) {
         Ok(answer) => answer,
         Err(_) => (0, 0, 0),
     };
-    let (after, left) = (current(world, stack, lane), context(lane));
+    let (after, left) = (
+        current_span_number(world, stack, lane),
+        context_span_number(lane),
+    );
     let closed = span.close(world, 30);
-    let told = records(alloc, world, stack)?;
+    let told = take_record_texts(alloc, world, stack)?;
     Ok(format!(in alloc; "{seven} {inside} {around} {after} {left} {closed}: {told}")?)
 }
 

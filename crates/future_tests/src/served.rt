@@ -4,11 +4,11 @@ ghost use Rattle.span_handles.specs.Handles.{IsKnown};
 ghost use Rattle.span_futures.specs.Lent.{HasAll};
 ghost use Rattle.future_tests.specs.Ready.{IsUnused};
 
-use crate::acts::{Looks, Makes, maker, number};
+use crate::acts::{LaneProbe, SpanMaker, number, subscriber_of};
 use crate::plays::{Play, play_in_new_world};
 use crate::polls::poll_number;
-use crate::records::records;
-use crate::stack::{Stack, add_stack, no_values, site};
+use crate::records::take_record_texts;
+use crate::stack::{Stack, add_stack, add_work_site, no_values};
 use futures::task::{Context, Poll};
 use otel_base::memory::Memory;
 use span_futures::traced_future::TracedFuture;
@@ -22,7 +22,7 @@ use trace_base::lane::Lane;
 use trace_base::world::World;
 
 // A callsite and two stacks, of which the first is the lane's default.
-fn two<S: Stack>(
+fn add_two_stacks<S: Stack>(
     alloc: Global,
     world: &mut World<S>,
     lane: &mut Lane,
@@ -34,7 +34,7 @@ fn two<S: Stack>(
     ensures unused { OnOk result (HasAll (IsUnused S.spans S.kept S.is_whole) world.new) }
     ensures default { OnOk result (lane.new.default ≡ Some 0) }
 {
-    let site = site(alloc, world)?;
+    let site = add_work_site(alloc, world)?;
     let first = add_stack(alloc, world)?;
     let second = add_stack(alloc, world)?;
     lane.default = Some(first);
@@ -43,7 +43,7 @@ fn two<S: Stack>(
 
 /// What is made at 10 in a poll under the second of two subscribers, on a lane that has the first: the number of the
 /// span's subscriber, the lane's afterwards, and the records of the second after the close of the span at 30.
-pub fn made_under<S: Stack>(
+pub fn make_under_second<S: Stack>(
     alloc: Global,
     world: &mut World<S>,
     lane: &mut Lane,
@@ -51,16 +51,16 @@ pub fn made_under<S: Stack>(
 ) -> Result<String, Memory>
     requires empty { world.old ≡ record { sites = []; subscribers = []; cached = []; global = None } }
 {
-    let (site, second) = two(alloc, world, lane)?;
-    let makes = Makes {
+    let (site, second) = add_two_stacks(alloc, world, lane)?;
+    let makes = SpanMaker {
         site,
         values: no_values(alloc),
     };
     let span = make_span(world, lane, makes.with_subscriber(second), cx)?;
-    let of = number(maker(&span));
+    let of = number(subscriber_of(&span));
     let after = number(get_default(world, lane));
     span.close(world, 30);
-    let told = records(alloc, world, second)?;
+    let told = take_record_texts(alloc, world, second)?;
     Ok(format!(in alloc; "{of} {after}: {told}")?)
 }
 
@@ -68,7 +68,7 @@ pub fn made_under<S: Stack>(
 fn make_span<S: Stack>(
     world: &mut World<S>,
     lane: &mut Lane,
-    future: WithDispatch<Makes>,
+    future: WithDispatch<SpanMaker>,
     cx: &mut Context<'_>,
 ) -> Result<Span, Memory>
     requires served { future.dispatch ≡ Some 1 }
@@ -90,7 +90,7 @@ fn make_span<S: Stack>(
 
 /// A poll at 10 under the lane's subscriber as it was taken, on a lane that has another one since: what the future sees,
 /// the lane's subscriber afterwards, and that of the future.
-pub fn taken_default<S: Stack>(
+pub fn poll_under_taken_default<S: Stack>(
     alloc: Global,
     world: &mut World<S>,
     lane: &mut Lane,
@@ -98,8 +98,8 @@ pub fn taken_default<S: Stack>(
 ) -> Result<String, Memory>
     requires empty { world.old ≡ record { sites = []; subscribers = []; cached = []; global = None } }
 {
-    let (_, second) = two(alloc, world, lane)?;
-    let looks = Looks {
+    let (_, second) = add_two_stacks(alloc, world, lane)?;
+    let looks = LaneProbe {
         stack: second,
         refuses: false,
     };

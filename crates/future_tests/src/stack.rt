@@ -2,7 +2,7 @@
 ghost use Rattle.std.specs.Prelude.{◌≡◌, ◌+◌, ◌<◌, [], length, None, IfOk, OnOk};
 ghost use Rattle.span_handles.specs.Handles.{IsKnown};
 ghost use Rattle.span_futures.specs.Lent.{HasAll};
-ghost use Rattle.future_tests.specs.Ready.{IsUnused, IsReady};
+ghost use Rattle.future_tests.specs.Ready.{IsUnused, IsReadyForCalls};
 
 use otel_base::list::Items;
 use otel_base::memory::Memory;
@@ -103,7 +103,7 @@ pub fn add_stack<S: Stack>(alloc: Global, world: &mut World<S>) -> Result<Dispat
 }
 
 /// Adds a callsite of spans named `work` to a world without stacks.
-pub fn site<S: Stack>(alloc: Global, world: &mut World<S>) -> Result<SiteId, Memory>
+pub fn add_work_site<S: Stack>(alloc: Global, world: &mut World<S>) -> Result<SiteId, Memory>
     requires { world.old ≡ record { sites = []; subscribers = []; cached = []; global = None } }
     ensures site { IfOk result (λ site. site ≡ 0) }
     ensures one { OnOk result (length world.new.sites ≡ 1) }
@@ -131,7 +131,7 @@ pub fn no_values(alloc: Global) -> ValueSet {
 }
 
 /// A stack with a first span, a root that was made at 0.
-pub fn first<S: Stack>(
+pub fn add_first_span<S: Stack>(
     alloc: Global,
     world: &mut World<S>,
     lane: &Lane,
@@ -140,16 +140,16 @@ pub fn first<S: Stack>(
     requires own { lane.now.default ≡ None }
     ensures there { IfOk result (λ it. it.0 < length world.new.subscribers) }
     ensures known { IfOk result (λ it. IsKnown S.spans world.new it.1.held) }
-    ensures ready { OnOk result (IsReady S.kept S.is_whole world.new lane.now) }
+    ensures ready { OnOk result (IsReadyForCalls S.kept S.is_whole world.new lane.now) }
 {
-    let site = site(alloc, world)?;
+    let site = add_work_site(alloc, world)?;
     let stack = add_stack(alloc, world)?;
     let span = Span::new_root_with(world, lane, 0, site, &no_values(alloc), stack)?;
     Ok((stack, span))
 }
 
 /// The number of a lane's current span, 0 where there is none.
-pub fn current<S: Stack>(world: &World<S>, stack: Dispatch, lane: &Lane) -> u64
+pub fn current_span_number<S: Stack>(world: &World<S>, stack: Dispatch, lane: &Lane) -> u64
     requires there { stack < length world.now.subscribers }
     requires whole { HasAll S.is_whole world.now }
 {
@@ -160,6 +160,6 @@ pub fn current<S: Stack>(world: &World<S>, stack: Dispatch, lane: &Lane) -> u64
 }
 
 /// The id of the span whose context is a lane's current one, 0 where that is the empty one.
-pub fn context(lane: &Lane) -> u64 {
+pub fn context_span_number(lane: &Lane) -> u64 {
     lane.contexts.current().span_context().span
 }

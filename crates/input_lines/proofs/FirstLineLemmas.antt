@@ -2,7 +2,7 @@
 use Rattle.std.proofs.Common.{◌≡◌, ℕ, List, [], ◌∷◌, ◌++◌, refl, sym, ap, ◌∙◌, take, drop, length, get_or, ◌+◌, ◌-◌, ◌<◌, ◌≤◌, ◌==◌, arith, zero, suc, Bool, true, false}
 use Rattle.std.proofs.lemmas.List.{take-append-drop, drop_more, take_rest}
 use Rattle.memchr.specs.Find.{Nowhere, Passes, is_byte}
-use Rattle.trace_lines.specs.Lines.{onto, lines_of}
+use Rattle.trace_lines.specs.Lines.{with_byte_first, lines_of}
 
 -- no byte is a line feed
 abbrev pub NoFeed : List ℕ → Type 0
@@ -13,11 +13,11 @@ NoFeed (b ∷ bs) = ((b == 10) ≡ false) × NoFeed bs
 
 pub ended_line : (line rest : List ℕ) → NoFeed line → lines_of (line ++ 10 ∷ rest) ≡ line ∷ lines_of rest
 ended_line [] rest none = refl
-ended_line (b ∷ bs) rest none = rw none.0 (ap (onto b) (ended_line bs rest none.1))
+ended_line (b ∷ bs) rest none = rw none.0 (ap (with_byte_first b) (ended_line bs rest none.1))
 
 last_line : (b : ℕ) (bs : List ℕ) → NoFeed (b ∷ bs) → lines_of (b ∷ bs) ≡ (b ∷ bs) ∷ []
 last_line b [] none = rw none.0 refl
-last_line b (c ∷ bs) none = rw none.0 (ap (onto b) (last_line c bs none.1))
+last_line b (c ∷ bs) none = rw none.0 (ap (with_byte_first b) (last_line c bs none.1))
 
 -- the only line, where no line feed comes
 pub only_line : (bytes : List ℕ) → 0 < length bytes → NoFeed bytes → lines_of bytes ≡ bytes ∷ []

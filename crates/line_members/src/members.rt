@@ -22,7 +22,7 @@ pub struct Members {
 }
 
 /// The whole number that a value is.
-pub fn whole_of(value: &Json) -> Result<u64, LineError>
+pub fn whole_number_of(value: &Json) -> Result<u64, LineError>
     ensures { Gives (λ n. n) result (as_whole (view value.now)) }
 {
     value.as_u64().ok_or(LineError::BadLine)
@@ -83,7 +83,7 @@ impl Members {
         ensures { Gives (λ n. (n, members_left self.new)) result (natural name.now (members_left self.old)) }
     {
         let value = self.member(name)?;
-        whole_of(&value)
+        whole_number_of(&value)
     }
 
     /// Takes a text.

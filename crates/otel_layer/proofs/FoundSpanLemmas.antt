@@ -1,6 +1,6 @@
 -- What each change of a recording makes of the state of any span.
 use Rattle.std.proofs.Common.{◌≡◌, ◌≢◌, ◌<◌, ℕ, suc, zero, ◌+◌, List, [], ◌∷◌, ◌++◌, length, Bool, true, false, Option, Some, None, refl, sym, ap, subst, ◌∙◌, inl, inr, arith, if◌then◌else◌, ◌==◌, unwrap_or}
-use Rattle.otel_layer.proofs.Common.{remove_entry, cases_Bool, cond-true, cond-false, Context, SpanContext, ids_of, recorder_ids, Spans, KnownSpans, InStep, Op, SpanData, after_op, record_of, data_at, knows_span, with_span_data, with_op, start_context, context_unless_started, is_id, Recording, with_start_under, with_start, without_closed, closed_started, with_close, data_after, data_started, started_by, count_after, Closes}
+use Rattle.otel_layer.proofs.Common.{remove_entry, cases_Bool, cond-true, cond-false, Context, SpanContext, ids_of, recorder_ids, Spans, KnownSpans, InStep, Op, SpanData, after_op, record_of, data_at, knows_span, with_span_data, with_op, start_context, context_unless_started, is_id, Recording, with_start_under, with_start, with_span_finished, with_close_of_started, with_close, data_after, data_after_start, data_once_started, count_after, Closes}
 use Rattle.std.proofs.lemmas.Bool.{true≢false, eq-eqb, ne_eqb, eqb-true}
 use Rattle.otel_state.specs.declared.op.Op.TheVariants as ops
 use Rattle.otel_layer.proofs.RecordingHooksLemmas.{untold}
@@ -43,11 +43,11 @@ told_at_op id other at op (e ∷ es) =
 
 -- ---- a start
 
-started_reads : (under : Option Context) (id other at : ℕ) (r : Recording) → data_at other (with_start_under under id at r).spans ≡ data_started under (other == id) r.started at (data_at other r.spans)
+started_reads : (under : Option Context) (id other at : ℕ) (r : Recording) → data_at other (with_start_under under id at r).spans ≡ data_after_start under (other == id) r.started at (data_at other r.spans)
 started_reads None id other at r = refl
 started_reads (Some under) id other at r = told_at_op id other at (ops.Start (recorder_ids (r.started + 1) (ids_of under))) r.spans
 
-pub told_at_start : (id other at : ℕ) (r : Recording) → data_at other (with_start id at r).spans ≡ data_started (start_context (data_at id r.spans)) (other == id) r.started at (data_at other r.spans)
+pub told_at_start : (id other at : ℕ) (r : Recording) → data_at other (with_start id at r).spans ≡ data_after_start (start_context (data_at id r.spans)) (other == id) r.started at (data_at other r.spans)
 told_at_start id other at r = started_reads (start_context (data_at id r.spans)) id other at r
 
 -- ---- a span more, and one less
@@ -98,7 +98,7 @@ told_at_next made spans known =
 -- ---- a close
 
 own_start : (own : Option SpanContext) (id at : ℕ) (r : Recording) (span_data : SpanData) → span_data.own ≡ own → data_at id r.spans ≡ Some span_data
-    → (data_at id (with_start id at r).spans ≡ Some (started_by own r.started at span_data)) × ((with_start id at r).started ≡ count_after own r.started)
+    → (data_at id (with_start id at r).spans ≡ Some (data_once_started own r.started at span_data)) × ((with_start id at r).started ≡ count_after own r.started)
 own_start (Some own) id at r span_data is found =
     let under = ap start_context found ∙ ap (λ (o : Option SpanContext). context_unless_started o span_data.parent) is in
     (ap (λ (o : Option Context). data_at id (with_start_under o id at r).spans) under ∙ found, ap (λ (o : Option Context). (with_start_under o id at r).started) under)
@@ -125,8 +125,8 @@ closes_span id at r span_data found =
     let s = with_start id at r in
     let own = own_start span_data.own id at r span_data refl found in
     let rest = start_rest (start_context (data_at id r.spans)) id at r in
-    let last = started_by span_data.own r.started at span_data in
-    let is : with_close id at r ≡ without_closed (Some last) id at s = ap (λ (o : Option SpanData). without_closed o id at s) own.0 in
+    let last = data_once_started span_data.own r.started at span_data in
+    let is : with_close id at r ≡ with_span_finished (Some last) id at s = ap (λ (o : Option SpanData). with_span_finished o id at s) own.0 in
     record {
       finished = ap (λ (t : Recording). t.finished) is ∙ ap (λ fs. fs ++ record_of last at ∷ []) rest.0;
       started = ap (λ (t : Recording). t.started) is ∙ own.1;

@@ -1,7 +1,7 @@
 -- The steps of the hooks, put together.
 use Rattle.std.proofs.Common.{◌≡◌, ℕ, ◌+◌, ◌<◌, ◌^◌, List, length, Bool, true, cond, ◌-◌, Option, Some, None, refl, sym, ap, subst, ◌∙◌, arith, if◌then◌else◌, IfSome, ◌==◌, ◌&&◌, false, option_map}
 use Rattle.std.specs.Prelude.{min, max}
-use Rattle.otel_layer.proofs.Common.{empty_context, remove_entry, and_parts, and_from, cond-true, Context, ids_of, Lane, AreAttached, attached_as, Op, LayerSettings, last_passing, SpanData, Room, HasRoom, after_op, data_at, knows_span, update, with_op, start_context, ids_at, is_id, RoomFor, Core, context_at, is_token, is_attached_as, keeps_as, kept_by, StartsIf, StartsSpan, StartsIfSome, parent_source, lane_context, context_from, new_span_data, MakesSpan, DetachesOwnContext, EntersLane, EntersSpan, ExitsSpan, ClosesSpan, IfKnown, with_moment, last_passes, last_counted}
+use Rattle.otel_layer.proofs.Common.{empty_context, remove_entry, and_parts, and_from, cond-true, Context, ids_of, Lane, AreAttached, attached_count, Op, LayerSettings, last_passing, SpanData, Room, HasRoom, after_op, data_at, knows_span, update, with_op, start_context, ids_if_known, is_id, RoomFor, Core, own_context_if_known, is_token, is_attached_as, keeps_as, kept_by, StartsIf, StartsSpan, StartsIfSome, parent_source, lane_context, context_from, new_span_data, MakesSpan, DetachesOwnContext, EntersLane, EntersSpan, ExitsSpan, ClosesSpan, IfKnown, with_moment, last_passes, last_counted}
 use Rattle.std.proofs.lemmas.Bool.{eq-eqb, true≢false}
 use Rattle.otel_base.specs.Tracer.{TracerCall}
 use Rattle.otel_base.specs.declared.stack.Attached.{Attached}
@@ -89,7 +89,7 @@ exits {T} c between d id at before later is left =
     record { token = l.0; last = l.1; leaves = l.2; rest = l.3 }
 
 -- what an exit detaches is attached
-kept_still : (o : Option ℕ) (tokens : List Token) (token : Token) (id : ℕ) (lane : Lane) → token.attached ≡ o → AreAttached (kept_by true tokens) lane → last_passing (is_token lane.id id) tokens ≡ Some token → IfSome o (λ n. 0 < attached_as n lane)
+kept_still : (o : Option ℕ) (tokens : List Token) (token : Token) (id : ℕ) (lane : Lane) → token.attached ≡ o → AreAttached (kept_by true tokens) lane → last_passing (is_token lane.id id) tokens ≡ Some token → IfSome o (λ n. 0 < attached_count n lane)
 kept_still None tokens token id lane is still last = tt
 kept_still (Some n) tokens token id lane is still last =
     let parts = and_parts (token.lane == lane.id) (token.id == id) (last_passes (is_token lane.id id) tokens token last) in
@@ -98,7 +98,7 @@ kept_still (Some n) tokens token id lane is still last =
     let h = still n in
     omega (arith, count, one, h)
 
-pub leaves_still : (active : Bool) (tokens : List Token) (token : Token) (id : ℕ) (lane : Lane) → AreAttached (kept_by active tokens) lane → last_passing (is_token lane.id id) tokens ≡ Some token → active ≡ true → IfSome token.attached (λ n. 0 < attached_as n lane)
+pub leaves_still : (active : Bool) (tokens : List Token) (token : Token) (id : ℕ) (lane : Lane) → AreAttached (kept_by active tokens) lane → last_passing (is_token lane.id id) tokens ≡ Some token → active ≡ true → IfSome token.attached (λ n. 0 < attached_count n lane)
 leaves_still active tokens token id lane still last is =
     kept_still token.attached tokens token id lane refl (subst (λ (b : Bool). AreAttached (kept_by b tokens) lane) is still) last
 
@@ -129,7 +129,7 @@ pub if_isnt : (P Q : Type 0) (known : Bool) → known ≡ false → Q → IfKnow
 if_isnt P Q known is q = record { is_known = λ yes. absurd (true≢false (sym yes ∙ is)); isnt = λ _. q }
 
 -- the ids of a context that was shown
-pub ids_shown : (o : Option SpanData) (shown : Option Context) → shown ≡ context_at o → ids_at o ≡ option_map ids_of shown
+pub ids_shown : (o : Option SpanData) (shown : Option Context) → shown ≡ own_context_if_known o → ids_if_known o ≡ option_map ids_of shown
 ids_shown None shown is = sym (ap (λ (x : Option Context). option_map ids_of x) is)
 ids_shown (Some span_data) shown is = sym (ap (λ (x : Option Context). option_map ids_of x) is)
 

@@ -1,7 +1,7 @@
 -- What the calls of a stack make of what its layer over a recorder keeps.
 use Rattle.std.proofs.Common.{◌≡◌, ◌<◌, ℕ, List, [], ◌∷◌, ◌++◌, length, Bool, true, false, Option, Some, None, slice_get, refl, sym, ap, subst, ◌∙◌, inl, inr, arith, ◌==◌, if◌then◌else◌, fold}
 use Rattle.std.specs.Option.{option_map_or}
-use Rattle.otel_layer.proofs.Common.{cases_eq, cases_Bool, cond-true, cond-false, Context, RecorderValue, has_number, without_number, empty_context, Lane, Hook, Spans, parent_to_release, span_at, DoesBoth, InStep, seen_before, seen_later, last_passing, Core, CoreWithRoom, is_token, seen_in, PartCall, Applies, GivesContext, Touches, TouchesFirst, TouchesNone, IfKnown, SameCore, DoesHook, all_events, data_at, knows_span, own_context_or, Recording, recording_of, no_recording, with_starts, source_of, with_entry, with_exit, with_close, AttachesOwnContext, Detaches, Enters, Exits, ChangesNothing, RecordsCall, RecordsChain, RecordsPart, layer_recording}
+use Rattle.otel_layer.proofs.Common.{cases_eq, cases_Bool, cond-true, cond-false, Context, RecorderValue, has_number, without_number, empty_context, Lane, Hook, Spans, parent_to_release, span_at, DoesBoth, InStep, seen_before, seen_later, last_passing, Core, CoreWithRoom, is_token, seen_in, PartCall, Applies, GivesContext, Touches, TouchesFirst, TouchesNone, IfKnown, SameCore, DoesHook, all_events_effect, data_at, knows_span, own_context_or, Recording, recording_of, no_recording, with_start_if_some, id_if_on, with_entry, with_exit, with_close, AttachesOwnContext, Detaches, Enters, Exits, ChangesNothing, RecordsCall, RecordsChain, RecordsPart, layer_recording}
 use Rattle.std.proofs.lemmas.Bool.{true≢false, eq-eqb, ne_eqb}
 use Rattle.otel_base.specs.Recorder.{DoesRecorder as RecordsBy}
 use Rattle.trace_base.specs.Gate.{WorldValue}
@@ -32,7 +32,7 @@ detaches_from (Some number) between before later e h = h ∙ ap (without_number 
 enters_from : (r : Recording) (id at : ℕ) (between before later : Lane) (t : Recording) → between.id ≡ before.id → between.contexts.live ≡ before.contexts.live → Enters r id at between later t → Enters r id at before later t
 enters_from r id at between before later t i e h = record {
   attached = h.attached;
-  lane = attaches_from r.settings.activation (own_context_or empty_context (data_at id (with_starts (source_of r.settings.activation id) at r).spans)) between before later h.attached e h.lane;
+  lane = attaches_from r.settings.activation (own_context_or empty_context (data_at id (with_start_if_some (id_if_on r.settings.activation id) at r).spans)) between before later h.attached e h.lane;
   is = h.is ∙ ap (λ (lane : ℕ). with_entry id lane at h.attached r) i;
 }
 
@@ -47,7 +47,7 @@ exits_from r id at between before later t i e h = record {
 -- ---- the layer straight over the registry
 
 abbrev outer : CoreWithRoom RecorderValue → Hook → CoreWithRoom RecorderValue → Type 0
-outer l hook m = DoesHook RecordsBy all_events l.core hook m.core
+outer l hook m = DoesHook RecordsBy all_events_effect l.core hook m.core
 
 abbrev same_layer : CoreWithRoom RecorderValue → CoreWithRoom RecorderValue → Type 0
 same_layer l m = SameCore RecordsBy l.core m.core

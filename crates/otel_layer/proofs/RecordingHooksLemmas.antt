@@ -1,6 +1,6 @@
 -- What the hooks of a layer over a recorder make of what it keeps.
 use Rattle.std.proofs.Common.{◌≡◌, ℕ, suc, zero, ◌+◌, List, [], ◌∷◌, ◌++◌, Bool, true, false, Option, Some, None, refl, sym, ap, subst, ◌∙◌, inl, inr, if◌then◌else◌, is_some}
-use Rattle.otel_layer.proofs.Common.{remove_entry, cases_Bool, Context, SpanContext, Record, ids_of, RecorderValue, recorder_ids, without_number, empty_context, Lane, Hook, OnNewSpan, OnRecord, OnFollows, OnEvent, OnEnter, OnExit, OnClose, SpanData, record_of, Core, Reserves, SameCore, StartsIf, StartsSpan, StartsIfSome, parent_source, MakesSpan, FollowsSpan, EntersLane, DetachesOwnContext, EntersSpan, ExitsSpan, ClosesSpan, IfKnown, all_events, Step, DoesHook, data_at, knows_span, with_op, start_context, context_unless_started, own_context_or, is_id, Recording, recording_of, with_applied, with_start_under, with_start, with_starts, with_span_under, with_new_recorded, with_started_link, with_follow, source_of, with_entry_op, with_entry, without_closed, closed_started, with_close, AttachesOwnContext, Detaches, Enters, Exits, ChangesNothing, RecordsHook}
+use Rattle.otel_layer.proofs.Common.{remove_entry, cases_Bool, Context, SpanContext, Record, ids_of, RecorderValue, recorder_ids, without_number, empty_context, Lane, Hook, OnNewSpan, OnRecord, OnFollows, OnEvent, OnEnter, OnExit, OnClose, SpanData, record_of, Core, Reserves, SameCore, StartsIf, StartsSpan, StartsIfSome, parent_source, MakesSpan, FollowsSpan, EntersLane, DetachesOwnContext, EntersSpan, ExitsSpan, ClosesSpan, IfKnown, all_events_effect, Step, DoesHook, data_at, knows_span, with_op, start_context, context_unless_started, own_context_or, is_id, Recording, recording_of, with_applied, with_start_under, with_start, with_start_if_some, with_span_under, with_new_span, with_started_link, with_follow, id_if_on, with_entry_op, with_entry, with_span_finished, with_close_of_started, with_close, AttachesOwnContext, Detaches, Enters, Exits, ChangesNothing, RecordsHook}
 use Rattle.std.proofs.lemmas.Map.Made.{is_some-lookup}
 use Rattle.std.proofs.lemmas.Bool.{true≢false}
 use Rattle.otel_base.specs.Recorder.{DoesRecorder as RecordsBy}
@@ -33,7 +33,7 @@ if_recording (Some under) id at c d h =
 pub start_recording : (id at : ℕ) (c d : Core RecorderValue) → StartsSpan RecordsBy id at c d → recording_of d ≡ with_start id at (recording_of c)
 start_recording id at c d h = if_recording (start_context (data_at id c.spans)) id at c d h
 
-starts_recording : (o : Option ℕ) (at : ℕ) (c d : Core RecorderValue) → StartsIfSome RecordsBy o at c d → recording_of d ≡ with_starts o at (recording_of c)
+starts_recording : (o : Option ℕ) (at : ℕ) (c d : Core RecorderValue) → StartsIfSome RecordsBy o at c d → recording_of d ≡ with_start_if_some o at (recording_of c)
 starts_recording None at c d h = ap recording_of h
 starts_recording (Some id) at c d h = start_recording id at c d h
 
@@ -50,7 +50,7 @@ detaches (Some number) before later h = h.live
 enters : (c d : Core RecorderValue) (id at : ℕ) (before later : Lane) → EntersSpan RecordsBy c id at before later d → Enters (recording_of c) id at before later (recording_of d)
 enters c d id at before later h =
     let active = c.settings.activation in
-    let between = starts_recording (source_of active id) at c h.between h.starts in
+    let between = starts_recording (id_if_on active id) at c h.between h.starts in
     record {
       attached = h.attached;
       lane = subst (λ (r : Recording). AttachesOwnContext active (own_context_or empty_context (data_at id r.spans)) before later h.attached) between
@@ -83,21 +83,21 @@ closes_known c d id at h =
     let b = h.between in
     ap recording_of h.rest
     ∙ ap (λ (t : RecorderValue). let x : Recording = record (recording_of b) { spans = remove_entry (is_id id) b.spans; started = t.started; finished = t.finished } in x) h.finishes.1
-    ∙ ap (λ (o : Option SpanData). without_closed o id at (recording_of b)) (sym h.is)
-    ∙ ap (closed_started id at) (start_recording id at c b h.starts)
+    ∙ ap (λ (o : Option SpanData). with_span_finished o id at (recording_of b)) (sym h.is)
+    ∙ ap (with_close_of_started id at) (start_recording id at c b h.starts)
 
 closes_unknown : (o : Option SpanData) (r : Recording) (id at : ℕ) → o ≡ data_at id r.spans → o ≡ None → with_close id at r ≡ r
 closes_unknown o r id at is none =
     let gone = sym is ∙ none in
-    ap (λ (t : Option SpanData). closed_started id at (with_start_under (start_context t) id at r)) gone ∙ ap (λ (t : Option SpanData). without_closed t id at r) gone
+    ap (λ (t : Option SpanData). with_close_of_started id at (with_start_under (start_context t) id at r)) gone ∙ ap (λ (t : Option SpanData). with_span_finished t id at r) gone
 
 -- ---- all hooks
 
-step_recording : (c : Core RecorderValue) (hook : Hook) (d : Core RecorderValue) → Step RecordsBy all_events c hook d → RecordsHook (recording_of c) hook (recording_of d)
+step_recording : (c : Core RecorderValue) (hook : Hook) (d : Core RecorderValue) → Step RecordsBy all_events_effect c hook d → RecordsHook (recording_of c) hook (recording_of d)
 step_recording c (OnNewSpan id lane at parent current callsite values) d h =
     let source = parent_source c.settings.activation parent current in
-    starts_recording (source_of c.settings.eager id) at h.added d h.begins
-    ∙ ap (with_starts (source_of c.settings.eager id) at) (ap recording_of h.rest ∙ ap (with_span_under source id lane at parent callsite values c.settings c.counting) (starts_recording source at c h.between h.starts))
+    starts_recording (id_if_on c.settings.eager id) at h.added d h.begins
+    ∙ ap (with_start_if_some (id_if_on c.settings.eager id) at) (ap recording_of h.rest ∙ ap (with_span_under source id lane at parent callsite values c.settings c.counting) (starts_recording source at c h.between h.starts))
 step_recording c (OnRecord id at callsite values) d h = ap recording_of h
 step_recording c (OnFollows id from at) d h = ap recording_of h.rest ∙ ap (with_started_link id from at) (start_recording from at c h.between h.starts)
 step_recording c (OnEvent None lane at callsite values) d h = ap recording_of h
@@ -116,6 +116,6 @@ step_recording c (OnClose id at) d h =
       | inr unknown ↦ ap recording_of (h.isnt unknown) ∙ sym (closes_unknown (data_at id c.spans) (recording_of c) id at refl (untold id c.spans unknown))
     ]
 
-pub hook_recording : (c : Core RecorderValue) (hook : Hook) (d : Core RecorderValue) → DoesHook RecordsBy all_events c hook d → RecordsHook (recording_of c) hook (recording_of d)
+pub hook_recording : (c : Core RecorderValue) (hook : Hook) (d : Core RecorderValue) → DoesHook RecordsBy all_events_effect c hook d → RecordsHook (recording_of c) hook (recording_of d)
 hook_recording c hook d h =
     subst (λ (r : Recording). RecordsHook r hook (recording_of d)) (room_recording c h.prepared h.room) (step_recording h.prepared hook d h.step)

@@ -2,7 +2,7 @@
 use Rattle.std.proofs.Common.{◌≡◌, ℕ, suc, zero, ◌+◌, ◌-◌, ◌<◌, ◌≤◌, List, [], ◌∷◌, ◌++◌, length, Bool, true, false, cond, get_or, take, drop, length-append, Option, Some, None, refl, sym, ap, subst, ◌∙◌, arith, inl, inr, IfSome, filter, ◌&&◌, ◌==◌, nat_lt, is_some}
 use Rattle.std.specs.Bool.{then_some}
 use Rattle.std.specs.List.{position}
-use Rattle.otel_layer.proofs.Common.{remove_entry, cases_Bool, cond-true, cond-false, Entry, IdsRise, MayRise, RisesTo, IsSpanTable, is_of_id, is_id, entry_ids, with_entry_read, all_data, knows_span, SpanData, StateValue}
+use Rattle.otel_layer.proofs.Common.{remove_entry, cases_Bool, cond-true, cond-false, Entry, IdsRise, IdsRiseIf, RisesTo, IsSpanTable, is_of_id, is_id, entry_ids, with_entry_read, all_data, knows_span, SpanData, StateValue}
 use Rattle.std.proofs.lemmas.Bool.{lt-ltb, ltb-true, ltb-false, ne_eqb, eq-eqb}
 use Rattle.std.proofs.lemmas.List.{map-append}
 use Rattle.std.proofs.lemmas.List.Sums.{position_or_len_is}
@@ -10,7 +10,7 @@ use Rattle.otel_layer.proofs.Gaps.{read_added, removed_count}
 
 -- ---- what keeps ids keeps them rising
 
-pub same_rise : (rising : Bool) (old new : List Entry) → entry_ids new ≡ entry_ids old → MayRise rising old → MayRise rising new
+pub same_rise : (rising : Bool) (old new : List Entry) → entry_ids new ≡ entry_ids old → IdsRiseIf rising old → IdsRiseIf rising new
 same_rise rising old new e h = λ is. subst (λ (ks : List ℕ). IdsRise 0 ks) (sym e) (h is)
 
 lower : (least less : ℕ) (ks : List ℕ) → less ≤ least → IdsRise least ks → IdsRise less ks
@@ -26,7 +26,7 @@ filtered test least (x ∷ xs) h =
       | inr off ↦ subst Goal (sym (cond-false {A = List Entry} (test x) (x ∷ filter test xs) (filter test xs) off)) (lower (suc x.id) least (entry_ids (filter test xs)) (let a = h.0 in omega (arith, a)) (filtered test (suc x.id) xs h.1))
     ]
 
-pub filtered_rise : (test : Entry → Bool) (xs : List Entry) → MayRise true xs → MayRise true (filter test xs)
+pub filtered_rise : (test : Entry → Bool) (xs : List Entry) → IdsRiseIf true xs → IdsRiseIf true (filter test xs)
 filtered_rise test xs h = λ is. filtered test 0 xs (h is)
 
 -- ---- one more
@@ -56,7 +56,7 @@ rise_to least (x ∷ []) (suc n) id d long less h = absurd (omega (arith, long))
 rise_to least (x ∷ y ∷ ys) zero id d long less h = absurd (omega (arith, long))
 rise_to least (x ∷ y ∷ ys) (suc n) id d long less h = (h.0, rise_to (suc x.id) (y ∷ ys) n id d (omega (arith, long)) less h.1)
 
-pub rise_last : (xs : List Entry) (n id : ℕ) (d : Entry) → length xs ≡ suc n → (get_or xs n d).id < id → MayRise true xs → RisesTo id xs
+pub rise_last : (xs : List Entry) (n id : ℕ) (d : Entry) → length xs ≡ suc n → (get_or xs n d).id < id → IdsRiseIf true xs → RisesTo id xs
 rise_last xs n id d long less h = rise_to 0 xs n id d long less (h refl)
 
 -- ---- the search
@@ -79,7 +79,7 @@ same_at [] k d e within = absurd (omega (arith, within))
 same_at (x ∷ xs) zero d e within = refl
 same_at (x ∷ xs) (suc k) d e within = same_at xs k d e (omega (arith, within))
 
-pub older_to : (xs : List Entry) (id middle : ℕ) (e : Entry) → MayRise true xs → middle < length xs → (get_or xs middle e).id < id → AreOlder xs id (middle + 1)
+pub older_to : (xs : List Entry) (id middle : ℕ) (e : Entry) → IdsRiseIf true xs → middle < length xs → (get_or xs middle e).id < id → AreOlder xs id (middle + 1)
 older_to xs id middle e rise inside less = λ k d below within.
     elim (cases_Bool (nat_lt k middle)) [
       | inl before ↦ (
@@ -93,7 +93,7 @@ older_to xs id middle e rise inside less = λ k d below within.
           omega (arith, less, same))
     ]
 
-pub younger_from : (xs : List Entry) (id middle : ℕ) (e : Entry) → MayRise true xs → middle < length xs → id < (get_or xs middle e).id → AreYounger xs id middle
+pub younger_from : (xs : List Entry) (id middle : ℕ) (e : Entry) → IdsRiseIf true xs → middle < length xs → id < (get_or xs middle e).id → AreYounger xs id middle
 younger_from xs id middle e rise inside more = λ k d from within.
     elim (cases_Bool (nat_lt middle k)) [
       | inl after ↦ (
@@ -125,7 +125,7 @@ other_id : (id : ℕ) (e : Entry) → (e.id ≡ id → ⊥) → is_of_id id e �
 other_id id e other = ap (λ b. b && is_some e.state) (ne_eqb e.id id other)
 
 -- the entry with the id is found, unless it is a gap
-pub placed : (xs : List Entry) (id middle : ℕ) (e : Entry) → MayRise true xs → middle < length xs → (get_or xs middle e).id ≡ id → is_some (get_or xs middle e).state ≡ true → Some middle ≡ position (is_of_id id) xs
+pub placed : (xs : List Entry) (id middle : ℕ) (e : Entry) → IdsRiseIf true xs → middle < length xs → (get_or xs middle e).id ≡ id → is_some (get_or xs middle e).state ≡ true → Some middle ≡ position (is_of_id id) xs
 placed xs id middle e rise inside is live =
     let before : (k : ℕ) → k < middle → is_of_id id (get_or xs k e) ≡ false = λ k less.
     let a = between 0 xs k middle e less inside (rise refl) in
@@ -135,7 +135,7 @@ placed xs id middle e rise inside is live =
     let at = position_or_len_is (is_of_id id) xs middle e (omega (arith, inside)) before (λ _. here) in
     sym (ap (λ (n : ℕ). cond {A = Option ℕ} (nat_lt n (length xs)) (Some n) None) at ∙ cond-true {A = Option ℕ} (nat_lt middle (length xs)) (Some middle) None (lt-ltb middle (length xs) inside))
 
-passed_gap : (xs : List Entry) (id middle : ℕ) (e : Entry) → MayRise true xs → middle < length xs → (get_or xs middle e).id ≡ id → is_some (get_or xs middle e).state ≡ false → (let n : Option ℕ = None in n) ≡ position (is_of_id id) xs
+passed_gap : (xs : List Entry) (id middle : ℕ) (e : Entry) → IdsRiseIf true xs → middle < length xs → (get_or xs middle e).id ≡ id → is_some (get_or xs middle e).state ≡ false → (let n : Option ℕ = None in n) ≡ position (is_of_id id) xs
 passed_gap xs id middle e rise inside is gap = nothing xs id (λ k d within.
     elim (cases_Bool (nat_lt k middle)) [
       | inl before ↦ (
@@ -160,7 +160,7 @@ passed_gap xs id middle e rise inside is gap = nothing xs id (λ k d within.
     and_false true c h = h
     and_false false c h = refl
 
-pub found_or_gap : (xs : List Entry) (id middle : ℕ) (e : Entry) (live : Bool) → MayRise true xs → middle < length xs → (get_or xs middle e).id ≡ id → live ≡ is_some (get_or xs middle e).state → then_some live middle ≡ position (is_of_id id) xs
+pub found_or_gap : (xs : List Entry) (id middle : ℕ) (e : Entry) (live : Bool) → IdsRiseIf true xs → middle < length xs → (get_or xs middle e).id ≡ id → live ≡ is_some (get_or xs middle e).state → then_some live middle ≡ position (is_of_id id) xs
 found_or_gap xs id middle e true rise inside is live = placed xs id middle e rise inside is (sym live)
 found_or_gap xs id middle e false rise inside is live = passed_gap xs id middle e rise inside is (sym live)
 
@@ -192,14 +192,14 @@ kept_whole rising known len old now as_many same count h =
 
 -- one is taken out, and the gaps may be closed
 pub removed_kept : (rising : Bool) (known id len : ℕ) (old now new : List Entry) → length now ≡ len → entry_ids now ≡ entry_ids old → all_data now ≡ remove_entry (is_id id) (all_data old) → knows_span id (all_data old) ≡ true
-    → all_data new ≡ all_data (take len (now ++ drop (length now) old)) → (MayRise true (take len (now ++ drop (length now) old)) → MayRise true new) → IsSpanTable rising known old → IsSpanTable rising (known - 1) new
+    → all_data new ≡ all_data (take len (now ++ drop (length now) old)) → (IdsRiseIf true (take len (now ++ drop (length now) old)) → IdsRiseIf true new) → IsSpanTable rising known old → IsSpanTable rising (known - 1) new
 removed_kept rising known id len old now new as_many same rest there span_data rise h =
     let whole = whole_kept len now (drop (length now) old) as_many in
     let a = ap (λ (es : List (ℕ × SpanData)). length es) (span_data ∙ ap (λ (xs : List Entry). all_data xs) whole ∙ rest) in
     let b = removed_count id (all_data old) there in
     let counts = h.counts in
     record {
-      rises = λ is. rise (subst (λ (xs : List Entry). MayRise true xs) (sym whole) (λ _. subst (λ (ks : List ℕ). IdsRise 0 ks) (sym same) (h.rises is))) refl;
+      rises = λ is. rise (subst (λ (xs : List Entry). IdsRiseIf true xs) (sym whole) (λ _. subst (λ (ks : List ℕ). IdsRise 0 ks) (sym same) (h.rises is))) refl;
       counts = omega (arith, a, b, counts);
     }
 

@@ -1,6 +1,6 @@
 -- What a start, an entry or a close of one state makes of all spans.
 use Rattle.std.proofs.Common.{◌≡◌, ℕ, List, [], ◌∷◌, length, Bool, true, false, Option, Some, None, refl, sym, ap, subst, ◌∙◌, inl, inr, if◌then◌else◌, ◌==◌, unwrap_or, option_map, is_some}
-use Rattle.otel_layer.proofs.Common.{cases_Bool, cond-true, cond-false, or_parts, remove_entry, Context, SpanData, after_op, data_at, update, with_op, with_span_data, knows_span, start_context, own_context_or, is_id, empty_context, Core, StartsIfSome, StartsIf, context_at}
+use Rattle.otel_layer.proofs.Common.{cases_Bool, cond-true, cond-false, or_parts, remove_entry, Context, SpanData, after_op, data_at, update, with_op, with_span_data, knows_span, start_context, own_context_or, is_id, empty_context, Core, StartsIfSome, StartsIf, own_context_if_known}
 use Rattle.std.proofs.lemmas.Bool.{eq-eqb}
 use Rattle.std.proofs.lemmas.Map.Made.{is_some-lookup}
 use Rattle.otel_base.specs.Tracer.{TracerCall}
@@ -115,8 +115,8 @@ module _ {T : Type 0} (does : T → TracerCall → T → Type 0) (id at : ℕ) (
   started_in now span_data begun is changed h =
       subst (λ (o : Option SpanData). StartsTo does (start_context o) (λ given. with_op id at (ops.Start given) spans) spans s t now) (sym is) (started_by (start_context (Some span_data)) now span_data begun is changed h)
 
-  pub shown_in : (now : List (ℕ × SpanData)) (span_data begun : SpanData) → data_at id spans ≡ Some span_data → now ≡ update id (λ _. begun) spans → Some (record { span = begun.own }) ≡ context_at (data_at id now)
-  shown_in now span_data begun is changed = sym (ap (λ (xs : List (ℕ × SpanData)). context_at (data_at id xs)) changed ∙ ap context_at (found_at id (λ _. begun) spans span_data is))
+  pub shown_in : (now : List (ℕ × SpanData)) (span_data begun : SpanData) → data_at id spans ≡ Some span_data → now ≡ update id (λ _. begun) spans → Some (record { span = begun.own }) ≡ own_context_if_known (data_at id now)
+  shown_in now span_data begun is changed = sym (ap (λ (xs : List (ℕ × SpanData)). own_context_if_known (data_at id xs)) changed ∙ ap own_context_if_known (found_at id (λ _. begun) spans span_data is))
 
   pub unstarted : data_at id spans ≡ None → StartsIn does id at spans s s spans
   unstarted is = subst (λ (o : Option SpanData). StartsTo does (start_context o) (λ given. with_op id at (ops.Start given) spans) spans s s spans) (sym is) (refl, refl)

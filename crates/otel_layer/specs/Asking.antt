@@ -29,12 +29,12 @@ pub record Asks {S R : Type 0} (touches : S → PartCall → S → Type 0) (old 
   pub is : result ≡ read answer
 
 -- a link
-abbrev pub link_of : SpanContext → List KeyValue → Op
-link_of context attributes = ops.Link (record { context = context; attributes = attributes })
+abbrev pub link_op : SpanContext → List KeyValue → Op
+link_op context attributes = ops.Link (record { context = context; attributes = attributes })
 
 -- an event
-abbrev pub event_at : List ℕ → ℕ → List KeyValue → Op
-event_at name time attributes = ops.AddEvent (record { name = name; time = time; attributes = attributes })
+abbrev pub add_event_op : List ℕ → ℕ → List KeyValue → Op
+add_event_op name time attributes = ops.AddEvent (record { name = name; time = time; attributes = attributes })
 
 -- whether memory was wanted
 abbrev pub done_answer : Option (Result OpReply Memory) → Result (Unit {0}) Memory
@@ -76,5 +76,5 @@ pub record AsksContext {S : Type 0} (touches : S → PartCall → S → Type 0) 
   pub is : result ≡ context_or_empty answer
 
 -- the parent of an enabled handle's span is set exactly while it isn't started, if the stack shows a layer
-abbrev pub set_unless_started : SpanData → Result (Unit {0}) SetParentError
-set_unless_started span_data = if is_some span_data.own then Err refusals.AlreadyStarted else Ok tt
+abbrev pub ok_unless_started : SpanData → Result (Unit {0}) SetParentError
+ok_unless_started span_data = if is_some span_data.own then Err refusals.AlreadyStarted else Ok tt

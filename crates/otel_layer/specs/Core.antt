@@ -49,8 +49,8 @@ abbrev pub is_token : ℕ → ℕ → Token → Bool
 is_token lane id token = token.lane == lane && token.id == id
 
 -- how many entries of a span are open on a lane
-abbrev pub entries_by : List Token → ℕ → ℕ → ℕ
-entries_by tokens lane id = count_by (is_token lane id) tokens
+abbrev pub open_entry_count : List Token → ℕ → ℕ → ℕ
+open_entry_count tokens lane id = count_by (is_token lane id) tokens
 
 abbrev pub is_attached_as : ℕ → Option ℕ → Bool
 is_attached_as number None = false
@@ -65,7 +65,7 @@ abbrev pub kept_by : Bool → List Token → ℕ → ℕ → ℕ
 kept_by activation tokens lane number = if activation then count_by (keeps_as lane number) tokens else 0
 
 abbrev pub seen_by : List ℕ → List Token → KnownSpans
-seen_by ids tokens = record { knows = λ id. list_any (is_id id) ids; entries = λ lane id. entries_by tokens lane id }
+seen_by ids tokens = record { knows = λ id. list_any (is_id id) ids; entries = λ lane id. open_entry_count tokens lane id }
 
 -- the same of a layer
 abbrev pub kept_in : {T : Type 0} → Core T → ℕ → ℕ → ℕ

@@ -8,25 +8,25 @@ use Rattle.trace_base.specs.layers.Hooks.{Hook, OnNewSpan, OnRecord, OnFollows, 
 use Rattle.otel_state.specs.declared.op.Op.{Op}
 use Rattle.otel_state.specs.declared.op.Op.TheVariants as ops
 use Rattle.otel_state.specs.declared.settings.LayerSettings.{LayerSettings}
-use Rattle.otel_state.specs.fields.EventFields.{event_of}
+use Rattle.otel_state.specs.fields.EventFields.{event_op}
 use Rattle.otel_state.specs.States.{SpanData, after_op}
 use Rattle.otel_layer.specs.Core.{Core}
 use Rattle.otel_layer.specs.laws.HookLemmas.{StartsNoSpan, all_keep_own}
 use Rattle.otel_layer.specs.laws.RoomLemmas.{same_core_does}
-use Rattle.otel_layer.specs.Steps.{EventEffect, SameCore, Step, DoesHook, all_events}
+use Rattle.otel_layer.specs.Steps.{EventEffect, SameCore, Step, DoesHook, all_events_effect}
 
 -- an event is counted, and applied after that if it is taken
 abbrev pub after_counted : Bool → ℕ → Op → SpanData → SpanData
 after_counted is_taken at op span_data = if is_taken then after_op (after_op span_data at ops.Counted) at op else after_op span_data at ops.Counted
 
 -- what events make of their spans, where a filter decides by lane and callsite which it takes
-abbrev pub counted_events : (ℕ → Callsite → Bool) → EventEffect
-counted_events enables settings lane at callsite values span_data = after_counted (enables lane callsite) at (event_of callsite values settings at) span_data
+abbrev pub counted_events_effect : (ℕ → Callsite → Bool) → EventEffect
+counted_events_effect enables settings lane at callsite values span_data = after_counted (enables lane callsite) at (event_op callsite values settings at) span_data
 
 -- the same where a filter may be given: without one each event is applied, and none is counted
-abbrev pub events_by : {F : Type 0} → (F → ℕ → Callsite → Bool) → Option F → EventEffect
-events_by enables None = all_events
-events_by enables (Some filter) = counted_events (enables filter)
+abbrev pub events_effect : {F : Type 0} → (F → ℕ → Callsite → Bool) → Option F → EventEffect
+events_effect enables None = all_events_effect
+events_effect enables (Some filter) = counted_events_effect (enables filter)
 
 -- the same layer, which counts or doesn't
 abbrev pub counting_core : {T : Type 0} → Bool → Core T → Core T
@@ -34,11 +34,11 @@ counting_core counting c = record c { counting = counting }
 
 -- ---- laws
 
-counted_own : (is_taken : Bool) (settings : LayerSettings) (at : ℕ) (callsite : Callsite) (values : ValueSet) (span_data : SpanData) → (after_counted is_taken at (event_of callsite values settings at) span_data).own ≡ span_data.own
+counted_own : (is_taken : Bool) (settings : LayerSettings) (at : ℕ) (callsite : Callsite) (values : ValueSet) (span_data : SpanData) → (after_counted is_taken at (event_op callsite values settings at) span_data).own ≡ span_data.own
 counted_own true settings at callsite values span_data = refl
 counted_own false settings at callsite values span_data = refl
 
-pub events_keep_own : {F : Type 0} (enables : F → ℕ → Callsite → Bool) (filter : Option F) → StartsNoSpan (events_by enables filter)
+pub events_keep_own : {F : Type 0} (enables : F → ℕ → Callsite → Bool) (filter : Option F) → StartsNoSpan (events_effect enables filter)
 events_keep_own enables None = all_keep_own
 events_keep_own enables (Some filter) = λ settings lane at callsite values span_data. counted_own (enables filter lane callsite) settings at callsite values span_data
 

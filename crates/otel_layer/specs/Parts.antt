@@ -45,23 +45,23 @@ abbrev pub AppliesIn : List (ℕ × SpanData) → ℕ → ℕ → Op → Option 
 AppliesIn spans id at op answer now = AppliesTo (data_at id spans) spans id at op answer now
 
 -- the own context of a span, if it is known
-abbrev pub context_at : Option SpanData → Option Context
-context_at None = None
-context_at (Some span_data) = Some (record { span = span_data.own })
+abbrev pub own_context_if_known : Option SpanData → Option Context
+own_context_if_known None = None
+own_context_if_known (Some span_data) = Some (record { span = span_data.own })
 
 -- ---- a layer
 
 -- an op is applied to the span's state; a span that is shown starts
 abbrev pub Touches : {T : Type 0} → (T → TracerCall → T → Type 0) → Core T → PartCall → Core T → Type 0
 Touches does c (Applies id at op answer) d = IsOutside op × AppliesIn c.spans id at op answer d.spans × (d ≡ record c { spans = d.spans })
-Touches does c (GivesContext id at answer) d = StartsSpan does id at c d × (answer ≡ context_at (data_at id d.spans))
+Touches does c (GivesContext id at answer) d = StartsSpan does id at c d × (answer ≡ own_context_if_known (data_at id d.spans))
 
 -- ---- what is told
 
 -- the span starts under a context, if there is one to start under
 abbrev pub GivesContextIn : Option Context → List (ℕ × SpanData) → ℕ → ℕ → Option Context → List (ℕ × SpanData) → Type 0
-GivesContextIn None spans id at answer now = (now ≡ spans) × (answer ≡ context_at (data_at id now))
-GivesContextIn (Some under) spans id at answer now = (given : SpanContext) × (now ≡ with_op id at (ops.Start given) spans) × (answer ≡ context_at (data_at id now))
+GivesContextIn None spans id at answer now = (now ≡ spans) × (answer ≡ own_context_if_known (data_at id now))
+GivesContextIn (Some under) spans id at answer now = (given : SpanContext) × (now ≡ with_op id at (ops.Start given) spans) × (answer ≡ own_context_if_known (data_at id now))
 
 -- the spans after a call, where they are told
 abbrev pub AnswersCall : List (ℕ × SpanData) → PartCall → List (ℕ × SpanData) → Type 0

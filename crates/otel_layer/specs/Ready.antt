@@ -8,13 +8,13 @@ use Rattle.trace_base.specs.lanes.Contexts.{AreAttached, IsFull}
 use Rattle.trace_base.specs.layers.Hooks.{Preparation, ForNewSpan, ForRecord, ForFollows, ForEvent, ForEnter}
 use Rattle.otel_state.specs.declared.op.Op.{Op}
 use Rattle.otel_state.specs.declared.op.Op.TheVariants as ops
-use Rattle.otel_state.specs.fields.EventFields.{event_of}
+use Rattle.otel_state.specs.fields.EventFields.{event_op}
 use Rattle.otel_state.specs.fields.SpanFields.{span_update}
 use Rattle.otel_state.specs.States.{StateValue}
 use Rattle.otel_layer.specs.declared.ready.Ready.{Ready}
 use Rattle.otel_layer.specs.declared.ready.Ready.TheVariants as ready
 use Rattle.otel_layer.specs.Table.{knows_span, RoomFor, RoomForLink}
-use Rattle.otel_layer.specs.Core.{Core, CoreWithRoom, entries_by, kept_in}
+use Rattle.otel_layer.specs.Core.{Core, CoreWithRoom, open_entry_count, kept_in}
 use Rattle.otel_layer.specs.Steps.{new_span_data}
 
 -- the room for a new span, with the layer and with its tracer
@@ -44,7 +44,7 @@ IsReadyOtel s (ForNewSpan lane callsite values) _ = ⊥
 IsReadyOtel s (ForRecord id callsite values) r = IsReadyOp s id (ops.Update (span_update callsite values s.core.settings)) r
 IsReadyOtel s (ForFollows id from) r = RoomForLink id s.rooms
 IsReadyOtel s (ForEvent None callsite values) r = Unit {0}
-IsReadyOtel s (ForEvent (Some id) callsite values) r = IsReadyOp s id (event_of callsite values s.core.settings 0) r
+IsReadyOtel s (ForEvent (Some id) callsite values) r = IsReadyOp s id (event_op callsite values s.core.settings 0) r
 IsReadyOtel s (ForEnter id lane) r = 0 < s.token_room
 
 -- ---- lanes, for a span that is known
@@ -58,7 +58,7 @@ MeetsFull c id lane = (c.settings.activation ≡ true) × (knows_span id c.spans
 
 -- an entry of it is open on the lane, and what entries attached is attached there
 abbrev pub HasOpenEntry : {T : Type 0} → Core T → ℕ → Lane → Type 0
-HasOpenEntry c id lane = knows_span id c.spans ≡ true → 0 < entries_by c.tokens lane.id id
+HasOpenEntry c id lane = knows_span id c.spans ≡ true → 0 < open_entry_count c.tokens lane.id id
 
 abbrev pub IsAttachedIfKnown : {T : Type 0} → Core T → ℕ → Lane → Type 0
 IsAttachedIfKnown c id lane = knows_span id c.spans ≡ true → AreAttached (kept_in c) lane

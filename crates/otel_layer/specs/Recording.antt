@@ -22,16 +22,16 @@ use Rattle.span_handles.specs.Worlds.{read_subscriber, ReleasesChain, closed_in}
 use Rattle.otel_state.specs.declared.op.Op.{Op}
 use Rattle.otel_state.specs.declared.op.Op.TheVariants as ops
 use Rattle.otel_state.specs.declared.settings.LayerSettings.{LayerSettings}
-use Rattle.otel_state.specs.fields.EventFields.{event_of}
+use Rattle.otel_state.specs.fields.EventFields.{event_op}
 use Rattle.otel_state.specs.Settings.{default_settings}
 use Rattle.otel_state.specs.fields.SpanFields.{span_update}
 use Rattle.otel_state.specs.Stack.{last_passing}
 use Rattle.otel_state.specs.States.{SpanData, after_op, record_of}
 use Rattle.otel_layer.specs.declared.layer.tokens.Token.{Token}
 use Rattle.otel_layer.specs.Core.{Core, CoreWithRoom, is_token}
-use Rattle.otel_layer.specs.Parts.{PartCall, Applies, GivesContext, AppliesIn, context_at}
+use Rattle.otel_layer.specs.Parts.{PartCall, Applies, GivesContext, AppliesIn, own_context_if_known}
 use Rattle.otel_layer.specs.Steps.{IfKnown, parent_source, lane_context, context_from, new_span_data, with_link}
-use Rattle.otel_layer.specs.Table.{data_at, knows_span, with_span_data, with_op, start_context, own_context_or, ids_at, is_id}
+use Rattle.otel_layer.specs.Table.{data_at, knows_span, with_span_data, with_op, start_context, own_context_or, ids_if_known, is_id}
 
 -- the spans that are known, with what each has come to, the open entries, how many spans the recorder has started, the
 -- finished ones that weren't taken, and the settings
@@ -74,13 +74,13 @@ abbrev pub with_start : ℕ → ℕ → Recording → Recording
 with_start id at r = with_start_under (start_context (data_at id r.spans)) id at r
 
 -- the span that is named starts, if one is
-abbrev pub with_starts : Option ℕ → ℕ → Recording → Recording
-with_starts None at r = r
-with_starts (Some id) at r = with_start id at r
+abbrev pub with_start_if_some : Option ℕ → ℕ → Recording → Recording
+with_start_if_some None at r = r
+with_start_if_some (Some id) at r = with_start id at r
 
 -- the span that starts where a setting is on: at an entry with activation, or at its making
-abbrev pub source_of : Bool → ℕ → Option ℕ
-source_of on id = if on then Some id else None
+abbrev pub id_if_on : Bool → ℕ → Option ℕ
+id_if_on on id = if on then Some id else None
 
 -- a span is made, after the one started that gives its parent's context
 abbrev pub with_span_under : Option ℕ → ℕ → Lane → ℕ → Parent → Callsite → ValueSet → LayerSettings → Bool → Recording → Recording
@@ -89,14 +89,14 @@ with_span_under source id lane at parent callsite values settings counting r = r
 }
 
 -- and where spans start early it starts at once
-abbrev pub with_new_recorded : ℕ → Lane → ℕ → Parent → Option ℕ → Callsite → ValueSet → Recording → Recording
-with_new_recorded id lane at parent current callsite values r =
+abbrev pub with_new_span : ℕ → Lane → ℕ → Parent → Option ℕ → Callsite → ValueSet → Recording → Recording
+with_new_span id lane at parent current callsite values r =
     let source = parent_source r.settings.activation parent current in
-    with_starts (source_of r.settings.eager id) at (with_span_under source id lane at parent callsite values r.settings r.counting (with_starts source at r))
+    with_start_if_some (id_if_on r.settings.eager id) at (with_span_under source id lane at parent callsite values r.settings r.counting (with_start_if_some source at r))
 
 -- a span is linked to another, which is started
 abbrev pub with_started_link : ℕ → ℕ → ℕ → Recording → Recording
-with_started_link id from at r = record r { spans = with_link id at (ids_at (data_at from r.spans)) r.spans }
+with_started_link id from at r = record r { spans = with_link id at (ids_if_known (data_at from r.spans)) r.spans }
 
 abbrev pub with_follow : ℕ → ℕ → ℕ → Recording → Recording
 with_follow id from at r = with_started_link id from at (with_start from at r)
@@ -104,7 +104,7 @@ with_follow id from at r = with_started_link id from at (with_start from at r)
 -- an event is told to the span that it reaches
 abbrev pub with_event : Option ℕ → ℕ → Callsite → ValueSet → Recording → Recording
 with_event None at callsite values r = r
-with_event (Some id) at callsite values r = with_applied id at (event_of callsite values r.settings at) r
+with_event (Some id) at callsite values r = with_applied id at (event_op callsite values r.settings at) r
 
 -- an entry, which attached a context as that number, or none
 abbrev pub with_entry_op : ℕ → ℕ → ℕ → Option ℕ → Recording → Recording
@@ -114,7 +114,7 @@ with_entry_op id lane at attached r = record r {
 }
 
 abbrev pub with_entry : ℕ → ℕ → ℕ → Option ℕ → Recording → Recording
-with_entry id lane at attached r = with_entry_op id lane at attached (with_starts (source_of r.settings.activation id) at r)
+with_entry id lane at attached r = with_entry_op id lane at attached (with_start_if_some (id_if_on r.settings.activation id) at r)
 
 -- an exit takes off the span's last entry on the lane
 abbrev pub with_exit : ℕ → ℕ → ℕ → Recording → Recording
@@ -124,16 +124,16 @@ with_exit id lane at r = record r {
 }
 
 -- a known span's record is the next that is finished
-abbrev pub without_closed : Option SpanData → ℕ → ℕ → Recording → Recording
-without_closed None id at r = r
-without_closed (Some span_data) id at r = record r { spans = remove_entry (is_id id) r.spans; finished = r.finished ++ record_of span_data at ∷ [] }
+abbrev pub with_span_finished : Option SpanData → ℕ → ℕ → Recording → Recording
+with_span_finished None id at r = r
+with_span_finished (Some span_data) id at r = record r { spans = remove_entry (is_id id) r.spans; finished = r.finished ++ record_of span_data at ∷ [] }
 
-abbrev pub closed_started : ℕ → ℕ → Recording → Recording
-closed_started id at r = without_closed (data_at id r.spans) id at r
+abbrev pub with_close_of_started : ℕ → ℕ → Recording → Recording
+with_close_of_started id at r = with_span_finished (data_at id r.spans) id at r
 
 -- a span starts, if it hasn't, and closes
 abbrev pub with_close : ℕ → ℕ → Recording → Recording
-with_close id at r = closed_started id at (with_start id at r)
+with_close id at r = with_close_of_started id at (with_start id at r)
 
 -- ---- lanes
 
@@ -156,7 +156,7 @@ Detaches (Some number) before later = later.contexts.live ≡ without_number num
 
 pub record Enters (r : Recording) (id at : ℕ) (before later : Lane) (t : Recording) : Type 0 where
   pub attached : Option ℕ
-  pub lane : AttachesOwnContext r.settings.activation (own_context_or empty_context (data_at id (with_starts (source_of r.settings.activation id) at r).spans)) before later attached
+  pub lane : AttachesOwnContext r.settings.activation (own_context_or empty_context (data_at id (with_start_if_some (id_if_on r.settings.activation id) at r).spans)) before later attached
   pub is : t ≡ with_entry id before.id at attached r
 
 pub record Exits (r : Recording) (id at : ℕ) (before later : Lane) (t : Recording) : Type 0 where
@@ -172,7 +172,7 @@ ChangesNothing r before later t = (t ≡ r) × (later.contexts.live ≡ before.c
 -- ---- all hooks and all calls
 
 abbrev pub RecordsHook : Recording → Hook → Recording → Type 0
-RecordsHook r (OnNewSpan id lane at parent current callsite values) t = t ≡ with_new_recorded id lane at parent current callsite values r
+RecordsHook r (OnNewSpan id lane at parent current callsite values) t = t ≡ with_new_span id lane at parent current callsite values r
 RecordsHook r (OnRecord id at callsite values) t = t ≡ with_applied id at (ops.Update (span_update callsite values r.settings)) r
 RecordsHook r (OnFollows id from at) t = t ≡ with_follow id from at r
 RecordsHook r (OnEvent reached lane at callsite values) t = t ≡ with_event reached at callsite values r
@@ -199,7 +199,7 @@ pub record RecordsChain (at : ℕ) (next : Option ℕ) (x y : Spans) (before lat
 -- a call from outside: an op is applied, or a span starts whose own context is shown
 abbrev pub RecordsPart : Recording → PartCall → Recording → Type 0
 RecordsPart r (Applies id at op answer) t = AppliesIn r.spans id at op answer t.spans × (t ≡ record r { spans = t.spans })
-RecordsPart r (GivesContext id at answer) t = (t ≡ with_start id at r) × (answer ≡ context_at (data_at id t.spans))
+RecordsPart r (GivesContext id at answer) t = (t ≡ with_start id at r) × (answer ≡ own_context_if_known (data_at id t.spans))
 
 -- ---- the stack
 
@@ -223,14 +223,14 @@ data_after true at op None = None
 data_after true at op (Some span_data) = Some (after_op span_data at op)
 
 -- the same for a start as the recorder's next span, if there is a context to start under
-abbrev pub data_started : Option Context → Bool → ℕ → ℕ → Option SpanData → Option SpanData
-data_started None same count at span_data = span_data
-data_started (Some under) same count at span_data = data_after same at (ops.Start (recorder_ids (count + 1) (ids_of under))) span_data
+abbrev pub data_after_start : Option Context → Bool → ℕ → ℕ → Option SpanData → Option SpanData
+data_after_start None same count at span_data = span_data
+data_after_start (Some under) same count at span_data = data_after same at (ops.Start (recorder_ids (count + 1) (ids_of under))) span_data
 
 -- a state with a start as the recorder's next span, where it hasn't started
-abbrev pub started_by : Option SpanContext → ℕ → ℕ → SpanData → SpanData
-started_by (Some own) count at span_data = span_data
-started_by None count at span_data = after_op span_data at (ops.Start (recorder_ids (count + 1) (ids_of span_data.parent)))
+abbrev pub data_once_started : Option SpanContext → ℕ → ℕ → SpanData → SpanData
+data_once_started (Some own) count at span_data = span_data
+data_once_started None count at span_data = after_op span_data at (ops.Start (recorder_ids (count + 1) (ids_of span_data.parent)))
 
 abbrev pub count_after : Option SpanContext → ℕ → ℕ
 count_after (Some own) count = count
@@ -238,7 +238,7 @@ count_after None count = count + 1
 
 -- what a close of a known span leaves
 pub record Closes (id at : ℕ) (r : Recording) (span_data : SpanData) (t : Recording) : Type 0 where
-  pub finished : t.finished ≡ r.finished ++ record_of (started_by span_data.own r.started at span_data) at ∷ []
+  pub finished : t.finished ≡ r.finished ++ record_of (data_once_started span_data.own r.started at span_data) at ∷ []
   pub started : t.started ≡ count_after span_data.own r.started
   pub tokens : t.tokens ≡ r.tokens
   pub settings : t.settings ≡ r.settings

@@ -12,17 +12,17 @@ use Rattle.trace_base.specs.declared.lane.Lane.{Lane}
 use Rattle.trace_base.specs.declared.span.Parent.{Parent}
 use Rattle.trace_base.specs.declared.span.Parent.TheVariants as parent
 use Rattle.trace_base.specs.Spans.{without_last}
-use Rattle.trace_base.specs.lanes.Contexts.{KeepsLane, attached_as}
+use Rattle.trace_base.specs.lanes.Contexts.{KeepsLane, attached_count}
 use Rattle.trace_base.specs.layers.Hooks.{Hook, OnNewSpan, OnRecord, OnFollows, OnEvent, OnEnter, OnExit, OnClose}
 use Rattle.otel_state.specs.declared.op.Op.TheVariants as ops
 use Rattle.otel_state.specs.declared.settings.LayerSettings.{LayerSettings}
-use Rattle.otel_state.specs.fields.EventFields.{event_of}
+use Rattle.otel_state.specs.fields.EventFields.{event_op}
 use Rattle.otel_state.specs.fields.FirstAttributes.{first_attributes}
 use Rattle.otel_state.specs.fields.SpanFields.{span_update}
 use Rattle.otel_state.specs.Stack.{last_passing}
 use Rattle.otel_state.specs.States.{SpanData, data_at_making, after_op, record_of}
 use Rattle.otel_layer.specs.declared.layer.tokens.Token.{Token}
-use Rattle.otel_layer.specs.Table.{data_at, knows_span, with_span_data, update, with_op, start_context, own_context_or, ids_at, is_id}
+use Rattle.otel_layer.specs.Table.{data_at, knows_span, with_span_data, update, with_op, start_context, own_context_or, ids_if_known, is_id}
 use Rattle.otel_layer.specs.Core.{Core, on_spans, is_token}
 
 -- ---- room
@@ -103,7 +103,7 @@ with_link id at (Some context) spans = with_op id at (ops.Link (record { context
 
 -- a span is linked to another one's own context
 abbrev pub with_link_to : ℕ → ℕ → ℕ → List (ℕ × SpanData) → List (ℕ × SpanData)
-with_link_to id from at spans = with_link id at (ids_at (data_at from spans)) spans
+with_link_to id from at spans = with_link id at (ids_if_known (data_at from spans)) spans
 
 -- the followed span starts, and the other is linked to it
 pub record FollowsSpan {T : Type 0} (does : T → TracerCall → T → Type 0) (c : Core T) (id from at : ℕ) (d : Core T) : Type 0 where
@@ -118,8 +118,8 @@ abbrev pub EventEffect : Type 0
 EventEffect = LayerSettings → ℕ → ℕ → Callsite → ValueSet → SpanData → SpanData
 
 -- each event is told to its span
-abbrev pub all_events : EventEffect
-all_events settings lane at callsite values span_data = after_op span_data at (event_of callsite values settings at)
+abbrev pub all_events_effect : EventEffect
+all_events_effect settings lane at callsite values span_data = after_op span_data at (event_op callsite values settings at)
 
 -- ---- entries and exits
 
@@ -133,7 +133,7 @@ pub record AttachesContext (own : Context) (before later : Lane) (attached : Opt
 
 pub record DetachesContext (number : ℕ) (before later : Lane) : Type 0 where
   pub keeps : KeepsLane true before later
-  pub attached : 0 < attached_as number before
+  pub attached : 0 < attached_count number before
   pub live : later.contexts.live ≡ without_number number before.contexts.live
 
 abbrev pub DetachesOwnContext : Option ℕ → Lane → Lane → Type 0

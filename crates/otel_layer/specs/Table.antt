@@ -88,9 +88,9 @@ own_context_or other None = other
 own_context_or other (Some span_data) = record { span = span_data.own }
 
 -- the ids of a span, if it is known
-abbrev pub ids_at : Option SpanData → Option SpanContext
-ids_at None = None
-ids_at (Some span_data) = Some (ids_of (record { span = span_data.own }))
+abbrev pub ids_if_known : Option SpanData → Option SpanContext
+ids_if_known None = None
+ids_if_known (Some span_data) = Some (ids_of (record { span = span_data.own }))
 
 -- the room for one op at a span
 abbrev pub RoomFor : ℕ → Op → List (ℕ × Room) → Type 0
@@ -106,8 +106,8 @@ IdsRise least [] = Unit {0}
 IdsRise least (id ∷ ids) = (least ≤ id) × IdsRise (suc id) ids
 
 -- those of the entries do, if that is said
-abbrev pub MayRise : Bool → List Entry → Type 0
-MayRise rising entries = rising ≡ true → IdsRise 0 (entry_ids entries)
+abbrev pub IdsRiseIf : Bool → List Entry → Type 0
+IdsRiseIf rising entries = rising ≡ true → IdsRise 0 (entry_ids entries)
 
 -- they do with one more
 abbrev pub RisesTo : ℕ → List Entry → Type 0
@@ -115,5 +115,5 @@ RisesTo id entries = IdsRise 0 (entry_ids entries ++ id ∷ [])
 
 -- what a table says of its entries: whether the ids rise, and how many aren't gaps
 pub record IsSpanTable (rising : Bool) (known : ℕ) (entries : List Entry) : Type 0 where
-  pub rises : MayRise rising entries
+  pub rises : IdsRiseIf rising entries
   pub counts : known ≡ length (all_data entries)

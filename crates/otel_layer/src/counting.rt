@@ -109,7 +109,7 @@ impl<T: Drop, F: Drop> Discard for FilteredOpenTelemetryLayer<T, F> {
 impl<T: Tracer, F: Filter> OtelPart for FilteredOpenTelemetryLayer<T, F> {
     ghost has_layer = { λ s. true };
 
-    ghost span_data = { λ s. Some s.inner.core.spans };
+    ghost all_span_data = { λ s. Some s.inner.core.spans };
 
     ghost touches = { λ s call t. Touches T.does s.inner.core call t.inner.core × (t.filter ≡ s.filter) };
 

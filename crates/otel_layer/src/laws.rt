@@ -7,7 +7,7 @@ ghost use Rattle.otel_state.specs.declared.op.OpReply.{OpReply};
 ghost use Rattle.otel_state.specs.States.{SpanData};
 ghost use Rattle.otel_layer.specs.Table.{data_at};
 ghost use Rattle.otel_layer.specs.Parts.{Applies};
-ghost use Rattle.otel_layer.specs.Asking.{parent_answer, set_unless_started};
+ghost use Rattle.otel_layer.specs.Asking.{parent_answer, ok_unless_started};
 
 use crate::part::OtelPart;
 
@@ -15,6 +15,6 @@ use crate::part::OtelPart;
 pub fn parents<S: OtelPart>()
     ensures { (s t : S) (id at : ℕ) (context : Context) (answer : Option (Result OpReply Memory))
         (spans : List (ℕ × SpanData)) (span_data : SpanData) (held : ℕ × ℕ) → S.touches s (Applies id at (ops.SetParent context) answer) t
-        → S.span_data s ≡ Some spans → data_at id spans ≡ Some span_data
-        → parent_answer (Some held) answer ≡ set_unless_started span_data }
+        → S.all_span_data s ≡ Some spans → data_at id spans ≡ Some span_data
+        → parent_answer (Some held) answer ≡ ok_unless_started span_data }
 {}

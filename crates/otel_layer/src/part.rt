@@ -5,7 +5,7 @@ ghost use Rattle.std.proofs.lemmas.Bool.{true≢false};
 ghost use Rattle.otel_state.specs.States.{SpanData};
 ghost use Rattle.otel_layer.specs.Parts.{PartCall, Applies, GivesContext, IsOutside, Touches, TouchesNone, TouchesFirst, AnswersCallIf, IsUnanswered, StaysLayer, StaysStack};
 ghost use Rattle.otel_layer.specs.laws.CallsLemmas.{touches_tell, core_stays, layer_can_start, first_tells, first_none, first_has, first_stay, layered_is, still_layer, still_stack};
-ghost use Rattle.span_registry.specs.Layering.{kept_same, or_same, whole_both, in_step_same};
+ghost use Rattle.span_registry.specs.Layering.{kept_same, or_same, both_whole, in_step_same};
 
 use crate::layer::OpenTelemetryLayer;
 use env_directives::targets::Targets;
@@ -29,7 +29,7 @@ pub trait OtelPart {
     ghost has_layer: { Self → Bool };
 
     /// What the spans that the layer knows have come to, where that is told.
-    ghost span_data: { Self → Option (List (ℕ × SpanData)) };
+    ghost all_span_data: { Self → Option (List (ℕ × SpanData)) };
 
     /// A call, and what it makes of it.
     ghost touches: { Self → PartCall → Self → Type 0 };
@@ -58,7 +58,7 @@ pub trait OtelPart {
     ghost none: { (s : Self) (call : PartCall) (t : Self) → touches s call t → has_layer s ≡ false → IsUnanswered call × (t ≡ s) };
 
     /// What is told is told again after a call, as the call makes it.
-    ghost tells: { (s : Self) (call : PartCall) (t : Self) → touches s call t → AnswersCallIf (span_data s) call (span_data t) };
+    ghost tells: { (s : Self) (call : PartCall) (t : Self) → touches s call t → AnswersCallIf (all_span_data s) call (all_span_data t) };
 
     ghost keeps_has: { (s : Self) (call : PartCall) (t : Self) → touches s call t → has_layer t ≡ has_layer s };
 }
@@ -82,7 +82,7 @@ pub trait OtelSubscriber: Subscriber + OtelPart {
 impl<T: Tracer> OtelPart for OpenTelemetryLayer<T> {
     ghost has_layer = { λ s. true };
 
-    ghost span_data = { λ s. Some s.core.spans };
+    ghost all_span_data = { λ s. Some s.core.spans };
 
     ghost touches = { λ s call t. Touches T.does s.core call t.core };
 
@@ -132,7 +132,7 @@ impl<L> WithoutOtel for reload::Layer<L> {}
 impl<P: WithoutOtel> OtelPart for P {
     ghost has_layer = { λ s. false };
 
-    ghost span_data = { λ s. None };
+    ghost all_span_data = { λ s. None };
 
     ghost touches = { λ s call t. TouchesNone s call t };
 
@@ -174,7 +174,7 @@ impl<S: Subscriber + WithoutOtel> OtelSubscriber for S {
 impl<L: Layer + OtelPart, S: Subscriber + OtelPart> OtelPart for Layered<L, S> {
     ghost has_layer = { λ s. L.has_layer s.layer || S.has_layer s.inner };
 
-    ghost span_data = { λ s. if L.has_layer s.layer then L.span_data s.layer else S.span_data s.inner };
+    ghost all_span_data = { λ s. if L.has_layer s.layer then L.all_span_data s.layer else S.all_span_data s.inner };
 
     ghost touches = { λ s call t. TouchesFirst (L.has_layer s.layer) L.touches S.touches s.layer s.inner call t.layer t.inner };
 
@@ -185,7 +185,7 @@ impl<L: Layer + OtelPart, S: Subscriber + OtelPart> OtelPart for Layered<L, S> {
         (n.0, layered_is s t n.1 n.2) };
 
     ghost tells = { λ s call t d.
-        first_tells L.has_layer S.has_layer L.touches S.touches L.keeps_has L.span_data S.span_data L.tells S.tells
+        first_tells L.has_layer S.has_layer L.touches S.touches L.keeps_has L.all_span_data S.all_span_data L.tells S.tells
         s.layer s.inner call t.layer t.inner d };
 
     ghost keeps_has = { λ s call t d.
@@ -220,7 +220,7 @@ impl<L: OtelLayer, S: OtelSubscriber> OtelSubscriber for Layered<L, S> {
           spans_same = both.1.spans_same;
           kept_same = kept_same (L.kept s.layer) (L.kept t.layer) (S.kept s.inner) (S.kept t.inner) both.0.kept_same both.1.kept_same;
           attaches_same = or_same (L.attaches s.layer) (L.attaches t.layer) (S.attaches s.inner) (S.attaches t.inner) both.0.attaches_same both.1.attaches_same;
-          whole = λ w. whole_both (S.is_whole s.inner) (S.is_whole t.inner) (L.is_whole s.layer) (L.is_whole t.layer) (S.spans s.inner) (S.spans t.inner) (L.seen s.layer) (L.seen t.layer)
+          whole = λ w. both_whole (S.is_whole s.inner) (S.is_whole t.inner) (L.is_whole s.layer) (L.is_whole t.layer) (S.spans s.inner) (S.spans t.inner) (L.seen s.layer) (L.seen t.layer)
               (S.attaches s.inner) (S.attaches t.inner) (L.attaches s.layer) (L.attaches t.layer) both.1.whole both.0.whole
               (in_step_same (S.spans s.inner) (S.spans t.inner) (L.seen s.layer) (L.seen t.layer) both.1.spans_same both.0.seen_same) both.1.attaches_same both.0.attaches_same w;
         } };

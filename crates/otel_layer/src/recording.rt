@@ -10,7 +10,7 @@ ghost use Rattle.otel_state.specs.States.{SpanData};
 ghost use Rattle.otel_layer.specs.Parts.{PartCall};
 ghost use Rattle.otel_layer.specs.Table.{data_at, with_op, with_span_data, start_context, is_id};
 ghost use Rattle.otel_layer.specs.Recording.{RecordingWorlds, Recording, RecordsCall, RecordsChain, RecordsPart, recording_in};
-ghost use Rattle.otel_layer.specs.Recording.{with_start, with_close, data_after, data_started, Closes};
+ghost use Rattle.otel_layer.specs.Recording.{with_start, with_close, data_after, data_after_start, Closes};
 
 use crate::layer::OpenTelemetryLayer;
 use crate::part::{OtelPart, OtelSubscriber};
@@ -52,7 +52,7 @@ pub fn states()
     ensures op { (id other at : ℕ) (op : Op) (spans : List (ℕ × SpanData))
         → data_at other (with_op id at op spans) ≡ data_after (other == id) at op (data_at other spans) }
     ensures start { (id other at : ℕ) (r : Recording) → data_at other (with_start id at r).spans
-        ≡ data_started (start_context (data_at id r.spans)) (other == id) r.started at (data_at other r.spans) }
+        ≡ data_after_start (start_context (data_at id r.spans)) (other == id) r.started at (data_at other r.spans) }
     ensures made { (id other : ℕ) (span_data : SpanData) (spans : List (ℕ × SpanData)) → data_at id spans ≡ None
         → data_at other (with_span_data id span_data spans) ≡ (if other == id then Some span_data else data_at other spans) }
     ensures removed { (id other : ℕ) (spans : List (ℕ × SpanData)) → other ≢ id
@@ -62,7 +62,7 @@ pub fn states()
 {}
 
 /// No span is known yet under the id of the next one.
-pub fn next()
+pub fn next_id_is_unknown()
     ensures { (world : RecordingWorlds) (dispatch : ℕ) (s : _)
         → slice_get world.subscribers dispatch ≡ Some s → ⟦<PlainRecordedStack as Subscriber>⟧.is_whole s
         → data_at (length (spans_in ⟦<PlainRecordedStack as Subscriber>⟧.spans world dispatch).made)

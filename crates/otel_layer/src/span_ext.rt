@@ -7,7 +7,7 @@ ghost use Rattle.span_handles.specs.Handles.{HeldSpan, HasOn};
 ghost use Rattle.span_handles.specs.Entries.{IsThere};
 ghost use Rattle.otel_layer.specs.Parts.{Applies, GivesContext, IsOutside};
 ghost use Rattle.otel_layer.specs.Asking.{AppliesOn, AsksDone, AsksParent, GivesContextOn, AsksContext};
-ghost use Rattle.otel_layer.specs.Asking.{link_of, event_at, done_answer, parent_answer};
+ghost use Rattle.otel_layer.specs.Asking.{link_op, add_event_op, done_answer, parent_answer};
 
 use crate::part::OtelPart;
 use otel_base::context::{Context, SpanContext};
@@ -51,7 +51,7 @@ pub trait OpenTelemetrySpanExt {
     ) -> Result<(), Memory>
         requires { IsThere world.old (held self.now) }
         ensures valid { is_valid cx ≡ true
-            → AsksDone S.touches world.old world.new at (link_of cx []) (held self.now) result }
+            → AsksDone S.touches world.old world.new at (link_op cx []) (held self.now) result }
         ensures invalid { is_valid cx ≡ false → (result ≡ Ok tt) × (world.new ≡ world.old) };
 
     /// Links the span to another with attributes; an invalid context is ignored.
@@ -64,7 +64,7 @@ pub trait OpenTelemetrySpanExt {
     ) -> Result<(), Memory>
         requires { IsThere world.old (held self.now) }
         ensures valid { is_valid cx ≡ true
-            → AsksDone S.touches world.old world.new at (link_of cx attributes) (held self.now) result }
+            → AsksDone S.touches world.old world.new at (link_op cx attributes) (held self.now) result }
         ensures invalid { is_valid cx ≡ false → (result ≡ Ok tt) × (world.new ≡ world.old) };
 
     /// Starts the span, and answers its own context; the empty one where there is none.
@@ -100,7 +100,7 @@ pub trait OpenTelemetrySpanExt {
         attributes: Items<KeyValue>,
     ) -> Result<(), Memory>
         requires { IsThere world.old (held self.now) }
-        ensures { AsksDone S.touches world.old world.new at (event_at name at attributes) (held self.now) result };
+        ensures { AsksDone S.touches world.old world.new at (add_event_op name at attributes) (held self.now) result };
 
     /// Adds an event to the span, which happened at a time.
     fn add_event_with_timestamp<S: Subscriber + OtelPart>(
@@ -112,7 +112,7 @@ pub trait OpenTelemetrySpanExt {
         attributes: Items<KeyValue>,
     ) -> Result<(), Memory>
         requires { IsThere world.old (held self.now) }
-        ensures { AsksDone S.touches world.old world.new at (event_at name time attributes) (held self.now) result };
+        ensures { AsksDone S.touches world.old world.new at (add_event_op name time attributes) (held self.now) result };
 }
 
 impl OpenTelemetrySpanExt for Span {
@@ -292,13 +292,13 @@ fn parent_answer(span: &Span, answer: Option<Result<OpReply, Memory>>) -> Result
     ensures { result ≡ parent_answer span.now.held answer }
 {
     match held_by(span) {
-        Some(_) => set_answer(answer),
+        Some(_) => held_parent_answer(answer),
         None => Err(SetParentError::SpanDisabled),
     }
 }
 
 // Whether the parent of a span was set.
-fn set_answer(answer: Option<Result<OpReply, Memory>>) -> Result<(), SetParentError>
+fn held_parent_answer(answer: Option<Result<OpReply, Memory>>) -> Result<(), SetParentError>
     ensures { (held : ℕ × ℕ) → result ≡ parent_answer (Some held) answer }
 {
     match answer {

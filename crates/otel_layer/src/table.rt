@@ -4,9 +4,9 @@ ghost use Rattle.std.specs.List.{position};
 ghost use Rattle.std.specs.Map.{remove_entry};
 ghost use Rattle.otel_state.specs.States.{is_growing};
 ghost use Rattle.otel_layer.specs.Counting.{after_counted};
-ghost use Rattle.otel_layer.specs.Parts.{AppliesIn, context_at};
+ghost use Rattle.otel_layer.specs.Parts.{AppliesIn, own_context_if_known};
 ghost use Rattle.otel_layer.specs.Starts.{StartsIn, EntersIn};
-ghost use Rattle.otel_layer.specs.Table.{MayRise, RisesTo, is_of_id, all_data, rooms, entry_ids, is_id, data_at, knows_span, update, with_op, with_span_data, RoomFor, RoomForLink};
+ghost use Rattle.otel_layer.specs.Table.{IdsRiseIf, RisesTo, is_of_id, all_data, rooms, entry_ids, is_id, data_at, knows_span, update, with_op, with_span_data, RoomFor, RoomForLink};
 
 use crate::starts::{count_event, enter_state, start_state};
 use otel_base::context::Context;
@@ -39,7 +39,7 @@ pub(crate) struct Table {
 
 impl Model for Table {
     ghost use Rattle.std.specs.Prelude.{◌-◌, length, vec_capacity};
-    ghost use Rattle.otel_layer.specs.Parts.{AppliesIn, context_at};
+    ghost use Rattle.otel_layer.specs.Parts.{AppliesIn, own_context_if_known};
     ghost use Rattle.otel_layer.specs.Table.{SpanTableValue, span_table_value, IsSpanTable};
 
     ghost Value = { SpanTableValue };
@@ -81,7 +81,7 @@ impl Table {
     pub(crate) fn start<T: Tracer>(&mut self, id: Id, at: u64, tracer: &mut T) -> Option<Context>
         requires { T.started tracer.old < 2 ^ 63 }
         ensures starts { StartsIn T.does id at self.old.spans tracer.old tracer.new self.new.spans }
-        ensures context { result ≡ context_at (data_at id self.new.spans) }
+        ensures context { result ≡ own_context_if_known (data_at id self.new.spans) }
         ensures rooms { self.new.rooms ≡ self.old.rooms }
         ensures room { self.new.room ≡ self.old.room }
         ensures few { T.started tracer.new ≤ T.started tracer.old + 1 }
@@ -134,7 +134,7 @@ impl Table {
         requires { RoomFor id op self.old.rooms }
         ensures { self.new.spans ≡ update id (after_counted is_taken at op) self.old.spans }
     {
-        count(
+        count_event_of_id(
             self.entries.as_mut_slice(),
             &self.places,
             self.rising,
@@ -227,7 +227,7 @@ impl Table {
 
 // Whether a span is younger than all that are there, if their ids rise.
 fn is_youngest(entries: &[Entry], id: Id) -> bool
-    ensures { result ≡ true → MayRise true entries.now → RisesTo id entries.now }
+    ensures { result ≡ true → IdsRiseIf true entries.now → RisesTo id entries.now }
 {
     let count = entries.len();
     if count == 0 {
@@ -238,7 +238,7 @@ fn is_youngest(entries: &[Entry], id: Id) -> bool
 
 // Where the entry of a span stands.
 fn find(entries: &[Entry], places: &Vec<u32>, rising: bool, id: Id) -> Option<usize>
-    requires { MayRise rising entries.now }
+    requires { IdsRiseIf rising entries.now }
     ensures { result ≡ position (is_of_id id) entries.now }
 {
     if rising {
@@ -253,7 +253,7 @@ fn find(entries: &[Entry], places: &Vec<u32>, rising: bool, id: Id) -> Option<us
 
 // The same by the place where the entry was put, if it stands there.
 fn guess(entries: &[Entry], places: &Vec<u32>, id: Id) -> Option<usize>
-    requires { MayRise true entries.now }
+    requires { IdsRiseIf true entries.now }
     ensures { IfSome result (λ place. Some place ≡ position (is_of_id id) entries.now) }
 {
     let wanted = id.place();
@@ -292,7 +292,7 @@ fn note_moved(before: usize, places: &mut Vec<u32>, entries: &[Entry]) {
 
 // The same where the ids rise: half of what is left falls away at each step.
 fn search(entries: &[Entry], id: Id) -> Option<usize>
-    requires { MayRise true entries.now }
+    requires { IdsRiseIf true entries.now }
     ensures { result ≡ position (is_of_id id) entries.now }
 {
     let wanted = id.place();
@@ -314,7 +314,7 @@ fn search(entries: &[Entry], id: Id) -> Option<usize>
 }
 
 fn is_known(entries: &[Entry], places: &Vec<u32>, rising: bool, id: Id) -> bool
-    requires { MayRise rising entries.now }
+    requires { IdsRiseIf rising entries.now }
     ensures { result ≡ knows_span id (all_data entries.now) }
 {
     find(entries, places, rising, id).is_some()
@@ -328,10 +328,10 @@ fn start<T: Tracer>(
     at: u64,
     tracer: &mut T,
 ) -> Option<Context>
-    requires rises { MayRise rising entries.old }
+    requires rises { IdsRiseIf rising entries.old }
     requires few { T.started tracer.old < 2 ^ 63 }
     ensures starts { StartsIn T.does id at (all_data entries.old) tracer.old tracer.new (all_data entries.new) }
-    ensures context { result ≡ context_at (data_at id (all_data entries.new)) }
+    ensures context { result ≡ own_context_if_known (data_at id (all_data entries.new)) }
     ensures rooms { rooms entries.new ≡ rooms entries.old }
     ensures ids { entry_ids entries.new ≡ entry_ids entries.old }
     ensures few { T.started tracer.new ≤ T.started tracer.old + 1 }
@@ -353,7 +353,7 @@ fn enter<T: Tracer>(
     at: u64,
     tracer: &mut T,
 ) -> Option<Context>
-    requires rises { MayRise rising entries.old }
+    requires rises { IdsRiseIf rising entries.old }
     requires few { T.started tracer.old < 2 ^ 63 }
     ensures enters { EntersIn T.does id at (all_data entries.old) tracer.old tracer.new (all_data entries.new) result }
     ensures ids { entry_ids entries.new ≡ entry_ids entries.old }
@@ -368,7 +368,7 @@ fn enter<T: Tracer>(
 }
 
 fn put(entries: &mut [Entry], places: &Vec<u32>, rising: bool, id: Id, at: u64, op: Op) -> bool
-    requires rises { MayRise rising entries.old }
+    requires rises { IdsRiseIf rising entries.old }
     requires room { RoomFor id op (rooms entries.old) }
     ensures known { result ≡ knows_span id (all_data entries.old) }
     ensures span_data { all_data entries.new ≡ with_op id at op (all_data entries.old) }
@@ -390,7 +390,7 @@ fn put(entries: &mut [Entry], places: &Vec<u32>, rising: bool, id: Id, at: u64, 
     }
 }
 
-fn count(
+fn count_event_of_id(
     entries: &mut [Entry],
     places: &Vec<u32>,
     rising: bool,
@@ -399,7 +399,7 @@ fn count(
     op: Op,
     is_taken: bool,
 )
-    requires rises { MayRise rising entries.old }
+    requires rises { IdsRiseIf rising entries.old }
     requires room { RoomFor id op (rooms entries.old) }
     ensures span_data { all_data entries.new ≡ update id (after_counted is_taken at op) (all_data entries.old) }
     ensures ids { entry_ids entries.new ≡ entry_ids entries.old }
@@ -420,7 +420,7 @@ fn reserve_op(
     id: Id,
     op: &Op,
 ) -> Result<(), Memory>
-    requires rises { MayRise rising entries.old }
+    requires rises { IdsRiseIf rising entries.old }
     ensures span_data { all_data entries.new ≡ all_data entries.old }
     ensures room { OnOk result (RoomFor id op.now (rooms entries.new)) }
     ensures ids { entry_ids entries.new ≡ entry_ids entries.old }
@@ -440,7 +440,7 @@ fn reserve_link(
     rising: bool,
     id: Id,
 ) -> Result<(), Memory>
-    requires rises { MayRise rising entries.old }
+    requires rises { IdsRiseIf rising entries.old }
     ensures span_data { all_data entries.new ≡ all_data entries.old }
     ensures room { OnOk result (RoomForLink id (rooms entries.new)) }
     ensures ids { entry_ids entries.new ≡ entry_ids entries.old }
@@ -462,7 +462,7 @@ fn apply(
     at: u64,
     op: Op,
 ) -> Option<Result<OpReply, Memory>>
-    requires rises { MayRise rising entries.old }
+    requires rises { IdsRiseIf rising entries.old }
     ensures did { AppliesIn (all_data entries.old) id at op result (all_data entries.new) }
     ensures ids { entry_ids entries.new ≡ entry_ids entries.old }
 {
@@ -494,7 +494,7 @@ fn take(entries: &mut [Entry], id: Id, place: usize) -> SpanState
 // Moves the states together where gaps outnumber them: each gap then costs little, whichever spans are taken out.
 fn close_gaps(entries: &mut Vec<Entry>, known: usize)
     ensures span_data { all_data entries.new.items ≡ all_data entries.old.items }
-    ensures rises { MayRise true entries.old.items → MayRise true entries.new.items }
+    ensures rises { IdsRiseIf true entries.old.items → IdsRiseIf true entries.new.items }
 {
     if known < entries.len() / 2 {
         entries.retain(|entry| entry.state.is_some());

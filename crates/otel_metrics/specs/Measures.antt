@@ -18,30 +18,30 @@ use Rattle.otel_metrics.specs.declared.visitor.Number.{Number}
 use Rattle.otel_metrics.specs.Families.{family_of, is_metrics_event}
 
 -- whether a number is one of 63 bits
-abbrev pub if_short : {A : Type 0} → ℕ → A → Option A
-if_short n a = if nat_lt n (2 ^ 63) then Some a else None
+abbrev pub if_fits_i64 : {A : Type 0} → ℕ → A → Option A
+if_fits_i64 n a = if nat_lt n (2 ^ 63) then Some a else None
 
 -- ---- numbers
 
 -- what a number from 0 on is to an instrument of a family
-abbrev pub natural_measure : Family → ℕ → Option (MetricKind × ℤ)
-natural_measure Gauge n = Some (GaugeU64, pos n)
-natural_measure MonotonicCounter n = Some (CounterU64, pos n)
-natural_measure Counter n = if_short n (UpDownCounterI64, pos n)
-natural_measure Histogram n = Some (HistogramU64, pos n)
+abbrev pub natural_as_number : Family → ℕ → Option (MetricKind × ℤ)
+natural_as_number Gauge n = Some (GaugeU64, pos n)
+natural_as_number MonotonicCounter n = Some (CounterU64, pos n)
+natural_as_number Counter n = if_fits_i64 n (UpDownCounterI64, pos n)
+natural_as_number Histogram n = Some (HistogramU64, pos n)
 
 -- what a signed number is to one: a monotonic counter doesn't fall, and no signed number is one of a histogram
-abbrev pub signed_measure : Family → ℤ → Option (MetricKind × ℤ)
-signed_measure Gauge z = Some (GaugeI64, z)
-signed_measure MonotonicCounter (pos n) = Some (CounterU64, pos n)
-signed_measure MonotonicCounter (negsuc n) = None
-signed_measure Counter z = Some (UpDownCounterI64, z)
-signed_measure Histogram z = None
+abbrev pub signed_as_number : Family → ℤ → Option (MetricKind × ℤ)
+signed_as_number Gauge z = Some (GaugeI64, z)
+signed_as_number MonotonicCounter (pos n) = Some (CounterU64, pos n)
+signed_as_number MonotonicCounter (negsuc n) = None
+signed_as_number Counter z = Some (UpDownCounterI64, z)
+signed_as_number Histogram z = None
 
-abbrev pub number_measure : Family → Value → Option (MetricKind × ℤ)
-number_measure family (given.U64 n) = natural_measure family n
-number_measure family (given.I64 z) = signed_measure family z
-number_measure family _ = None
+abbrev pub value_as_number : Family → Value → Option (MetricKind × ℤ)
+value_as_number family (given.U64 n) = natural_as_number family n
+value_as_number family (given.I64 z) = signed_as_number family z
+value_as_number family _ = None
 
 abbrev pub number_named : List ℕ → MetricKind × ℤ → Number
 number_named name n = record { kind = n.0; name = name; value = n.1 }
@@ -49,13 +49,13 @@ number_named name n = record { kind = n.0; name = name; value = n.1 }
 -- the number of a field of a family
 abbrev pub number_of : Option (Family × List ℕ) → Value → Option Number
 number_of None value = None
-number_of (Some family) value = option_map (number_named family.1) (number_measure family.0 value)
+number_of (Some family) value = option_map (number_named family.1) (value_as_number family.0 value)
 
 -- ---- attributes
 
 -- a number is an attribute where no instrument takes it for its name
 abbrev pub natural_as_attribute : Option Family → ℕ → Option OtelValue
-natural_as_attribute None n = if_short n (told.I64 (pos n))
+natural_as_attribute None n = if_fits_i64 n (told.I64 (pos n))
 natural_as_attribute (Some family) n = None
 
 abbrev pub signed_as_attribute : Option Family → ℤ → Option OtelValue
@@ -90,18 +90,18 @@ attribute_of name value = attribute_in (option_map (λ f. f.0) (family_of name))
 abbrev pub at_place : {A : Type 0} → (List ℕ → Value → Option A) → Callsite → ℕ × Value → List A
 at_place of c pair = option_map_or (λ name. option_to_list (of name pair.1)) (slice_get c.fields pair.0) []
 
-abbrev pub number_at : Callsite → ℕ × Value → List Number
-number_at = at_place (λ name value. number_of (family_of name) value)
+abbrev pub numbers_at : Callsite → ℕ × Value → List Number
+numbers_at = at_place (λ name value. number_of (family_of name) value)
 
-abbrev pub attribute_at : Callsite → ℕ × Value → List KeyValue
-attribute_at = at_place attribute_of
+abbrev pub attributes_at : Callsite → ℕ × Value → List KeyValue
+attributes_at = at_place attribute_of
 
 -- the numbers and the attributes of an event, in the order of its values
 abbrev pub numbers : Callsite → ValueSet → List Number
-numbers c values = flat_map (number_at c) values.pairs
+numbers c values = flat_map (numbers_at c) values.pairs
 
 abbrev pub attributes : Callsite → ValueSet → List KeyValue
-attributes c values = flat_map (attribute_at c) values.pairs
+attributes c values = flat_map (attributes_at c) values.pairs
 
 -- the measures: each number, with all attributes of the event
 abbrev pub measure_of : List KeyValue → Number → Measure

@@ -118,9 +118,9 @@ impl Layer for MetricsLayer {
 
     ghost sees = { λ s hook t d. unseeing_sees hook };
 
-    ghost lanes = { λ s hook t d. unseeing_lanes hook d.1 };
+    ghost keeps_lanes = { λ s hook t d. unseeing_lanes hook d.1 };
 
-    ghost kept_by_entries = { λ s lane number none. refl };
+    ghost none_kept_without_entries = { λ s lane number none. refl };
 
     ghost passive = { λ s id at before later t d unknown. ap (λ (l : Lane). l.contexts.live) d.1 };
 

@@ -2,7 +2,7 @@
 ghost use Rattle.std.specs.Prelude.{◌≡◌, ◌++◌, IfOk, OnOk, slice_get, option_map};
 ghost use Rattle.std.specs.Option.{option_copied};
 ghost use Rattle.otel_metrics.specs.Families.{family_of};
-ghost use Rattle.otel_metrics.specs.Measures.{number_measure, natural_measure, signed_measure, number_of, number_at, value_as_attribute, natural_as_attribute, signed_as_attribute, attribute_in, attribute_of, attribute_at, numbers, attributes};
+ghost use Rattle.otel_metrics.specs.Measures.{value_as_number, natural_as_number, signed_as_number, number_of, numbers_at, value_as_attribute, natural_as_attribute, signed_as_attribute, attribute_in, attribute_of, attributes_at, numbers, attributes};
 
 use crate::family::{Family, family_alone, family_of};
 use crate::measure::MetricKind;
@@ -44,7 +44,7 @@ fn add_number(
     callsite: &Callsite,
     pair: &(usize, Value),
 ) -> Result<(), Memory>
-    ensures { OnOk result (found.new ≡ found.old ++ number_at callsite.now pair.now) }
+    ensures { OnOk result (found.new ≡ found.old ++ numbers_at callsite.now pair.now) }
 {
     let Some(name) = field_name(callsite, pair.0) else {
         return Ok(());
@@ -73,25 +73,25 @@ fn number_of(
     let Some((family, rest)) = family else {
         return Ok(None);
     };
-    let Some((kind, value)) = number_measure(family, value) else {
+    let Some((kind, value)) = value_as_number(family, value) else {
         return Ok(None);
     };
     let name = Text::from_str(alloc, rest)?;
     Ok(Some(Number { kind, name, value }))
 }
 
-fn number_measure(family: Family, value: &Value) -> Option<(MetricKind, i128)>
-    ensures { result ≡ number_measure family value.now }
+fn value_as_number(family: Family, value: &Value) -> Option<(MetricKind, i128)>
+    ensures { result ≡ value_as_number family value.now }
 {
     match value {
-        Value::U64(number) => natural_measure(family, *number),
-        Value::I64(number) => signed_measure(family, *number),
+        Value::U64(number) => natural_as_number(family, *number),
+        Value::I64(number) => signed_as_number(family, *number),
         _ => None,
     }
 }
 
-fn natural_measure(family: Family, number: u64) -> Option<(MetricKind, i128)>
-    ensures { result ≡ natural_measure family number }
+fn natural_as_number(family: Family, number: u64) -> Option<(MetricKind, i128)>
+    ensures { result ≡ natural_as_number family number }
 {
     let value = i128::from(number);
     match family {
@@ -103,8 +103,8 @@ fn natural_measure(family: Family, number: u64) -> Option<(MetricKind, i128)>
     }
 }
 
-fn signed_measure(family: Family, number: i64) -> Option<(MetricKind, i128)>
-    ensures { result ≡ signed_measure family number }
+fn signed_as_number(family: Family, number: i64) -> Option<(MetricKind, i128)>
+    ensures { result ≡ signed_as_number family number }
 {
     let value = i128::from(number);
     match family {
@@ -138,7 +138,7 @@ fn add_attribute(
     callsite: &Callsite,
     pair: &(usize, Value),
 ) -> Result<(), Memory>
-    ensures { OnOk result (found.new ≡ found.old ++ attribute_at callsite.now pair.now) }
+    ensures { OnOk result (found.new ≡ found.old ++ attributes_at callsite.now pair.now) }
 {
     let Some(name) = field_name(callsite, pair.0) else {
         return Ok(());

@@ -12,11 +12,11 @@ use Rattle.otel_base.specs.Ids.{ids_or_zeros}
 use Rattle.otel_state.specs.declared.times.TheConstants.{GREATEST}
 use Rattle.otel_state.specs.declared.op.Op.{Op}
 use Rattle.otel_state.specs.Deeds.{Deed, TimedOp, deed}
-use Rattle.otel_state.specs.Opening.{is_start, before_start, own_of, last_or, name_of, kind_of, parent_context_of}
+use Rattle.otel_state.specs.Opening.{is_start, before_start, ids_of_start, last_or, name_of, kind_of, parent_context_of}
 use Rattle.otel_state.specs.Statuses.{statuses_written, greatest_status, status_of}
-use Rattle.otel_state.specs.Times.{open_after, open_by, gap, busy_from, busy_of, exit_in, last_exit, MomentsRise}
+use Rattle.otel_state.specs.Times.{open_after, open_after_ops, busy_between, busy_from, busy_of, exit_moment, last_exit, MomentsRise}
 use Rattle.otel_state.specs.Content.{Making, attributes_of, events_of, links_of, counted_of, content}
-use Rattle.otel_state.specs.Laws.{other_deeds, SameButSettled, SettlesNothing, start_at, with_early, with_late, SameButIds}
+use Rattle.otel_state.specs.Laws.{without_settled, SameButSettled, SettlesNothing, start_at, with_early, with_late, SameButIds}
 
 -- ---- what is written before the start
 
@@ -26,18 +26,18 @@ stops [] start after is = ap (λ (b : Bool). if b then [] else start ∷ before_
 stops (op ∷ before) start after is = ap (λ (rest : List TimedOp). if is_start op then [] else op ∷ rest) (stops before start after is)
 
 -- what comes after a start doesn't count
-cut : (before after : List TimedOp) → is_some (own_of before) ≡ true → before_start (before ++ after) ≡ before_start before
+cut : (before after : List TimedOp) → is_some (ids_of_start before) ≡ true → before_start (before ++ after) ≡ before_start before
 cut [] after has = cc
 cut (op ∷ before) after has = by_start (cut before after) (deed op.op).own has
   where
-    by_start : (is_some (own_of before) ≡ true → before_start (before ++ after) ≡ before_start before) → (given : Option SpanContext)
+    by_start : (is_some (ids_of_start before) ≡ true → before_start (before ++ after) ≡ before_start before) → (given : Option SpanContext)
         → is_some (slice_get (cons_option given (filter_map (λ o. (deed o.op).own) before)) 0) ≡ true
         → (if is_some given then [] else op ∷ before_start (before ++ after)) ≡ (if is_some given then [] else op ∷ before_start before)
     by_start same None has = ap (λ (rest : List TimedOp). op ∷ rest) (same has)
     by_start same (Some own) has = refl
 
 -- ops that settle nothing write nothing
-module _ {A : Type 0} (write : Deed → Option A) (none_of : (d : Deed) → d ≡ other_deeds d → write d ≡ None) where
+module _ {A : Type 0} (write : Deed → Option A) (none_of : (d : Deed) → d ≡ without_settled d → write d ≡ None) where
   writes_none : (ops : List TimedOp) → All SettlesNothing ops → filter_map (λ op. write (deed op.op)) (before_start ops) ≡ []
   writes_none [] all = refl
   writes_none (op ∷ ops) all = by_start (none_of (deed op.op) (all 0 op (omega arith))) (writes_none ops (All-tail SettlesNothing op ops all)) (deed op.op).own
@@ -93,22 +93,22 @@ count_swap p [] a b after is =
 count_swap p (x ∷ before) a b after is =
     sum_by-cons (λ o. if p o then 1 else 0) x (before ++ a ∷ after) ∙ ap (λ (n : ℕ). (if p x then 1 else 0) + n) (count_swap p before a b after is) ∙ sym (sum_by-cons (λ o. if p o then 1 else 0) x (before ++ b ∷ after))
 
-busy_swap : (entries last at : ℕ) (before : List TimedOp) (a b : Op) (after : List TimedOp) → other_deeds (deed a) ≡ other_deeds (deed b)
+busy_swap : (entries last at : ℕ) (before : List TimedOp) (a b : Op) (after : List TimedOp) → without_settled (deed a) ≡ without_settled (deed b)
     → busy_from entries last (before ++ record { at = at; op = a } ∷ after) ≡ busy_from entries last (before ++ record { at = at; op = b } ∷ after)
-busy_swap entries last at [] a b after same = ap (λ (d : Deed). gap entries last at + busy_from (open_after entries d) at after) same
-busy_swap entries last at (op ∷ before) a b after same = ap (λ (n : ℕ). gap entries last op.at + n) (busy_swap (open_after entries (deed op.op)) op.at at before a b after same)
+busy_swap entries last at [] a b after same = ap (λ (d : Deed). busy_between entries last at + busy_from (open_after entries d) at after) same
+busy_swap entries last at (op ∷ before) a b after same = ap (λ (n : ℕ). busy_between entries last op.at + n) (busy_swap (open_after entries (deed op.op)) op.at at before a b after same)
 
 -- a start splits a gap, and adds no time
 split_gap : (idle : Bool) (last at next : ℕ) → last ≤ at → at ≤ next → (if idle then 0 else at - last) + (if idle then 0 else next - at) ≡ (if idle then 0 else next - last)
 split_gap true last at next first second = omega arith
 split_gap false last at next first second = omega (arith, first, second)
 
-busy_skip : (entries last at : ℕ) (own : SpanContext) (before after : List TimedOp) → MomentsRise last (before ++ start_at at own ∷ after) → open_by entries (before ++ after) ≡ 0
+busy_skip : (entries last at : ℕ) (own : SpanContext) (before after : List TimedOp) → MomentsRise last (before ++ start_at at own ∷ after) → open_after_ops entries (before ++ after) ≡ 0
     → busy_from entries last (before ++ start_at at own ∷ after) ≡ busy_from entries last (before ++ after)
-busy_skip entries last at own [] [] order shut = ap (λ (n : ℕ). gap n last at + 0) shut
+busy_skip entries last at own [] [] order shut = ap (λ (n : ℕ). busy_between n last at + 0) shut
 busy_skip entries last at own [] (op ∷ after) order shut =
     let split = split_gap (entries == 0) last at op.at order.0 order.1.0 in omega (arith, split)
-busy_skip entries last at own (op ∷ before) after order shut = ap (λ (n : ℕ). gap entries last op.at + n) (busy_skip (open_after entries (deed op.op)) op.at at own before after order.1 shut)
+busy_skip entries last at own (op ∷ before) after order shut = ap (λ (n : ℕ). busy_between entries last op.at + n) (busy_skip (open_after entries (deed op.op)) op.at at own before after order.1 shut)
 
 -- the same with the start early and late
 flat_moved : {A : Type 0} (g : TimedOp → List A) (before between after : List TimedOp) (x y : TimedOp) → g x ≡ [] → g y ≡ [] → flat_map g (with_early before x between after) ≡ flat_map g (with_late before between y after)
@@ -128,7 +128,7 @@ same_content : (making : Making) (xs ys : List TimedOp) (closed : ℕ) → name_
 same_content making xs ys closed name kind parent attributes events links status counted busy left own =
     simp (name, kind, parent, attributes, events, links, status, counted, busy, left) refl
 
-pub late_is_nothing : (making : Making) (before after : List TimedOp) (at closed : ℕ) (a b : Op) → IsTrue (is_some (own_of before)) → SameButSettled a b
+pub late_is_nothing : (making : Making) (before after : List TimedOp) (at closed : ℕ) (a b : Op) → IsTrue (is_some (ids_of_start before)) → SameButSettled a b
     → content making (before ++ record { at = at; op = a } ∷ after) closed ≡ content making (before ++ record { at = at; op = b } ∷ after) closed
 late_is_nothing making before after at closed a b started same =
     let x : TimedOp = record { at = at; op = a } in
@@ -147,11 +147,11 @@ late_is_nothing making before after at closed a b started same =
     (ap (λ (w : List Status). greatest_status Unset w) (flat_swap (λ op. statuses_written (deed op.op)) before x y after (ap (λ (d : Deed). statuses_written d) same)))
     (ap (λ (n : ℕ). min n GREATEST) (count_swap (λ op. (deed op.op).counts) before x y after (ap (λ (d : Deed). d.counts) same)))
     (busy_swap 0 making.made_at at before a b after same)
-    (ap (λ (moments : List ℕ). fold (λ _ n. Some n) None moments) (filter_swap exit_in before x y after (ap (λ (d : Deed). if d.exits then Some at else None) same)))
+    (ap (λ (moments : List ℕ). fold (λ _ n. Some n) None moments) (filter_swap exit_moment before x y after (ap (λ (d : Deed). if d.exits then Some at else None) same)))
     (content making xs closed).context
     ∙ ap (λ (c : SpanContext). record (content making ys closed) { context = c }) own
 
-pub early_is_late : (making : Making) (before between after : List TimedOp) (early late : ℕ) (own given : SpanContext) (closed : ℕ) → All SettlesNothing between → open_by 0 (before ++ between ++ after) ≡ 0
+pub early_is_late : (making : Making) (before between after : List TimedOp) (early late : ℕ) (own given : SpanContext) (closed : ℕ) → All SettlesNothing between → open_after_ops 0 (before ++ between ++ after) ≡ 0
     → MomentsRise making.made_at (with_early before (start_at early own) between after) → MomentsRise making.made_at (with_late before between (start_at late given) after)
     → SameButIds (content making (with_early before (start_at early own) between after) closed) (content making (with_late before between (start_at late given) after) closed)
 early_is_late making before between after early late own given closed all shut order later =
@@ -170,7 +170,7 @@ early_is_late making before between after early late own given closed all shut o
     (ap (λ (w : List Status). greatest_status Unset w) (flat_moved (λ op. statuses_written (deed op.op)) before between after x y refl refl))
     (ap (λ (n : ℕ). min n GREATEST) (count_skip (λ op. (deed op.op).counts) before x (between ++ after) refl ∙ ap (λ (ops : List TimedOp). count_by (λ op. (deed op.op).counts) ops) (sym joined)
     ∙ sym (count_skip (λ op. (deed op.op).counts) (before ++ between) y after refl)))
-    (busy_skip 0 making.made_at early own before (between ++ after) order (ap (λ (ops : List TimedOp). open_by 0 ops) (sym joined) ∙ shut) ∙ ap (λ (ops : List TimedOp). busy_from 0 making.made_at ops) (sym joined)
+    (busy_skip 0 making.made_at early own before (between ++ after) order (ap (λ (ops : List TimedOp). open_after_ops 0 ops) (sym joined) ∙ shut) ∙ ap (λ (ops : List TimedOp). busy_from 0 making.made_at ops) (sym joined)
     ∙ sym (busy_skip 0 making.made_at late given (before ++ between) after later shut))
-    (ap (λ (moments : List ℕ). fold (λ _ n. Some n) None moments) (filter_moved exit_in before between after x y refl refl))
+    (ap (λ (moments : List ℕ). fold (λ _ n. Some n) None moments) (filter_moved exit_moment before between after x y refl refl))
     (content making xs closed).context

@@ -11,11 +11,11 @@ use Rattle.otel_base.specs.Statuses.{status_cmp}
 use Rattle.otel_state.specs.declared.times.TheConstants.{GREATEST}
 use Rattle.otel_state.specs.declared.op.Op.{Op}
 use Rattle.otel_state.specs.Deeds.{Deed, TimedOp, deed}
-use Rattle.otel_state.specs.Opening.{before_start, own_of, last_or, name_of, kind_of, parent_context_of}
+use Rattle.otel_state.specs.Opening.{before_start, ids_of_start, last_or, name_of, kind_of, parent_context_of}
 use Rattle.otel_state.specs.Statuses.{statuses_written, greatest_status, status_of}
-use Rattle.otel_state.specs.Times.{open_after, open_by, gap, busy_from, busy_of, exit_in, last_exit, MomentsRise}
+use Rattle.otel_state.specs.Times.{open_after, open_after_ops, busy_between, busy_from, busy_of, exit_moment, last_exit, MomentsRise}
 use Rattle.otel_state.specs.Content.{Making, attributes_of, events_of, links_of, counted_of, content}
-use Rattle.otel_state.specs.States.{SpanData, data_at_making, moment, unless_started, first_start, with_all, with_one, after_op, after_stamped, Represents, AppendsOp, IsReadOff, reply, reply_after, record_of}
+use Rattle.otel_state.specs.States.{SpanData, data_at_making, moment_after, unless_started, first_start, with_all, with_one, after_op, after_stamped, Represents, AppendsOp, IsReadOff, reply, reply_after, record_of}
 
 -- a field that each op changes by itself
 pub folded : {B : Type 0} (field : SpanData → B) (step : B → TimedOp → B) → ((span_data : SpanData) (op : TimedOp) → field (after_stamped span_data op) ≡ step (field span_data) op)
@@ -82,11 +82,11 @@ started_stays own (op ∷ ops) = ap (λ o. fold (λ p q. first_start p (deed q.o
     stays None = refl
     stays (Some given) = refl
 
-own_all : (ops : List TimedOp) → fold (λ o op. first_start o (deed op.op).own) None ops ≡ own_of ops
+own_all : (ops : List TimedOp) → fold (λ o op. first_start o (deed op.op).own) None ops ≡ ids_of_start ops
 own_all [] = refl
 own_all (op ∷ ops) = by_start (own_all ops) (deed op.op).own
   where
-    by_start : fold (λ o op. first_start o (deed op.op).own) None ops ≡ own_of ops → (given : Option SpanContext)
+    by_start : fold (λ o op. first_start o (deed op.op).own) None ops ≡ ids_of_start ops → (given : Option SpanContext)
         → fold (λ o op. first_start o (deed op.op).own) (first_start None given) ops ≡ slice_get (cons_option given (filter_map (λ o. (deed o.op).own) ops)) 0
     by_start none None = none
     by_start none (Some own) = started_stays own ops
@@ -128,22 +128,22 @@ module _ {A : Type 0} (field : SpanData → A) (write : Deed → Option A) (one 
 
 -- ---- times
 
-moment_is : (last at : ℕ) → last ≤ at → at ≤ GREATEST → moment last at ≡ at
+moment_is : (last at : ℕ) → last ≤ at → at ≤ GREATEST → moment_after last at ≡ at
 moment_is last at later within = omega (arith, later, within)
 
 pub first_within : (last : ℕ) (ops : List TimedOp) → MomentsRise last ops → last ≤ GREATEST
 first_within last [] order = order
 first_within last (op ∷ ops) order = let within = first_within op.at ops order.1 in omega (arith, order.0, within)
 
-pub left_all : (span_data : SpanData) (ops : List TimedOp) → MomentsRise span_data.last ops → (fold after_stamped span_data ops).left_at ≡ fold (λ _ at. Some at) span_data.left_at (filter_map exit_in ops)
+pub left_all : (span_data : SpanData) (ops : List TimedOp) → MomentsRise span_data.last ops → (fold after_stamped span_data ops).left_at ≡ fold (λ _ at. Some at) span_data.left_at (filter_map exit_moment ops)
 left_all span_data [] order = refl
 left_all span_data (op ∷ ops) order =
     let is = moment_is span_data.last op.at order.0 (first_within op.at ops order.1) in
     left_all (after_stamped span_data op) ops (subst (λ n. MomentsRise n ops) (sym is) order.1) ∙ by_exit (deed op.op).exits is
   where
-    by_exit : (exits : Bool) → moment span_data.last op.at ≡ op.at → fold (λ _ at. Some at) (if exits then Some (moment span_data.last op.at) else span_data.left_at) (filter_map exit_in ops)
-        ≡ fold (λ _ at. Some at) span_data.left_at (cons_option (if exits then Some op.at else None) (filter_map exit_in ops))
-    by_exit true is = ap (λ n. fold (λ _ at. Some at) (Some n) (filter_map exit_in ops)) is
+    by_exit : (exits : Bool) → moment_after span_data.last op.at ≡ op.at → fold (λ _ at. Some at) (if exits then Some (moment_after span_data.last op.at) else span_data.left_at) (filter_map exit_moment ops)
+        ≡ fold (λ _ at. Some at) span_data.left_at (cons_option (if exits then Some op.at else None) (filter_map exit_moment ops))
+    by_exit true is = ap (λ n. fold (λ _ at. Some at) (Some n) (filter_map exit_moment ops)) is
     by_exit false is = refl
 
 pub busy_all : (span_data : SpanData) (ops : List TimedOp) → MomentsRise span_data.last ops → (fold after_stamped span_data ops).busy ≡ span_data.busy + busy_from span_data.entries span_data.last ops
@@ -151,7 +151,7 @@ busy_all span_data [] order = omega arith
 busy_all span_data (op ∷ ops) order =
     let is = moment_is span_data.last op.at order.0 (first_within op.at ops order.1) in
     let rest = busy_all (after_stamped span_data op) ops (subst (λ n. MomentsRise n ops) (sym is) order.1) in
-    let here = ap (λ n. gap span_data.entries span_data.last n) is in
+    let here = ap (λ n. busy_between span_data.entries span_data.last n) is in
     let after = ap (λ n. busy_from (open_after span_data.entries (deed op.op)) n ops) is in
     omega (arith, rest, here, after)
 
@@ -161,7 +161,7 @@ busy_is : (made_at within busy : ℕ) (ops : List TimedOp) → busy ≡ 0 + busy
 busy_is made_at within busy ops is same = let here = ap (λ n. busy_from 0 n ops) same in omega (arith, is, here)
 
 the_record : (span_data : SpanData) (making : Making) (ops : List TimedOp) (closed : ℕ) → span_data.name ≡ name_of making.name ops → span_data.kind ≡ kind_of ops → span_data.parent ≡ parent_context_of making.parent ops → span_data.made_at ≡ making.made_at
-    → span_data.counting ≡ making.counting → span_data.inactivity ≡ making.inactivity → span_data.own ≡ own_of ops → span_data.attributes ≡ making.first ++ attributes_of ops → span_data.events ≡ events_of ops → span_data.links ≡ links_of ops
+    → span_data.counting ≡ making.counting → span_data.inactivity ≡ making.inactivity → span_data.own ≡ ids_of_start ops → span_data.attributes ≡ making.first ++ attributes_of ops → span_data.events ≡ events_of ops → span_data.links ≡ links_of ops
     → span_data.status ≡ status_of ops → span_data.counted ≡ counted_of ops → span_data.busy ≡ busy_of making.made_at ops → span_data.left_at ≡ last_exit ops → record_of span_data closed ≡ content making ops closed
 the_record span_data making ops closed name kind parent made_at counting inactivity own attributes events links status counted busy left =
     simp (name, kind, parent, made_at, counting, inactivity, own, attributes, events, links, status, counted, busy, left, append_assoc) refl
@@ -171,16 +171,16 @@ the_record span_data making ops closed name kind parent made_at counting inactiv
 pub appended : (span_data : SpanData) (at : ℕ) (op : Op) → AppendsOp at op span_data (after_op span_data at op)
 appended span_data at op making ops stands = ap (λ (t : SpanData). after_op t at op) stands ∙ sym (fold_push after_stamped (data_at_making making) ops (record { at = at; op = op }))
 
-pub own_is : (span_data : SpanData) → IsReadOff (λ _ ops. own_of ops) span_data span_data.own
+pub own_is : (span_data : SpanData) → IsReadOff (λ _ ops. ids_of_start ops) span_data span_data.own
 own_is span_data making ops stands = ap (λ (t : SpanData). t.own) stands ∙ folded (λ t. t.own) (λ o op. first_start o (deed op.op).own) (λ t op. refl) (data_at_making making) ops ∙ own_all ops
 
 pub parent_is : (span_data : SpanData) → IsReadOff (λ making ops. parent_context_of making.parent ops) span_data span_data.parent
 parent_is span_data making ops stands = ap (λ (t : SpanData). t.parent) stands ∙ waiting (λ t. t.parent) (λ d. d.parent) (λ t op. refl) (data_at_making making) ops refl
 
-pub entries_is : (span_data : SpanData) → IsReadOff (λ _ ops. open_by 0 ops) span_data span_data.entries
+pub entries_is : (span_data : SpanData) → IsReadOff (λ _ ops. open_after_ops 0 ops) span_data span_data.entries
 entries_is span_data making ops stands = ap (λ (t : SpanData). t.entries) stands ∙ folded (λ t. t.entries) (λ n op. open_after n (deed op.op)) (λ t op. refl) (data_at_making making) ops
 
-pub reply_is : (span_data : SpanData) (op : Op) → IsReadOff (λ _ ops. reply_after (own_of ops) op) span_data (reply span_data op)
+pub reply_is : (span_data : SpanData) (op : Op) → IsReadOff (λ _ ops. reply_after (ids_of_start ops) op) span_data (reply span_data op)
 reply_is span_data op making ops stands = ap (λ (own : Option SpanContext). reply_after own op) (own_is span_data making ops stands)
 
 pub content_is : (making : Making) (ops : List TimedOp) (span_data : SpanData) (closed : ℕ) → Represents making ops span_data → MomentsRise making.made_at ops → record_of span_data closed ≡ content making ops closed

@@ -9,7 +9,7 @@ use Rattle.otel_base.specs.declared.value.OtelValue.TheVariants.{I64}
 use Rattle.otel_base.specs.Ids.{ids_of, ids_or_zeros, parent_id}
 use Rattle.otel_state.specs.declared.times.TheConstants.{GREATEST}
 use Rattle.otel_state.specs.Deeds.{TimedOp, deed}
-use Rattle.otel_state.specs.Opening.{own_of, name_of, kind_of, parent_context_of}
+use Rattle.otel_state.specs.Opening.{ids_of_start, name_of, kind_of, parent_context_of}
 use Rattle.otel_state.specs.Statuses.{status_of}
 use Rattle.otel_state.specs.Times.{busy_of, last_exit, end_of, idle_of}
 
@@ -41,11 +41,11 @@ abbrev pub number_attribute : List ℕ → ℕ → KeyValue
 number_attribute key n = record { key = key; value = I64 (pos n) }
 
 -- the attributes that a close adds: the count where events are counted, then the times where inactivity is tracked
-abbrev pub closing_count : Bool → ℕ → List KeyValue
-closing_count counting counted = if counting then number_attribute (codes "otel.tracing_event_count") counted ∷ [] else []
+abbrev pub closing_count_attributes : Bool → ℕ → List KeyValue
+closing_count_attributes counting counted = if counting then number_attribute (codes "otel.tracing_event_count") counted ∷ [] else []
 
-abbrev pub closing_times : Bool → ℕ → ℕ → List KeyValue
-closing_times inactivity busy idle = if inactivity then number_attribute (codes "busy_ns") busy ∷ number_attribute (codes "idle_ns") idle ∷ [] else []
+abbrev pub closing_times_attributes : Bool → ℕ → ℕ → List KeyValue
+closing_times_attributes inactivity busy idle = if inactivity then number_attribute (codes "busy_ns") busy ∷ number_attribute (codes "idle_ns") idle ∷ [] else []
 
 -- how many these are
 abbrev pub closing_room : Bool → Bool → ℕ
@@ -59,12 +59,12 @@ content making ops closed =
     record {
       name = name_of making.name ops;
       kind = kind_of ops;
-      context = ids_or_zeros (own_of ops);
+      context = ids_or_zeros (ids_of_start ops);
       parent = parent_id (ids_of (parent_context_of making.parent ops));
       start = making.made_at;
       end = end_of left closed;
-      attributes = making.first ++ attributes_of ops ++ closing_count making.counting (counted_of ops)
-          ++ closing_times making.inactivity busy (idle_of left making.made_at busy);
+      attributes = making.first ++ attributes_of ops ++ closing_count_attributes making.counting (counted_of ops)
+          ++ closing_times_attributes making.inactivity busy (idle_of left making.made_at busy);
       events = events_of ops;
       links = links_of ops;
       status = status_of ops;

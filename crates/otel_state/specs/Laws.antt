@@ -27,21 +27,21 @@ pub record TellsTimes (entered : Bool) (left : Option ℕ) (r : Record) : Type 0
   pub last : r.attributes ≡ others ++ number_attribute (codes "busy_ns") busy ∷ number_attribute (codes "idle_ns") idle ∷ []
   pub was_left : IsTrue entered → IsTrue (is_some left)
   pub add_up : IsTrue (is_some left) → r.start + busy + idle ≡ r.end
-  pub are_none : left ≡ None → (busy ≡ 0) × (idle ≡ 0)
+  pub are_zero : left ≡ None → (busy ≡ 0) × (idle ≡ 0)
 
 -- ---- what is settled by the start
 
 -- what an op does beside writing a name, a kind or a parent
-abbrev pub other_deeds : Deed → Deed
-other_deeds d = record d { name = None; kind = None; parent = None }
+abbrev pub without_settled : Deed → Deed
+without_settled d = record d { name = None; kind = None; parent = None }
 
 -- two ops do the same but for the name, the kind and the parent
 abbrev pub SameButSettled : Op → Op → Type 0
-SameButSettled a b = other_deeds (deed a) ≡ other_deeds (deed b)
+SameButSettled a b = without_settled (deed a) ≡ without_settled (deed b)
 
 -- an op writes no name, no kind and no parent
 abbrev pub SettlesNothing : TimedOp → Type 0
-SettlesNothing op = deed op.op ≡ other_deeds (deed op.op)
+SettlesNothing op = deed op.op ≡ without_settled (deed op.op)
 
 abbrev pub start_at : ℕ → SpanContext → TimedOp
 start_at at own = record { at = at; op = ops.Start own }

@@ -15,8 +15,8 @@ before_start [] = []
 before_start (op ∷ ops) = if is_start op then [] else op ∷ before_start ops
 
 -- the ids of the first start
-abbrev pub own_of : List TimedOp → Option SpanContext
-own_of ops = slice_get (filter_map (λ op. (deed op.op).own) ops) 0
+abbrev pub ids_of_start : List TimedOp → Option SpanContext
+ids_of_start ops = slice_get (filter_map (λ op. (deed op.op).own) ops) 0
 
 -- the last of some values, and another where there are none
 abbrev pub last_or : {A : Type 0} → A → List A → A

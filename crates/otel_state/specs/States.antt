@@ -20,8 +20,8 @@ use Rattle.otel_state.specs.declared.op.SetParentError.TheVariants.{AlreadyStart
 use Rattle.otel_state.specs.declared.times.TheConstants.{GREATEST}
 use Rattle.otel_state.specs.Deeds.{Deed, TimedOp, deed}
 use Rattle.otel_state.specs.Statuses.{statuses_written, greatest_status}
-use Rattle.otel_state.specs.Times.{open_after, gap, end_of, idle_of, MomentsRise}
-use Rattle.otel_state.specs.Content.{Making, content, closing_count, closing_times}
+use Rattle.otel_state.specs.Times.{open_after, busy_between, end_of, idle_of, MomentsRise}
+use Rattle.otel_state.specs.Content.{Making, content, closing_count_attributes, closing_times_attributes}
 
 -- what a span has come to
 pub record SpanData : Type 0 where
@@ -78,8 +78,8 @@ data_at_making making = record {
 -- ---- one op more
 
 -- a moment counts from the last one on, and up to the greatest
-abbrev pub moment : ℕ → ℕ → ℕ
-moment last at = min (max at last) GREATEST
+abbrev pub moment_after : ℕ → ℕ → ℕ
+moment_after last at = min (max at last) GREATEST
 
 -- what is written counts unless the span has started
 abbrev pub unless_started : {A : Type 0} → Option SpanContext → A → Option A → A
@@ -102,7 +102,7 @@ with_one items (Some one) = items ++ one ∷ []
 
 -- time passes up to a moment
 abbrev pub after_time : SpanData → ℕ → SpanData
-after_time span_data at = record span_data { busy = span_data.busy + gap span_data.entries span_data.last (moment span_data.last at); last = moment span_data.last at }
+after_time span_data at = record span_data { busy = span_data.busy + busy_between span_data.entries span_data.last (moment_after span_data.last at); last = moment_after span_data.last at }
 
 -- what an op does at the last moment
 abbrev pub after_deed : SpanData → Deed → SpanData
@@ -204,8 +204,8 @@ record_of span_data closed = record {
   parent = parent_id (ids_of span_data.parent);
   start = span_data.made_at;
   end = end_of span_data.left_at closed;
-  attributes = span_data.attributes ++ closing_count span_data.counting span_data.counted
-      ++ closing_times span_data.inactivity span_data.busy (idle_of span_data.left_at span_data.made_at span_data.busy);
+  attributes = span_data.attributes ++ closing_count_attributes span_data.counting span_data.counted
+      ++ closing_times_attributes span_data.inactivity span_data.busy (idle_of span_data.left_at span_data.made_at span_data.busy);
   events = span_data.events;
   links = span_data.links;
   status = span_data.status;
@@ -218,6 +218,6 @@ pub record IsSoundState (counted entries busy last : ℕ) (left : Option ℕ) (l
   pub is_within : busy ≤ last
   pub is_moment : last ≤ GREATEST
   pub is_past : IfSome left (λ l. l ≤ last)
-  pub is_counted : counted ≤ GREATEST
-  pub is_open : entries ≤ GREATEST
+  pub count_fits : counted ≤ GREATEST
+  pub entries_fit : entries ≤ GREATEST
   pub has_room : length + closing ≤ capacity

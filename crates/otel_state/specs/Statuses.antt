@@ -8,11 +8,11 @@ use Rattle.otel_base.specs.declared.status.Status.TheVariants.{Unset, Error}
 use Rattle.otel_state.specs.Deeds.{TimedOp, Deed, deed}
 
 -- what an op writes: that of an error, which has no description, comes before its own
-abbrev pub error_in : Bool → List Status
-error_in is_error = if is_error then Error [] ∷ [] else []
+abbrev pub error_status_if : Bool → List Status
+error_status_if is_error = if is_error then Error [] ∷ [] else []
 
 abbrev pub statuses_written : Deed → List Status
-statuses_written d = error_in d.is_error ++ option_to_list d.status
+statuses_written d = error_status_if d.is_error ++ option_to_list d.status
 
 -- the greatest of some statuses and one before them
 abbrev pub greatest_status : Status → List Status → Status

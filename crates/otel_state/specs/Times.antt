@@ -9,29 +9,29 @@ abbrev pub open_after : ℕ → Deed → ℕ
 open_after entries d = if d.exits then entries - 1 else if d.enters then min (entries + 1) GREATEST else entries
 
 -- how many entries are open after some ops
-abbrev pub open_by : ℕ → List TimedOp → ℕ
-open_by entries ops = fold (λ n op. open_after n (deed op.op)) entries ops
+abbrev pub open_after_ops : ℕ → List TimedOp → ℕ
+open_after_ops entries ops = fold (λ n op. open_after n (deed op.op)) entries ops
 
 -- the time since the op before, where an entry is open
-abbrev pub gap : ℕ → ℕ → ℕ → ℕ
-gap entries last at = if entries == 0 then 0 else at - last
+abbrev pub busy_between : ℕ → ℕ → ℕ → ℕ
+busy_between entries last at = if entries == 0 then 0 else at - last
 
 -- the sum of the gaps between ops that follow one another, from so many entries and a moment on
 abbrev pub busy_from : ℕ → ℕ → List TimedOp → ℕ
 busy_from entries last [] = 0
-busy_from entries last (op ∷ ops) = gap entries last op.at + busy_from (open_after entries (deed op.op)) op.at ops
+busy_from entries last (op ∷ ops) = busy_between entries last op.at + busy_from (open_after entries (deed op.op)) op.at ops
 
 -- busy is the time in which some entry was open
 abbrev pub busy_of : ℕ → List TimedOp → ℕ
 busy_of made_at ops = busy_from 0 made_at ops
 
 -- the moment of an op that closes an entry
-abbrev pub exit_in : TimedOp → Option ℕ
-exit_in op = if (deed op.op).exits then Some op.at else None
+abbrev pub exit_moment : TimedOp → Option ℕ
+exit_moment op = if (deed op.op).exits then Some op.at else None
 
 -- the moment of the last exit, if there is one
 abbrev pub last_exit : List TimedOp → Option ℕ
-last_exit ops = fold (λ _ at. Some at) None (filter_map exit_in ops)
+last_exit ops = fold (λ _ at. Some at) None (filter_map exit_moment ops)
 
 -- the end is the last exit, else the close
 abbrev pub end_of : Option ℕ → ℕ → ℕ

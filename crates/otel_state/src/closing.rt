@@ -2,7 +2,7 @@
 ghost use Rattle.std.specs.Prelude.{◌≡◌, ◌+◌, ◌≤◌, ◌<◌, ◌++◌, ◌∷◌, [], false, vec_len, vec_capacity};
 ghost use Rattle.otel_base.specs.Words.{word_text};
 ghost use Rattle.otel_state.specs.declared.times.TheConstants.{GREATEST};
-ghost use Rattle.otel_state.specs.Content.{closing_count, closing_times, closing_room, number_attribute};
+ghost use Rattle.otel_state.specs.Content.{closing_count_attributes, closing_times_attributes, closing_room, number_attribute};
 
 use crate::times::GREATEST;
 use otel_base::text::Text;
@@ -26,7 +26,7 @@ pub(crate) fn add_count(
 )
     requires room { vec_len attributes.old + closing_room counting inactivity ≤ vec_capacity attributes.old }
     requires number_attribute { counted ≤ GREATEST }
-    ensures items { attributes.new.items ≡ attributes.old.items ++ closing_count counting counted }
+    ensures items { attributes.new.items ≡ attributes.old.items ++ closing_count_attributes counting counted }
     ensures room { vec_len attributes.new + closing_room false inactivity ≤ vec_capacity attributes.new }
 {
     if counting {
@@ -39,7 +39,7 @@ pub(crate) fn add_times(attributes: &mut Vec<KeyValue>, inactivity: bool, busy: 
     requires room { vec_len attributes.old + closing_room false inactivity ≤ vec_capacity attributes.old }
     requires busy { busy ≤ GREATEST }
     requires idle { idle ≤ GREATEST }
-    ensures { attributes.new.items ≡ attributes.old.items ++ closing_times inactivity busy idle }
+    ensures { attributes.new.items ≡ attributes.old.items ++ closing_times_attributes inactivity busy idle }
 {
     if inactivity {
         add_number(attributes, Word::Busy, busy);

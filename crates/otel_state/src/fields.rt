@@ -3,7 +3,7 @@ ghost use Rattle.std.specs.Prelude.{◌≡◌, ◌++◌, ◌∷◌, [], OnOk, If
 ghost use Rattle.std.specs.Option.{option_copied};
 ghost use Rattle.otel_base.specs.Words.{word_text};
 ghost use Rattle.otel_base.specs.declared.word.Word.TheVariants.{LineNumber};
-ghost use Rattle.otel_state.specs.fields.Fields.{text_attribute, if_wanted, known_text, known_number, location_attributes, plain_text, debug_text, as_exception, as_field};
+ghost use Rattle.otel_state.specs.fields.Fields.{text_attribute, if_wanted, text_attribute_if_known, integer_attribute_if_known, location_attributes, plain_text, debug_text, exception_attributes, error_attributes};
 
 use otel_base::list::Items;
 use otel_base::memory::Memory;
@@ -41,7 +41,7 @@ fn add_known_text(
     key: Word,
     text: &Option<Text>,
 ) -> Result<(), Memory>
-    ensures { OnOk result (attributes.new ≡ attributes.old ++ known_text (word_text key) text.now) }
+    ensures { OnOk result (attributes.new ≡ attributes.old ++ text_attribute_if_known (word_text key) text.now) }
 {
     match text {
         Some(text) => add_text(attributes, Text::from_word(key), text.clone()?),
@@ -54,7 +54,7 @@ fn add_line(
     attributes: &mut Items<KeyValue>,
     line: Option<u32>,
 ) -> Result<(), Memory>
-    ensures { OnOk result (attributes.new ≡ attributes.old ++ known_number (word_text LineNumber) line) }
+    ensures { OnOk result (attributes.new ≡ attributes.old ++ integer_attribute_if_known (word_text LineNumber) line) }
 {
     match line {
         Some(line) => attributes.push(KeyValue {
@@ -125,7 +125,7 @@ fn add_exception(
     message: &Text,
     chain: &Items<Text>,
 ) -> Result<(), Memory>
-    ensures { OnOk result (attributes.new ≡ attributes.old ++ if_wanted is_wanted (as_exception message.now chain.now)) }
+    ensures { OnOk result (attributes.new ≡ attributes.old ++ if_wanted is_wanted (exception_attributes message.now chain.now)) }
 {
     if is_wanted {
         add_text(
@@ -149,7 +149,7 @@ fn add_error(
     message: &Text,
     chain: &Items<Text>,
 ) -> Result<(), Memory>
-    ensures { OnOk result (attributes.new ≡ attributes.old ++ as_field name.now message.now chain.now) }
+    ensures { OnOk result (attributes.new ≡ attributes.old ++ error_attributes name.now message.now chain.now) }
 {
     add_text(attributes, name.clone()?, message.clone()?)?;
     let mut key = String::from_str(alloc, name.as_str())?;

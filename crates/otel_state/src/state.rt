@@ -4,9 +4,9 @@ ghost use Rattle.std.specs.Option.{option_to_list};
 ghost use Rattle.std.specs.Ordering.{ord_max};
 ghost use Rattle.otel_base.specs.Statuses.{status_cmp};
 ghost use Rattle.otel_state.specs.Deeds.{deed, no_deed, written_by};
-ghost use Rattle.otel_state.specs.Opening.{own_of, parent_context_of};
-ghost use Rattle.otel_state.specs.Statuses.{greatest_status, error_in};
-ghost use Rattle.otel_state.specs.Times.{open_by};
+ghost use Rattle.otel_state.specs.Opening.{ids_of_start, parent_context_of};
+ghost use Rattle.otel_state.specs.Statuses.{greatest_status, error_status_if};
+ghost use Rattle.otel_state.specs.Times.{open_after_ops};
 ghost use Rattle.otel_state.specs.States.{after_time, unless_started, with_all, after_deed, after_op, reply, reply_after, is_growing, record_of, with_making, room_after, Represents, AppendsOp, BeginsAt, IsReadOff, IsContent, HasRoom, KeepsRoom};
 
 use crate::closing::{add_count, add_times, closing_room};
@@ -137,7 +137,7 @@ impl SpanState {
     #[tactic(auto, using(crate::proofs::SumLemmas::own_is))]
     pub fn own_context(&self) -> Option<SpanContext>
         ensures value { result ≡ self.now.span_data.own }
-        ensures listed { IsReadOff (λ _ ops. own_of ops) self.now.span_data result }
+        ensures listed { IsReadOff (λ _ ops. ids_of_start ops) self.now.span_data result }
     {
         self.own
     }
@@ -155,7 +155,7 @@ impl SpanState {
     #[tactic(auto, using(crate::proofs::SumLemmas::entries_is))]
     pub fn entries(&self) -> u64
         ensures value { result ≡ self.now.span_data.entries }
-        ensures listed { IsReadOff (λ _ ops. open_by 0 ops) self.now.span_data result }
+        ensures listed { IsReadOff (λ _ ops. open_after_ops 0 ops) self.now.span_data result }
     {
         self.entries
     }
@@ -168,7 +168,7 @@ impl SpanState {
         ensures appends { OnOk result (AppendsOp at op self.old.span_data self.new.span_data) }
         ensures did { OnOk result (self.new.span_data ≡ after_op self.old.span_data at op) }
         ensures reply { IfOk result (λ r. r ≡ reply self.old.span_data op) }
-        ensures listed { IfOk result (IsReadOff (λ _ ops. reply_after (own_of ops) op) self.old.span_data) }
+        ensures listed { IfOk result (IsReadOff (λ _ ops. reply_after (ids_of_start ops) op) self.old.span_data) }
 
         ensures memory_leaves { OnErr result (self.new.span_data ≡ self.old.span_data) }
         ensures memory { OnErr result (IsTrue (is_growing op)) }
@@ -251,7 +251,7 @@ impl SpanState {
         } = update;
         self.put_name(name);
         self.put_kind(kind);
-        self.put_written(status);
+        self.put_status_if_any(status);
         self.put_attributes(attributes);
     }
 
@@ -279,7 +279,7 @@ impl SpanState {
 
     // An error without a description is written, if there is one.
     fn put_error(&mut self, is_error: bool)
-        ensures span_data { self.new.span_data ≡ record self.old.span_data { status = greatest_status self.old.span_data.status (error_in is_error) } }
+        ensures span_data { self.new.span_data ≡ record self.old.span_data { status = greatest_status self.old.span_data.status (error_status_if is_error) } }
         ensures room { self.new.room ≡ self.old.room }
     {
         if is_error {
@@ -289,7 +289,7 @@ impl SpanState {
         }
     }
 
-    fn put_written(&mut self, status: Option<Status>)
+    fn put_status_if_any(&mut self, status: Option<Status>)
         ensures span_data { self.new.span_data ≡ record self.old.span_data { status = greatest_status self.old.span_data.status (option_to_list status) } }
         ensures room { self.new.room ≡ self.old.room }
     {

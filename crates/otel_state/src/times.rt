@@ -2,7 +2,7 @@
 ghost use Rattle.std.specs.Prelude.{◌≡◌, ◌+◌, min};
 ghost use Rattle.otel_state.specs.declared.times.TheConstants.{GREATEST};
 ghost use Rattle.otel_state.specs.Times.{idle_of};
-ghost use Rattle.otel_state.specs.States.{moment};
+ghost use Rattle.otel_state.specs.States.{moment_after};
 
 use otel_base::record::Moment;
 
@@ -11,7 +11,7 @@ pub const GREATEST: u64 = 0x7fff_ffff_ffff_ffff;
 
 // The moment at which an op counts: it is no earlier than the last one.
 pub(crate) fn moment_after(last: Moment, at: Moment) -> Moment
-    ensures { result ≡ moment last at }
+    ensures { result ≡ moment_after last at }
 {
     last.max(at).min(GREATEST)
 }

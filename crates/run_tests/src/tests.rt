@@ -22,7 +22,7 @@ const SETTINGS: &str =
     r#"{"callsites":[{"fields":["a","f","otel.status_code"],"kind":"span","level":"info","name":"s","target":"app"},{"fields":["error","message"],"kind":"event","level":"info","name":"e","target":"app"},{"fields":["error","message"],"kind":"event","level":"error","name":"x","target":"app"},{"fields":[],"kind":"event","level":"debug","name":"d","target":"app"},{"fields":[],"kind":"span","level":"trace","name":"t","target":"app"}],"filter":"info","lanes":[{"id":1,"name":"main"},{"id":2}],"layer":{"location":false,"target":false,"threads":false}}"#;
 
 // The requests of the first span.
-const FIRST: &str = r#"{"at":0,"do":"new","lane":0,"site":0}
+const FIRST_REQUESTS: &str = r#"{"at":0,"do":"new","lane":0,"site":0}
 {"at":10,"do":"enter","handle":0,"lane":0}
 {"at":30,"do":"exit","guard":0,"lane":0}
 {"at":50,"do":"drop","handle":0,"lane":0}
@@ -101,7 +101,7 @@ fn run_script<H: Threads + Wait + Sync + RandomSource + AllocGlobal>(
 
 #[test]
 fn runs_over_readers_and_writers(rt: HostRuntime) -> Result<(), Fail> {
-    let input = script(&rt, FIRST)?;
+    let input = script(&rt, FIRST_REQUESTS)?;
     let mut source = StdSource::new(input.as_bytes());
     let mut sink = StdSink::new(Vec::new(rt.alloc()));
     let status = run(&rt, &mut source, &mut sink, "run")?;

@@ -38,7 +38,7 @@ pub fn share<T: Drop>(
     // From here on nothing can be refused: without leave to wait the writer can't be ended.
     let factory = writer.factory();
     let origin = Origin {
-        home: Snapshot::of(factory),
+        factory: Snapshot::of(factory),
         first: Snapshot::of(&last.value),
     };
     let made = readers_of(factory, &origin, copies, room, readers);
@@ -92,12 +92,12 @@ fn readers_of<T: Drop>(
     room: Vec<ValueReader<T>>,
     readers: u64,
 ) -> Vec<ValueReader<T>>
-    requires home { (arc_value factory.now.board).shared.table_id ≡ (arc_value origin.now.home.value.board).shared.table_id }
+    requires factory { (arc_value factory.now.board).shared.table_id ≡ (arc_value origin.now.factory.value.board).shared.table_id }
     requires copies { All (λ t. IsFirst origin.now.first.value (arc_value t)) copies.items }
     requires count { vec_len copies ≡ readers }
     requires none { (room.items ≡ []) × (vec_capacity room ≡ readers) }
     ensures count { vec_len result ≡ readers }
-    ensures readers { All (IsNewReader (arc_value origin.now.home.value.board).shared.table_id origin.now.first.value) result.items }
+    ensures readers { All (IsNewReader (arc_value origin.now.factory.value.board).shared.table_id origin.now.first.value) result.items }
 {
     let mut copies = copies;
     let mut made = room;

@@ -40,7 +40,7 @@ where
 
     ghost Value = { WriterValue T };
 
-    ghost view = { λ w. record { table = (arc_value w.origin.home.value.board).shared.table_id; values = w.origin.first.value ∷ w.writer.desk.place.me.0.client.seen } };
+    ghost view = { λ w. record { table = (arc_value w.origin.factory.value.board).shared.table_id; values = w.origin.first.value ∷ w.writer.desk.place.me.0.client.seen } };
 
     ghost invariant = { λ w. IsLast w.origin.first.value w.writer.desk.place.me.0.client (in_place w.writer.desk.shown.value) };
 }

@@ -1,7 +1,7 @@
 -- What stands of the history of a script whose spans don't start at their making: no entry is open of a span that closes, and
 -- the order of starts is read off what is recorded.
 use Rattle.std.proofs.Common.{◌≡◌, ℕ, ◌≤◌, List, [], ◌∷◌, ◌++◌, length, Bool, false, Option, Some, None, Ok, Err, refl, sym, ap, subst, ◌∙◌, arith, append_assoc}
-use Rattle.span_eager.proofs.Common.{nat_tests, SpanData, data_at, Request, Setup, MadeSpan, Effect, History, Tables, no_tables, tables, with_ops_of, after_effect, Resolved, effect_of, with_effects_behind, history_from, IsHistory, more, occurrences, starts_at_making, starting_order, order_in, effect_order}
+use Rattle.span_eager.proofs.Common.{nat_tests, SpanData, data_at, Request, Setup, MadeSpan, Effect, History, Tables, no_tables, tables, with_ops_of, after_effect, Resolved, effect_of, with_effects_behind, history_from, IsHistory, more, occurrences, span_starting_at_making, starting_order, order_in, effect_order}
 use Rattle.std.proofs.lemmas.Bool.{le-ltb}
 use Rattle.std.proofs.lemmas.List.{append-nil}
 use Rattle.std.proofs.lemmas.List.Sums.{fold_push}
@@ -50,12 +50,12 @@ module _ (setup : Setup) (lazily : setup.layer.eager ≡ false) where
             (closing_shut setup h now request.at (is_drop request.call) e step.0 step.1 s (let counted = is_in_counted s e.closes in grind (arith, nat_tests, counted, there)));
       }
 
-  none_begins : (h : History) (request : Request) (e : Effect) → IsHistory setup h → effect_of setup (tables setup h) request ≡ Ok e → e.begins ≡ None
+  none_begins : (h : History) (request : Request) (e : Effect) → IsHistory setup h → effect_of setup (tables setup h) request ≡ Ok e → e.new_span_start ≡ None
   none_begins h request e legal is =
       let t : Tables = tables setup h in
-      (step_of setup t (fits setup h (whole setup h legal)) request e is).1.early ∙ ap (λ (b : Bool). starts_at_making b (length t.spans) e.new_span) lazily ∙ by_made (length t.spans) e.new_span
+      (step_of setup t (fits setup h (whole setup h legal)) request e is).1.early ∙ ap (λ (b : Bool). span_starting_at_making b (length t.spans) e.new_span) lazily ∙ by_made (length t.spans) e.new_span
     where
-      by_made : (n : ℕ) (o : Option MadeSpan) → starts_at_making false n o ≡ None
+      by_made : (n : ℕ) (o : Option MadeSpan) → span_starting_at_making false n o ≡ None
       by_made n None = refl
       by_made n (Some m) = refl
 

@@ -1,6 +1,6 @@
 -- What an early start makes of effects and of tables, and that it is kept by one effect more.
 use Rattle.std.proofs.Common.{◌≡◌, ℕ, suc, ◌≤◌, ◌==◌, ◌||◌, List, [], ◌∷◌, ◌++◌, length, map, fold, Bool, true, false, Option, Some, None, refl, sym, ap, ap₂, subst, subst₂, ◌∙◌, arith, append_assoc, if◌then◌else◌, option_map}
-use Rattle.span_eager.proofs.Common.{AllByRecursion, list_any, map-append, LayerSettings, GREATEST, deed, Recording, with_start, with_starts, with_applied, without_last, MadeSpan, SpanOp, Owner, Attached, is_attached_by, Effect, Tables, with_item, with_attached, with_detached, with_span_made, with_starts_of, with_ops_of, recording_after, open_part, after_effect, starts_from, closes_from, LeavesStartData, renamed_context, renamed_reply}
+use Rattle.span_eager.proofs.Common.{AllByRecursion, list_any, map-append, LayerSettings, GREATEST, deed, Recording, with_start, with_start_if_some, with_applied, without_last, MadeSpan, SpanOp, Owner, Attached, is_attached_by, Effect, Tables, with_item, with_attached, with_detached, with_span_made, with_starts_of, with_ops_of, recording_after, open_part, after_effect, starts_from, closes_from, LeavesStartData, renamed_context, renamed_reply}
 use Rattle.std.proofs.lemmas.List.{length-append}
 use Rattle.span_eager.proofs.SameSpan.{Ids, told_by}
 use Rattle.span_eager.proofs.SameRecordings.{SameRecording, Shut, AreOnce, done_with, later_same, starts_same, made_same, ops_same, closes_same}
@@ -16,7 +16,7 @@ abbrev pub effect_by : (ℕ → ℕ) → ℕ → Effect → Effect
 effect_by f n e = record e {
   new_context = option_map (renamed_context f) e.new_context;
   new_span = option_map (made_by f) e.new_span;
-  begins = option_map (λ (m : MadeSpan). n) e.new_span;
+  new_span_start = option_map (λ (m : MadeSpan). n) e.new_span;
   ops = map (done_with f) e.ops;
   attach = option_map (attached_by f) e.attach;
   reply = renamed_reply f e.reply;
@@ -97,7 +97,7 @@ IsJustMade at (Some m) = (m.made_with.own ≡ None) × (m.made_with.last ≤ at)
 -- what holds of the effect of any request, where spans don't start at their making
 pub record IsPlain (at : ℕ) (e : Effect) : Type 0 where
   pub at_is : e.at ≡ at
-  pub begins : e.begins ≡ None
+  pub begins : e.new_span_start ≡ None
   pub made : IsJustMade at e.new_span
   pub starts_none : AllByRecursion (λ (d : SpanOp). (deed d.op).own ≡ None) e.ops
 
@@ -106,7 +106,7 @@ module _ (f : Ids) (layer : LayerSettings) where
   Same = SameRecording f layer
 
   made_by_effect : (n at : ℕ) (pending : List ℕ) (e l : Recording) (m : Option MadeSpan) → at ≤ GREATEST → IsJustMade at m → Same n at pending e l
-      → Same (count_made n m) at pending (with_starts (option_map (λ (m : MadeSpan). n) m) at (with_span_made n (option_map (made_by f.new) m) e)) (with_span_made n m l)
+      → Same (count_made n m) at pending (with_start_if_some (option_map (λ (m : MadeSpan). n) m) at (with_span_made n (option_map (made_by f.new) m) e)) (with_span_made n m l)
   made_by_effect n at pending e l None within just same = same
   made_by_effect n at pending e l (Some m) within just same = made_same f layer n at pending e l m.made_with just.0 just.1 within same
 
@@ -118,10 +118,10 @@ module _ (f : Ids) (layer : LayerSettings) where
       let started = starts_same f layer n at e.starts pending r l within same in
       let begun = made_by_effect n at pending (fold (λ r s. with_start s at r) r e.starts) (fold (λ r s. with_start s at r) l e.starts) e.new_span within plain.made started in
       let lazily : with_starts_of n e l ≡ with_span_made n e.new_span (fold (λ r s. with_start s at r) l e.starts) =
-      ap (λ (b : Option ℕ). with_starts b e.at (with_span_made n e.new_span (fold (λ r s. with_start s e.at r) l e.starts))) plain.begins
+      ap (λ (b : Option ℕ). with_start_if_some b e.at (with_span_made n e.new_span (fold (λ r s. with_start s e.at r) l e.starts))) plain.begins
       ∙ ap (λ (m : ℕ). with_span_made n e.new_span (fold (λ r s. with_start s m r) l e.starts)) at_is in
-      let early : with_starts_of n (effect_by f.new n e) r ≡ with_starts (option_map (λ (m : MadeSpan). n) e.new_span) at (with_span_made n (option_map (made_by f.new) e.new_span) (fold (λ r s. with_start s at r) r e.starts)) =
-      ap (λ (m : ℕ). with_starts (option_map (λ (m : MadeSpan). n) e.new_span) m (with_span_made n (option_map (made_by f.new) e.new_span) (fold (λ r s. with_start s m r) r e.starts))) at_is in
+      let early : with_starts_of n (effect_by f.new n e) r ≡ with_start_if_some (option_map (λ (m : MadeSpan). n) e.new_span) at (with_span_made n (option_map (made_by f.new) e.new_span) (fold (λ r s. with_start s at r) r e.starts)) =
+      ap (λ (m : ℕ). with_start_if_some (option_map (λ (m : MadeSpan). n) e.new_span) m (with_span_made n (option_map (made_by f.new) e.new_span) (fold (λ r s. with_start s m r) r e.starts))) at_is in
       let ready = subst₂ (Same (count_made n e.new_span) at pending) (sym early) (sym lazily) begun in
       let done = ops_same f layer (count_made n e.new_span) at pending e.ops (with_starts_of n (effect_by f.new n e) r) (with_starts_of n e l) within plain.starts_none settled ready in
       subst (λ (m : ℕ). Same (count_made n e.new_span) at pending (fold (λ r d. with_applied d.span m d.op r) (with_starts_of n (effect_by f.new n e) r) (map (done_with f.new) e.ops)) (fold (λ r d. with_applied d.span m d.op r) (with_starts_of n e l) e.ops))

@@ -1,6 +1,6 @@
 -- What a request changes where spans start at their making is what it changes where they don't, with other ids.
 use Rattle.std.proofs.Common.{◌≡◌, ℕ, zero, suc, ◌≤◌, ◌==◌, ◌&&◌, List, [], ◌∷◌, length, map, fold, min, max, Bool, true, false, Option, Some, None, Ok, Err, IfSome, refl, sym, ap, subst, subst₂, ◌∙◌, arith, if◌then◌else◌, is_some, option_map, slice_get, option_and_then, not}
-use Rattle.span_eager.proofs.Common.{AllByRecursion, length-map, slice_get-map, Context, SpanContext, is_valid, ids_of, Op, LayerSettings, GREATEST, deed, SpanData, Recording, source_of, with_start, with_starts, data_at, start_context, own_context_or, current_of, Reply, Refusal, Request, Setup, span_site, event_site, Here, here_at, Resolved, refuse_if, ◌>>=◌, need, op_on, ops_on, ops_effect, effect_of_call, is_bad_moment, effect_of, scope_at, disabled_effect, parent_under, last_attached, context_around, lane_in, span_effect, new_effect, clone_effect, drop_effect, is_borrowed, current_scope, scope_or_current, exchange_effect, Scope, SpanOp, MadeSpan, EntryOf, Attached, HookNew, Tables, slot_at, span_of_scope, site_of, scope_of, made_span_at, with_starts_of, quiet_effect, lazy_setup, LeavesStartData, is_no_span_id, gives_no_span_id, renamed_ids, renamed_context, renamed_reply}
+use Rattle.span_eager.proofs.Common.{AllByRecursion, length-map, slice_get-map, Context, SpanContext, is_valid, ids_of, Op, LayerSettings, GREATEST, deed, SpanData, Recording, id_if_on, with_start, with_start_if_some, data_at, start_context, own_context_or, current_of, Reply, Refusal, Request, Setup, span_site, event_site, Here, here_at, Resolved, refuse_if, ◌>>=◌, need, op_on, ops_on, ops_effect, effect_of_call, is_bad_moment, effect_of, parent_scope, disabled_effect, parent_under, last_attached, context_around, lane_in, span_effect, new_effect, clone_effect, drop_effect, is_borrowed, current_scope, scope_or_current, exchange_effect, Scope, SpanOp, MadeSpan, EntryOf, Attached, HookNew, Tables, slot_at, span_of_scope, site_of, scope_of, made_span_at, with_starts_of, quiet_effect, lazy_setup, LeavesStartData, is_no_span_id, gives_no_span_id, renamed_ids, renamed_context, renamed_reply}
 use Rattle.std.specs.Option.{option_to_list}
 use Rattle.env_directives.specs.orders.Choice.{admits}
 use Rattle.otel_base.specs.declared.value.KeyValue.{KeyValue}
@@ -8,8 +8,8 @@ use Rattle.otel_base.specs.declared.stack.TheConstants.{MAX_CONTEXTS}
 use Rattle.otel_base.specs.Stack.{empty_context}
 use Rattle.otel_metrics.specs.Measures.{measures}
 use Rattle.otel_state.specs.declared.op.Op.TheVariants as ops
-use Rattle.otel_state.specs.fields.EventFields.{event_of}
-use Rattle.otel_layer.specs.Asking.{link_of, event_at}
+use Rattle.otel_state.specs.fields.EventFields.{event_op}
+use Rattle.otel_layer.specs.Asking.{link_op, add_event_op}
 use Rattle.otel_layer.specs.Steps.{parent_source, context_from, new_span_data}
 use Rattle.trace_base.specs.declared.callsite.Callsite.{Callsite}
 use Rattle.trace_base.specs.declared.field.ValueSet.{ValueSet}
@@ -31,7 +31,7 @@ use Rattle.span_script.specs.calls.Entries.{activated_span, enter_effect, is_ful
 use Rattle.span_script.specs.calls.Events.{if_enabled, event_ops, event_effect}
 use Rattle.span_script.specs.calls.Fields.{callsite_of, update_ops, hooks_of_values, record_effect}
 use Rattle.span_script.specs.calls.Filter.{admits_on, enabled_effect, reload_by}
-use Rattle.span_script.specs.calls.Links.{follow_effect, set_result, set_parent_result, link_ops, event_time}
+use Rattle.span_script.specs.calls.Links.{follow_effect, result_if_settable, set_parent_result, link_ops, event_time}
 use Rattle.span_eager.proofs.SameSpan.{Ids, early_ids, op_by, told_by, valid_by, ids_of_by}
 use Rattle.span_eager.proofs.SameSpans.{SameAt, same_at}
 use Rattle.span_eager.proofs.SameRecordings.{SameRecording, done_with, early_stays, none_waits, has_started}
@@ -219,19 +219,19 @@ module _ (f : Ids) (setup : Setup) (eager : setup.layer.eager ≡ true) (t : Tab
   records_agree (s ∷ up) fields (Some c) = (refl, record { at_is = refl; begins = refl; made = tt; starts_none = (refl, tt) })
 
   events_agree : (c : Callsite) (values : ValueSet) (enabled : Bool) (reached : Scope) (counting : Option (List ℕ))
-      → A (Ok (record (ops_effect hl (reply.Enabled enabled) (if_enabled enabled (ops_on reached (event_ops counting c (event_of c values setup.layer at))))) { measures = if_enabled enabled (measures c values) }))
-      (Ok (record (ops_effect hl (reply.Enabled enabled) (if_enabled enabled (ops_on reached (event_ops counting c (event_of c values (lazy_setup setup).layer at))))) { measures = if_enabled enabled (measures c values) }))
+      → A (Ok (record (ops_effect hl (reply.Enabled enabled) (if_enabled enabled (ops_on reached (event_ops counting c (event_op c values setup.layer at))))) { measures = if_enabled enabled (measures c values) }))
+      (Ok (record (ops_effect hl (reply.Enabled enabled) (if_enabled enabled (ops_on reached (event_ops counting c (event_op c values (lazy_setup setup).layer at))))) { measures = if_enabled enabled (measures c values) }))
   events_agree c values false reached counting = (refl, record { at_is = refl; begins = refl; made = tt; starts_none = tt })
   events_agree c values true [] counting = (refl, record { at_is = refl; begins = refl; made = tt; starts_none = tt })
   events_agree c values true (s ∷ up) None = (refl, record { at_is = refl; begins = refl; made = tt; starts_none = (refl, tt) })
   events_agree c values true (s ∷ up) (Some text) = by_test (admits (text_filter text).statics.directives c)
     where
-      by_test : (b : Bool) → A (Ok (record (ops_effect hl (reply.Enabled true) (ops_on (s ∷ up) (ops.Counted ∷ if_enabled b (event_of c values setup.layer at ∷ [])))) { measures = measures c values }))
-          (Ok (record (ops_effect hl (reply.Enabled true) (ops_on (s ∷ up) (ops.Counted ∷ if_enabled b (event_of c values (lazy_setup setup).layer at ∷ [])))) { measures = measures c values }))
+      by_test : (b : Bool) → A (Ok (record (ops_effect hl (reply.Enabled true) (ops_on (s ∷ up) (ops.Counted ∷ if_enabled b (event_op c values setup.layer at ∷ [])))) { measures = measures c values }))
+          (Ok (record (ops_effect hl (reply.Enabled true) (ops_on (s ∷ up) (ops.Counted ∷ if_enabled b (event_op c values (lazy_setup setup).layer at ∷ [])))) { measures = measures c values }))
       by_test true = (refl, record { at_is = refl; begins = refl; made = tt; starts_none = (refl, (refl, tt)) })
       by_test false = (refl, record { at_is = refl; begins = refl; made = tt; starts_none = (refl, tt) })
 
-  scope_at_by : (under : RequestParent) → scope_at te id under ≡ scope_at t id under
+  scope_at_by : (under : RequestParent) → parent_scope te id under ≡ parent_scope t id under
   scope_at_by places.Root = refl
   scope_at_by places.Contextual = ap (λ (s : Scope). Some s) (scoped f.new t.spans (current_of (t.entries id)))
   scope_at_by (places.Under handle) = refl
@@ -271,7 +271,7 @@ module _ (f : Ids) (setup : Setup) (eager : setup.layer.eager ≡ true) (t : Tab
   follows_agree (s ∷ up) [] ready = (refl, record { at_is = refl; begins = refl; made = tt; starts_none = tt })
   follows_agree (s ∷ up) (q ∷ over) ready =
       let same = context_alike (ready refl).0.0 q empty_context empty_context (ready refl).0.1 refl in (
-        (λ i. record (follow_effect hl (s ∷ up) (q ∷ over)) { ops = op_on (s ∷ up) (link_of ((ap ids_of same ∙ ids_of_by f (context_of_scope t.recording at (q ∷ over))) i) []) }),
+        (λ i. record (follow_effect hl (s ∷ up) (q ∷ over)) { ops = op_on (s ∷ up) (link_op ((ap ids_of same ∙ ids_of_by f (context_of_scope t.recording at (q ∷ over))) i) []) }),
         record { at_is = refl; begins = refl; made = tt; starts_none = (refl, tt) },
       )
 
@@ -279,7 +279,7 @@ module _ (f : Ids) (setup : Setup) (eager : setup.layer.eager ≡ true) (t : Tab
       → A (Ok (ops_effect he (reply.Set (set_parent_result r scope)) (op_on scope (ops.SetParent (renamed_context f.new given))))) (Ok (ops_effect hl (reply.Set (set_parent_result t.recording scope)) (op_on scope (ops.SetParent given))))
   sets_agree [] given ready = (refl, record { at_is = refl; begins = refl; made = tt; starts_none = tt })
   sets_agree (s ∷ up) given ready = (
-    (λ i. record (ops_effect hl (reply.Set (set_result (waits_not i))) (op_on (s ∷ up) (ops.SetParent given))) { ops = op_on (s ∷ up) (ops.SetParent (renamed_context f.new given)) }),
+    (λ i. record (ops_effect hl (reply.Set (result_if_settable (waits_not i))) (op_on (s ∷ up) (ops.SetParent given))) { ops = op_on (s ∷ up) (ops.SetParent (renamed_context f.new given)) }),
     record { at_is = refl; begins = refl; made = tt; starts_none = (refl, tt) },
   )
     where
@@ -289,8 +289,8 @@ module _ (f : Ids) (setup : Setup) (eager : setup.layer.eager ≡ true) (t : Tab
           ∙ sym (ready refl).1.0
 
   links_agree : (scope : Scope) (given : SpanContext) (attributes : List KeyValue) (b : Bool)
-      → A (Ok (ops_effect hl reply.Done (if b then op_on scope (link_of (renamed_ids f.new given) attributes) else []))) (Ok (ops_effect hl reply.Done (if b then op_on scope (link_of given attributes) else [])))
-  links_agree scope given attributes true = tells_agree scope (link_of given attributes) refl reply.Done refl
+      → A (Ok (ops_effect hl reply.Done (if b then op_on scope (link_op (renamed_ids f.new given) attributes) else []))) (Ok (ops_effect hl reply.Done (if b then op_on scope (link_op given attributes) else [])))
+  links_agree scope given attributes true = tells_agree scope (link_op given attributes) refl reply.Done refl
   links_agree scope given attributes false = (refl, record { at_is = refl; begins = refl; made = tt; starts_none = tt })
 
   -- ---- a making
@@ -306,8 +306,8 @@ module _ (f : Ids) (setup : Setup) (eager : setup.layer.eager ≡ true) (t : Tab
 
   made_agrees : (c : Callsite) (l : Lane) (values : ValueSet) (d x : Context) (o : Option ℕ) (pending : List ℕ) → d ≡ renamed_context f.new x
       → SameRecording f setup.layer (length t.spans) at pending r (fold (λ r s. with_start s at r) t.recording (option_to_list o))
-      → new_span_data c l values (context_from (with_starts o at r).spans d o) at (with_starts o at r).settings (with_starts o at r).counting
-      ≡ told_by f.new (new_span_data c l values (context_from (with_starts o at t.recording).spans x o) at (with_starts o at t.recording).settings (with_starts o at t.recording).counting)
+      → new_span_data c l values (context_from (with_start_if_some o at r).spans d o) at (with_start_if_some o at r).settings (with_start_if_some o at r).counting
+      ≡ told_by f.new (new_span_data c l values (context_from (with_start_if_some o at t.recording).spans x o) at (with_start_if_some o at t.recording).settings (with_start_if_some o at t.recording).counting)
   made_agrees c l values d x None pending same ready = told_alike c l values d x r.settings t.recording.settings r.counting t.recording.counting same ready.e_settings ready.l_settings ready.counting
   made_agrees c l values d x (Some s) pending same ready =
       let now = with_start s at t.recording in
@@ -327,7 +327,7 @@ module _ (f : Ids) (setup : Setup) (eager : setup.layer.eager ≡ true) (t : Tab
         (λ i. record (span_effect hl site c values under up) {
           new_handle = Some (k i ∷ up);
           new_span = Some (record { site = site; scope = k i ∷ up; made_with = told i });
-          begins = source_of (eager i) (k i);
+          new_span_start = id_if_on (eager i) (k i);
           hooks = HookNew (k i) c values ∷ [];
         }),
         record { at_is = refl; begins = refl; made = (refl, last_of at); starts_none = tt },
@@ -344,12 +344,12 @@ module _ (f : Ids) (setup : Setup) (eager : setup.layer.eager ≡ true) (t : Tab
   pub call_agrees : (c : Call) → gives_no_span_id f.many c ≡ true → P (effect_of_call (lazy_setup setup) t at place c) → A (effect_of_call setup te at place c) (effect_of_call (lazy_setup setup) t at place c)
   call_agrees (call.New site under fields) far ready =
       named_agrees what.Site (span_site setup.sites site)
-      (λ c. need what.Handle (scope_at te id under) >>= (λ up. need what.Field (all_values c fields) >>= (λ values. Ok (new_effect he site c values under up))))
-      (λ c. need what.Handle (scope_at t id under) >>= (λ up. need what.Field (all_values c fields) >>= (λ values. Ok (new_effect hl site c values under up)))) ready
+      (λ c. need what.Handle (parent_scope te id under) >>= (λ up. need what.Field (all_values c fields) >>= (λ values. Ok (new_effect he site c values under up))))
+      (λ c. need what.Handle (parent_scope t id under) >>= (λ up. need what.Field (all_values c fields) >>= (λ values. Ok (new_effect hl site c values under up)))) ready
       (λ c given. subst (λ (o : Option Scope). A (need what.Handle o >>= (λ up. need what.Field (all_values c fields) >>= (λ values. Ok (new_effect he site c values under up))))
-      (need what.Handle (scope_at t id under) >>= (λ up. need what.Field (all_values c fields) >>= (λ values. Ok (new_effect hl site c values under up)))))
+      (need what.Handle (parent_scope t id under) >>= (λ up. need what.Field (all_values c fields) >>= (λ values. Ok (new_effect hl site c values under up)))))
       (sym (scope_at_by under))
-      (named_agrees what.Handle (scope_at t id under)
+      (named_agrees what.Handle (parent_scope t id under)
       (λ up. need what.Field (all_values c fields) >>= (λ values. Ok (new_effect he site c values under up)))
       (λ up. need what.Field (all_values c fields) >>= (λ values. Ok (new_effect hl site c values under up))) given
       (λ up more. named_agrees what.Field (all_values c fields) (λ values. Ok (new_effect he site c values under up)) (λ values. Ok (new_effect hl site c values under up)) more
@@ -392,12 +392,12 @@ module _ (f : Ids) (setup : Setup) (eager : setup.layer.eager ≡ true) (t : Tab
       (sym (callsite_by scope)) (refl, record { at_is = refl; begins = refl; made = tt; starts_none = tt }))
   call_agrees (call.Event site under fields) far ready =
       named_agrees what.Site (event_site setup.sites site)
-      (λ c. need what.Handle (scope_at te id under) >>= (λ reached. need what.Field (all_values c fields) >>= (λ values. Ok (event_effect he c values reached))))
-      (λ c. need what.Handle (scope_at t id under) >>= (λ reached. need what.Field (all_values c fields) >>= (λ values. Ok (event_effect hl c values reached)))) ready
+      (λ c. need what.Handle (parent_scope te id under) >>= (λ reached. need what.Field (all_values c fields) >>= (λ values. Ok (event_effect he c values reached))))
+      (λ c. need what.Handle (parent_scope t id under) >>= (λ reached. need what.Field (all_values c fields) >>= (λ values. Ok (event_effect hl c values reached)))) ready
       (λ c given. subst (λ (o : Option Scope). A (need what.Handle o >>= (λ reached. need what.Field (all_values c fields) >>= (λ values. Ok (event_effect he c values reached))))
-      (need what.Handle (scope_at t id under) >>= (λ reached. need what.Field (all_values c fields) >>= (λ values. Ok (event_effect hl c values reached)))))
+      (need what.Handle (parent_scope t id under) >>= (λ reached. need what.Field (all_values c fields) >>= (λ values. Ok (event_effect hl c values reached)))))
       (sym (scope_at_by under))
-      (named_agrees what.Handle (scope_at t id under)
+      (named_agrees what.Handle (parent_scope t id under)
       (λ reached. need what.Field (all_values c fields) >>= (λ values. Ok (event_effect he c values reached)))
       (λ reached. need what.Field (all_values c fields) >>= (λ values. Ok (event_effect hl c values reached))) given
       (λ reached more. named_agrees what.Field (all_values c fields) (λ values. Ok (event_effect he c values reached)) (λ values. Ok (event_effect hl c values reached)) more
@@ -449,7 +449,7 @@ module _ (f : Ids) (setup : Setup) (eager : setup.layer.eager ≡ true) (t : Tab
           → A (need what.Context (option_map (renamed_context f.new) o) >>= (λ given. Ok (ops_effect hl reply.Done (link_ops scope (ids_of given) attributes)))) (need what.Context o >>= (λ given. Ok (ops_effect hl reply.Done (link_ops scope (ids_of given) attributes))))
       by_slot scope None = refl
       by_slot scope (Some given) =
-          subst₂ (λ (ids : SpanContext) (b : Bool). A (Ok (ops_effect hl reply.Done (if b then op_on scope (link_of ids attributes) else []))) (Ok (ops_effect hl reply.Done (link_ops scope (ids_of given) attributes))))
+          subst₂ (λ (ids : SpanContext) (b : Bool). A (Ok (ops_effect hl reply.Done (if b then op_on scope (link_op ids attributes) else []))) (Ok (ops_effect hl reply.Done (link_ops scope (ids_of given) attributes))))
           (sym (ids_of_by f given)) (sym (ap is_valid (ids_of_by f given) ∙ valid_by f (ids_of given))) (links_agree scope (ids_of given) attributes (is_valid (ids_of given)))
   call_agrees (call.SetAttribute handle key value) far ready =
       named_agrees what.Handle (slot_at t.handles handle)
@@ -461,8 +461,8 @@ module _ (f : Ids) (setup : Setup) (eager : setup.layer.eager ≡ true) (t : Tab
       (λ scope given. tells_agree scope (ops.SetStatus status) refl reply.Done refl)
   call_agrees (call.AddEvent handle name attributes time) far ready =
       named_agrees what.Handle (slot_at t.handles handle)
-      (λ scope. Ok (ops_effect hl reply.Done (op_on scope (event_at name (event_time at time) attributes)))) (λ scope. Ok (ops_effect hl reply.Done (op_on scope (event_at name (event_time at time) attributes)))) ready
-      (λ scope given. tells_agree scope (event_at name (event_time at time) attributes) refl reply.Done refl)
+      (λ scope. Ok (ops_effect hl reply.Done (op_on scope (add_event_op name (event_time at time) attributes)))) (λ scope. Ok (ops_effect hl reply.Done (op_on scope (add_event_op name (event_time at time) attributes)))) ready
+      (λ scope given. tells_agree scope (add_event_op name (event_time at time) attributes) refl reply.Done refl)
   call_agrees (call.Enabled site) far ready =
       named_agrees what.Site (slice_get setup.sites site) (λ c. Ok (enabled_effect he c)) (λ c. Ok (enabled_effect hl c)) ready (λ c given. (refl, record { at_is = refl; begins = refl; made = tt; starts_none = tt }))
   call_agrees (call.Reload text) far ready = by_read (text_read text)

@@ -1,6 +1,6 @@
 -- An early start changes ids alone.
 use Rattle.std.proofs.Common.{◌≡◌, ℕ, zero, suc, ◌+◌, ◌≤◌, List, [], ◌∷◌, ◌++◌, length, map, true, Option, Some, None, refl, ap, ◌∙◌, arith, slice_get, count_by}
-use Rattle.span_eager.proofs.Common.{option_map_or, range_with_len, nat_tests, length-map, slice_get_past, Reply, Request, Setup, Effect, History, Tables, no_tables, nothing_recorded, tables, after_effect, is_open, open_spans, history_of, outcome_of, none, starting_order, lazy_setup, eager_id, answers, is_no_span_id, MayStartEarly, new_id, renamed_reply, renamed_answer, renamed_outcome}
+use Rattle.span_eager.proofs.Common.{option_map_or, range_with_len, nat_tests, length-map, slice_get_past, Reply, Request, Setup, Effect, History, Tables, no_tables, nothing_recorded, tables, after_effect, is_open, open_spans, history_of, outcome_of, none, starting_order, lazy_setup, eager_id, answers, is_no_span_id, MayStartEarly, id_by_making, renamed_reply, renamed_answer, renamed_outcome}
 use Rattle.span_laws.proofs.spans.AllSpansLemmas.{started_few}
 use Rattle.span_laws.proofs.steps.LegalLemmas.{scripts_are_legal}
 use Rattle.span_eager.proofs.SameSpan.{Ids}
@@ -10,7 +10,7 @@ use Rattle.span_eager.proofs.SameScripts.{history_by, refused_from, Beside, alon
 
 -- ---- new ids
 
-ids_some : (order : List ℕ) (k : ℕ) → new_id order (suc k) ≡ 0 → ⊥
+ids_some : (order : List ℕ) (k : ℕ) → id_by_making order (suc k) ≡ 0 → ⊥
 ids_some order k is = by_slot (slice_get order k) is
   where
     by_slot : (o : Option ℕ) → option_map_or suc o (suc k) ≡ 0 → ⊥
@@ -21,12 +21,12 @@ slot_behind : (front rest : List ℕ) (s : ℕ) → slice_get (front ++ s ∷ re
 slot_behind [] rest s = refl
 slot_behind (x ∷ front) rest s = slot_behind front rest s
 
-ids_placed : (order front rest : List ℕ) (s : ℕ) → order ≡ front ++ s ∷ rest → new_id order (length front + 1) ≡ suc s
+ids_placed : (order front rest : List ℕ) (s : ℕ) → order ≡ front ++ s ∷ rest → id_by_making order (length front + 1) ≡ suc s
 ids_placed order front rest s is =
     let next : length front + 1 ≡ suc (length front) = omega arith in
-    ap (new_id order) next ∙ ap (λ (o : Option ℕ). option_map_or suc o (suc (length front))) (ap (λ (xs : List ℕ). slice_get xs (length front)) is ∙ slot_behind front rest s)
+    ap (id_by_making order) next ∙ ap (λ (o : Option ℕ). option_map_or suc o (suc (length front))) (ap (λ (xs : List ℕ). slice_get xs (length front)) is ∙ slot_behind front rest s)
 
-ids_far : (order : List ℕ) (many : ℕ) → length order ≤ many → (id : ℕ) → is_no_span_id many id ≡ true → new_id order id ≡ id
+ids_far : (order : List ℕ) (many : ℕ) → length order ≤ many → (id : ℕ) → is_no_span_id many id ≡ true → id_by_making order id ≡ id
 ids_far order many few zero far = refl
 ids_far order many few (suc k) far =
     let past : length order ≤ k = grind (arith, nat_tests, far, few) in
@@ -52,7 +52,7 @@ beside setup requests eager may =
     let many = length (tables (lazy_setup setup) h).spans in
     let on = goes_on (lazy_setup setup) refl requests [] none in
     let f : Ids = record {
-      new = new_id order;
+      new = id_by_making order;
       order = order;
       many = many;
       none = refl;

@@ -1,6 +1,6 @@
 -- The same of all that is recorded: what a start, a making, an op and a close make of it.
 use Rattle.std.proofs.Common.{◌≡◌, ℕ, suc, ◌+◌, ◌≤◌, ◌==◌, ◌&&◌, ◌||◌, List, [], ◌∷◌, ◌++◌, length, map, fold, Bool, true, false, Option, Some, None, refl, sym, ap, ap₂, subst, ◌∙◌, arith, inl, inr, append_assoc, is_some, option_map}
-use Rattle.span_eager.proofs.Common.{AllByRecursion, cases_Bool, map-append, Context, SpanContext, Record, ids_of, recorder_ids, is_in, Op, LayerSettings, GREATEST, Deed, deed, SpanData, first_start, after_op, record_of, Recording, with_applied, with_start_under, with_start, without_closed, closed_started, with_close, data_at, update, with_op, start_context, context_unless_started, SpanOp, if_waiting, starting, starts_from, closes_from, writes_start_data, LeavesStartData, renamed_record}
+use Rattle.span_eager.proofs.Common.{AllByRecursion, cases_Bool, map-append, Context, SpanContext, Record, ids_of, recorder_ids, is_in, Op, LayerSettings, GREATEST, Deed, deed, SpanData, first_start, after_op, record_of, Recording, with_applied, with_start_under, with_start, with_span_finished, with_close_of_started, with_close, data_at, update, with_op, start_context, context_unless_started, SpanOp, if_waiting, starting, starts_from, closes_from, writes_start_data, LeavesStartData, renamed_record}
 use Rattle.std.proofs.lemmas.Bool.{eq-eqb, eqb-true, true≢false}
 use Rattle.std.proofs.lemmas.List.{length-append}
 use Rattle.otel_base.specs.declared.record.SpanKind.{SpanKind}
@@ -253,7 +253,7 @@ module _ (f : Ids) (layer : LayerSettings) where
       by_told given (Some t) is found = (given, sym (own_is given t found) ∙ ap (λ (o : Option SpanContext). first_start o (Some given)) (waiting t.own t.parent under is).0)
 
   closed_same : (n at s : ℕ) (pending : List ℕ) (e l : Recording) (d m : Option SpanData) → SameAt f.new s at d m
-      → ((t : SpanData) → m ≡ Some t → ((ids : SpanContext) × (t.own ≡ Some ids)) × (t.entries ≡ 0)) → Same n at pending e l → Same n at pending (without_closed d s at e) (without_closed m s at l)
+      → ((t : SpanData) → m ≡ Some t → ((ids : SpanContext) × (t.own ≡ Some ids)) × (t.entries ≡ 0)) → Same n at pending e l → Same n at pending (with_span_finished d s at e) (with_span_finished m s at l)
   closed_same n at s pending e l None None alike ready same = same
   closed_same n at s pending e l None (Some m) alike ready same = absurd alike
   closed_same n at s pending e l (Some d) None alike ready same = absurd alike
@@ -277,14 +277,14 @@ module _ (f : Ids) (layer : LayerSettings) where
       let now = with_start s at l in
       let started = start_same n at s pending e l within same in
       let shut_now = shut_started ss (start_context (data_at s l.spans)) s at l shut s there in
-      subst (λ (r : Recording). Same n at pending (closed_started s at r) (closed_started s at now)) (sym (early_stays n at at s (starting s l ++ pending) e l same))
+      subst (λ (r : Recording). Same n at pending (with_close_of_started s at r) (with_close_of_started s at now)) (sym (early_stays n at at s (starting s l ++ pending) e l same))
       (closed_same n at s pending e now (data_at s e.spans) (data_at s now.spans) (same_at f.new at e.spans now.spans s started.spans)
       (λ t found. (has_started s at l t (start_context (data_at s l.spans)) refl found, sym (ap entries_in found) ∙ shut_now)) started)
 
   shut_closed : (ss : List ℕ) (s at : ℕ) (l : Recording) → is_in s ss ≡ false → Shut ss l.spans → Shut ss (with_close s at l).spans
   shut_closed ss s at l out shut = let now = with_start s at l in by_told (data_at s now.spans) (shut_started ss (start_context (data_at s l.spans)) s at l shut)
     where
-      by_told : (o : Option SpanData) → Shut ss (with_start s at l).spans → Shut ss (without_closed o s at (with_start s at l)).spans
+      by_told : (o : Option SpanData) → Shut ss (with_start s at l).spans → Shut ss (with_span_finished o s at (with_start s at l)).spans
       by_told None now = now
       by_told (Some t) now = λ q there. ap entries_in (told_at_removed s q (with_start s at l).spans (λ e. true≢false (sym there ∙ ap (λ (x : ℕ). is_in x ss) e ∙ out))) ∙ now q there
 

@@ -13,7 +13,7 @@ use Rattle.span_script.specs.Outcomes.{history_of}
 use Rattle.span_script.specs.Setups.{Setup}
 use Rattle.span_script.specs.Tables.{SpanOp, History, Tables, no_tables, tables, after_effect, with_starts_of, records_of}
 use Rattle.span_laws.specs.Starts.{starting_order}
-use Rattle.span_eager.specs.Renaming.{new_id}
+use Rattle.span_eager.specs.Renaming.{id_by_making}
 
 -- the same script where no span starts at its making
 abbrev pub lazy_setup : Setup → Setup
@@ -21,7 +21,7 @@ lazy_setup setup = record setup { layer = record setup.layer { eager = false } }
 
 -- each id by the place of a start, and the id by the number of the making
 abbrev pub eager_id : Setup → List Request → ℕ → ℕ
-eager_id setup requests = new_id (starting_order (history_of setup requests))
+eager_id setup requests = id_by_making (starting_order (history_of setup requests))
 
 -- for each request of a history its reply, and the records of the spans that it closed
 abbrev pub answers_from : Tables → History → List (Reply × List Record)

@@ -2,16 +2,16 @@
 use Rattle.std.proofs.Common.{◌≡◌, ℕ, List, [], ◌∷◌, ◌++◌, Option, Some, None, sym, subst, ◌∙◌, arith, inl, inr, slice_get}
 use Rattle.span_futures.proofs.Common.{cases_eq, Lane, WorldValue, SubscriberCall, Enter, Exit, Replaced, HeldSpan, ReplacedOn, now_there}
 use Rattle.std.proofs.lemmas.List.Elements.{All-nil, All-cons, All-append}
-use Rattle.span_futures.specs.Calling.{WorldChange, Calls, IsCallUpTo, IsChangeUpTo, DoesChange, DoesAll, IsChangedUpTo, ChangesUpTo}
+use Rattle.span_futures.specs.Calling.{SubscriberChange, Calls, IsCallUpTo, IsChangeUpTo, DoesChange, DoesAll, IsChangedUpTo, ChangesUpTo}
 use Rattle.span_futures.proofs.KeptLemmas.{others_same}
 
 module _ {S : Type 0} (does : S → SubscriberCall → S → Type 0) (besides : ℕ → S → S → Type 0) (same : S → S → Type 0) (same_refl : (s : S) → same s s) (same_trans : (s t u : S) → same s t → same t u → same s u) (last : ℕ) where
   -- room that was taken before some changes
-  runs_after : (s m : S) (changes : List WorldChange) (t : S) → same s m → DoesAll does besides same m changes t → DoesAll does besides same s changes t
+  runs_after : (s m : S) (changes : List SubscriberChange) (t : S) → same s m → DoesAll does besides same m changes t → DoesAll does besides same s changes t
   runs_after s m [] t room alike = same_trans s m t room alike
   runs_after s m (change ∷ changes) t room (a, b, taken, did, rest) = (a, b, same_trans s m a room taken, did, rest)
 
-  runs_append : (s : S) (changes : List WorldChange) (m : S) (more : List WorldChange) (t : S) → DoesAll does besides same s changes m → DoesAll does besides same m more t → DoesAll does besides same s (changes ++ more) t
+  runs_append : (s : S) (changes : List SubscriberChange) (m : S) (more : List SubscriberChange) (t : S) → DoesAll does besides same s changes m → DoesAll does besides same m more t → DoesAll does besides same s (changes ++ more) t
   runs_append s [] m more t room runs = runs_after s m more t room runs
   runs_append s (change ∷ changes) m more t (a, b, taken, did, rest) runs = (a, b, taken, did, runs_append b changes m more t rest runs)
 
@@ -20,7 +20,7 @@ module _ {S : Type 0} (does : S → SubscriberCall → S → Type 0) (besides : 
   called_same s t room = record { changes = []; moments = All-nil (IsChangeUpTo last); runs = room }
 
   -- one thing was done
-  pub changed_once : (s : S) (change : WorldChange) (t : S) → IsChangeUpTo last change → DoesChange does besides s change t → IsChangedUpTo does besides same last s t
+  pub changed_once : (s : S) (change : SubscriberChange) (t : S) → IsChangeUpTo last change → DoesChange does besides s change t → IsChangedUpTo does besides same last s t
   changed_once s change t by did = record {
     changes = change ∷ [];
     moments = All-cons (IsChangeUpTo last) change [] by (All-nil (IsChangeUpTo last));

@@ -7,10 +7,10 @@ pub use Rattle.trace_base.specs.Gate.{IsInWorld, WorldValue}
 pub use Rattle.trace_base.specs.Sound.{IsSound}
 pub use Rattle.trace_base.specs.Spans.{Spans, entries_on, times_in, without_last}
 pub use Rattle.trace_base.specs.declared.lane.Lane.{Lane}
-pub use Rattle.trace_base.specs.lanes.Contexts.{CallLanes, KeepsAttached, attached_as}
+pub use Rattle.trace_base.specs.lanes.Contexts.{CallKeepsLanes, TracksAttached, attached_count}
 pub use Rattle.span_handles.proofs.ChangedSubscriberLemmas.{as_many, keeps, now_there, seen_before, seen_later}
 pub use Rattle.span_handles.proofs.KnownHandlesLemmas.{handles_trans, keeps_call, keeps_same}
 pub use Rattle.span_handles.specs.Handles.{HasOn, HeldSpan, IsKnown, ReplacedOn}
 pub use Rattle.span_handles.specs.Knowing.{KeepsHandles, KeepsKnown, KeepsOthers, LosesOne}
 pub use Rattle.span_handles.specs.Worlds.{Has, Replaced, no_spans, spans_in}
-pub use Rattle.span_futures.specs.Lent.{AreAllAttached, HasAll, KeepsAttachments, KeepsLent, KeepsParts, all_kept}
+pub use Rattle.span_futures.specs.Lent.{AreAllAttached, HasAll, KeepsAttachments, KeepsLent, KeepsParts, total_kept}

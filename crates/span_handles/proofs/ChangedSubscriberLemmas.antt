@@ -1,6 +1,6 @@
 -- What is read of the one subscriber that changed.
 use Rattle.std.proofs.Common.{◌≡◌, ℕ, zero, suc, Bool, false, List, [], ◌∷◌, length, Option, Some, subst, sym, ap, ◌∙◌, slice_get, slice_set, refl}
-use Rattle.span_handles.proofs.Common.{option_map_or, WorldValue, Spans, parent_to_release, SubscriberCall, TryClose, spans_after_call, Allowed, CallLanes, Has, Replaced, read_subscriber, ChangesPlainData, KeepsPlainData, Chain, ended, closes, ReleasesChain, all_released, releases, ChainChangesPlainData, no_spans}
+use Rattle.span_handles.proofs.Common.{option_map_or, WorldValue, Spans, parent_to_release, SubscriberCall, TryClose, spans_after_call, Allowed, CallKeepsLanes, Has, Replaced, read_subscriber, ChangesPlainData, KeepsPlainData, Chain, ended, closes, ReleasesChain, all_released, releases, ChainChangesPlainData, no_spans}
 use Rattle.std.proofs.lemmas.List.{length-set}
 
 get_set : {X : Type 0} (xs : List X) (n : ℕ) (x y : X) → slice_get xs n ≡ Some x → slice_get (slice_set xs n y) n ≡ Some y
@@ -28,16 +28,16 @@ module _ {S : Type 0} (R : S → S → Type 0) (old new : WorldValue S) (dispatc
   keeps P step has s there = subst P (the_same r.later s (sym now_there ∙ there)) (step r.before r.later r.did (has r.before r.there))
 
 pub shown : {S : Type 0} (spans : S → Spans) (attaches : S → Bool) (kept : S → ℕ → ℕ → ℕ) (is_whole : S → Type 0) (does : S → SubscriberCall → S → Type 0)
-    → ((s : S) (call : SubscriberCall) (t : S) → does s call t → spans t ≡ spans_after_call (spans s) call) → ((s : S) (call : SubscriberCall) (t : S) → does s call t → CallLanes (attaches s) (kept s) call (kept t))
+    → ((s : S) (call : SubscriberCall) (t : S) → does s call t → spans t ≡ spans_after_call (spans s) call) → ((s : S) (call : SubscriberCall) (t : S) → does s call t → CallKeepsLanes (attaches s) (kept s) call (kept t))
     → ((s : S) (call : SubscriberCall) (t : S) → does s call t → attaches t ≡ attaches s) → ((s : S) (call : SubscriberCall) (t : S) → does s call t → is_whole s → is_whole t)
     → (old new : WorldValue S) (dispatch : ℕ) (call : SubscriberCall) → Replaced (λ s t. does s call t) old new dispatch → ChangesPlainData spans attaches kept is_whole old new dispatch call
 shown {S} spans attaches kept is_whole does shows lanes keeps_attaches keeps_whole old new dispatch call r =
     let R : S → S → Type 0 = λ s t. does s call t in
     record {
       spans_after = seen_later R old new dispatch r spans _ ∙ shows r.before call r.later r.did ∙ ap (λ (x : Spans). spans_after_call x call) (sym (seen_before R old new dispatch r spans _));
-      lanes = subst (λ (b : Bool). CallLanes b (read_subscriber kept (λ lane number. 0) old dispatch) call (read_subscriber kept (λ lane number. 0) new dispatch)) (sym (seen_before R old new dispatch r attaches false))
-          (subst (λ (f : ℕ → ℕ → ℕ). CallLanes (attaches r.before) f call (read_subscriber kept (λ lane number. 0) new dispatch)) (sym (seen_before R old new dispatch r kept _))
-          (subst (λ (f : ℕ → ℕ → ℕ). CallLanes (attaches r.before) (kept r.before) call f) (sym (seen_later R old new dispatch r kept _)) (lanes r.before call r.later r.did)));
+      lanes = subst (λ (b : Bool). CallKeepsLanes b (read_subscriber kept (λ lane number. 0) old dispatch) call (read_subscriber kept (λ lane number. 0) new dispatch)) (sym (seen_before R old new dispatch r attaches false))
+          (subst (λ (f : ℕ → ℕ → ℕ). CallKeepsLanes (attaches r.before) f call (read_subscriber kept (λ lane number. 0) new dispatch)) (sym (seen_before R old new dispatch r kept _))
+          (subst (λ (f : ℕ → ℕ → ℕ). CallKeepsLanes (attaches r.before) (kept r.before) call f) (sym (seen_later R old new dispatch r kept _)) (lanes r.before call r.later r.did)));
       attaches_same = seen_later R old new dispatch r attaches false ∙ keeps_attaches r.before call r.later r.did ∙ sym (seen_before R old new dispatch r attaches false);
       count = as_many R old new dispatch r;
       whole = keeps R old new dispatch r is_whole (λ s t d w. keeps_whole s call t d w);
@@ -63,7 +63,7 @@ record Chained {S : Type 0} (spans : S → Spans) (attaches : S → Bool) (kept 
 
 module _ {S : Type 0} (spans : S → Spans) (attaches : S → Bool) (kept : S → ℕ → ℕ → ℕ) (is_whole : S → Type 0) (does : S → SubscriberCall → S → Type 0)
     (allowed : (s : S) (call : SubscriberCall) (t : S) → does s call t → Allowed (spans s) call) (shows : (s : S) (call : SubscriberCall) (t : S) → does s call t → spans t ≡ spans_after_call (spans s) call)
-    (lanes : (s : S) (call : SubscriberCall) (t : S) → does s call t → CallLanes (attaches s) (kept s) call (kept t))
+    (lanes : (s : S) (call : SubscriberCall) (t : S) → does s call t → CallKeepsLanes (attaches s) (kept s) call (kept t))
     (keeps_attaches : (s : S) (call : SubscriberCall) (t : S) → does s call t → attaches t ≡ attaches s) (keeps_whole : (s : S) (call : SubscriberCall) (t : S) → does s call t → is_whole s → is_whole t) (at : ℕ) where
   chained : (next : Option ℕ) (s t : S) → Chain spans does at next s t → Chained spans attaches kept is_whole next s t
   chained _ _ _ (ended s) = record { released = all_released (spans s); attaches_same = refl; kept_same = refl; whole = λ w. w }

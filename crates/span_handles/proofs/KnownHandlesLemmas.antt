@@ -1,6 +1,6 @@
 -- Which handles a world goes on to know.
 use Rattle.std.proofs.Common.{◌≡◌, ℕ, zero, suc, ◌+◌, ◌<◌, List, [], ◌∷◌, length, Option, Some, None, Result, Ok, Err, refl, sym, ap, subst, ◌∙◌, arith, inl, inr, slice_get, slice_set, OnOk, OnErr}
-use Rattle.span_handles.proofs.Common.{cases_eq, ValueSet, Lane, Parent, WorldValue, Spans, entries_on, parent_on, SubscriberCall, NewSpan, CloneSpan, spans_after_call, with_new_span, Allowed, HasOwnHold, IsSound, parent_live, new_own, clone_own, Has, Replaced, Chain, HeldSpan, IsKnown, IsKnownBeside, KeepsKnown, KeepsHandles, KeepsOthers, GainsOne, LosesOne, IsNoClose}
+use Rattle.span_handles.proofs.Common.{cases_eq, ValueSet, Lane, Parent, WorldValue, Spans, entries_on, parent_on, SubscriberCall, NewSpan, CloneSpan, spans_after_call, with_new_span, Allowed, HasUnboundHold, IsSound, parent_live, new_own, clone_own, Has, Replaced, Chain, HeldSpan, IsKnown, IsKnownBeside, KeepsKnown, KeepsHandles, KeepsOthers, GainsOne, LosesOne, IsNoClose}
 use Rattle.trace_base.specs.declared.callsite.Callsite.{Callsite}
 use Rattle.span_handles.proofs.OwnHoldsLemmas.{OwnBeside, held_more, call_own, chain_own}
 use Rattle.span_handles.proofs.ChangedSubscriberLemmas.{as_many, now_there}
@@ -134,9 +134,9 @@ module _ {S : Type 0} (spans : S → Spans) (does : S → SubscriberCall → S �
       let above = parent_on (entries_on lane.id x.lanes) parent in
       let fine = sound r.before call r.later r.did.1 in
       let own = new_own x above site fine (parent_live x lane.id parent fine (allowed r.before call r.later r.did.1)) in
-      let own_id = subst (λ (k : ℕ). HasOwnHold (with_new_span x above site) k) (sym r.did.0) own in (
+      let own_id = subst (λ (k : ℕ). HasUnboundHold (with_new_span x above site) k) (sym r.did.0) own in (
         (let n = as_many R old new dispatch r in omega (arith, n, there)),
-        λ s here. subst (λ (t : S). HasOwnHold (spans t) id) (the_later spans R old new dispatch r s here) (subst (λ (y : Spans). HasOwnHold y id) (sym (shows r.before call r.later r.did.1)) own_id),
+        λ s here. subst (λ (t : S). HasUnboundHold (spans t) id) (the_later spans R old new dispatch r s here) (subst (λ (y : Spans). HasUnboundHold y id) (sym (shows r.before call r.later r.did.1)) own_id),
       )
 
   pub copy_known : Replaced (λ s t. does s (CloneSpan id) t) old new dispatch → IsKnown spans new (Some (dispatch, id))
@@ -145,5 +145,5 @@ module _ {S : Type 0} (spans : S → Spans) (does : S → SubscriberCall → S �
       let R : S → S → Type 0 = λ s t. does s call t in
       let own = clone_own (spans r.before) id (sound r.before call r.later r.did) (allowed r.before call r.later r.did) in (
         (let n = as_many R old new dispatch r in omega (arith, n, there)),
-        λ s here. subst (λ (t : S). HasOwnHold (spans t) id) (the_later spans R old new dispatch r s here) (subst (λ (y : Spans). HasOwnHold y id) (sym (shows r.before call r.later r.did)) own),
+        λ s here. subst (λ (t : S). HasUnboundHold (spans t) id) (the_later spans R old new dispatch r s here) (subst (λ (y : Spans). HasUnboundHold y id) (sym (shows r.before call r.later r.did)) own),
       )

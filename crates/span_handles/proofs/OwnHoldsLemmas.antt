@@ -1,6 +1,6 @@
 -- Which holds a span has beside those of its entries and its open children, after each call.
 use Rattle.std.proofs.Common.{◌≡◌, ℕ, ◌+◌, ◌<◌, List, [], ◌∷◌, ◌++◌, Bool, true, false, cond, Option, Some, None, refl, sym, ap, subst, ◌∙◌, arith, inl, inr, ◌==◌, IfSome}
-use Rattle.span_handles.proofs.Common.{cases_Bool, cases_eq, cond-true, cond-false, get_or_append_left, Span, Spans, no_span, span_at, entries_on, is_in, times_in, is_child_of, is_open_child, open_child_count, bound_holds, with_hold, span_without_hold, without_hold, parent_on, parent_to_release, SubscriberCall, NewSpan, Records, Follows, Event, Enter, Exit, CloneSpan, TryClose, spans_after_call, with_new_span, with_span_entry, with_span_exit, Allowed, IsLive, HasOwnHold, MayExit, IsSound, parent_live, exit_live, count_push, made_if_held, children_set, keeps_children, less_last, less_more, less_holds, holds_set, holds_other, Chain, ended, closes, IsNoClose}
+use Rattle.span_handles.proofs.Common.{cases_Bool, cases_eq, cond-true, cond-false, get_or_append_left, Span, Spans, no_span, span_at, entries_on, is_in, times_in, is_child_of, is_open_child, open_child_count, bound_holds, with_hold, span_without_hold, without_hold, parent_on, parent_to_release, SubscriberCall, NewSpan, Records, Follows, Event, Enter, Exit, CloneSpan, TryClose, spans_after_call, with_new_span, with_span_entry, with_span_exit, Allowed, IsLive, HasUnboundHold, MayExit, IsSound, parent_live, exit_live, count_push, made_if_held, children_set, keeps_children, less_last, less_more, less_holds, holds_set, holds_other, Chain, ended, closes, IsNoClose}
 use Rattle.std.proofs.lemmas.Bool.{eq-eqb, ne_eqb, eqb-true}
 use Rattle.trace_base.proofs.HoldMoveLemmas.{entry_moves, exit_moves}
 
@@ -98,7 +98,7 @@ pub record OwnUnder (n : ℕ) (next : Option ℕ) (x : Spans) (q : ℕ) : Type 0
   pub more : next ≡ Some q → OwnBeside (n + 1) x q
 
 -- a release of another span
-release_other : (n : ℕ) (x : Spans) (id q : ℕ) → HasOwnHold x id → (q ≡ id → ⊥) → OwnBeside n x q → OwnUnder n (parent_to_release x.made id) (record x { made = without_hold x.made id }) q
+release_other : (n : ℕ) (x : Spans) (id q : ℕ) → HasUnboundHold x id → (q ≡ id → ⊥) → OwnBeside n x q → OwnUnder n (parent_to_release x.made id) (record x { made = without_hold x.made id }) q
 release_other n x id q mine other own =
     let was = span_at x.made id in
     let now : Span = span_without_hold was in

@@ -10,7 +10,7 @@ use Rattle.trace_base.specs.declared.span.Parent.TheVariants as parent
 use Rattle.trace_base.specs.Gate.{WorldValue}
 use Rattle.trace_base.specs.Spans.{Spans, span_at, current_on, bound_holds}
 use Rattle.trace_base.specs.Calls.{SubscriberCall, NewSpan, Records, Follows, CloneSpan}
-use Rattle.trace_base.specs.Conditions.{HasOwnHold, HasFewHoldsAbove, AreFew, IsLiveParent}
+use Rattle.trace_base.specs.Conditions.{HasUnboundHold, ParentHasFewHolds, AreFew, IsLiveParent}
 use Rattle.span_handles.specs.Worlds.{Has, Replaced}
 
 -- what an enabled handle or an entry stands for: the dispatch and the id of a span; nothing where it is disabled
@@ -42,7 +42,7 @@ same_held (Some held) (Some other) = held.0 == other.0 && held.1 == other.1
 -- and its open children.
 abbrev pub IsKnown : {S : Type 0} → (S → Spans) → WorldValue S → HeldSpan → Type 0
 IsKnown spans world None = Unit {0}
-IsKnown spans world (Some held) = (held.0 < length world.subscribers) × Has (λ s. HasOwnHold (spans s) held.1) world held.0
+IsKnown spans world (Some held) = (held.0 < length world.subscribers) × Has (λ s. HasUnboundHold (spans s) held.1) world held.0
 
 -- it is known beside some other handles of its span: there is a hold more for each of them
 abbrev pub IsKnownBeside : {S : Type 0} → (S → Spans) → ℕ → WorldValue S → HeldSpan → Type 0
@@ -86,7 +86,7 @@ pub record MayMake {S : Type 0} (spans : S → Spans) (is_whole : S → Type 0) 
   pub whole : Has is_whole world dispatch
   pub live : Has (λ s. IsLiveParent (spans s).made parent) world dispatch
   pub few : Has (λ s. AreFew (spans s)) world dispatch
-  pub few_holds : Has (λ s. HasFewHoldsAbove (spans s) lane parent) world dispatch
+  pub few_holds : Has (λ s. ParentHasFewHolds (spans s) lane parent) world dispatch
 
 abbrev pub MayMakeIf : {S : Type 0} → (S → Spans) → (S → Type 0) → WorldValue S → ℕ → Parent → Option ℕ → Type 0
 MayMakeIf spans is_whole world lane parent None = Unit {0}
@@ -116,9 +116,9 @@ Copies does old new dispatch None handle = (handle ≡ no_handle) × (new ≡ ol
 Copies does old new dispatch (Some current) handle = (handle ≡ handle_of dispatch current.0 current.1) × Replaced (λ s t. does s (CloneSpan current.0) t) old new dispatch
 
 -- the handle is one of the lane's current span
-abbrev pub IsCurrent : {S : Type 0} → (S → Spans) → (S → SubscriberCall → S → Type 0) → WorldValue S → WorldValue S → ℕ → Option ℕ → Handle → Type 0
-IsCurrent spans does old new lane None handle = (handle ≡ no_handle) × (new ≡ old)
-IsCurrent {S} spans does old new lane (Some dispatch) handle = (s : S) → slice_get old.subscribers dispatch ≡ Some s → Copies does old new dispatch (current_on lane (spans s)) handle
+abbrev pub CopiesCurrent : {S : Type 0} → (S → Spans) → (S → SubscriberCall → S → Type 0) → WorldValue S → WorldValue S → ℕ → Option ℕ → Handle → Type 0
+CopiesCurrent spans does old new lane None handle = (handle ≡ no_handle) × (new ≡ old)
+CopiesCurrent {S} spans does old new lane (Some dispatch) handle = (s : S) → slice_get old.subscribers dispatch ≡ Some s → Copies does old new dispatch (current_on lane (spans s)) handle
 
 -- the callsite of a handle
 abbrev pub callsite_in : {S : Type 0} → WorldValue S → Option ℕ → Option Callsite

@@ -4,8 +4,8 @@ use Rattle.std.specs.Option.{option_map_or}
 use Rattle.trace_base.specs.Gate.{WorldValue}
 use Rattle.trace_base.specs.Spans.{Spans, parent_to_release, span_at, without_hold}
 use Rattle.trace_base.specs.Calls.{SubscriberCall, TryClose, spans_after_call}
-use Rattle.trace_base.specs.Conditions.{HasOwnHold}
-use Rattle.trace_base.specs.lanes.Contexts.{CallLanes}
+use Rattle.trace_base.specs.Conditions.{HasUnboundHold}
+use Rattle.trace_base.specs.lanes.Contexts.{CallKeepsLanes}
 
 -- something holds of the subscriber of a number
 abbrev pub Has : {S : Type 0} → (S → Type 0) → WorldValue S → ℕ → Type 0
@@ -40,7 +40,7 @@ kept_in kept world dispatch = read_subscriber kept (λ lane number. 0) world dis
 -- what one call makes of the plain data
 pub record ChangesPlainData {S : Type 0} (spans : S → Spans) (attaches : S → Bool) (kept : S → ℕ → ℕ → ℕ) (is_whole : S → Type 0) (old new : WorldValue S) (dispatch : ℕ) (call : SubscriberCall) : Type 0 where
   pub spans_after : spans_in spans new dispatch ≡ spans_after_call (spans_in spans old dispatch) call
-  pub lanes : CallLanes (read_subscriber attaches false old dispatch) (kept_in kept old dispatch) call (kept_in kept new dispatch)
+  pub lanes : CallKeepsLanes (read_subscriber attaches false old dispatch) (kept_in kept old dispatch) call (kept_in kept new dispatch)
   pub attaches_same : read_subscriber attaches false new dispatch ≡ read_subscriber attaches false old dispatch
   pub count : length new.subscribers ≡ length old.subscribers
   pub whole : Has is_whole old dispatch → Has is_whole new dispatch
@@ -56,7 +56,7 @@ pub record KeepsPlainData {S : Type 0} (spans : S → Spans) (attaches : S → B
 -- what a chain of closes makes of the spans
 pub data ReleasesChain : Option ℕ → Spans → Spans → Type 0 where
   all_released : (x : Spans) → ReleasesChain None x x
-  releases : (id at : ℕ) → (x y : Spans) → HasOwnHold x id → ReleasesChain (parent_to_release x.made id) (spans_after_call x (TryClose id at)) y → ReleasesChain (Some id) x y
+  releases : (id at : ℕ) → (x y : Spans) → HasUnboundHold x id → ReleasesChain (parent_to_release x.made id) (spans_after_call x (TryClose id at)) y → ReleasesChain (Some id) x y
 
 -- the spans that a chain closes
 abbrev pub closed_in : (next : Option ℕ) (x y : Spans) → ReleasesChain next x y → List ℕ

@@ -1,11 +1,11 @@
 //! Single calls on a subscriber of a world, for the handles that make them.
-ghost use Rattle.std.specs.Prelude.{◌≡◌, ◌<◌, ◌==◌, ℕ, length, Some, OnOk, OnErr, slice_get};
+ghost use Rattle.std.specs.Prelude.{◌≡◌, ◌<◌, ◌==◌, ℕ, length, Some, OnOk, OnErr};
 ghost use Rattle.trace_base.specs.Spans.{span_at};
 ghost use Rattle.trace_base.specs.Calls.{CloneSpan, Follows};
 ghost use Rattle.trace_base.specs.declared.span.Parent.TheVariants as parent;
-ghost use Rattle.trace_base.specs.Conditions.{HasFewHolds, HasFewHoldsAbove, HasOwnHold, IsLive};
+ghost use Rattle.trace_base.specs.Conditions.{HasFewHolds, ParentHasFewHolds, HasUnboundHold, IsLive};
 ghost use Rattle.span_handles.specs.Worlds.{Has, Replaced, Chain};
-ghost use Rattle.span_handles.specs.Handles.{IsKnown, MayMake, MayMakeIf, IsCurrent, RecordsAt, ClosesOn};
+ghost use Rattle.span_handles.specs.Handles.{IsKnown, MayMake, MayMakeIf, CopiesCurrent, ClosesOn};
 ghost use Rattle.span_handles.specs.Knowing.{KeepsHandles, KeepsOthers, GainsOne, LosesOne};
 ghost use Rattle.span_handles.specs.Makers.{MakesHandle};
 
@@ -62,11 +62,15 @@ pub(crate) fn make<S: Subscriber>(
 }
 
 // A handle of a lane's current span, if there is one.
-pub(crate) fn current_in<S: Subscriber>(world: &mut World<S>, dispatch: Dispatch, lane: u64) -> Span
+pub(crate) fn copy_current<S: Subscriber>(
+    world: &mut World<S>,
+    dispatch: Dispatch,
+    lane: u64,
+) -> Span
     requires there { dispatch < length world.old.subscribers }
     requires whole { Has S.is_whole world.old dispatch }
-    requires few_holds { Has (λ s. HasFewHoldsAbove (S.spans s) lane parent.Current) world.old dispatch }
-    ensures value { IsCurrent S.spans S.does world.old world.new lane (Some dispatch) result }
+    requires few_holds { Has (λ s. ParentHasFewHolds (S.spans s) lane parent.Current) world.old dispatch }
+    ensures value { CopiesCurrent S.spans S.does world.old world.new lane (Some dispatch) result }
     ensures known { IsKnown S.spans world.new result.held }
     ensures keeps { KeepsHandles S.spans world.old world.new }
     ensures more { GainsOne S.spans world.old world.new result.held }
@@ -107,7 +111,7 @@ pub(crate) fn release<S: Subscriber>(
 ) -> bool
     requires there { dispatch < length world.old.subscribers }
     requires whole { Has S.is_whole world.old dispatch }
-    requires own { Has (λ s. HasOwnHold (S.spans s) id) world.old dispatch }
+    requires own { Has (λ s. HasUnboundHold (S.spans s) id) world.old dispatch }
     ensures value { ClosesOn S.spans world.old (Some (dispatch, id)) result }
     ensures did { Replaced (λ s t. Chain S.spans S.does at (Some id) s t) world.old world.new dispatch }
     ensures keeps { KeepsOthers S.spans world.old world.new (Some (dispatch, id)) }
@@ -119,7 +123,7 @@ pub(crate) fn release<S: Subscriber>(
 // Releases a hold of the span, and of each parent whose child closed.
 fn close_chain<S: Subscriber>(subscriber: &mut S, id: Id, at: u64) -> bool
     requires whole { S.is_whole subscriber.old }
-    requires own { HasOwnHold (S.spans subscriber.old) id }
+    requires own { HasUnboundHold (S.spans subscriber.old) id }
     ensures value { result ≡ ((span_at (S.spans subscriber.old).made id).holds == 1) }
     ensures did { Chain S.spans S.does at (Some id) subscriber.old subscriber.new }
 {
@@ -129,29 +133,6 @@ fn close_chain<S: Subscriber>(subscriber: &mut S, id: Id, at: u64) -> bool
         next = subscriber.try_close(parent, at).next;
     }
     first.closed
-}
-
-// Values recorded on a span.
-pub(crate) fn record<S: Subscriber>(
-    world: &mut World<S>,
-    dispatch: Dispatch,
-    id: Id,
-    site: SiteId,
-    at: u64,
-    values: &ValueSet,
-) -> Result<(), Memory>
-    requires there { dispatch < length world.old.subscribers }
-    requires site { site < length world.old.sites }
-    requires whole { Has S.is_whole world.old dispatch }
-    requires live { Has (λ s. IsLive (S.spans s).made id) world.old dispatch }
-    ensures did { OnOk result
-        (RecordsAt S.does world.old world.new at values.now (Some (dispatch, id))
-        (slice_get world.old.sites site)) }
-    ensures keeps { KeepsHandles S.spans world.old world.new }
-    ensures memory_leaves { OnErr result (Replaced S.same_but_room world.old world.new dispatch) }
-{
-    let (subscriber, callsite) = world.subscriber_and_site(dispatch, site);
-    subscriber.record(id, at, callsite, values)
 }
 
 // That a span follows from another.

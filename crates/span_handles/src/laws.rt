@@ -48,7 +48,7 @@ pub fn keeps<S: Subscriber>()
 {}
 
 /// What a close makes of something that the subscriber keeps, the chain makes of it for each span that closes, in order.
-pub fn told_chain<S: Subscriber, A>()
+pub fn chain_changes<S: Subscriber, A>()
     ensures { (read : S → A) (none : A) (close : A → ℕ → A) → ChangesByCloses S.spans S.does read close
         → (old new : WorldValue S) (dispatch at id : ℕ)
         → Replaced (λ s t. Chain S.spans S.does at (Some id) s t) old new dispatch

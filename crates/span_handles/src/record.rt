@@ -1,5 +1,5 @@
 //! What is recorded on the span of a handle.
-ghost use Rattle.std.specs.Prelude.{◌≡◌, None, IfOk, IsOk, OnOk, OnErr};
+ghost use Rattle.std.specs.Prelude.{◌≡◌, ◌⊎◌, Some, None, IfOk, IsOk, IfSome, OnOk, OnErr};
 ghost use Rattle.span_handles.specs.Handles.{IsKnown, HasOn, IsSite, AreOfOne, ReplacedOn, RecordsOn, RecordsField, FollowsOn, field_in};
 ghost use Rattle.span_handles.specs.Knowing.{KeepsHandles};
 
@@ -7,7 +7,10 @@ use crate::calls;
 use crate::span::Span;
 use otel_base::list::Items;
 use otel_base::memory::Memory;
+use trace_base::callsite::SiteId;
+use trace_base::dispatcher::Dispatch;
 use trace_base::field::{AsField, Value, ValueSet};
+use trace_base::span::Id;
 use trace_base::subscriber::Subscriber;
 use trace_base::world::World;
 
@@ -71,12 +74,23 @@ impl Span {
         ensures memory_leaves { OnErr result
             (ReplacedOn (λ id s t. S.same_but_room s t) world.old world.new self.now.held) }
     {
+        if let Some((dispatch, id, site)) = self.held_and_site() {
+            let (subscriber, callsite) = world.subscriber_and_site(dispatch, site);
+            subscriber.record(id, at, callsite, values)?;
+        }
+        Ok(self)
+    }
+
+    /// What an enabled handle with a callsite records on: its subscriber, its span's id and its callsite, for who makes the
+    /// values by the callsite that is looked up there.
+    pub fn held_and_site(&self) -> Option<(Dispatch, Id, SiteId)>
+        ensures some { IfSome result (λ found.
+            (self.now.held ≡ Some (found.0, found.1)) × (self.now.site ≡ Some found.2)) }
+        ensures none { result ≡ None → (self.now.held ≡ None) ⊎ (self.now.site ≡ None) }
+    {
         match (&self.held, &self.site) {
-            (Some((dispatch, id)), Some(site)) => {
-                calls::record(world, *dispatch, *id, *site, at, values)?;
-                Ok(self)
-            }
-            _ => Ok(self),
+            (Some((dispatch, id)), Some(site)) => Some((*dispatch, *id, *site)),
+            _ => None,
         }
     }
 

@@ -3,13 +3,13 @@ ghost use Rattle.std.specs.Prelude.{◌≡◌, ◌<◌, ◌↔◌, ℕ, length, 
 ghost use Rattle.trace_base.specs.declared.span.Parent.TheVariants as parent;
 ghost use Rattle.trace_base.specs.Gate.{IsInWorld, dispatch_on};
 ghost use Rattle.trace_base.specs.Calls.{CloneSpan};
-ghost use Rattle.trace_base.specs.Conditions.{AreFew, HasFewHolds, HasFewHoldsAbove, IsLiveParent};
+ghost use Rattle.trace_base.specs.Conditions.{AreFew, HasFewHolds, ParentHasFewHolds, IsLiveParent};
 ghost use Rattle.span_handles.specs.Worlds.{Has, Chain};
-ghost use Rattle.span_handles.specs.Handles.{Handle, no_handle, id_of, same_held, IsKnown, HasOn, HasIf, IsSite, IsOf, ReplacedOn, MayMake, MayMakeIf, as_parent, IsCurrent, callsite_in, field_in, ClosesOn};
+ghost use Rattle.span_handles.specs.Handles.{Handle, no_handle, id_of, same_held, IsKnown, HasOn, HasIf, IsSite, IsOf, ReplacedOn, MayMake, MayMakeIf, as_parent, CopiesCurrent, callsite_in, field_in, ClosesOn};
 ghost use Rattle.span_handles.specs.Knowing.{KeepsHandles, KeepsOthers, GainsOne, LosesOne};
 ghost use Rattle.span_handles.specs.Makers.{MakesBy, MakesHandle};
 
-use crate::calls::{current_in, hold, make, make_if, release};
+use crate::calls::{copy_current, hold, make, make_if, release};
 use otel_base::memory::Memory;
 use std::marker::Model;
 use trace_base::callsite::{Callsite, SiteId};
@@ -172,8 +172,8 @@ impl Span {
         make(world, dispatch, lane, at, parent.as_parent(), site, values)
     }
 
-    /// As `make`, by a subscriber and at a callsite that were looked up, as `World::interest` does: the caller has asked
-    /// `passes`.
+    /// As `make`, by a subscriber and at a callsite that were looked up, as `World::subscriber_site_and_interest` does: the
+    /// caller has asked `passes`.
     pub fn make_by<S: Subscriber>(
         dispatch: Dispatch,
         subscriber: &mut S,
@@ -187,7 +187,7 @@ impl Span {
         requires whole { S.is_whole subscriber.old }
         requires live { IsLiveParent (S.spans subscriber.old).made parent }
         requires few { AreFew (S.spans subscriber.old) }
-        requires few_holds { HasFewHoldsAbove (S.spans subscriber.old) lane.now.id parent }
+        requires few_holds { ParentHasFewHolds (S.spans subscriber.old) lane.now.id parent }
         ensures ok { IfOk result (MakesBy S.spans S.does subscriber.old subscriber.new lane.now at parent site
             callsite.now values.now dispatch) }
         ensures memory_leaves { OnErr result (S.same_but_room subscriber.old subscriber.new) }
@@ -224,9 +224,9 @@ impl Span {
     pub fn current<S: Subscriber>(world: &mut World<S>, lane: &Lane) -> Span
         requires own { IsInWorld world.old lane.now.default }
         requires whole { HasIf S.is_whole world.old (dispatch_on lane.now.default world.old.global) }
-        requires few_holds { HasIf (λ s. HasFewHoldsAbove (S.spans s) lane.now.id parent.Current) world.old
+        requires few_holds { HasIf (λ s. ParentHasFewHolds (S.spans s) lane.now.id parent.Current) world.old
             (dispatch_on lane.now.default world.old.global) }
-        ensures value { IsCurrent S.spans S.does world.old world.new lane.now.id
+        ensures value { CopiesCurrent S.spans S.does world.old world.new lane.now.id
             (dispatch_on lane.now.default world.old.global) result }
         ensures known { IsKnown S.spans world.new result.held }
         ensures keeps { KeepsHandles S.spans world.old world.new }
@@ -234,7 +234,7 @@ impl Span {
     {
         match get_default(world, lane) {
             None => Span::none(),
-            Some(dispatch) => current_in(world, dispatch, lane.id),
+            Some(dispatch) => copy_current(world, dispatch, lane.id),
         }
     }
 
@@ -242,12 +242,12 @@ impl Span {
     pub fn or_current<S: Subscriber>(self, world: &mut World<S>, lane: &Lane) -> Span
         requires own { IsInWorld world.old lane.now.default }
         requires whole { HasIf S.is_whole world.old (dispatch_on lane.now.default world.old.global) }
-        requires few_holds { HasIf (λ s. HasFewHoldsAbove (S.spans s) lane.now.id parent.Current) world.old
+        requires few_holds { HasIf (λ s. ParentHasFewHolds (S.spans s) lane.now.id parent.Current) world.old
             (dispatch_on lane.now.default world.old.global) }
 
         ensures enabled { IfSome self.held (λ held. (result ≡ self) × (world.new ≡ world.old)) }
         ensures disabled { self.held ≡ None
-            → IsCurrent S.spans S.does world.old world.new lane.now.id
+            → CopiesCurrent S.spans S.does world.old world.new lane.now.id
             (dispatch_on lane.now.default world.old.global) result }
         ensures known { IsKnown S.spans world.old self.held → IsKnown S.spans world.new result.held }
         ensures keeps { KeepsHandles S.spans world.old world.new }

@@ -21,24 +21,24 @@ pub use Rattle.trace_base.specs.layers.Hooks.{Hook, OnClose, OnEnter, OnEvent, O
 pub use Rattle.env_directives.specs.declared.env.directive.Directive.{Directive}
 pub use Rattle.env_filter.proofs.kept.StackedLemmas.{IsBefore, all_more, all_push, in_order, new_if}
 pub use Rattle.env_filter.specs.Filtering.{Each, FilterState, after_hook, enables_in, fresh_filter, span_level}
-pub use Rattle.env_filter.specs.spans.Histories.{AreInOrder, IsNext, NeverFalls, is_close_of, is_ended, level_by_calls, levels_by_calls}
+pub use Rattle.env_filter.specs.spans.Histories.{AreInOrder, MayComeNext, NeverFalls, is_close_of, is_ended, level_by_calls, levels_by_calls}
 pub use Rattle.otel_state.proofs.SumLemmas.{appended, content_is, entries_is, own_is, parent_is}
-pub use Rattle.otel_state.specs.Content.{Making, attributes_of, closing_count, closing_times, content, counted_of}
+pub use Rattle.otel_state.specs.Content.{Making, attributes_of, closing_count_attributes, closing_times_attributes, content, counted_of}
 pub use Rattle.otel_state.specs.Deeds.{Deed, TimedOp, deed}
 pub use Rattle.otel_state.specs.Laws.{TellsTimes, was_entered}
-pub use Rattle.otel_state.specs.Opening.{before_start, is_start, last_or, own_of, parent_context_of}
+pub use Rattle.otel_state.specs.Opening.{before_start, is_start, last_or, ids_of_start, parent_context_of}
 pub use Rattle.otel_state.specs.States.{SpanData, Represents, after_op, after_stamped, data_at_making, first_start, record_of, unless_started, with_all}
-pub use Rattle.otel_state.specs.Times.{MomentsRise, busy_of, idle_of, last_exit, open_by}
+pub use Rattle.otel_state.specs.Times.{MomentsRise, busy_of, idle_of, last_exit, open_after_ops}
 pub use Rattle.otel_state.specs.declared.op.Op.{Op}
 pub use Rattle.otel_state.specs.declared.settings.LayerSettings.{LayerSettings}
 pub use Rattle.otel_state.specs.declared.times.TheConstants.{GREATEST}
-pub use Rattle.otel_state.specs.fields.EventFields.{event_of}
+pub use Rattle.otel_state.specs.fields.EventFields.{event_op}
 pub use Rattle.otel_state.specs.fields.FirstAttributes.{first_attributes}
 pub use Rattle.otel_state.specs.fields.SpanFields.{span_update}
 pub use Rattle.otel_layer.proofs.FoundSpanLemmas.{told_at_made, told_at_op, told_at_removed}
-pub use Rattle.otel_layer.specs.Recording.{Enters, Exits, Recording, RecordsCall, RecordsChain, RecordsPart, ChangesNothing, data_after, with_span_under, source_of, with_start_under, with_applied, with_close, with_entry, with_event, with_exit, with_follow, with_new_recorded, with_start, with_starts, without_closed}
+pub use Rattle.otel_layer.specs.Recording.{Enters, Exits, Recording, RecordsCall, RecordsChain, RecordsPart, ChangesNothing, data_after, with_span_under, id_if_on, with_start_under, with_applied, with_close, with_entry, with_event, with_exit, with_follow, with_new_span, with_start, with_start_if_some, with_span_finished}
 pub use Rattle.otel_layer.specs.Steps.{IfKnown, context_from, new_span_data, parent_source, with_link}
-pub use Rattle.otel_layer.specs.Table.{data_at, ids_at, is_id, knows_span, own_context_or, start_context, context_unless_started, with_span_data}
+pub use Rattle.otel_layer.specs.Table.{data_at, ids_if_known, is_id, knows_span, own_context_or, start_context, context_unless_started, with_span_data}
 pub use Rattle.span_script.proofs.runs.RunLemmas.{goes_on_with, records_push, stays_with}
 pub use Rattle.span_script.proofs.spans.OpenCountLemmas.{range_more}
 pub use Rattle.span_script.proofs.spans.OpenSpansLemmas.{any_counted, pick, slot_open}
@@ -55,7 +55,7 @@ pub use Rattle.span_script.specs.calls.Fields.{callsite_of, hooks_of_values, upd
 pub use Rattle.span_script.specs.calls.Filter.{admits_on, after_filter_hook, filter_in_force, hook_of, hooks_of_span, text_in_force, reload_by, reload_effect}
 pub use Rattle.span_script.specs.calls.Here.{Here, Resolved, here_at, need, op_on, ops_effect, ops_on, refuse_if, ◌>>=◌}
 pub use Rattle.span_script.specs.calls.Links.{follow_effect, event_time}
-pub use Rattle.span_script.specs.calls.Spans.{borrows, clone_effect, closed_of, context_around, current_scope, disabled_effect, drop_effect, exchange_effect, holds, is_borrowed, is_open, lane_in, new_span_data_at, open_spans, parent_under, scope_at, scope_or_current, span_effect}
+pub use Rattle.span_script.specs.calls.Spans.{borrows, clone_effect, closed_of, context_around, current_scope, disabled_effect, drop_effect, exchange_effect, holds_span, is_borrowed, is_open, lane_in, new_span_data_at, open_spans, parent_under, parent_scope, scope_or_current, span_effect}
 pub use Rattle.span_script.specs.declared.request.Call.{Call}
 pub use Rattle.span_script.specs.declared.request.RequestParent.{RequestParent}
 pub use Rattle.span_script.specs.declared.request.Request.{Request}
@@ -63,5 +63,5 @@ pub use Rattle.span_laws.specs.Closes.{BeginsWith, is_drop}
 pub use Rattle.span_laws.specs.LegalHistories.{IsHistory, more, none, occurrences}
 pub use Rattle.span_laws.specs.Makings.{HasContextOf, IsMadeBy, IsRecordOf, SeesContextOf, asks_admitted, context_of_lane, context_span, is_making, parent_context}
 pub use Rattle.span_laws.specs.Records.{IsMadeWith, EachRecord, IsRecord, all_ops, closed_at, ops_from, ops_in, ops_of, records_of_history, start_in}
-pub use Rattle.span_laws.specs.Starts.{starts_at_making, place_from, place_in, starting_order, starts_of, with_started}
-pub use Rattle.span_laws.specs.Telling.{TellsAttributes, TellsSpan, id_in_data, id_of}
+pub use Rattle.span_laws.specs.Starts.{span_starting_at_making, place_from, place_in, starting_order, starts_of, with_started}
+pub use Rattle.span_laws.specs.Telling.{TellsAttributes, TellsStartAndEnd, id_in_data, id_of}

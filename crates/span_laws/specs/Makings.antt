@@ -21,7 +21,7 @@ use Rattle.span_script.specs.calls.Here.{here_at}
 use Rattle.span_script.specs.Effects.{effect_of}
 use Rattle.span_script.specs.calls.Contexts.{context_of_scope}
 use Rattle.span_script.specs.calls.Filter.{admits_on}
-use Rattle.span_script.specs.calls.Spans.{lane_in, last_attached, scope_at}
+use Rattle.span_script.specs.calls.Spans.{lane_in, last_attached, parent_scope}
 use Rattle.span_script.specs.Fields.{Fields, all_values}
 use Rattle.span_script.specs.Setups.{Setup, span_site}
 use Rattle.span_script.specs.Tables.{Effect, History, MadeSpan, Scope, Tables, span_of_scope, tables}
@@ -58,7 +58,7 @@ pub record IsMadeBy (setup : Setup) (t : Tables) (at place : ℕ) (what_for : Ca
   pub values : ValueSet
   pub asked : what_for ≡ call.New m.site under fields
   pub site : span_site setup.sites m.site ≡ Some callsite
-  pub parent : scope_at t (here_at setup t at place).lane under ≡ Some up
+  pub parent : parent_scope t (here_at setup t at place).lane under ≡ Some up
   pub given : all_values callsite fields ≡ Some values
   pub scope : m.scope ≡ length t.spans ∷ up
   pub making : Making

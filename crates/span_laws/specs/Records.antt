@@ -11,7 +11,7 @@ use Rattle.otel_state.specs.Content.{Making, content}
 use Rattle.otel_state.specs.Deeds.{TimedOp}
 use Rattle.otel_state.specs.Opening.{parent_context_of}
 use Rattle.otel_state.specs.States.{SpanData, data_at_making, after_op}
-use Rattle.otel_state.specs.Times.{MomentsRise, open_by}
+use Rattle.otel_state.specs.Times.{MomentsRise, open_after_ops}
 use Rattle.trace_base.specs.Spans.{is_in}
 pub use Rattle.span_script.specs.Outcomes.{records_from, records_of_history}
 use Rattle.span_script.specs.Setups.{Setup}
@@ -35,9 +35,9 @@ start_in own at s order ids = if is_in s ids && not (is_in s order) then record 
 abbrev pub ops_in : SpanContext → ℕ → List ℕ → Effect → List TimedOp
 ops_in own s order e =
     let before = fold with_started order e.starts in
-    let begun = fold with_started before (option_to_list e.begins) in
+    let begun = fold with_started before (option_to_list e.new_span_start) in
     start_in own e.at s order e.starts
-    ++ start_in own e.at s before (option_to_list e.begins)
+    ++ start_in own e.at s before (option_to_list e.new_span_start)
     ++ map (λ d. record { at = e.at; op = d.op }) (filter (λ d. d.span == s) e.ops)
     ++ start_in own e.at s begun e.closes
 
@@ -69,7 +69,7 @@ all_ops making update done = record { at = making.made_at; op = ops.Update updat
 -- Its own ids are those of a recorder for its place among the starts, under its parent.
 pub record IsRecord (making : Making) (update : Update) (done : SpanContext → List TimedOp) (place at : ℕ) (r : Record) : Type 0 where
   pub in_order : MomentsRise making.made_at (all_ops making update (done r.context))
-  pub shut : open_by 0 (all_ops making update (done r.context)) ≡ 0
+  pub shut : open_after_ops 0 (all_ops making update (done r.context)) ≡ 0
   pub is : r ≡ content making (all_ops making update (done r.context)) at
   pub started : 0 < place
   pub own : r.context ≡ recorder_ids place (ids_of (parent_context_of making.parent (all_ops making update (done r.context))))

@@ -3,7 +3,7 @@ use Rattle.std.specs.Prelude.{◌≡◌, ℕ, List, ◌++◌, is_some, Option, S
 use Rattle.otel_base.specs.declared.record.Record.{Record}
 use Rattle.otel_base.specs.declared.value.KeyValue.{KeyValue}
 use Rattle.otel_base.specs.Ids.{ids_or_zeros}
-use Rattle.otel_state.specs.Content.{closing_count, closing_times}
+use Rattle.otel_state.specs.Content.{closing_count_attributes, closing_times_attributes}
 use Rattle.otel_state.specs.States.{SpanData}
 use Rattle.otel_state.specs.Times.{end_of}
 use Rattle.span_script.specs.Setups.{Setup}
@@ -17,7 +17,7 @@ id_in_data None = 0
 id_in_data (Some span_data) = (ids_or_zeros span_data.own).span
 
 -- It starts with the making, and ends with the last exit, else with the close.
-pub record TellsSpan (made : ℕ) (left : Option ℕ) (closed : ℕ) (r : Record) : Type 0 where
+pub record TellsStartAndEnd (made : ℕ) (left : Option ℕ) (closed : ℕ) (r : Record) : Type 0 where
   pub start : r.start ≡ made
   pub end : r.end ≡ end_of left closed
 
@@ -26,4 +26,4 @@ pub record TellsSpan (made : ℕ) (left : Option ℕ) (closed : ℕ) (r : Record
 pub record TellsAttributes (setup : Setup) (first more : List KeyValue) (counted : ℕ) (r : Record) : Type 0 where
   pub busy : ℕ
   pub idle : ℕ
-  pub told : r.attributes ≡ first ++ more ++ closing_count (is_some setup.counting) counted ++ closing_times setup.layer.inactivity busy idle
+  pub told : r.attributes ≡ first ++ more ++ closing_count_attributes (is_some setup.counting) counted ++ closing_times_attributes setup.layer.inactivity busy idle

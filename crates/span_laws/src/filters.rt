@@ -30,7 +30,7 @@ pub fn reloads()
 /// An event that isn't let through leaves nothing but its answer.
 pub fn refused_events()
     ensures { (here : Here) (c : Callsite) (values : ValueSet) (reached : Scope)
-        → admits_on here.setup here.script here.lane c ≡ false
+        → admits_on here.setup here.tables here.lane c ≡ false
         → event_effect here c values reached ≡ answer_effect here (reply.Enabled false) }
 {}
 
@@ -51,7 +51,7 @@ pub fn levels()
 {}
 
 /// While a filter is in force the level of a span never falls, and a span that has one keeps it until it closes.
-pub fn rises()
+pub fn levels_never_fall()
     ensures level { (setup : Setup) (h later : History) (s : ℕ) → IsHistory setup (h ++ later) → HasNoReload later
         → NeverFalls (level_in setup h s) (level_in setup (h ++ later) s) }
     ensures kept { (setup : Setup) (h later : History) (s : ℕ) → IsHistory setup (h ++ later) → HasNoReload later

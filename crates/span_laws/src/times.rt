@@ -7,7 +7,7 @@ ghost use Rattle.span_script.specs.Setups.{Setup};
 ghost use Rattle.span_script.specs.Tables.{ScopeGuard, History, made_span_at, slot_at, tables};
 ghost use Rattle.span_laws.specs.LegalHistories.{IsHistory};
 ghost use Rattle.span_laws.specs.Records.{EachRecord, closed_at, ops_of, records_of_history};
-ghost use Rattle.span_laws.specs.Telling.{TellsSpan};
+ghost use Rattle.span_laws.specs.Telling.{TellsStartAndEnd};
 
 /// No closed span has an entry that is still open. A record starts with its span's making and ends with the last exit,
 /// else with the close. Where inactivity is tracked, busy and idle add up to the time from start to end if the span was
@@ -17,7 +17,7 @@ pub fn times()
         → slot_at (tables setup h).guards n ≡ Some g → is_in s g.scope ≡ true
         → is_in s (tables setup h).closed ≡ false }
     ensures spans { (setup : Setup) (h : History) → IsHistory setup h
-        → EachRecord (λ s r. TellsSpan (made_span_at (tables setup h).spans s).made_with.made_at (last_exit (ops_of r.context h s)) (closed_at h s) r)
+        → EachRecord (λ s r. TellsStartAndEnd (made_span_at (tables setup h).spans s).made_with.made_at (last_exit (ops_of r.context h s)) (closed_at h s) r)
         (tables setup h).closed (records_of_history setup h) }
     ensures add_up { (setup : Setup) (h : History) → IsHistory setup h → IsTrue setup.layer.inactivity
         → EachRecord (λ s r. TellsTimes (was_entered (ops_of r.context h s)) (last_exit (ops_of r.context h s)) r)

@@ -7,7 +7,7 @@ pub use Rattle.trace_base.proofs.EntryLemmas.{any_if_counted, count_cons, count_
 pub use Rattle.trace_base.proofs.HoldLemmas.{holds_other, holds_set, in_push_other, in_push_same, less_holds, less_last, less_more}
 pub use Rattle.trace_base.proofs.Sound.{current_live, exit_live, next_own, parent_live, sound_call, sound_entered, sound_exited, sound_held, sound_new, sound_released}
 pub use Rattle.trace_base.specs.Calls.{CloneSpan, Enter, Event, Exit, Follows, NewSpan, Records, SubscriberCall, TryClose, spans_after_call, with_new_span, with_span_entry, with_span_exit}
-pub use Rattle.trace_base.specs.Conditions.{Allowed, HasFewHolds, HasOwnHold, IsLive, IsLiveParent, MayExit}
+pub use Rattle.trace_base.specs.Conditions.{Allowed, HasFewHolds, HasUnboundHold, IsLive, IsLiveParent, MayExit}
 pub use Rattle.trace_base.specs.Sound.{IsSound, OneEach}
 pub use Rattle.trace_base.specs.Spans.{Entries, Span, Spans, current_from, current_of, entered_lane_count, entries_on, is_child_of, is_in, is_open_child, span_without_hold, parent_to_release, no_span, parent_on, span_at, times_in, with_entries, with_hold, with_hold_of_child, without_hold, without_last}
 pub use Rattle.trace_base.specs.layers.Hooks.{KnownSpans, one_if}

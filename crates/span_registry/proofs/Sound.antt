@@ -1,6 +1,6 @@
 -- What a registry and a layer over it need of sound spans.
 use Rattle.std.proofs.Common.{◌≡◌, ℕ, ◌+◌, List, length, None, Result, Ok, Err, refl, sym, ap, subst, ◌∙◌, arith, OnOk, OnErr}
-use Rattle.span_registry.proofs.Common.{length_push, get_or_past, get_or_push, Span, Spans, no_span, is_open_child, without_hold, with_new_span, HasOwnHold, IsSound, count_push, no_entries, KnownSpans, in_step_start, SlotTableValue}
+use Rattle.span_registry.proofs.Common.{length_push, get_or_past, get_or_push, Span, Spans, no_span, is_open_child, without_hold, with_new_span, HasUnboundHold, IsSound, count_push, no_entries, KnownSpans, in_step_start, SlotTableValue}
 use Rattle.std.proofs.lemmas.List.{length-set}
 use Rattle.span_registry.specs.Both.{InStep, KnowsNone}
 
@@ -23,7 +23,7 @@ err_made (Ok v) now old e = tt
 err_made (Err v) now old e = ap (λ (t : SlotTableValue). t.made) e
 
 -- a root that is made has a hold of its own
-pub made_own : (x y : Spans) (site : ℕ) → IsSound x → y ≡ with_new_span x None site → HasOwnHold y (length x.made)
+pub made_own : (x y : Spans) (site : ℕ) → IsSound x → y ≡ with_new_span x None site → HasUnboundHold y (length x.made)
 made_own x y site sound is =
     let new : Span = record { holds = 1; parent = None; site = site } in
     let n = length x.made in
@@ -31,7 +31,7 @@ made_own x y site sound is =
     let past = ap (λ (s : Span). s.holds) (get_or_past x.made n no_span (omega arith)) in
     let bound = sound.bound n in
     let h = ap (λ (s : Span). s.holds) (get_or_push x.made new no_span n refl) in
-    subst (λ (z : Spans). HasOwnHold z n) (sym is) (omega (arith, children, past, bound, h))
+    subst (λ (z : Spans). HasUnboundHold z n) (sym is) (omega (arith, children, past, bound, h))
 
 pub made_count : (x y z : Spans) (site id : ℕ) → y ≡ with_new_span x None site → z.made ≡ without_hold y.made id → length z.made ≡ length x.made + 1
 made_count x y z site id is closed =

@@ -6,7 +6,7 @@ use Rattle.trace_base.specs.declared.lane.Lane.{Lane}
 use Rattle.trace_base.specs.Spans.{Spans, span_at, entries_on, current_of, parent_on}
 use Rattle.trace_base.specs.Calls.{SubscriberCall, NewSpan, Records, Follows, Event, Enter, Exit, CloneSpan, TryClose}
 use Rattle.trace_base.specs.layers.Hooks.{Hook, OnNewSpan, OnRecord, OnFollows, OnEvent, OnEnter, OnExit, OnClose}
-use Rattle.trace_base.specs.lanes.Contexts.{CallLanes}
+use Rattle.trace_base.specs.lanes.Contexts.{CallKeepsLanes}
 use Rattle.span_registry.specs.Both.{DoesBoth}
 
 -- a hook on a lane with that id, whatever its contexts are
@@ -45,7 +45,7 @@ outer_or_inner (Some outer) inner = Some outer
 module _ {S L A : Type 0} (hears : A → Hook → A → Type 0) (spans : S → Spans) (inner : S → SubscriberCall → S → Type 0) (outer : L → Hook → L → Type 0) (same : L → L → Type 0) (attaches : L → Bool) where
   -- a layer that tells something hears the hook of each call
   outer_told : (s t : S) (l m : L) (call : SubscriberCall) (sa : Bool) (sk tk : ℕ → ℕ → ℕ) (a : A) (now : Option A)
-      → ((c : SubscriberCall) → inner s c t → CallLanes sa sk c tk) → ((h : Hook) → outer l h m → StaysPresent (λ x y. hears x h y) (Some a) now) → (same l m → now ≡ Some a)
+      → ((c : SubscriberCall) → inner s c t → CallKeepsLanes sa sk c tk) → ((h : Hook) → outer l h m → StaysPresent (λ x y. hears x h y) (Some a) now) → (same l m → now ≡ Some a)
       → DoesBoth spans inner outer same attaches s l call t m → StaysPresent (λ x y. ObservesCall hears (spans s) x call y) (Some a) now
   outer_told s t l m (NewSpan lane at parent site callsite values) sa sk tk a now lanes so ss d = so _ d.1
   outer_told s t l m (Records id at callsite values) sa sk tk a now lanes so ss d = so _ d.1
@@ -96,7 +96,7 @@ module _ {S L A : Type 0} (hears : A → Hook → A → Type 0) (spans : S → S
 
   -- what a stack tells hears each call
   pub both_told : (s t : S) (l m : L) (call : SubscriberCall) (sa : Bool) (sk tk : ℕ → ℕ → ℕ) (o o' i i' : Option A)
-      → ((c : SubscriberCall) → inner s c t → CallLanes sa sk c tk)
+      → ((c : SubscriberCall) → inner s c t → CallKeepsLanes sa sk c tk)
       → ((h : Hook) → outer l h m → StaysPresent (λ x y. hears x h y) o o') → (same l m → o' ≡ o)
       → ((c : SubscriberCall) → inner s c t → StaysPresent (λ x y. ObservesCall hears (spans s) x c y) i i')
       → DoesBoth spans inner outer same attaches s l call t m → StaysPresent (λ x y. ObservesCall hears (spans s) x call y) (outer_or_inner o i) (outer_or_inner o' i')

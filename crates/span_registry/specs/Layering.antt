@@ -10,8 +10,8 @@ use Rattle.trace_base.specs.declared.lane.Lane.{Lane}
 use Rattle.trace_base.specs.Spans.{Spans, span_at, entries_on, times_in, parent_on, current_of, without_hold, with_hold}
 use Rattle.trace_base.specs.Calls.{SubscriberCall, NewSpan, Records, Follows, Event, Enter, Exit, CloneSpan, TryClose, spans_after_call, with_span_entry, with_span_exit}
 use Rattle.trace_base.specs.Conditions.{Allowed}
-use Rattle.trace_base.specs.layers.Hooks.{Hook, OnNewSpan, OnFollows, OnEvent, OnEnter, OnExit, KnownSpans, Sees, HookLanes}
-use Rattle.trace_base.specs.lanes.Contexts.{attached_as, attached_on, KeepsAttached, KeepsLane, KeepsLive, CallLanes}
+use Rattle.trace_base.specs.layers.Hooks.{Hook, OnNewSpan, OnFollows, OnEvent, OnEnter, OnExit, KnownSpans, Sees, HookKeepsLanes}
+use Rattle.trace_base.specs.lanes.Contexts.{attached_count, attached_count_on, TracksAttached, KeepsLane, KeepsLive, CallKeepsLanes}
 use Rattle.std.proofs.lemmas.List.{length-set}
 use Rattle.span_registry.specs.Both.{DoesBoth, EntersBoth, InStep, IsWholeBoth, interest_both, hint_both, enables_both, activates_both}
 use Rattle.span_registry.specs.Stepping.{in_step, tracks_new, tracks_record, tracks_follows, tracks_event, tracks_enter, tracks_exit, tracks_close, tracks_quiet, sees_quiet}
@@ -76,17 +76,17 @@ kept_both outer inner = λ lane number. outer lane number + inner lane number
 pub kept_same : (lk lk' sk sk' : ℕ → ℕ → ℕ) → lk' ≡ lk → sk' ≡ sk → kept_both lk' sk' ≡ kept_both lk sk
 kept_same lk lk' sk sk' e f = ap (λ (k : ℕ → ℕ → ℕ). kept_both k sk') e ∙ ap (λ (k : ℕ → ℕ → ℕ). kept_both lk k) f
 
-pub on_same : (lane number : ℕ) (a b : Lane) → b.id ≡ a.id → b.contexts.live ≡ a.contexts.live → attached_on lane number b ≡ attached_on lane number a
+pub on_same : (lane number : ℕ) (a b : Lane) → b.id ≡ a.id → b.contexts.live ≡ a.contexts.live → attached_count_on lane number b ≡ attached_count_on lane number a
 on_same lane number a b id live =
     let numbers = ap (λ (xs : List (ℕ × Context)). count_by (λ item. item.0 == number) xs) live in
     elim (cases_eq a.id lane) [
       | inl on ↦ (
-          let x = cond-true {A = ℕ} (a.id == lane) (attached_as number a) 0 (eq-eqb a.id lane on) in
-          let y = cond-true {A = ℕ} (b.id == lane) (attached_as number b) 0 (eq-eqb b.id lane (id ∙ on)) in
+          let x = cond-true {A = ℕ} (a.id == lane) (attached_count number a) 0 (eq-eqb a.id lane on) in
+          let y = cond-true {A = ℕ} (b.id == lane) (attached_count number b) 0 (eq-eqb b.id lane (id ∙ on)) in
           y ∙ numbers ∙ sym x)
       | inr off ↦ (
-          let x = cond-false {A = ℕ} (a.id == lane) (attached_as number a) 0 (ne_eqb a.id lane off) in
-          let y = cond-false {A = ℕ} (b.id == lane) (attached_as number b) 0 (ne_eqb b.id lane (λ e. off (sym id ∙ e))) in
+          let x = cond-false {A = ℕ} (a.id == lane) (attached_count number a) 0 (ne_eqb a.id lane off) in
+          let y = cond-false {A = ℕ} (b.id == lane) (attached_count number b) 0 (ne_eqb b.id lane (λ e. off (sym id ∙ e))) in
           y ∙ sym x)
     ]
 
@@ -98,13 +98,13 @@ keeps_both la sa a b c k n = record {
   as_it_is = λ no. let parts = or_parts la sa no in n.as_it_is parts.0 ∙ k.as_it_is parts.1;
 }
 
-attached_both : (sk tk lk mk : ℕ → ℕ → ℕ) (a b c : Lane) → KeepsAttached sk a b tk → KeepsAttached lk b c mk → KeepsAttached (kept_both lk sk) a c (kept_both mk tk)
+attached_both : (sk tk lk mk : ℕ → ℕ → ℕ) (a b c : Lane) → TracksAttached sk a b tk → TracksAttached lk b c mk → TracksAttached (kept_both lk sk) a c (kept_both mk tk)
 attached_both sk tk lk mk a b c k n lane number = omega (arith, k lane number, n lane number)
 
 pub both_lanes : {S L : Type 0} (spans : S → Spans) (inner : S → SubscriberCall → S → Type 0) (outer : L → Hook → L → Type 0) (same : L → L → Type 0) (attaches : L → Bool)
     → (s t : S) (l m : L) (call : SubscriberCall) (sa : Bool) (sk tk lk mk : ℕ → ℕ → ℕ)
-    → ((c : SubscriberCall) → inner s c t → CallLanes sa sk c tk) → ((h : Hook) → outer l h m → HookLanes (attaches l) lk h mk) → (same l m → mk ≡ lk)
-    → DoesBoth spans inner outer same attaches s l call t m → CallLanes (attaches l || sa) (kept_both lk sk) call (kept_both mk tk)
+    → ((c : SubscriberCall) → inner s c t → CallKeepsLanes sa sk c tk) → ((h : Hook) → outer l h m → HookKeepsLanes (attaches l) lk h mk) → (same l m → mk ≡ lk)
+    → DoesBoth spans inner outer same attaches s l call t m → CallKeepsLanes (attaches l || sa) (kept_both lk sk) call (kept_both mk tk)
 both_lanes spans inner outer same attaches s t l m (NewSpan lane at parent site callsite values) sa sk tk lk mk si so ss d = kept_same lk mk sk tk (so _ d.1) (si _ d.0)
 both_lanes spans inner outer same attaches s t l m (Records id at callsite values) sa sk tk lk mk si so ss d = kept_same lk mk sk tk (so _ d.1) (si _ d.0)
 both_lanes spans inner outer same attaches s t l m (Follows id from at) sa sk tk lk mk si so ss d = kept_same lk mk sk tk (so _ d.1) (si _ d.0)
@@ -137,10 +137,10 @@ neither_way true = refl
 neither_way false = refl
 
 -- where a lane has no entry neither part keeps anything attached
-pub both_kept_by_entries : (P Q : Type 0) (spans : Spans) (seen : KnownSpans) (sa la : Bool) (sk lk : ℕ → ℕ → ℕ) (lane number : ℕ)
+pub both_none_kept : (P Q : Type 0) (spans : Spans) (seen : KnownSpans) (sa la : Bool) (sk lk : ℕ → ℕ → ℕ) (lane number : ℕ)
     → (P → entries_on lane spans.lanes ≡ [] → sk lane number ≡ 0) → (((id : ℕ) → seen.entries lane id ≡ 0) → lk lane number ≡ 0)
     → IsWholeBoth P Q spans seen sa la → entries_on lane spans.lanes ≡ [] → lk lane number + sk lane number ≡ 0
-both_kept_by_entries P Q spans seen sa la sk lk lane number si so w none =
+both_none_kept P Q spans seen sa la sk lk lane number si so w none =
     let inner = si w.inner none in
     let outer = so (λ id. w.in_step.entries lane id ∙ ap (λ (ids : List ℕ). if seen.knows id then times_in id ids else 0) none ∙ neither_way (seen.knows id)) in
     omega (arith, inner, outer)
@@ -180,7 +180,7 @@ both_keep spans inner outer same attaches s t l m (TryClose id at) P Q si so ss 
 pub both_in_step : {S L : Type 0} (spans : S → Spans) (inner : S → SubscriberCall → S → Type 0) (outer : L → Hook → L → Type 0) (same : L → L → Type 0) (attaches : L → Bool)
     → (s t : S) (l m : L) (call : SubscriberCall) (seen now : KnownSpans)
     → ((c : SubscriberCall) → inner s c t → spans t ≡ spans_after_call (spans s) c) → ((c : SubscriberCall) → inner s c t → Allowed (spans s) c)
-    → (a : Bool) (k n : ℕ → ℕ → ℕ) → ((c : SubscriberCall) → inner s c t → CallLanes a k c n)
+    → (a : Bool) (k n : ℕ → ℕ → ℕ) → ((c : SubscriberCall) → inner s c t → CallKeepsLanes a k c n)
     → ((h : Hook) → outer l h m → Sees seen h now) → (same l m → now ≡ seen)
     → DoesBoth spans inner outer same attaches s l call t m → InStep (spans s) seen → InStep (spans t) now
 both_in_step spans inner outer same attaches s t l m (NewSpan lane at parent site callsite values) seen now si sa a k n sl so ss d step =
@@ -217,16 +217,16 @@ or_same la la' sa sa' e f = ap (λ b. b || sa') e ∙ ap (λ b. la || b) f
 pub in_step_same : (x y : Spans) (a b : KnownSpans) → y ≡ x → b ≡ a → InStep x a → InStep y b
 in_step_same x y a b e f step = subst (λ (z : KnownSpans). InStep y z) (sym f) (subst (λ (z : Spans). InStep z a) (sym e) step)
 
-pub whole_both : (P P' Q Q' : Type 0) (x y : Spans) (a b : KnownSpans) (sa sa' la la' : Bool) → (P → P') → (Q → Q') → (InStep x a → InStep y b) → sa' ≡ sa → la' ≡ la → IsWholeBoth P Q x a sa la → IsWholeBoth P' Q' y b sa' la'
-whole_both P P' Q Q' x y a b sa sa' la la' p q step e f w = record {
+pub both_whole : (P P' Q Q' : Type 0) (x y : Spans) (a b : KnownSpans) (sa sa' la la' : Bool) → (P → P') → (Q → Q') → (InStep x a → InStep y b) → sa' ≡ sa → la' ≡ la → IsWholeBoth P Q x a sa la → IsWholeBoth P' Q' y b sa' la'
+both_whole P P' Q Q' x y a b sa sa' la la' p q step e f w = record {
   inner = p w.inner;
   outer = q w.outer;
   in_step = step w.in_step;
   one_attaches = ap (λ c. c && sa') f ∙ ap (λ c. la && c) e ∙ w.one_attaches;
 }
 
-pub gate_both : (li li' si si' : Callsite → Interest) (lh lh' sh sh' : Option LevelFilter) → (si' ≡ si) × (sh' ≡ sh) → (li' ≡ li) × (lh' ≡ lh) → (interest_both li' si' ≡ interest_both li si) × (hint_both lh' sh' ≡ hint_both lh sh)
-gate_both li li' si si' lh lh' sh sh' s l = (
+pub gate_same : (li li' si si' : Callsite → Interest) (lh lh' sh sh' : Option LevelFilter) → (si' ≡ si) × (sh' ≡ sh) → (li' ≡ li) × (lh' ≡ lh) → (interest_both li' si' ≡ interest_both li si) × (hint_both lh' sh' ≡ hint_both lh sh)
+gate_same li li' si si' lh lh' sh sh' s l = (
   ap (λ (f : Callsite → Interest). interest_both f si') l.0 ∙ ap (λ (f : Callsite → Interest). interest_both li f) s.0,
   ap (λ (h : Option LevelFilter). hint_both h sh') l.1 ∙ ap (λ (h : Option LevelFilter). hint_both lh h) s.1,
 )

@@ -6,7 +6,7 @@ use Rattle.trace_base.specs.Calls.{SubscriberCall, NewSpan, Records, Follows, Ev
 use Rattle.trace_base.specs.Conditions.{Allowed}
 use Rattle.trace_base.specs.Sound.{IsSound}
 use Rattle.span_registry.specs.Tabling.{live_span_count}
-use Rattle.trace_base.specs.lanes.Contexts.{CallLanes}
+use Rattle.trace_base.specs.lanes.Contexts.{CallKeepsLanes}
 use Rattle.trace_base.specs.layers.Unseeing.{left_as_it_is, nothing_kept}
 
 -- what a registry stands for: its spans, and how many slots it has for live ones
@@ -51,7 +51,7 @@ pub record DoesRegistry (old : RegistryValue) (call : SubscriberCall) (new : Reg
 pub registry_same : (s t : RegistryValue) (call : SubscriberCall) (u : RegistryValue) → t ≡ s → DoesRegistry t call u → DoesRegistry s call u
 registry_same s t call u h d = subst (λ (x : RegistryValue). DoesRegistry x call u) h d
 
-pub registry_lanes : (s : RegistryValue) (call : SubscriberCall) (t : RegistryValue) → DoesRegistry s call t → CallLanes false (λ lane number. 0) call (λ lane number. 0)
+pub registry_lanes : (s : RegistryValue) (call : SubscriberCall) (t : RegistryValue) → DoesRegistry s call t → CallKeepsLanes false (λ lane number. 0) call (λ lane number. 0)
 registry_lanes s (Enter id at before later) t d = (left_as_it_is before later d.lane, nothing_kept before later d.lane)
 registry_lanes s (Exit id at before later) t d = (left_as_it_is before later d.lane, nothing_kept before later d.lane)
 registry_lanes s (NewSpan lane at parent site callsite values) t d = refl

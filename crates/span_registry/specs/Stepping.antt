@@ -9,7 +9,7 @@ use Rattle.trace_base.specs.declared.callsite.Callsite.{Callsite}
 use Rattle.trace_base.specs.declared.field.ValueSet.{ValueSet}
 use Rattle.trace_base.specs.Spans.{Span, Entries, Spans, span_at, entries_on, is_in, times_in, without_last, with_hold, span_without_hold, without_hold, with_hold_of_child}
 use Rattle.trace_base.specs.Calls.{with_new_span, with_span_entry, with_span_exit}
-use Rattle.trace_base.specs.Conditions.{IsLive, MayExit, HasOwnHold}
+use Rattle.trace_base.specs.Conditions.{IsLive, MayExit, HasUnboundHold}
 use Rattle.trace_base.specs.layers.Hooks.{Hook, OnNewSpan, OnRecord, OnFollows, OnEvent, OnEnter, OnExit, OnClose, KnownSpans, Sees, makes, closes, one_if_entered, one_if_exited, one_if}
 use Rattle.trace_base.proofs.EntryLemmas.{count_push, count_without_last, any_if_counted, with_same, with_other, made_if_held, length_held, no_entries}
 use Rattle.span_registry.specs.Both.{InStep, KnowsNone}
@@ -208,10 +208,10 @@ tracks_exit old seen step id at before later lane here may =
     }
 
 -- a span that closes has no entries
-pub closes_without_entries : (old : Spans) (id lane : ℕ) → HasOwnHold old id → (span_at old.made id).holds ≡ 1 → times_in id (entries_on lane old.lanes) ≡ 0
+pub closes_without_entries : (old : Spans) (id lane : ℕ) → HasUnboundHold old id → (span_at old.made id).holds ≡ 1 → times_in id (entries_on lane old.lanes) ≡ 0
 closes_without_entries old id lane own one = no_entries old.lanes id lane (omega (arith, own, one))
 
-pub tracks_close : (old : Spans) (seen : KnownSpans) → InStep old seen → (id at : ℕ) → HasOwnHold old id → (span_at old.made id).holds ≡ 1 → Tracks old (OnClose id at) (record old { made = without_hold old.made id })
+pub tracks_close : (old : Spans) (seen : KnownSpans) → InStep old seen → (id at : ℕ) → HasUnboundHold old id → (span_at old.made id).holds ≡ 1 → Tracks old (OnClose id at) (record old { made = without_hold old.made id })
 tracks_close old seen step id at own one =
     let as_many = length-set old.made id (span_without_hold (span_at old.made id)) in
     record {
@@ -223,7 +223,7 @@ tracks_close old seen step id at own one =
     }
 
 -- at a close the layer has no entry of the span
-pub left_at_close : (spans : Spans) (seen : KnownSpans) → InStep spans seen → (id : ℕ) → HasOwnHold spans id → (span_at spans.made id).holds ≡ 1 → (lane : ℕ) → seen.entries lane id ≡ 0
+pub left_at_close : (spans : Spans) (seen : KnownSpans) → InStep spans seen → (id : ℕ) → HasUnboundHold spans id → (span_at spans.made id).holds ≡ 1 → (lane : ℕ) → seen.entries lane id ≡ 0
 left_at_close spans seen step id own one lane =
     let none = closes_without_entries spans id lane own one in
     let t = times_in id (entries_on lane spans.lanes) in

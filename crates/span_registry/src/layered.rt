@@ -2,7 +2,7 @@
 ghost use Rattle.std.specs.Prelude.{◌≡◌, ℕ, ◌+◌, ◌||◌, ◌&&◌, true, false, if◌then◌else◌};
 ghost use Rattle.trace_base.specs.Sound.{IsSound};
 ghost use Rattle.span_registry.specs.Both.{DoesBoth, InStep, IsWholeBoth, KnowsNone, joint_interest, interest_both, hint_both, enables_both, activates_both};
-ghost use Rattle.span_registry.specs.Layering.{kept_same, or_same, whole_both, in_step_same, both_same, both_allowed, both_shows, both_lanes, both_keep, both_in_step, gate_both, enables_same, activates_same, both_passive, both_kept_by_entries};
+ghost use Rattle.span_registry.specs.Layering.{kept_same, or_same, both_whole, in_step_same, both_same, both_allowed, both_shows, both_lanes, both_keep, both_in_step, gate_same, enables_same, activates_same, both_passive, both_none_kept};
 ghost use Rattle.trace_base.specs.layers.Hooks.{OnEnter};
 ghost use Rattle.std.specs.Borrow.{sem};
 ghost use Rattle.span_registry.specs.Lending.{LendsLayer, LendsInner};
@@ -133,11 +133,11 @@ impl<L: Layer, S: Subscriber> Subscriber for Layered<L, S> {
 
     ghost same_activates = { λ s t h. activates_same (L.attaches s.layer) (L.attaches t.layer) (L.seen s.layer) (L.seen t.layer) (S.activates s.inner) (S.activates t.inner) (L.same_attaches s.layer t.layer h.1) (L.same_seen s.layer t.layer h.1) (S.same_activates s.inner t.inner h.0) };
 
-    ghost same_gate = { λ s t h. gate_both (L.interest s.layer) (L.interest t.layer) (S.interest s.inner) (S.interest t.inner) (L.hint s.layer) (L.hint t.layer) (S.hint s.inner) (S.hint t.inner) (S.same_gate s.inner t.inner h.0) (L.same_gate s.layer t.layer h.1) };
+    ghost same_gate = { λ s t h. gate_same (L.interest s.layer) (L.interest t.layer) (S.interest s.inner) (S.interest t.inner) (L.hint s.layer) (L.hint t.layer) (S.hint s.inner) (S.hint t.inner) (S.same_gate s.inner t.inner h.0) (L.same_gate s.layer t.layer h.1) };
 
     ghost same_enables = { λ s t h. enables_same (L.enables s.layer) (L.enables t.layer) (S.enables s.inner) (S.enables t.inner) (L.same_enables s.layer t.layer h.1) (S.same_enables s.inner t.inner h.0) };
 
-    ghost same_whole = { λ s t h w. whole_both (S.is_whole s.inner) (S.is_whole t.inner) (L.is_whole s.layer) (L.is_whole t.layer) (S.spans s.inner) (S.spans t.inner) (L.seen s.layer) (L.seen t.layer) (S.attaches s.inner) (S.attaches t.inner) (L.attaches s.layer) (L.attaches t.layer)
+    ghost same_whole = { λ s t h w. both_whole (S.is_whole s.inner) (S.is_whole t.inner) (L.is_whole s.layer) (L.is_whole t.layer) (S.spans s.inner) (S.spans t.inner) (L.seen s.layer) (L.seen t.layer) (S.attaches s.inner) (S.attaches t.inner) (L.attaches s.layer) (L.attaches t.layer)
         (S.same_whole s.inner t.inner h.0) (L.same_whole s.layer t.layer h.1) (in_step_same (S.spans s.inner) (S.spans t.inner) (L.seen s.layer) (L.seen t.layer) (S.same_spans s.inner t.inner h.0) (L.same_seen s.layer t.layer h.1))
         (S.same_attaches s.inner t.inner h.0) (L.same_attaches s.layer t.layer h.1) w };
 
@@ -150,14 +150,14 @@ impl<L: Layer, S: Subscriber> Subscriber for Layered<L, S> {
 
     ghost shows = { λ s call t d. both_shows S.spans S.does L.does L.same_but_room L.attaches s.inner t.inner s.layer t.layer call (λ c. S.shows s.inner c t.inner) d };
 
-    ghost lanes = { λ s call t d. both_lanes S.spans S.does L.does L.same_but_room L.attaches s.inner t.inner s.layer t.layer call (S.attaches s.inner) (S.kept s.inner) (S.kept t.inner) (L.kept s.layer) (L.kept t.layer)
-        (λ c. S.lanes s.inner c t.inner) (λ k. L.lanes s.layer k t.layer) (L.same_kept s.layer t.layer) d };
+    ghost keeps_lanes = { λ s call t d. both_lanes S.spans S.does L.does L.same_but_room L.attaches s.inner t.inner s.layer t.layer call (S.attaches s.inner) (S.kept s.inner) (S.kept t.inner) (L.kept s.layer) (L.kept t.layer)
+        (λ c. S.keeps_lanes s.inner c t.inner) (λ k. L.keeps_lanes s.layer k t.layer) (L.same_kept s.layer t.layer) d };
 
-    ghost kept_by_entries = { λ s lane number w none. both_kept_by_entries (S.is_whole s.inner) (L.is_whole s.layer) (S.spans s.inner) (L.seen s.layer) (S.attaches s.inner) (L.attaches s.layer) (S.kept s.inner) (L.kept s.layer) lane number
-        (S.kept_by_entries s.inner lane number) (L.kept_by_entries s.layer lane number) w none };
+    ghost none_kept_without_entries = { λ s lane number w none. both_none_kept (S.is_whole s.inner) (L.is_whole s.layer) (S.spans s.inner) (L.seen s.layer) (S.attaches s.inner) (L.attaches s.layer) (S.kept s.inner) (L.kept s.layer) lane number
+        (S.none_kept_without_entries s.inner lane number) (L.none_kept_without_entries s.layer lane number) w none };
 
     ghost passive = { λ s id at before later t d neither. both_passive S.does L.does (L.attaches s.layer) s.inner t.inner s.layer t.layer id at before later (L.seen s.layer) (S.activates s.inner)
-        (λ b c. S.passive s.inner id at b c t.inner) (λ b c e a. (L.lanes s.layer (OnEnter id at b c) t.layer e).0.as_it_is a) (λ b c. L.passive s.layer id at b c t.layer) d neither };
+        (λ b c. S.passive s.inner id at b c t.inner) (λ b c e a. (L.keeps_lanes s.layer (OnEnter id at b c) t.layer e).0.as_it_is a) (λ b c. L.passive s.layer id at b c t.layer) d neither };
 
     ghost keeps_attaches = { λ s call t d. let e = both_keep S.spans S.does L.does L.same_but_room L.attaches s.inner t.inner s.layer t.layer call (S.attaches t.inner ≡ S.attaches s.inner) (L.attaches t.layer ≡ L.attaches s.layer)
         (λ c. S.keeps_attaches s.inner c t.inner) (λ k. L.keeps_attaches s.layer k t.layer) (L.same_attaches s.layer t.layer) d in or_same (L.attaches s.layer) (L.attaches t.layer) (S.attaches s.inner) (S.attaches t.inner) e.1 e.0 };
@@ -165,16 +165,16 @@ impl<L: Layer, S: Subscriber> Subscriber for Layered<L, S> {
     ghost keeps_gate = { λ s call t d.
         let e = both_keep S.spans S.does L.does L.same_but_room L.attaches s.inner t.inner s.layer t.layer call ((S.interest t.inner ≡ S.interest s.inner) × (S.hint t.inner ≡ S.hint s.inner)) ((L.interest t.layer ≡ L.interest s.layer) × (L.hint t.layer ≡ L.hint s.layer))
         (λ c. S.keeps_gate s.inner c t.inner) (λ k. L.keeps_gate s.layer k t.layer) (L.same_gate s.layer t.layer) d in
-        gate_both (L.interest s.layer) (L.interest t.layer) (S.interest s.inner) (S.interest t.inner) (L.hint s.layer) (L.hint t.layer) (S.hint s.inner) (S.hint t.inner) e.0 e.1 };
+        gate_same (L.interest s.layer) (L.interest t.layer) (S.interest s.inner) (S.interest t.inner) (L.hint s.layer) (L.hint t.layer) (S.hint s.inner) (S.hint t.inner) e.0 e.1 };
 
     ghost keeps_whole = { λ s call t d w.
         let a = both_keep S.spans S.does L.does L.same_but_room L.attaches s.inner t.inner s.layer t.layer call (S.attaches t.inner ≡ S.attaches s.inner) (L.attaches t.layer ≡ L.attaches s.layer)
         (λ c. S.keeps_attaches s.inner c t.inner) (λ k. L.keeps_attaches s.layer k t.layer) (L.same_attaches s.layer t.layer) d in
         let h = both_keep S.spans S.does L.does L.same_but_room L.attaches s.inner t.inner s.layer t.layer call (S.is_whole s.inner → S.is_whole t.inner) (L.is_whole s.layer → L.is_whole t.layer)
         (λ c. S.keeps_whole s.inner c t.inner) (λ k. L.keeps_whole s.layer k t.layer) (L.same_whole s.layer t.layer) d in
-        whole_both (S.is_whole s.inner) (S.is_whole t.inner) (L.is_whole s.layer) (L.is_whole t.layer) (S.spans s.inner) (S.spans t.inner) (L.seen s.layer) (L.seen t.layer) (S.attaches s.inner) (S.attaches t.inner) (L.attaches s.layer) (L.attaches t.layer)
+        both_whole (S.is_whole s.inner) (S.is_whole t.inner) (L.is_whole s.layer) (L.is_whole t.layer) (S.spans s.inner) (S.spans t.inner) (L.seen s.layer) (L.seen t.layer) (S.attaches s.inner) (S.attaches t.inner) (L.attaches s.layer) (L.attaches t.layer)
         h.0 h.1 (both_in_step S.spans S.does L.does L.same_but_room L.attaches s.inner t.inner s.layer t.layer call (L.seen s.layer) (L.seen t.layer) (λ c. S.shows s.inner c t.inner) (λ c. S.allowed s.inner c t.inner)
-        (S.attaches s.inner) (S.kept s.inner) (S.kept t.inner) (λ c. S.lanes s.inner c t.inner) (λ k. L.sees s.layer k t.layer) (L.same_seen s.layer t.layer) d) a.0 a.1 w };
+        (S.attaches s.inner) (S.kept s.inner) (S.kept t.inner) (λ c. S.keeps_lanes s.inner c t.inner) (λ k. L.sees s.layer k t.layer) (L.same_seen s.layer t.layer) d) a.0 a.1 w };
 
     fn register_callsite(&mut self, callsite: &Callsite) -> Result<Interest, Memory> {
         let inner = self.inner.register_callsite(callsite)?;

@@ -5,7 +5,7 @@ ghost use Rattle.trace_base.specs.declared.lane.Lane.{Lane};
 ghost use Rattle.trace_base.specs.declared.subscriber.Interest.TheVariants as interests;
 ghost use Rattle.trace_base.specs.Spans.{Spans, span_at, entries_on, with_hold, without_hold, parent_to_release};
 ghost use Rattle.trace_base.specs.Calls.{TryClose};
-ghost use Rattle.trace_base.specs.Conditions.{HasOwnHold, IsLive, HasFewHolds};
+ghost use Rattle.trace_base.specs.Conditions.{HasUnboundHold, IsLive, HasFewHolds};
 ghost use Rattle.trace_base.specs.Sound.{IsSound};
 ghost use Rattle.span_registry.specs.Registering.{RegistryValue, DoesRegistry, no_spans, registry_same, registry_lanes};
 
@@ -94,11 +94,11 @@ impl Registry {
 
     /// Releases one hold of a span, and answers the parent that is to be released next: none at the end of the chain.
     pub fn next_closed(&mut self, id: Id) -> Option<Id>
-        requires { HasOwnHold self.old.spans id }
+        requires { HasUnboundHold self.old.spans id }
         ensures value { result ≡ parent_to_release self.old.spans.made id }
         ensures spans { self.new.spans ≡ record self.old.spans { made = without_hold self.old.spans.made id } }
         ensures slots { self.new.slots ≡ self.old.slots }
-        ensures next_held { IfSome result (λ p. (p < id) × HasOwnHold self.new.spans p) }
+        ensures next_held { IfSome result (λ p. (p < id) × HasUnboundHold self.new.spans p) }
         ensures did { (at : ℕ) → DoesRegistry self.old (TryClose id at) self.new }
     {
         self.table.release(id).next
@@ -152,9 +152,9 @@ impl Subscriber for Registry {
 
     ghost shows = { λ s call t d. d.shows };
 
-    ghost lanes = { registry_lanes };
+    ghost keeps_lanes = { registry_lanes };
 
-    ghost kept_by_entries = { λ s lane number w none. refl };
+    ghost none_kept_without_entries = { λ s lane number w none. refl };
 
     ghost passive = { λ s id at before later t d neither. ap (λ (l : Lane). l.contexts.live) d.lane };
 

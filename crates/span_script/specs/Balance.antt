@@ -29,9 +29,9 @@ pub record Balanced (spans : Spans) (hs : List (Option ℕ)) (gs : List (Option 
   pub borrowed : (n : ℕ) (g : OpenGuard) → slot_at gs n ≡ Some g → slot_at hs g.handle ≡ Some g.span
 
 -- the span that an unspent handle names, and what an open guard of an enabled one stands for
-abbrev pub named_span : Option Scope → Option ℕ
-named_span None = None
-named_span (Some scope) = span_of_scope scope
+abbrev pub span_of_handle : Option Scope → Option ℕ
+span_of_handle None = None
+span_of_handle (Some scope) = span_of_scope scope
 
 abbrev pub open_guard_on : ℕ → ℕ → Scope → Option OpenGuard
 open_guard_on handle lane [] = None

@@ -22,7 +22,7 @@ use Rattle.env_filter.specs.spans.Watching.{MatchState}
 use Rattle.span_handles.specs.Worlds.{Has, read_subscriber, spans_in, kept_in}
 use Rattle.span_handles.specs.Handles.{Handle, HeldSpan}
 use Rattle.otel_metrics.specs.declared.measure.Measure.{Measure}
-use Rattle.span_stack.specs.Reading.{Stacks, stack_recording, filter_in_place, stack_counting_filter, stack_measures}
+use Rattle.span_stack.specs.Reading.{SubscriberStack, stack_recording, filter_in_place, stack_counting_filter, stack_measures}
 use Rattle.span_script.specs.declared.slots.Guard.{Guard}
 use Rattle.span_script.specs.declared.contexts.AttachGuard.{AttachGuard}
 use Rattle.span_script.specs.declared.reply.Reply.{Reply}
@@ -32,7 +32,7 @@ use Rattle.span_script.specs.declared.request.Call.{Call}
 use Rattle.span_script.specs.declared.settings.FilterTexts.{FilterTexts}
 use Rattle.span_script.specs.Admission.{text_filter}
 use Rattle.span_script.specs.Setups.{Setup}
-use Rattle.span_script.specs.Balance.{Balanced, named_span, open_guard_by}
+use Rattle.span_script.specs.Balance.{Balanced, span_of_handle, open_guard_by}
 use Rattle.span_script.specs.Tables.{Scope, MadeSpan, Owner, EntryOf, GuardOf, Attached, is_attached_by, ScopeGuard, Effect, Tables, History, tables, after_effect, open_part, records_of, slot_at, span_of_scope, site_of, made_span_at}
 use Rattle.span_script.specs.calls.Here.{Resolved}
 use Rattle.span_script.specs.Effects.{effect_of_call}
@@ -61,14 +61,14 @@ pub record ContextSlots : Type 0 where
 
 -- how what was recorded, the filter that is in place, the filter that counts and the measures that wait are read of a subscriber
 pub record Views (S : Type 0) : Type 0 where
-  pub recorded : S → Recording
-  pub filtered : S → Option FilterState
+  pub recording : S → Recording
+  pub filter : S → Option FilterState
   pub counting_filter : S → Option FilterState
-  pub measured : S → List Measure
+  pub measures : S → List Measure
 
 -- those of the stack that pipelines run on
-abbrev pub stack_views : Views Stacks
-stack_views = record { recorded = stack_recording; filtered = filter_in_place; counting_filter = stack_counting_filter; measured = stack_measures }
+abbrev pub stack_views : Views SubscriberStack
+stack_views = record { recording = stack_recording; filter = filter_in_place; counting_filter = stack_counting_filter; measures = stack_measures }
 
 -- What is seen of a filter at the spans of the first ids, from the last one on, and at the lanes of some ids.
 pub record ShownFilter : Type 0 where
@@ -116,7 +116,7 @@ setup_of sites lanes opening layer = record { sites = sites; ids = map (λ l. l.
 pub record Parts (S : Type 0) : Type 0 where
   pub world : WorldValue S
   pub dispatch : ℕ
-  pub opening : FilterTexts
+  pub filter_texts : FilterTexts
   pub lanes : List Lane
   pub handles : List (Option Handle)
   pub guards : List (Option Guard)
@@ -126,14 +126,14 @@ pub record Parts (S : Type 0) : Type 0 where
 -- what it keeps, read off its parts
 abbrev pub state_of : {S : Type 0} → (S → Spans) → Views S → Parts S → PipelineState
 state_of spans views parts = record {
-  setup = setup_of parts.world.sites parts.lanes parts.opening (read_subscriber views.recorded no_recording parts.world parts.dispatch).settings;
+  setup = setup_of parts.world.sites parts.lanes parts.filter_texts (read_subscriber views.recording no_recording parts.world parts.dispatch).settings;
   spans = spans_in spans parts.world parts.dispatch;
   lanes = map lane_value parts.lanes;
-  recording = read_subscriber views.recorded no_recording parts.world parts.dispatch;
-  filter = option_map (shown_of (length (spans_in spans parts.world parts.dispatch).made) (map (λ l. l.id) parts.lanes)) (read_subscriber views.filtered None parts.world parts.dispatch);
+  recording = read_subscriber views.recording no_recording parts.world parts.dispatch;
+  filter = option_map (shown_of (length (spans_in spans parts.world parts.dispatch).made) (map (λ l. l.id) parts.lanes)) (read_subscriber views.filter None parts.world parts.dispatch);
   cached = parts.world.cached;
   counting_filter = option_map (shown_of 0 (map (λ l. l.id) parts.lanes)) (read_subscriber views.counting_filter None parts.world parts.dispatch);
-  measures = read_subscriber views.measured [] parts.world parts.dispatch;
+  measures = read_subscriber views.measures [] parts.world parts.dispatch;
   dispatch = parts.dispatch;
   handles = map held_by parts.handles;
   handle_sites = map site_by parts.handles;
@@ -244,9 +244,9 @@ pub record Fits (k : PipelineState) (t : Tables) : Type 0 where
   pub paired : length t.attaches ≡ length t.guards
   pub named_contexts : k.contexts.contexts ≡ t.named_contexts
   pub latest : k.moment ≡ t.moment
-  pub balanced : Balanced k.spans (map named_span t.handles) (map (open_guard_by k.setup.ids) t.guards) t.entries
+  pub balanced : Balanced k.spans (map span_of_handle t.handles) (map (open_guard_by k.setup.ids) t.guards) t.entries
   pub made : SpansFit k.spans.made t.spans
-  pub one_lane : OneEach k.spans.lanes
+  pub one_row : OneEach k.spans.lanes
   -- facts of each history that leads here
   pub scopes : (n : ℕ) (scope : Scope) → slot_at t.handles n ≡ Some scope → IsScope t.spans scope
   pub still : (n : ℕ) (g : ScopeGuard) → slot_at t.guards n ≡ Some g → slot_at t.handles g.handle ≡ Some g.scope
@@ -264,12 +264,12 @@ pub record StandsFor (k : PipelineState) (t : Tables) : Type 0 where
   pub filtering : FilteringFits k t
 
 -- the same but for the oldest record
-abbrev pub without_first : PipelineState → PipelineState
-without_first k = record k { recording = record k.recording { finished = drop 1 k.recording.finished } }
+abbrev pub without_oldest_record : PipelineState → PipelineState
+without_oldest_record k = record k { recording = record k.recording { finished = drop 1 k.recording.finished } }
 
 -- and but for the oldest measure
-abbrev pub without_first_measure : PipelineState → PipelineState
-without_first_measure k = record k { measures = drop 1 k.measures }
+abbrev pub without_oldest_measure : PipelineState → PipelineState
+without_oldest_measure k = record k { measures = drop 1 k.measures }
 
 -- What every pipeline keeps: it is alone in its world, whole, and stands for a history with some tables.
 pub record PipelineInvariant {S : Type 0} (spans : S → Spans) (views : Views S) (kept : S → ℕ → ℕ → ℕ) (is_whole : S → Type 0) (parts : Parts S) : Type 0 where

@@ -49,8 +49,8 @@ pub record HasWhatItNames (callsite : Option Callsite) (parent : Option Parent) 
   pub values_are : all_values given fields ≡ Some values
 
 -- else the first of them that isn't there refuses it
-abbrev pub named_values : Option Callsite → Option Parent → Fields → Result ValueSet Refusal
-named_values callsite parent fields = do
+abbrev pub values_or_refusal : Option Callsite → Option Parent → Fields → Result ValueSet Refusal
+values_or_refusal callsite parent fields = do
   given ← need what.Site callsite
   under ← need what.Handle parent
   need what.Field (all_values given fields)
@@ -76,6 +76,6 @@ pub record TellsEventOfRequest {S : Type 0} (does : S → SubscriberCall → S �
   pub did : TellsEventOrNothing does enabled old new lane at named.under site named.values dispatch
 
 -- the gate's answer for a callsite on a lane, by the filter in place
-abbrev pub LetsThrough : Option FilterState → List Callsite → ℕ → ℕ → Bool → Type 0
-LetsThrough filter sites lane site answer =
+abbrev pub IsGateAnswer : Option FilterState → List Callsite → ℕ → ℕ → Bool → Type 0
+IsGateAnswer filter sites lane site answer =
     (f : FilterState) (c : Callsite) → filter ≡ Some f → slice_get sites site ≡ Some c → answer ≡ is_admitted f lane c

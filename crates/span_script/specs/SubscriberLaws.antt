@@ -19,7 +19,7 @@ abbrev pub Aside : Type 0
 Aside = Option FilterState × List Measure
 
 abbrev pub aside_in : {S : Type 0} → Views S → WorldValue S → ℕ → Aside
-aside_in views world dispatch = (read_subscriber views.counting_filter None world dispatch, read_subscriber views.measured [] world dispatch)
+aside_in views world dispatch = (read_subscriber views.counting_filter None world dispatch, read_subscriber views.measures [] world dispatch)
 
 -- what counts stays, and some measures wait behind the others
 pub record AddsMeasures (before later : Aside) (added : List Measure) : Type 0 where
@@ -45,9 +45,9 @@ pub record CallsLaw {S : Type 0} (spans : S → Spans) (views : Views S) (attach
       → ChangesPlainData spans attaches kept is_whole old new dispatch call
   pub viewed : (old new : WorldValue S) (dispatch : ℕ) (call : SubscriberCall) → Replaced (λ s t. does s call t) old new dispatch
       → RecordsCallBy (read_subscriber views.counting_filter None old dispatch) (spans_in spans old dispatch)
-      (read_subscriber views.recorded no_recording old dispatch) call (read_subscriber views.recorded no_recording new dispatch)
-      × (read_subscriber views.filtered None new dispatch
-      ≡ option_map (filter_after (spans_in spans old dispatch) call) (read_subscriber views.filtered None old dispatch))
+      (read_subscriber views.recording no_recording old dispatch) call (read_subscriber views.recording no_recording new dispatch)
+      × (read_subscriber views.filter None new dispatch
+      ≡ option_map (filter_after (spans_in spans old dispatch) call) (read_subscriber views.filter None old dispatch))
       × AddsMeasures (aside_in views old dispatch) (aside_in views new dispatch) (measures_of_call call)
 
 -- spare room is nothing that is kept
@@ -55,8 +55,8 @@ pub record SameLaw {S : Type 0} (spans : S → Spans) (views : Views S) (attache
     (is_whole : S → Type 0) (same : S → S → Type 0) : Type 0 where
   pub shown : (old new : WorldValue S) (dispatch : ℕ) → Replaced same old new dispatch → KeepsPlainData spans attaches kept is_whole old new dispatch
   pub viewed : (old new : WorldValue S) (dispatch : ℕ) → Replaced same old new dispatch
-      → (read_subscriber views.recorded no_recording new dispatch ≡ read_subscriber views.recorded no_recording old dispatch)
-      × (read_subscriber views.filtered None new dispatch ≡ read_subscriber views.filtered None old dispatch)
+      → (read_subscriber views.recording no_recording new dispatch ≡ read_subscriber views.recording no_recording old dispatch)
+      × (read_subscriber views.filter None new dispatch ≡ read_subscriber views.filter None old dispatch)
       × AddsMeasures (aside_in views old dispatch) (aside_in views new dispatch) []
 
 -- a chain of closes closes each span that it closes in the recording, in order, and the filter forgets it
@@ -66,9 +66,9 @@ pub record ChainsLaw {S : Type 0} (spans : S → Spans) (views : Views S) (attac
       → ChainChangesPlainData spans attaches kept is_whole old new dispatch id
   pub viewed : (old new : WorldValue S) (dispatch at id : ℕ) → Replaced (λ s t. Chain spans does at (Some id) s t) old new dispatch
       → RecordsChain at (Some id) (spans_in spans old dispatch) (spans_in spans new dispatch)
-      (read_subscriber views.recorded no_recording old dispatch) (read_subscriber views.recorded no_recording new dispatch)
+      (read_subscriber views.recording no_recording old dispatch) (read_subscriber views.recording no_recording new dispatch)
       × FiltersChain (Some id) (spans_in spans old dispatch) (spans_in spans new dispatch)
-      (read_subscriber views.filtered None old dispatch) (read_subscriber views.filtered None new dispatch)
+      (read_subscriber views.filter None old dispatch) (read_subscriber views.filter None new dispatch)
       × AddsMeasures (aside_in views old dispatch) (aside_in views new dispatch) []
 
 -- a call from outside leaves the plain data, and is one step of what is recorded
@@ -78,6 +78,6 @@ pub record AsksLaw {S : Type 0} (spans : S → Spans) (views : Views S) (attache
       → KeepsPlainData spans attaches kept is_whole old new dispatch
   pub viewed : (old new : WorldValue S) (dispatch : ℕ) (call : PartCall) → Replaced (λ s t. touches s call t) old new dispatch
       → RecordsPart
-      (read_subscriber views.recorded no_recording old dispatch) call (read_subscriber views.recorded no_recording new dispatch)
-      × (read_subscriber views.filtered None new dispatch ≡ read_subscriber views.filtered None old dispatch)
+      (read_subscriber views.recording no_recording old dispatch) call (read_subscriber views.recording no_recording new dispatch)
+      × (read_subscriber views.filter None new dispatch ≡ read_subscriber views.filter None old dispatch)
       × AddsMeasures (aside_in views old dispatch) (aside_in views new dispatch) []

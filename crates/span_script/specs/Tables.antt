@@ -6,7 +6,7 @@ use Rattle.otel_state.specs.declared.op.Op.{Op}
 use Rattle.otel_metrics.specs.declared.measure.Measure.{Measure}
 use Rattle.otel_state.specs.States.{SpanData, data_at_making}
 use Rattle.otel_layer.specs.Table.{with_span_data}
-use Rattle.otel_layer.specs.Recording.{Recording, no_recording, with_start, with_starts, with_applied, with_close}
+use Rattle.otel_layer.specs.Recording.{Recording, no_recording, with_start, with_start_if_some, with_applied, with_close}
 use Rattle.trace_base.specs.Spans.{without_last}
 use Rattle.trace_base.specs.declared.callsite.Callsite.{Callsite}
 use Rattle.trace_base.specs.declared.field.ValueSet.{ValueSet}
@@ -39,11 +39,11 @@ pub data Owner : Type 0 where
   EntryOf : (span : ℕ) → Owner
   GuardOf : (guard : ℕ) → Owner
 
-abbrev pub is_owner : Owner → Owner → Bool
-is_owner (EntryOf s) (EntryOf q) = s == q
-is_owner (EntryOf s) (GuardOf m) = false
-is_owner (GuardOf n) (EntryOf q) = false
-is_owner (GuardOf n) (GuardOf m) = n == m
+abbrev pub is_same_owner : Owner → Owner → Bool
+is_same_owner (EntryOf s) (EntryOf q) = s == q
+is_same_owner (EntryOf s) (GuardOf m) = false
+is_same_owner (GuardOf n) (EntryOf q) = false
+is_same_owner (GuardOf n) (GuardOf m) = n == m
 
 -- a context that is attached to a lane, and who attached it
 pub record Attached : Type 0 where
@@ -51,7 +51,7 @@ pub record Attached : Type 0 where
   pub context : Context
 
 abbrev pub is_attached_by : Owner → Attached → Bool
-is_attached_by owner = λ a. is_owner a.owner owner
+is_attached_by owner = λ a. is_same_owner a.owner owner
 
 -- what the guard of an entry keeps: its handle, the place of the lane that it was made on, whether it owns the handle, and the scope
 -- that the handle had
@@ -90,7 +90,7 @@ pub record Effect : Type 0 where
   -- the spans that it starts unless they have started, before it makes one; the one that it starts after that; and what else
   -- it does to spans, in order
   pub starts : List ℕ
-  pub begins : Option ℕ
+  pub new_span_start : Option ℕ
   pub ops : List SpanOp
   -- what it measured
   pub measures : List Measure
@@ -121,7 +121,7 @@ quiet_effect at lane answer = record {
   new_context = None;
   new_span = None;
   starts = [];
-  begins = None;
+  new_span_start = None;
   ops = [];
   measures = [];
   closes = [];
@@ -231,7 +231,7 @@ with_span_made s None r = r
 with_span_made s (Some m) r = record r { spans = with_span_data s m.made_with r.spans }
 
 abbrev pub with_starts_of : ℕ → Effect → Recording → Recording
-with_starts_of s e r = with_starts e.begins e.at (with_span_made s e.new_span (fold (λ r s. with_start s e.at r) r e.starts))
+with_starts_of s e r = with_start_if_some e.new_span_start e.at (with_span_made s e.new_span (fold (λ r s. with_start s e.at r) r e.starts))
 
 abbrev pub with_ops_of : ℕ → Effect → Recording → Recording
 with_ops_of s e r = fold (λ r d. with_applied d.span e.at d.op r) (with_starts_of s e r) e.ops

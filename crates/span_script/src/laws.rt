@@ -12,14 +12,14 @@ ghost use Rattle.span_script.specs.Fits.{PipelineState, Fits};
 pub fn holds()
     ensures open { (k : PipelineState) (t : Tables) → Fits k t → (s : ℕ)
         → nat_lt 0 (span_at k.spans.made s).holds ≡ is_open t.handles s }
-    ensures closes { (k next : PipelineState) (here : Here) (handle : ℕ) (scope : Scope) → Fits k here.script
-        → slot_at here.script.handles handle ≡ Some scope
-        → Fits next (after_effect here.script (drop_effect here handle scope)) → (s : ℕ)
-        → is_in s (closed_of (slice_set here.script.handles handle None) scope)
+    ensures closes { (k next : PipelineState) (here : Here) (handle : ℕ) (scope : Scope) → Fits k here.tables
+        → slot_at here.tables.handles handle ≡ Some scope
+        → Fits next (after_effect here.tables (drop_effect here handle scope)) → (s : ℕ)
+        → is_in s (closed_of (slice_set here.tables.handles handle None) scope)
         ≡ (nat_lt 0 (span_at k.spans.made s).holds && not (nat_lt 0 (span_at next.spans.made s).holds)) }
-    ensures order { (k next : PipelineState) (here : Here) (handle s : ℕ) (up : Scope) → Fits k here.script
-        → slot_at here.script.handles handle ≡ Some (s ∷ up)
-        → Fits next (after_effect here.script (drop_effect here handle (s ∷ up)))
+    ensures order { (k next : PipelineState) (here : Here) (handle s : ℕ) (up : Scope) → Fits k here.tables
+        → slot_at here.tables.handles handle ≡ Some (s ∷ up)
+        → Fits next (after_effect here.tables (drop_effect here handle (s ∷ up)))
         → (r : ReleasesChain (Some s) k.spans next.spans)
-        → closed_in (Some s) k.spans next.spans r ≡ closed_of (slice_set here.script.handles handle None) (s ∷ up) }
+        → closed_in (Some s) k.spans next.spans r ≡ closed_of (slice_set here.tables.handles handle None) (s ∷ up) }
 {}

@@ -1,6 +1,6 @@
 //! What requests are answered, and why they are refused.
 ghost use Rattle.std.specs.Prelude.{◌≡◌};
-ghost use Rattle.span_script.specs.calls.Refusals.{refused_entry, reload_refusal};
+ghost use Rattle.span_script.specs.calls.Refusals.{entry_refusal, reload_refusal};
 ghost use Rattle.span_script.specs.declared.reply.Refusal.TheVariants.{Memory as NoMemory};
 
 use crate::open_error::OpenError;
@@ -68,7 +68,7 @@ pub enum Refusal {
 impl Refusal {
     /// What an entry on the lane at a place is refused by.
     pub fn of_entry(place: u64, error: EnterError) -> Refusal
-        ensures { result ≡ refused_entry place error }
+        ensures { result ≡ entry_refusal place error }
     {
         match error {
             EnterError::Full => Refusal::Full { lane_place: place },
@@ -77,7 +77,7 @@ impl Refusal {
     }
 
     /// What a reload is refused by.
-    pub fn of_text(error: OpenError) -> Refusal
+    pub fn of_reload(error: OpenError) -> Refusal
         ensures { result ≡ reload_refusal error }
     {
         match error {

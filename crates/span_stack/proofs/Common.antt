@@ -12,8 +12,8 @@ pub use Rattle.trace_base.specs.declared.callsite.Callsite.{Callsite}
 pub use Rattle.trace_base.specs.declared.lane.Lane.{Lane}
 pub use Rattle.trace_base.specs.declared.level.LevelFilter.{LevelFilter}
 pub use Rattle.trace_base.specs.declared.subscriber.Interest.{Interest}
-pub use Rattle.trace_base.specs.lanes.Contexts.{AreAttached, CallLanes}
-pub use Rattle.trace_base.specs.layers.Hooks.{Hook, HookLanes, KnownSpans, OnEnter, OnEvent, OnExit}
+pub use Rattle.trace_base.specs.lanes.Contexts.{AreAttached, CallKeepsLanes}
+pub use Rattle.trace_base.specs.layers.Hooks.{Hook, HookKeepsLanes, KnownSpans, OnEnter, OnEvent, OnExit}
 pub use Rattle.trace_base.specs.layers.Unseeing.{LeavesLanes, no_known_spans}
 pub use Rattle.span_registry.specs.Both.{DoesBoth, InStep, IsWholeBoth, KnowsNone, hint_both, joint_interest}
 pub use Rattle.span_registry.specs.Hearing.{ObservesCall}
@@ -23,10 +23,10 @@ pub use Rattle.span_handles.proofs.ChangedSubscriberLemmas.{alike, as_many, now_
 pub use Rattle.span_handles.specs.Worlds.{KeepsPlainData, Chain, Has, Replaced, closed_in, closes, ended, read_subscriber, no_spans}
 pub use Rattle.env_filter.proofs.kept.StackedLemmas.{Steps, does_in_place, over_hears, same_in_place, step_in_place}
 pub use Rattle.env_filter.specs.Filtering.{IsWholeFilter, DoesFilter, Each, FilterState, FilterWithRoom, IsAtMostLevel, IsNewFilter, enables_in, has_dynamics, hint_in, interest_in, is_admitted, levels_admit, plain_filter, span_level}
-pub use Rattle.env_filter.specs.Reloading.{Both, HoldsIfThere, Swaps, both_alike, both_refl, layer_or, never_enabled, none_kept, sometimes}
+pub use Rattle.env_filter.specs.Reloading.{BothOrNeither, HoldsIfThere, Swaps, both_alike, both_refl, layer_or, never_enabled, none_kept, sometimes}
 pub use Rattle.env_filter.specs.declared.reload.Layer.{Layer}
 pub use Rattle.otel_layer.specs.Core.{Core, CoreWithRoom, IsWholeCore, kept_by, kept_in, seen_in}
-pub use Rattle.otel_layer.specs.Counting.{events_by}
+pub use Rattle.otel_layer.specs.Counting.{events_effect}
 pub use Rattle.otel_layer.specs.Parts.{Applies, PartCall, GivesContext, StaysStack, Touches, TouchesFirst}
 pub use Rattle.otel_layer.specs.Recording.{Recording, RecordsCall, RecordsChain, RecordsPart, no_recording, recording_of}
 pub use Rattle.otel_layer.specs.Table.{data_at, update}
@@ -35,5 +35,5 @@ pub use Rattle.otel_metrics.specs.Waiting.{MeasuresWithRoom}
 pub use Rattle.otel_metrics.specs.declared.measure.Measure.{Measure}
 pub use Rattle.span_stack.specs.Counting.{RecordsCallBy, with_counted, with_event_by}
 pub use Rattle.span_stack.specs.Measured.{measures_of_call, waiting_measures}
-pub use Rattle.span_stack.specs.Reading.{HasCurrentInterests, StackWorlds, Stacks, stack_counting_filter, filter_in_place, interest_over, stack_interest, stack_measures, stack_recording, without_first, without_record}
+pub use Rattle.span_stack.specs.Reading.{HasCurrentInterests, StackWorld, SubscriberStack, stack_counting_filter, filter_in_place, interest_over, stack_interest, stack_measures, stack_recording, without_oldest_record, without_record}
 pub use Rattle.span_stack.specs.Through.{inner_worlds, inner_of}

@@ -5,13 +5,13 @@ use Rattle.trace_base.specs.declared.field.ValueSet.{ValueSet}
 use Rattle.trace_base.specs.Spans.{Spans, entries_on, parent_on}
 use Rattle.trace_base.specs.Calls.{SubscriberCall, NewSpan, Records, Follows, Event, Enter, Exit, CloneSpan, TryClose}
 use Rattle.otel_state.specs.declared.op.Op.TheVariants as ops
-use Rattle.otel_state.specs.fields.EventFields.{event_of}
+use Rattle.otel_state.specs.fields.EventFields.{event_op}
 use Rattle.otel_layer.specs.Recording.{Recording, with_applied, with_event, RecordsCall}
 use Rattle.env_filter.specs.Filtering.{FilterState, enables_in}
 
 -- an event is counted, and applied after that if it is taken
 abbrev pub with_counted : Bool → ℕ → ℕ → Callsite → ValueSet → Recording → Recording
-with_counted true id at callsite values r = with_applied id at (event_of callsite values r.settings at) (with_applied id at ops.Counted r)
+with_counted true id at callsite values r = with_applied id at (event_op callsite values r.settings at) (with_applied id at ops.Counted r)
 with_counted false id at callsite values r = with_applied id at ops.Counted r
 
 -- the same of one that may reach no span, on a lane, where a filter counts or none does

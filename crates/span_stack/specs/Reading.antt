@@ -25,17 +25,17 @@ abbrev pub StackOver : Type 0 → Type 0
 StackOver S = Layered (Layer FilterWithRoom) (Layered MeasuresWithRoom S)
 
 -- a stack: these, over the OpenTelemetry layer that may count events, and the registry
-abbrev pub Stacks : Type 0
-Stacks = StackOver (Layered (FilteredOpenTelemetryLayer RecorderValue FilterWithRoom) RegistryValue)
+abbrev pub SubscriberStack : Type 0
+SubscriberStack = StackOver (Layered (FilteredOpenTelemetryLayer RecorderValue FilterWithRoom) RegistryValue)
 
-abbrev pub StackWorlds : Type 0
-StackWorlds = WorldValue Stacks
+abbrev pub StackWorld : Type 0
+StackWorld = WorldValue SubscriberStack
 
 -- what the OpenTelemetry layer keeps
-abbrev pub stack_recording : Stacks → Recording
+abbrev pub stack_recording : SubscriberStack → Recording
 stack_recording s = recording_of s.inner.inner.layer.inner.core
 
-abbrev pub recording_in : StackWorlds → ℕ → Recording
+abbrev pub recording_in : StackWorld → ℕ → Recording
 recording_in world dispatch = read_subscriber stack_recording no_recording world dispatch
 
 -- the filter in place over any subscriber, if it wasn't retired
@@ -49,24 +49,24 @@ filter_in world dispatch = read_subscriber filter_in_place None world dispatch
 abbrev pub interest_over : Layer FilterWithRoom → Callsite → Interest
 interest_over l = λ c. joint_interest (layer_or sometimes (λ f. interest_in (plain_filter f)) l.inner c) interests.Always
 
-abbrev pub stack_interest : Stacks → Callsite → Interest
+abbrev pub stack_interest : SubscriberStack → Callsite → Interest
 stack_interest s = interest_over s.layer
 
-abbrev pub HasCurrentInterests : StackWorlds → Type 0
+abbrev pub HasCurrentInterests : StackWorld → Type 0
 HasCurrentInterests world = IsFresh stack_interest world
 
 -- the filter that counts events, if they are counted
-abbrev pub stack_counting_filter : Stacks → Option FilterState
+abbrev pub stack_counting_filter : SubscriberStack → Option FilterState
 stack_counting_filter s = option_map plain_filter s.inner.inner.layer.filter
 
-abbrev pub counting_filter_in : StackWorlds → ℕ → Option FilterState
+abbrev pub counting_filter_in : StackWorld → ℕ → Option FilterState
 counting_filter_in world dispatch = read_subscriber stack_counting_filter None world dispatch
 
 -- the measures that weren't taken
-abbrev pub stack_measures : Stacks → List Measure
+abbrev pub stack_measures : SubscriberStack → List Measure
 stack_measures s = waiting_measures s.inner
 
-abbrev pub measures_in : StackWorlds → ℕ → List Measure
+abbrev pub measures_in : StackWorld → ℕ → List Measure
 measures_in world dispatch = read_subscriber stack_measures [] world dispatch
 
 -- what is recorded by a stack that was just made
@@ -77,11 +77,11 @@ new_recording settings counting = record { spans = []; tokens = []; started = 0;
 abbrev pub without_record : {F : Type 0} → FilteredOpenTelemetryLayer RecorderValue F → FilteredOpenTelemetryLayer RecorderValue F
 without_record l = record l { inner = record l.inner { core = record l.inner.core { tracer = record l.inner.core.tracer { finished = drop 1 l.inner.core.tracer.finished } } } }
 
-abbrev pub without_first : Stacks → Stacks
-without_first s = record s { inner = record s.inner { inner = record s.inner.inner { layer = without_record s.inner.inner.layer } } }
+abbrev pub without_oldest_record : SubscriberStack → SubscriberStack
+without_oldest_record s = record s { inner = record s.inner { inner = record s.inner.inner { layer = without_record s.inner.inner.layer } } }
 
 -- the same but for the oldest measure
-pub record WithoutMeasure (s t : Stacks) : Type 0 where
+pub record WithoutOldestMeasure (s t : SubscriberStack) : Type 0 where
   pub filter : t.layer ≡ s.layer
   pub others : t.inner.inner ≡ s.inner.inner
   pub measures : stack_measures t ≡ drop 1 (stack_measures s)

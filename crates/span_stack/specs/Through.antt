@@ -11,5 +11,5 @@ abbrev pub inner_worlds : {L S : Type 0} → WorldValue (Layered L S) → WorldV
 inner_worlds world = record { sites = world.sites; subscribers = map inner_of world.subscribers; cached = world.cached; global = world.global }
 
 -- a layer of which something is never so
-abbrev pub Never : {L : Type 0} → (L → Bool) → Type 0
-Never {L} is = (l : L) → is l ≡ false
+abbrev pub NeverHolds : {L : Type 0} → (L → Bool) → Type 0
+NeverHolds {L} is = (l : L) → is l ≡ false

@@ -5,7 +5,7 @@ ghost use Rattle.span_registry.specs.Registering.{no_spans};
 ghost use Rattle.otel_layer.specs.Core.{new_core};
 ghost use Rattle.env_filter.specs.Filtering.{plain_filter, IsNewFilter};
 ghost use Rattle.span_handles.specs.Worlds.{Replaced, spans_in};
-ghost use Rattle.span_stack.specs.Reading.{stack_recording, stack_counting_filter, stack_measures, filter_in_place, recording_in, measures_in, new_recording, without_first, WithoutMeasure};
+ghost use Rattle.span_stack.specs.Reading.{stack_recording, stack_counting_filter, stack_measures, filter_in_place, recording_in, measures_in, new_recording, without_oldest_record, WithoutOldestMeasure};
 
 use env_filter::filter::EnvFilter;
 use env_filter::reload;
@@ -91,7 +91,7 @@ pub fn take_record(world: &mut World<Stack>, dispatch: Dispatch) -> Option<Recor
     ensures oldest { MatchOption result ((recording_in world.old dispatch).finished ≡ [])
         (λ record'. (recording_in world.old dispatch).finished
         ≡ record' ∷ drop 1 (recording_in world.old dispatch).finished) }
-    ensures rest { Replaced (λ s t. t ≡ without_first s) world.old world.new dispatch }
+    ensures rest { Replaced (λ s t. t ≡ without_oldest_record s) world.old world.new dispatch }
 {
     world
         .subscriber_mut(dispatch)
@@ -107,7 +107,7 @@ pub fn take_measure(world: &mut World<Stack>, dispatch: Dispatch) -> Option<Meas
     requires { dispatch < length world.old.subscribers }
     ensures oldest { MatchOption result (measures_in world.old dispatch ≡ [])
         (λ measure. measures_in world.old dispatch ≡ measure ∷ drop 1 (measures_in world.old dispatch)) }
-    ensures rest { Replaced WithoutMeasure world.old world.new dispatch }
+    ensures rest { Replaced WithoutOldestMeasure world.old world.new dispatch }
 {
     world
         .subscriber_mut(dispatch)

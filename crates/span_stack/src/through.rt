@@ -5,7 +5,7 @@ ghost use Rattle.trace_base.specs.Calls.{SubscriberCall};
 ghost use Rattle.span_registry.specs.declared.layered.Layered.{Layered};
 ghost use Rattle.span_handles.specs.Worlds.{Has, Replaced, Chain};
 ghost use Rattle.otel_layer.specs.Parts.{PartCall};
-ghost use Rattle.span_stack.specs.Through.{inner_worlds, Never};
+ghost use Rattle.span_stack.specs.Through.{inner_worlds, NeverHolds};
 
 use otel_layer::part::{OtelLayer, OtelPart, OtelSubscriber};
 use span_registry::layered::Layered;
@@ -14,7 +14,7 @@ use trace_base::subscriber::Subscriber;
 
 /// Through a layer that attaches nothing a call of the whole is the same call below.
 pub fn calls<L: Layer, S: Subscriber>()
-    ensures call { Never L.attaches → (old new : WorldValue (Layered L S)) (dispatch : ℕ) (call : SubscriberCall)
+    ensures call { NeverHolds L.attaches → (old new : WorldValue (Layered L S)) (dispatch : ℕ) (call : SubscriberCall)
         → Replaced (λ s t. ⟦<Layered<L, S> as Subscriber>⟧.does s call t) old new dispatch
         → Replaced (λ s t. S.does s call t) (inner_worlds old) (inner_worlds new) dispatch }
     ensures same { (old new : WorldValue (Layered L S)) (dispatch : ℕ)
@@ -30,10 +30,10 @@ pub fn calls<L: Layer, S: Subscriber>()
 
 /// Through a part that has no OpenTelemetry layer, so is a call from outside; and that part stays as it is.
 pub fn asks<L: OtelLayer, S: OtelSubscriber>()
-    ensures call { Never L.has_layer → (old new : WorldValue (Layered L S)) (dispatch : ℕ) (call : PartCall)
+    ensures call { NeverHolds L.has_layer → (old new : WorldValue (Layered L S)) (dispatch : ℕ) (call : PartCall)
         → Replaced (λ s t. ⟦<Layered<L, S> as OtelPart>⟧.touches s call t) old new dispatch
         → Replaced (λ s t. S.touches s call t) (inner_worlds old) (inner_worlds new) dispatch }
-    ensures outer { Never L.has_layer → (old new : WorldValue (Layered L S)) (dispatch : ℕ) (call : PartCall)
+    ensures outer { NeverHolds L.has_layer → (old new : WorldValue (Layered L S)) (dispatch : ℕ) (call : PartCall)
         → Replaced (λ s t. ⟦<Layered<L, S> as OtelPart>⟧.touches s call t) old new dispatch
         → Replaced (λ s t. t.layer ≡ s.layer) old new dispatch }
 {}

@@ -17,15 +17,15 @@ has_lane [] = false
 has_lane (lane ∷ lanes) = true
 
 -- the callsite of a step's event is there
-abbrev pub has_event : List Callsite → Step → Bool
-has_event sites (step.Event site fields) = is_some (event_site sites site)
-has_event sites (step.Record fields) = true
-has_event sites (step.SetAttribute key value) = true
-has_event sites step.Yield = true
+abbrev pub has_site_of_step : List Callsite → Step → Bool
+has_site_of_step sites (step.Event site fields) = is_some (event_site sites site)
+has_site_of_step sites (step.Record fields) = true
+has_site_of_step sites (step.SetAttribute key value) = true
+has_site_of_step sites step.Yield = true
 
 -- the callsites of a task's span and of its events are there
 abbrev pub has_sites : List Callsite → Task → Bool
-has_sites sites task = is_some (span_site sites task.site) && list_all (λ s. has_event sites s) task.steps
+has_sites sites task = is_some (span_site sites task.site) && list_all (λ s. has_site_of_step sites s) task.steps
 
 -- the callsite of a step's event declares its fields
 abbrev pub declares_event_fields : List Callsite → Step → Bool
@@ -35,14 +35,14 @@ declares_event_fields sites (step.SetAttribute key value) = true
 declares_event_fields sites step.Yield = true
 
 -- the callsites of a task's span and of its events declare their fields
-abbrev pub has_fields : List Callsite → Task → Bool
-has_fields sites task = declares_by sites task.site task.fields && list_all (λ s. declares_event_fields sites s) task.steps
+abbrev pub declares_task_fields : List Callsite → Task → Bool
+declares_task_fields sites task = declares_by sites task.site task.fields && list_all (λ s. declares_event_fields sites s) task.steps
 
 -- what a task names that isn't there, if there is something
 abbrev pub missing_name : Settings → Task → Option What
 missing_name settings task =
     if has_lane settings.lanes then
     (if has_sites settings.callsites task then
-    (if has_fields settings.callsites task then None else Some what.Field)
+    (if declares_task_fields settings.callsites task then None else Some what.Field)
     else Some what.Site)
     else Some what.Lane

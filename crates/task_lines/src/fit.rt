@@ -3,7 +3,7 @@ ghost use Rattle.std.specs.Prelude.{◌≡◌, is_some, map, option_map};
 ghost use Rattle.std.specs.List.{list_all};
 ghost use Rattle.span_script.specs.Setups.{span_site, event_site};
 ghost use Rattle.trace_tasks.specs.FieldNames.{declares_all, declares_by};
-ghost use Rattle.task_lines.specs.Fit.{has_event, has_sites, declares_event_fields, has_fields, missing_name};
+ghost use Rattle.task_lines.specs.Fit.{has_site_of_step, has_sites, declares_event_fields, declares_task_fields, missing_name};
 
 use otel_base::text::Text;
 use span_script::reply::What;
@@ -39,8 +39,8 @@ fn has_event_site(sites: &[Callsite], site: u64) -> bool
 }
 
 // Whether a step's event has its callsite.
-fn has_event(sites: &[Callsite], step: &Step) -> bool
-    ensures { result ≡ has_event sites.now step.now }
+fn has_site_of_step(sites: &[Callsite], step: &Step) -> bool
+    ensures { result ≡ has_site_of_step sites.now step.now }
 {
     match step {
         Step::Event { site, fields: _ } => has_event_site(sites, *site),
@@ -49,11 +49,11 @@ fn has_event(sites: &[Callsite], step: &Step) -> bool
 }
 
 // Whether all events of some steps have theirs.
-fn have_events(sites: &[Callsite], steps: &[Step]) -> bool
-    ensures { result ≡ list_all (λ s. has_event sites.now s) steps.now }
+fn have_sites_of_steps(sites: &[Callsite], steps: &[Step]) -> bool
+    ensures { result ≡ list_all (λ s. has_site_of_step sites.now s) steps.now }
 {
     for step in steps {
-        if !has_event(sites, step) {
+        if !has_site_of_step(sites, step) {
             return false;
         }
     }
@@ -114,7 +114,7 @@ pub fn missing_name(settings: &Settings, task: &Task) -> Option<What>
     if settings.lanes.as_slice().is_empty() {
         return Some(What::Lane);
     }
-    if !(has_span_site(sites, task.site) && have_events(sites, steps)) {
+    if !(has_span_site(sites, task.site) && have_sites_of_steps(sites, steps)) {
         return Some(What::Site);
     }
     if !(declares_at(sites, task.site, task.fields.as_slice())

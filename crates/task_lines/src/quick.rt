@@ -15,7 +15,7 @@ use otel_base::text::Text;
 use otel_base::value::OtelValue;
 use std::alloc::Global;
 use trace_base::field::Value as FieldValue;
-use trace_lines::read::syntax::scan::{MAX_DEPTH, number, text, value, word};
+use trace_lines::read::syntax::scan::{MAX_DEPTH, behind_word, number, text, value};
 use trace_lines::read::{expect_bracket, is_utf8, leading_fields};
 use trace_lines::{Value, otel_value_of};
 use trace_tasks::script::{Step, Task};
@@ -31,9 +31,9 @@ fn closing_site<'a>(bytes: &'a [u8], front: &[u8]) -> Option<(u64, &'a [u8])>
     ensures text { IfSome result (λ r. bytes.now ≡ front.now ++ (decimal r.0 ++ 125 ∷ r.1.now)) }
     ensures fits { IfSome result (λ r. r.0 < 2 ^ 64) }
 {
-    let digits = word(bytes, front)?;
+    let digits = behind_word(bytes, front)?;
     let (site, end) = number(digits)?;
-    let rest = word(end, b"}")?;
+    let rest = behind_word(end, b"}")?;
     Some((site, rest))
 }
 
@@ -79,7 +79,7 @@ fn fields_size(bytes: &[u8]) -> usize
 fn event_with_fields(alloc: Global, bytes: &[u8]) -> Option<(Step, &[u8])>
     ensures { IfSome result (λ r. BeginsStep bytes.now r.0 r.1.now) }
 {
-    let list = word(bytes, b"{\"do\":\"event\",\"fields\":")?;
+    let list = behind_word(bytes, b"{\"do\":\"event\",\"fields\":")?;
     let (fields, tail) = fields_in_front(alloc, list)?;
     let (site, rest) = closing_site(tail, b",\"site\":")?;
     Some((Step::Event { site, fields }, rest))
@@ -96,9 +96,9 @@ fn event_without_fields(alloc: Global, bytes: &[u8]) -> Option<(Step, &[u8])>
 fn record(alloc: Global, bytes: &[u8]) -> Option<(Step, &[u8])>
     ensures { IfSome result (λ r. BeginsStep bytes.now r.0 r.1.now) }
 {
-    let list = word(bytes, b"{\"do\":\"record\",\"fields\":")?;
+    let list = behind_word(bytes, b"{\"do\":\"record\",\"fields\":")?;
     let (fields, tail) = fields_in_front(alloc, list)?;
-    let rest = word(tail, b"}")?;
+    let rest = behind_word(tail, b"}")?;
     Some((Step::Record { fields }, rest))
 }
 
@@ -121,20 +121,20 @@ fn attribute_value(alloc: Global, value: Value<'_>) -> Option<OtelValue>
 fn set_attribute(alloc: Global, bytes: &[u8]) -> Option<(Step, &[u8])>
     ensures { IfSome result (λ r. BeginsStep bytes.now r.0 r.1.now) }
 {
-    let named = word(bytes, b"{\"do\":\"set_attribute\",\"key\":")?;
+    let named = behind_word(bytes, b"{\"do\":\"set_attribute\",\"key\":")?;
     let (words, tail) = text(named)?;
-    let inner = word(tail, b",\"value\":")?;
+    let inner = behind_word(tail, b",\"value\":")?;
     let (plain, end) = value(inner)?;
-    let rest = word(end, b"}")?;
+    let rest = behind_word(end, b"}")?;
     let key = owned_text(alloc, words)?;
     let value = attribute_value(alloc, Value::Plain(plain))?;
     Some((Step::SetAttribute { key, value }, rest))
 }
 
-fn yield_now(bytes: &[u8]) -> Option<(Step, &[u8])>
+fn yield_step(bytes: &[u8]) -> Option<(Step, &[u8])>
     ensures { IfSome result (λ r. BeginsStep bytes.now r.0 r.1.now) }
 {
-    let rest = word(bytes, b"{\"do\":\"yield\"}")?;
+    let rest = behind_word(bytes, b"{\"do\":\"yield\"}")?;
     Some((Step::Yield, rest))
 }
 
@@ -152,7 +152,7 @@ fn step(alloc: Global, bytes: &[u8]) -> Option<(Step, &[u8])>
         },
         b'r' => record(alloc, bytes),
         b's' => set_attribute(alloc, bytes),
-        _ => yield_now(bytes),
+        _ => yield_step(bytes),
     }
 }
 
@@ -168,18 +168,18 @@ fn push_step(steps: &mut Vec<Step>, step: Step) -> Option<()>
 fn leading_steps(alloc: Global, bytes: &[u8]) -> Option<(Items<Step>, &[u8])>
     ensures { IfSome result (λ r. BeginsSteps bytes.now r.0 r.1.now) }
 {
-    let mut rest = word(bytes, b"[")?;
-    if let Some(end) = word(rest, b"]") {
+    let mut rest = behind_word(bytes, b"[")?;
+    if let Some(end) = behind_word(rest, b"]") {
         return Some((Items::new(alloc), end));
     }
     let mut steps = Vec::with_capacity(alloc, USUAL_STEPS).ok()?;
     for _ in 0..MAX_STEPS {
         let (next, after) = step(alloc, rest)?;
         push_step(&mut steps, next)?;
-        match word(after, b",") {
+        match behind_word(after, b",") {
             Some(more) => rest = more,
             None => {
-                let end = word(after, b"]")?;
+                let end = behind_word(after, b"]")?;
                 let listed = without_spare_room(alloc, steps)?;
                 return Some((listed, end));
             }
@@ -193,9 +193,9 @@ fn site_and_steps(alloc: Global, bytes: &[u8], front: &[u8]) -> Option<(u64, Ite
     ensures text { IfSome result (λ r. EndsTask front.now bytes.now r.0 r.1) }
     ensures fits { IfSome result (λ r. r.0 < 2 ^ 64) }
 {
-    let digits = word(bytes, front)?;
+    let digits = behind_word(bytes, front)?;
     let (site, tail) = number(digits)?;
-    let list = word(tail, b",\"task\":")?;
+    let list = behind_word(tail, b",\"task\":")?;
     let (steps, end) = leading_steps(alloc, list)?;
     expect_bracket(end, b'}')?;
     Some((site, steps))
@@ -208,7 +208,7 @@ pub(crate) fn quick_task(alloc: Global, line: &[u8]) -> Option<Task>
     if !is_utf8(line) {
         return None;
     }
-    match word(line, b"{\"fields\":") {
+    match behind_word(line, b"{\"fields\":") {
         Some(list) => {
             let (fields, tail) = fields_in_front(alloc, list)?;
             let (site, steps) = site_and_steps(alloc, tail, b",\"site\":")?;

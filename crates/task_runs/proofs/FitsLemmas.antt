@@ -16,10 +16,10 @@ use Rattle.trace_tasks.specs.declared.script.Task.{Task}
 use Rattle.trace_tasks.specs.declared.script.TaskScript.{TaskScript}
 use Rattle.trace_tasks.specs.Begun.{AllHaveCallsites}
 use Rattle.trace_tasks.specs.FieldNames.{declares_all, declares_by}
-use Rattle.trace_tasks.specs.Flat.{all_polls, tasks_at_first, yield_count}
+use Rattle.trace_tasks.specs.Flat.{poll_count, tasks_at_first, yield_count}
 use Rattle.trace_tasks.specs.Spelled.{IsDeclared, StepsAreDeclared, TasksAreDeclared}
 use Rattle.trace_tasks.proofs.queues.BegunTasksLemmas.{answer_is}
-use Rattle.task_lines.specs.Fit.{has_lane, has_sites, has_fields, declares_event_fields, missing_name}
+use Rattle.task_lines.specs.Fit.{has_lane, has_sites, declares_task_fields, declares_event_fields, missing_name}
 use Rattle.task_runs.specs.Reading.{IsFit}
 use Rattle.task_runs.specs.Runs.{CanSpell}
 
@@ -56,7 +56,7 @@ tested sites (step.Yield ∷ steps) is = tested sites steps (both true (list_all
 -- one task
 one_fits : (settings : Settings) (task : Task) → missing_name settings task ≡ None → (task.site < length settings.callsites) × IsDeclared (slice_get settings.callsites task.site) task.fields × StepsAreDeclared settings.callsites task.steps
 one_fits settings task none =
-    let all = none_missing (has_lane settings.lanes) (has_sites settings.callsites task) (has_fields settings.callsites task) none in
+    let all = none_missing (has_lane settings.lanes) (has_sites settings.callsites task) (declares_task_fields settings.callsites task) none in
     let sites = both _ _ all.0 in
     let fields = both _ _ all.1 in
     (within _ settings.callsites task.site sites.0, declared (slice_get settings.callsites task.site) task.fields fields.0, tested settings.callsites task.steps fields.1)

@@ -48,7 +48,7 @@ StandsAt (stage.Reading script) lines count = IsReading lines count script
 StandsAt (stage.Refused refused) lines count = IsStopped lines refused
 
 abbrev pub HasReadLines : List (List ℕ) → TaskReader → Type 0
-HasReadLines lines reader = StandsAt reader.stage lines reader.lines
+HasReadLines lines reader = StandsAt reader.stage lines reader.line_count
 
 -- the line that is refused whatever lines follow, if there is one; else all are blank or a script
 abbrev pub IsRefusedBy : List (List ℕ) → Option RefusedLine → Type 0

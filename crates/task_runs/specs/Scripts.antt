@@ -19,9 +19,9 @@ abbrev pub TaskScriptResult : Type 0
 TaskScriptResult = Result TaskScript RefusedLine
 
 -- goes on, or is refused at a line
-abbrev pub lines_unless_refused : {A : Type 0} → Result A Told → ℕ → (A → TaskScriptResult) → TaskScriptResult
-lines_unless_refused (Ok x) line go = go x
-lines_unless_refused (Err why) line go = Err (record { line = line; told = why })
+abbrev pub script_unless_refused : {A : Type 0} → Result A Told → ℕ → (A → TaskScriptResult) → TaskScriptResult
+script_unless_refused (Ok x) line go = go x
+script_unless_refused (Err why) line go = Err (record { line = line; told = why })
 
 -- settings whose texts of directives are read
 abbrev pub if_read : OpeningRead → Settings → Result Settings Told
@@ -54,14 +54,14 @@ abbrev pub task_script_on : Settings → List Task → ℕ → List (List ℕ) �
 task_script_on settings tasks n [] = Ok (record { settings = settings; tasks = tasks })
 task_script_on settings tasks n (text ∷ lines) =
     if is_blank text then task_script_on settings tasks (n + 1) lines else
-    lines_unless_refused (task_on settings text) (n + 1) (λ task. task_script_on settings (tasks ++ task ∷ []) (n + 1) lines)
+    script_unless_refused (task_on settings text) (n + 1) (λ task. task_script_on settings (tasks ++ task ∷ []) (n + 1) lines)
 
 -- The first line that isn't blank is the settings line. If there is none, the lines are refused at their end.
 abbrev pub task_script_from : ℕ → List (List ℕ) → TaskScriptResult
 task_script_from n [] = Err (record { line = n + 1; told = told.BadLine })
 task_script_from n (text ∷ lines) =
     if is_blank text then task_script_from (n + 1) lines else
-    lines_unless_refused (settings_on text) (n + 1) (λ settings. task_script_on settings [] (n + 1) lines)
+    script_unless_refused (settings_on text) (n + 1) (λ settings. task_script_on settings [] (n + 1) lines)
 
 -- what lines come to
 abbrev pub task_script_of : List (List ℕ) → TaskScriptResult

@@ -27,7 +27,7 @@ fn yield_count(steps: &[Step]) -> u64
 }
 
 // How many polls some tasks take, if they aren't too many.
-fn polls_of(tasks: &[Task]) -> Option<u64>
+fn poll_count(tasks: &[Task]) -> Option<u64>
     ensures { IfSome result (λ polls. (polls ≡ sum_by (λ t. yield_count t.steps) tasks.now + length tasks.now)
         × (polls < 2 ^ 60)) }
 {
@@ -52,7 +52,7 @@ pub fn run_task_script<R: RandomSource + AllocGlobal>(
     ensures { IfOk result (λ text. TellsOutcome (tasks_outcome script) text.items) }
 {
     // No input has so many steps.
-    let Some(_) = polls_of(script.tasks.as_slice()) else {
+    let Some(_) = poll_count(script.tasks.as_slice()) else {
         return Err(Memory);
     };
     run_in_poll(rt, alloc, script)

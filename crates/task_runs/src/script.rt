@@ -29,7 +29,7 @@ pub enum ReadStage {
 #[derive(Drop)]
 pub struct TaskReader {
     /// How many lines came, blank ones included.
-    pub lines: u64,
+    pub line_count: u64,
     /// Where it stands.
     pub stage: ReadStage,
 }
@@ -40,7 +40,7 @@ impl TaskReader {
         ensures { HasReadLines [] result }
     {
         TaskReader {
-            lines: 0,
+            line_count: 0,
             stage: ReadStage::Opening,
         }
     }
@@ -51,8 +51,8 @@ impl TaskReader {
             → OnOk result (HasReadLines (lines ++ line.now ∷ []) self.new) }
     {
         // No input has so many lines that the sum wraps.
-        let number = self.lines.checked_add(1).ok_or(Memory)?;
-        self.lines = number;
+        let number = self.line_count.checked_add(1).ok_or(Memory)?;
+        self.line_count = number;
         if is_blank(line) {
             return Ok(());
         }
@@ -83,7 +83,7 @@ impl TaskReader {
     // Stops at a line that is refused.
     fn refuse(&mut self, line: u64, told: Told)
         ensures stage { self.new.stage ≡ ReadStage.Refused (record { line = line; told = told }) }
-        ensures lines { self.new.lines ≡ self.old.lines }
+        ensures lines { self.new.line_count ≡ self.old.line_count }
     {
         let refused = RefusedLine { line, told };
         self.stage = ReadStage::Refused { refused };
@@ -108,11 +108,11 @@ impl TaskReader {
     pub fn end(self) -> Result<Result<TaskScript, RefusedLine>, Memory>
         ensures { (lines : List (List ℕ)) → HasReadLines lines self → IfOk result (EndsAs lines) }
     {
-        let TaskReader { lines, stage } = self;
+        let TaskReader { line_count, stage } = self;
         match stage {
             ReadStage::Opening => {
                 // No input has so many lines that the sum wraps.
-                let line = lines.checked_add(1).ok_or(Memory)?;
+                let line = line_count.checked_add(1).ok_or(Memory)?;
                 let told = Told::BadLine;
                 Ok(Err(RefusedLine { line, told }))
             }

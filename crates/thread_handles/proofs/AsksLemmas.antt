@@ -4,7 +4,7 @@ use Rattle.std.proofs.lemmas.Bool.Decides.{nat_tests}
 use Rattle.trace_threads.specs.declared.history.Entry.{Entry}
 use Rattle.trace_threads.specs.declared.history.HandleAct.{HandleAct}
 use Rattle.trace_threads.specs.declared.turns.View.{View}
-use Rattle.trace_threads.specs.History.{HistoryState, start, entry, sum_of, sum_after, written_entry, entries_by}
+use Rattle.trace_threads.specs.History.{HistoryState, start, entry, state_from, state_after, written_entry, entries_by}
 use Rattle.trace_threads.specs.Turns.{entries}
 use Rattle.trace_threads.specs.Calls.{MakesEntry}
 use Rattle.trace_threads.proofs.queue.FrontsLemmas.{entries_append}
@@ -31,9 +31,9 @@ abbrev pub last_from : ℕ → List Entry → ℕ
 last_from l [] = l
 last_from l (e ∷ es) = last_from e.at es
 
-pub sum_last : (s : HistoryState) (log : List Entry) → (sum_of s log).last ≡ last_from s.last log
+pub sum_last : (s : HistoryState) (log : List Entry) → (state_from s log).last ≡ last_from s.last log
 sum_last s [] = refl
-sum_last s (e ∷ log) = sum_last (sum_after s e) log
+sum_last s (e ∷ log) = sum_last (state_after s e) log
 
 -- ---- a handle that makes no entry
 

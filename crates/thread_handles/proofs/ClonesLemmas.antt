@@ -12,7 +12,7 @@ use Rattle.trace_threads.specs.declared.handle.Released.{Released}
 use Rattle.trace_threads.specs.History.{IsLegal, has, entries_by}
 use Rattle.trace_threads.specs.Turns.{Turn, entries}
 use Rattle.trace_threads.specs.Calls.{MakesEntry, IsCloneOf}
-use Rattle.trace_threads.specs.Handles.{SharedHandle, ReleasedHandle, open_of, LeavesHandle, ClosedAs, IsSameHandle}
+use Rattle.trace_threads.specs.Handles.{SharedHandle, ReleasedHandle, open_count_of, AddsNoEntry, ClosedAs, IsSameHandle}
 use Rattle.trace_threads.proofs.queue.FrontsLemmas.{prefix_entries}
 use Rattle.thread_script.specs.Asks.{Ask, ask, FollowsAsks, clones_asked, numbers_from, clone_entries}
 use Rattle.thread_handles.specs.Works.{WasReleased}
@@ -33,7 +33,7 @@ asked_push : (made : ℕ) (hs : List SharedHandle) (x : SharedHandle) → clones
 asked_push made [] x = refl
 asked_push made (h ∷ hs) x = ap (λ (l : List Ask). ask made (Clone h.number) ∷ l) (asked_push made hs x)
 
-pub cloned_more : (at : ℕ) (h g f x : SharedHandle) (hs : List SharedHandle) → h.view.origin.made_at ≡ at → AreCloned h g hs → IsSameHandle g f → x.span ≡ g.span → IsCloneOf f.view x.view → MakesEntry g.view f.view g.number at (Clone x.number) → open_of f ≡ open_of g → AreCloned h f (hs ++ x ∷ [])
+pub cloned_more : (at : ℕ) (h g f x : SharedHandle) (hs : List SharedHandle) → h.view.origin.made_at ≡ at → AreCloned h g hs → IsSameHandle g f → x.span ≡ g.span → IsCloneOf f.view x.view → MakesEntry g.view f.view g.number at (Clone x.number) → open_count_of f ≡ open_count_of g → AreCloned h f (hs ++ x ∷ [])
 cloned_more at h g f x hs moment c same span clone made opn =
     let m : MakesEntry g.view f.view 0 h.view.origin.made_at (Clone x.number) = subst (λ (p : ℕ × ℕ). MakesEntry g.view f.view p.0 p.1 (Clone x.number)) (λ i. (c.number i, sym moment i)) made in
     let asked = clones_asked h.view.origin.made_at (numbers_of hs) in
@@ -157,7 +157,7 @@ pub set_len : {A : Type 0} (xs : List A) (i : ℕ) (x : A) → length (set xs i 
 set_len xs i x = length-set xs i x
 
 pub learnt_more : (p q : ReleasedHandle) (olds hs : List SharedHandle) (i : ℕ) (h f : SharedHandle) → length hs ≡ length olds → i < length olds → h ≡ slice_index_or hs i h → q.view.seen ≡ p.view.seen
-    → IsSameHandle h f → LeavesHandle h f → IsPrefix q.view.seen f.view.seen
+    → IsSameHandle h f → AddsNoEntry h f → IsPrefix q.view.seen f.view.seen
     → ((j : ℕ) (d : SharedHandle) → j < i → HasLearnt p (slice_index_or olds j d) (slice_index_or hs j d))
     → ((j : ℕ) (d : SharedHandle) → i ≤ j → j < length olds → slice_index_or hs j d ≡ slice_index_or olds j d)
     → (j : ℕ) (d : SharedHandle) → j < i + 1 → HasLearnt p (slice_index_or olds j d) (slice_index_or (set hs i f) j d)

@@ -4,10 +4,10 @@ use Rattle.std.proofs.lemmas.Bool.Decides.{nat_tests}
 use Rattle.trace_threads.specs.declared.history.Entry.{Entry}
 use Rattle.trace_threads.specs.declared.history.HandleAct.{HandleAct}
 use Rattle.trace_threads.specs.declared.history.HandleAct.TheVariants.{Clone, Release}
-use Rattle.trace_threads.specs.History.{HistoryState, start, entry, has, sum_after, may_do, is_legal, IsLegal, entries_by}
+use Rattle.trace_threads.specs.History.{HistoryState, start, entry, has, state_after, may_do, is_legal, IsLegal, entries_by}
 use Rattle.trace_threads.proofs.histories.HoldersLemmas.{both, has_back, in_without}
 use Rattle.trace_threads.proofs.histories.HistoriesLemmas.{tested}
-use Rattle.thread_script.specs.Asks.{Ask, ask, FollowsAsks, clones_asked, numbers_from, clone_entries, opening_from}
+use Rattle.thread_script.specs.Asks.{Ask, ask, FollowsAsks, clones_asked, numbers_from, clone_entries, clone_entries_from}
 use Rattle.thread_handles.proofs.AsksLemmas.{NextIs}
 
 own_case : (e : Entry) (es : List Entry) (b : Bool) → (e.caller == e.caller) ≡ b → b ≡ true → entries_by e.caller (e ∷ es) ≡ [] → ⊥
@@ -64,18 +64,18 @@ entry_is e made a what is c w t =
 -- a release of handle 0, and nothing after it
 last_at : (s : HistoryState) (made : ℕ) (es : List Entry) → is_legal s (entry 0 made Release ∷ es) ≡ true → Silent s (entry 0 made Release ∷ es) → entries_by 0 es ≡ [] → es ≡ []
 last_at s made es l q none =
-    quiet (sum_after s (entry 0 made Release)) es (both _ _ l).1
+    quiet (state_after s (entry 0 made Release)) es (both _ _ l).1
     (λ k at. ⊎_elim (λ (z : k ≡ 0). ap (λ (n : ℕ). entries_by n es) z ∙ none) (λ (r : entries_by k (entry 0 made Release ∷ es) ≡ []). none_after k (entry 0 made Release) es r) (q k (in_without k 0 s.held at)))
 
 Begins : HistoryState → ℕ → List ℕ → List Entry → Type 0
-Begins s made ns log = (log ≡ opening_from made (s.clones + 1) (length ns)) × (ns ≡ numbers_from (s.clones + 1) (length ns))
+Begins s made ns log = (log ≡ clone_entries_from made (s.clones + 1) (length ns)) × (ns ≡ numbers_from (s.clones + 1) (length ns))
 
 next_number : (s : HistoryState) (c n : ℕ) → may_do s c (Clone n) ≡ true → n ≡ s.clones + 1
 next_number s c n m = grind (arith, nat_tests)
 
 -- a clone by handle 0 of one that makes no entry
 clone_at : (s : HistoryState) (made n : ℕ) (ns : List ℕ) (es : List Entry) → is_legal s (entry 0 made (Clone n) ∷ es) ≡ true → Silent s (entry 0 made (Clone n) ∷ es) → entries_by n (entry 0 made (Clone n) ∷ es) ≡ []
-    → Silent (sum_after s (entry 0 made (Clone n))) es
+    → Silent (state_after s (entry 0 made (Clone n))) es
 clone_at s made n ns es l q none k at =
     ⊎_elim
     (λ (h : has k s.held ≡ true). ⊎_elim (λ (z : k ≡ 0). inl z) (λ (r : entries_by k (entry 0 made (Clone n) ∷ es) ≡ []). inr (none_after k (entry 0 made (Clone n)) es r)) (q k h))
@@ -110,7 +110,7 @@ alone s made (n ∷ ns) (e ∷ es) l q quiets f =
     let hit : (n == n) ≡ true = grind (arith, nat_tests) in
     let mute : entries_by n (x ∷ es) ≡ [] = subst (λ (y : Entry). entries_by n (y ∷ es) ≡ []) e_is (quiets n (rw hit refl)) in
     let f' : FollowsAsks 0 made (clones_asked made ns ++ ask made Release ∷ []) es = subst (λ (r : ℕ × List Ask). FollowsAsks 0 r.0 r.1 es) (λ i. (ap (λ (y : Entry). y.at) e_is i, rest_is i)) g.5 in
-    let ih = alone (sum_after s x) made ns es p.1 (clone_at s made n ns es l' q' mute) (λ m at. none_after m e es (quiets m (or (n == m) (has m ns) at))) f' in
+    let ih = alone (state_after s x) made ns es p.1 (clone_at s made n ns es l' q' mute) (λ m at. none_after m e es (quiets m (or (n == m) (has m ns) at))) f' in
     ((λ i. (e_is ∙ ap (λ (m : ℕ). entry 0 made (Clone m)) next) i ∷ ih.0 i), (λ i. next i ∷ ih.1 i))
   where
     or : (a b : Bool) → b ≡ true → (a || b) ≡ true

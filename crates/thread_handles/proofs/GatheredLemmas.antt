@@ -13,14 +13,14 @@ use Rattle.trace_threads.specs.declared.history.Entry.{Entry}
 use Rattle.trace_threads.specs.declared.history.HandleAct.{HandleAct}
 use Rattle.trace_threads.specs.declared.history.HandleAct.TheVariants.{Clone, Call, Join, Release}
 use Rattle.trace_threads.specs.declared.handle.Released.{Released}
-use Rattle.trace_threads.specs.History.{HistoryState, start, entry, sum_after, may, is_legal, sum_of, sum, clones_after, IsLegal, is_closed, entries_by, ends_handle, has_end}
+use Rattle.trace_threads.specs.History.{HistoryState, start, entry, state_after, may, is_legal, state_from, state_of_history, clone_count_after, IsLegal, is_closed, entries_by, ends_handle, has_end}
 use Rattle.trace_threads.specs.Shared.{content_of}
 use Rattle.trace_threads.specs.Turns.{entries}
 use Rattle.trace_threads.specs.Handles.{ReleasedHandle, ClosedAs}
 use Rattle.trace_threads.proofs.queue.FrontsLemmas.{prefix_trans, prefix_entries, comparable}
 use Rattle.trace_threads.proofs.histories.HoldersLemmas.{both}
 use Rattle.trace_threads.proofs.histories.HistoriesLemmas.{Numbered, numbered, numbered_start, numbered_step, none_above, legal_first, legal_rest, tested, nothing_follows, whole_is_seen, ended_is_done}
-use Rattle.thread_script.specs.Asks.{Ask, FollowsAsks, clone_entries, opening_from, DoesAll}
+use Rattle.thread_script.specs.Asks.{Ask, FollowsAsks, clone_entries, clone_entries_from, DoesAll}
 use Rattle.thread_handles.specs.declared.gather.Ended.{Ended}
 use Rattle.thread_handles.specs.Works.{IsLeft}
 use Rattle.thread_handles.specs.Gathers.{first_some, GathersReleases, IsEnded}
@@ -167,34 +167,34 @@ plain_tail_case : (k : ℕ) (e : Entry) (es : List Entry) (b : Bool) → (e.call
 plain_tail_case k e es true is p = let q : (is_plain e.what && plain (entries_by k es)) ≡ true = rw is at p in (both _ _ q).1
 plain_tail_case k e es false is p = rw is at p
 
-no_clone : (n : ℕ) (w : HandleAct) → is_plain w ≡ true → clones_after n w ≡ n
+no_clone : (n : ℕ) (w : HandleAct) → is_plain w ≡ true → clone_count_after n w ≡ n
 no_clone n (Clone m) p = absurd cc
 no_clone n (Call op) p = refl
 no_clone n (Join m) p = refl
 no_clone n Release p = refl
 
 -- where nobody who has a number makes a handle, there are no more
-clones_stay : (s : HistoryState) (log : List Entry) → Numbered s → is_legal s log ≡ true → ((k : ℕ) → k ≤ s.clones → plain (entries_by k log) ≡ true) → (sum_of s log).clones ≡ s.clones
+clones_stay : (s : HistoryState) (log : List Entry) → Numbered s → is_legal s log ≡ true → ((k : ℕ) → k ≤ s.clones → plain (entries_by k log) ≡ true) → (state_from s log).clones ≡ s.clones
 clones_stay s [] i l p = refl
 clones_stay s (e ∷ es) i l p =
     let q = both (may s e) _ l in
     let t = tested s e q.0 in
     let still = no_clone s.clones e.what (own_plain e es (p e.caller (i.within e.caller t.held))) in
-    clones_stay (sum_after s e) es (numbered_step s e.caller e.at e.what i t.done) q.1 (λ k low. plain_tail_case k e es (e.caller == k) refl (p k (omega (arith, still, low)))) ∙ still
+    clones_stay (state_after s e) es (numbered_step s e.caller e.at e.what i t.done) q.1 (λ k low. plain_tail_case k e es (e.caller == k) refl (p k (omega (arith, still, low)))) ∙ still
 
-sum_append : (s : HistoryState) (xs ys : List Entry) → sum_of s (xs ++ ys) ≡ sum_of (sum_of s xs) ys
+sum_append : (s : HistoryState) (xs ys : List Entry) → state_from s (xs ++ ys) ≡ state_from (state_from s xs) ys
 sum_append s [] ys = refl
-sum_append s (x ∷ xs) ys = sum_append (sum_after s x) xs ys
+sum_append s (x ∷ xs) ys = sum_append (state_after s x) xs ys
 
-opening_clones : (s : HistoryState) (made n count : ℕ) → (sum_of s (opening_from made n count)).clones ≡ s.clones + count
+opening_clones : (s : HistoryState) (made n count : ℕ) → (state_from s (clone_entries_from made n count)).clones ≡ s.clones + count
 opening_clones s made n zero = omega arith
-opening_clones s made n (suc count) = let ih = opening_clones (sum_after s (entry 0 made (Clone n))) made (n + 1) count in omega (arith, ih)
+opening_clones s made n (suc count) = let ih = opening_clones (state_after s (entry 0 made (Clone n))) made (n + 1) count in omega (arith, ih)
 
-opening_ends : (made n count : ℕ) → has_end 0 (opening_from made n count) ≡ true
+opening_ends : (made n count : ℕ) → has_end 0 (clone_entries_from made n count) ≡ true
 opening_ends made n zero = refl
 opening_ends made n (suc count) = opening_ends made (n + 1) count
 
-opening_by : (made n count : ℕ) → entries_by 0 (opening_from made n count) ≡ opening_from made n count
+opening_by : (made n count : ℕ) → entries_by 0 (clone_entries_from made n count) ≡ clone_entries_from made n count
 opening_by made n zero = refl
 opening_by made n (suc count) = ap (λ l. entry 0 made (Clone n) ∷ l) (opening_by made (n + 1) count)
 
@@ -215,7 +215,7 @@ module _ (of_span : TableId) (making : Making) (count : ℕ) (parts : ℕ → Li
   legal_more : IsLegal making.made_at (clone_entries making.made_at count ++ more.0)
   legal_more = subst (IsLegal making.made_at) (sym more.1) g.legal
 
-  clones_first : (sum making.made_at (clone_entries making.made_at count)).clones ≡ count
+  clones_first : (state_of_history making.made_at (clone_entries making.made_at count)).clones ≡ count
   clones_first = let c = opening_clones (start making.made_at) making.made_at 1 count in omega (arith, c)
 
   none_of_first : entries_by 0 more.0 ≡ []
@@ -229,13 +229,13 @@ module _ (of_span : TableId) (making : Making) (count : ℕ) (parts : ℕ → Li
       let all : plain (entries_by (suc w) (entries r.pass.view.seen)) ≡ true = subst (λ (k : ℕ). plain (entries_by k (entries r.pass.view.seen)) ≡ true) next (plain_by (w + 1) making.made_at (parts w) (entries r.pass.view.seen) (are_plain w here) (g.each w here).0) in
       plain_rest (entries_by (suc w) (clone_entries making.made_at count)) (entries_by (suc w) more.0) (ap plain (sym (by_append (suc w) (clone_entries making.made_at count) more.0) ∙ ap (entries_by (suc w)) more.1) ∙ all)
 
-  clones_all : (rest : List Entry) → IsPrefix rest more.0 → (sum making.made_at (clone_entries making.made_at count ++ rest)).clones ≡ count
+  clones_all : (rest : List Entry) → IsPrefix rest more.0 → (state_of_history making.made_at (clone_entries making.made_at count ++ rest)).clones ≡ count
   clones_all rest p =
       let legal : IsLegal making.made_at ((clone_entries making.made_at count ++ rest) ++ p.0) = subst (IsLegal making.made_at) (ap (λ l. clone_entries making.made_at count ++ l) (sym p.1) ∙ sym (append_assoc (clone_entries making.made_at count) rest p.0)) legal_more in
       let legal' = legal_first (start making.made_at) (clone_entries making.made_at count ++ rest) p.0 legal in
       let i = numbered making.made_at (clone_entries making.made_at count) (legal_first (start making.made_at) (clone_entries making.made_at count) rest legal') in
       ap (λ (s : HistoryState). s.clones) (sum_append (start making.made_at) (clone_entries making.made_at count) rest)
-      ∙ clones_stay (sum making.made_at (clone_entries making.made_at count)) rest i (legal_rest (start making.made_at) (clone_entries making.made_at count) rest legal') (λ k low. plain_first (entries_by k rest) (entries_by k p.0) (ap plain (sym (by_append k rest p.0) ∙ ap (entries_by k) p.1) ∙ plain_each k (omega (arith, low, clones_first)))) ∙ clones_first
+      ∙ clones_stay (state_of_history making.made_at (clone_entries making.made_at count)) rest i (legal_rest (start making.made_at) (clone_entries making.made_at count) rest legal') (λ k low. plain_first (entries_by k rest) (entries_by k p.0) (ap plain (sym (by_append k rest p.0) ∙ ap (entries_by k) p.1) ∙ plain_each k (omega (arith, low, clones_first)))) ∙ clones_first
     where
       plain_first : (xs ys : List Entry) → plain (xs ++ ys) ≡ true → plain xs ≡ true
       plain_first [] ys p = refl
@@ -246,10 +246,10 @@ module _ (of_span : TableId) (making : Making) (count : ℕ) (parts : ℕ → Li
   ended_each zero low = end_within 0 (clone_entries making.made_at count) g.longest g.begins (opening_ends making.made_at 1 count)
   ended_each (suc w) low = let next : w + 1 ≡ suc w = omega arith in subst (λ (k : ℕ). has_end k g.longest ≡ true) next (g.each w (omega (arith, low))).1
 
-  clones_longest : (sum making.made_at g.longest).clones ≡ count
+  clones_longest : (state_of_history making.made_at g.longest).clones ≡ count
   clones_longest =
       let inside : IsPrefix g.begins.0 more.0 = (g.within.0, refl) in
-      ap (λ (l : List Entry). (sum making.made_at l).clones) (sym g.begins.1) ∙ clones_all g.begins.0 inside
+      ap (λ (l : List Entry). (state_of_history making.made_at l).clones) (sym g.begins.1) ∙ clones_all g.begins.0 inside
 
   is_whole : (is_closed making.made_at g.longest ≡ true) × (g.within.0 ≡ [])
   is_whole = whole_is_seen making.made_at g.longest g.within.0 (subst (IsLegal making.made_at) (sym g.within.1) g.legal) (λ k low. ended_each k (omega (arith, low, clones_longest)))
@@ -264,7 +264,7 @@ module _ (of_span : TableId) (making : Making) (count : ℕ) (parts : ℕ → Li
     begins = more;
     first = ap (entries_by 0) (sym more.1) ∙ by_append 0 (clone_entries making.made_at count) more.0 ∙ (λ i. opening_by making.made_at 1 count i ++ none_of_first i) ∙ append-nil (clone_entries making.made_at count);
     each = λ w low. (g.each w low).0;
-    others = λ k high. none_above (start making.made_at) (entries r.pass.view.seen) k (numbered_start making.made_at) g.legal (let c = ap (λ (l : List Entry). (sum making.made_at l).clones) (sym whole_log) ∙ clones_longest in omega (arith, c, high));
+    others = λ k high. none_above (start making.made_at) (entries r.pass.view.seen) k (numbered_start making.made_at) g.legal (let c = ap (λ (l : List Entry). (state_of_history making.made_at l).clones) (sym whole_log) ∙ clones_longest in omega (arith, c, high));
   }
 
   -- so some release closed the span

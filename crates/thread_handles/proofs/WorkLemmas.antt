@@ -15,15 +15,15 @@ use Rattle.trace_threads.specs.History.{IsLegal, has_end, ends_handle, written_e
 use Rattle.trace_threads.specs.Shared.{some_making}
 use Rattle.trace_threads.specs.Turns.{entries, first_view}
 use Rattle.trace_threads.specs.Calls.{MakesEntry}
-use Rattle.trace_threads.specs.Handles.{SharedHandle, open_of, ClosedAs}
+use Rattle.trace_threads.specs.Handles.{SharedHandle, open_count_of, ClosedAs}
 use Rattle.trace_threads.proofs.histories.HoldersLemmas.{both}
 use Rattle.trace_threads.proofs.queue.PassesLemmas.{entries_some}
 use Rattle.thread_script.specs.declared.plan.Plan.{Plan}
 use Rattle.thread_script.specs.declared.script.SharedLine.{SharedLine}
 use Rattle.thread_script.specs.declared.script.WorkerOp.{WorkerOp}
 use Rattle.thread_script.specs.Asks.{Ask, ask, FollowsAsks, is_balanced, balanced_by}
-use Rattle.thread_script.specs.Plans.{AreTimed, moment_or, with_ask, op_of_call, op_on_span, release_moment, last_moment}
-use Rattle.thread_handles.specs.Works.{DidCall, DidAt, DidAll, IsAtWork, AllAtWork, asks_of, AreMade, AreTimedSpans, WasReleased, AllReleased, IsLeft, AllLeft}
+use Rattle.thread_script.specs.Plans.{MomentsInRange, moment_or, with_ask, op_of_call, op_on_span, release_moment, last_moment}
+use Rattle.thread_handles.specs.Works.{DidCall, DidAt, DidCallOnSpan, IsAtWork, AllAtWork, asks_of, AreMadeAsPlanned, SpanMomentsInRange, WasReleased, AllReleased, IsLeft, AllLeft}
 use Rattle.thread_handles.proofs.AsksLemmas.{follows_made}
 
 still_balanced : (n : ℕ) (m : Move) (left : List Ask) → balanced_by n m (is_balanced left) ≡ true → is_balanced left (open_count_after n m) ≡ true
@@ -44,7 +44,7 @@ did_call k at all left op h g f w d =
       whole = append_assoc w.asked (ask at (Call op) ∷ []) left ∙ w.whole;
       follows = subst (λ (o : Making). FollowsAsks k o.made_at (w.asked ++ ask at (Call op) ∷ []) (entries f.view.seen)) w.origin after;
       own_entries = m.own_entries;
-      balanced = ap (is_balanced left) d.2 ∙ still_balanced (open_of g) (move_of op) left w.balanced;
+      balanced = ap (is_balanced left) d.2 ∙ still_balanced (open_count_of g) (move_of op) left w.balanced;
     }
 
 did_one : (k at : ℕ) (all left : List Ask) (asked : Option Op) (h g f : SharedHandle) → IsAtWork k all (with_ask at asked left) h g → DidCall g f at asked → IsAtWork k all left h f
@@ -52,7 +52,7 @@ did_one k at all left None h g f w d = subst (IsAtWork k all left h) (sym d) w
 did_one k at all left (Some op) h g f w d = did_call k at all left op h g f w d
 
 -- each handle did what a call is on its span
-pub did_all : (plan : Plan) (k : ℕ) (last : Option ℕ) (all left : List WorkerOp) (o : WorkerOp) (hs gs fs : List SharedHandle) → length gs ≡ length hs → AllAtWork plan k last all (o ∷ left) hs gs → DidAll plan o gs fs → AllAtWork plan k last all left hs fs
+pub did_all : (plan : Plan) (k : ℕ) (last : Option ℕ) (all left : List WorkerOp) (o : WorkerOp) (hs gs fs : List SharedHandle) → length gs ≡ length hs → AllAtWork plan k last all (o ∷ left) hs gs → DidCallOnSpan plan o gs fs → AllAtWork plan k last all left hs fs
 did_all plan k last all left o hs gs fs len w d s x low =
     let h = slice_index_or hs s x in
     did_one k o.at (asks_of plan last s h all) (asks_of plan last s h left) (op_on_span plan s o) h (slice_index_or gs s x) (slice_index_or fs s x) (w s x low) (d s x (omega (arith, len, low)))
@@ -70,8 +70,8 @@ end_last k (y ∷ xs) x e = or (ends_handle k y.caller y.what) (has_end k (xs ++
 none_open : (n : ℕ) → is_balanced [] n ≡ true → n ≡ 0
 none_open n b = grind (arith, nat_tests)
 
-pub all_closed : (k at : ℕ) (all : List Ask) (h g : SharedHandle) → IsAtWork k all (ask at Release ∷ []) h g → open_of g ≡ 0
-all_closed k at all h g w = none_open (open_of g) w.balanced
+pub all_closed : (k at : ℕ) (all : List Ask) (h g : SharedHandle) → IsAtWork k all (ask at Release ∷ []) h g → open_count_of g ≡ 0
+all_closed k at all h g w = none_open (open_count_of g) w.balanced
 
 pub is_left : (k at : ℕ) (all : List Ask) (h g : SharedHandle) (r : Released) → IsAtWork k all (ask at Release ∷ []) h g → WasReleased g r at → IsLeft k all h.span h.view.origin r
 is_left k at all h g r w d =
@@ -97,8 +97,8 @@ map_ok : {X E : Type 0} (r : Result X E) (A B : Type 0) → (A → B) → OnOk r
 map_ok (Ok x) A B f a = f a
 map_ok (Err e) A B f a = a
 
-pub did_op : {E : Type 0} (r : Result (Unit {0}) E) (plan : Plan) (o : WorkerOp) (op : Option Op) (hs gs : List SharedHandle) → op ≡ op_of_call plan o.span o.at o.what → OnOk r (DidAt o.span o.at op hs gs) → OnOk r (DidAll plan o hs gs)
-did_op r plan o op hs gs e = map_ok r (DidAt o.span o.at op hs gs) (DidAll plan o hs gs) (λ did s d low. subst (λ (x : Option Op). DidCall (slice_index_or hs s d) (slice_index_or gs s d) o.at (if o.span == s then x else None)) e (did s d low))
+pub did_op : {E : Type 0} (r : Result (Unit {0}) E) (plan : Plan) (o : WorkerOp) (op : Option Op) (hs gs : List SharedHandle) → op ≡ op_of_call plan o.span o.at o.what → OnOk r (DidAt o.span o.at op hs gs) → OnOk r (DidCallOnSpan plan o hs gs)
+did_op r plan o op hs gs e = map_ok r (DidAt o.span o.at op hs gs) (DidCallOnSpan plan o hs gs) (λ did s d low. subst (λ (x : Option Op). DidCall (slice_index_or hs s d) (slice_index_or gs s d) o.at (if o.span == s then x else None)) e (did s d low))
 
 -- ---- the releases of a worker's handles
 
@@ -135,7 +135,7 @@ pub low_release : (made : ℕ) (last : Option ℕ) → made ≤ GREATEST → ((a
 low_release made None low f = low
 low_release made (Some at) low f = f at refl
 
-pub low_moment : (plan : Plan) (last : Option ℕ) (n s at : ℕ) → AreTimedSpans plan n → s < n → ((at : ℕ) → last ≡ Some at → at ≤ GREATEST) → ((l : SharedLine) → at ≡ release_moment (slice_index_or plan.shared s l).at last) → at ≤ GREATEST
+pub low_moment : (plan : Plan) (last : Option ℕ) (n s at : ℕ) → SpanMomentsInRange plan n → s < n → ((at : ℕ) → last ≡ Some at → at ≤ GREATEST) → ((l : SharedLine) → at ≡ release_moment (slice_index_or plan.shared s l).at last) → at ≤ GREATEST
 low_moment plan last n s at low_all low f is =
     let l : SharedLine = record { at = 0; site = 0 } in
     let le = low_release (slice_index_or plan.shared s l).at last (low_all.1 s l low) f in
@@ -143,14 +143,14 @@ low_moment plan last n s at low_all low f is =
     omega (arith, e, le)
 
 pub released_more : (plan : Plan) (last : Option ℕ) (hs gs : List SharedHandle) (rs : List Released) (s at : ℕ) (h : SharedHandle) (r : Released) → s < length hs → length rs ≡ s → gs ≡ drop s hs → h ≡ slice_index_or gs 0 h
-    → ((l : SharedLine) → at ≡ release_moment (slice_index_or plan.shared s l).at last) → (open_of h ≡ 0 → WasReleased h r at)
-    → ((j : ℕ) (d : SharedHandle) (e : Released) (l : SharedLine) → j < s → open_of (slice_index_or hs j d) ≡ 0 → WasReleased (slice_index_or hs j d) (slice_index_or rs j e) (release_moment (slice_index_or plan.shared j l).at last))
-    → (j : ℕ) (d : SharedHandle) (e : Released) (l : SharedLine) → j < s + 1 → open_of (slice_index_or hs j d) ≡ 0 → WasReleased (slice_index_or hs j d) (slice_index_or (rs ++ r ∷ []) j e) (release_moment (slice_index_or plan.shared j l).at last)
+    → ((l : SharedLine) → at ≡ release_moment (slice_index_or plan.shared s l).at last) → (open_count_of h ≡ 0 → WasReleased h r at)
+    → ((j : ℕ) (d : SharedHandle) (e : Released) (l : SharedLine) → j < s → open_count_of (slice_index_or hs j d) ≡ 0 → WasReleased (slice_index_or hs j d) (slice_index_or rs j e) (release_moment (slice_index_or plan.shared j l).at last))
+    → (j : ℕ) (d : SharedHandle) (e : Released) (l : SharedLine) → j < s + 1 → open_count_of (slice_index_or hs j d) ≡ 0 → WasReleased (slice_index_or hs j d) (slice_index_or (rs ++ r ∷ []) j e) (release_moment (slice_index_or plan.shared j l).at last)
 released_more plan last hs gs rs s at h r low len rest is moment now old j d e l less out =
     dite (ℕ_discrete j s)
     (λ (here : j ≡ s).
     let at_s : slice_index_or hs j d ≡ h = ap (λ (k : ℕ). slice_index_or hs k d) here ∙ same_get hs s d h low ∙ sym (get_drop hs s h) ∙ ap (λ (x : List SharedHandle). slice_index_or x 0 h) (sym rest) ∙ sym is in
-    let out' : open_of h ≡ 0 = subst (λ (x : SharedHandle). open_of x ≡ 0) at_s out in
+    let out' : open_count_of h ≡ 0 = subst (λ (x : SharedHandle). open_count_of x ≡ 0) at_s out in
     let done : WasReleased h r (release_moment (slice_index_or plan.shared j l).at last) = subst (WasReleased h r) (moment l ∙ ap (λ (k : ℕ). release_moment (slice_index_or plan.shared k l).at last) (sym here)) (now out') in
     let at_r : slice_index_or (rs ++ r ∷ []) j e ≡ r = get_last rs r j e (len ∙ sym here) in
     subst (λ (x : SharedHandle). WasReleased x (slice_index_or (rs ++ r ∷ []) j e) (release_moment (slice_index_or plan.shared j l).at last)) (sym at_s) (subst (λ (x : Released). WasReleased h x (release_moment (slice_index_or plan.shared j l).at last)) (sym at_r) done))
@@ -168,14 +168,14 @@ last_some : (at t : ℕ) (later : Option ℕ) → moment_or at later ≡ Some t 
 last_some at t None e low f = subst (λ (n : ℕ). n ≤ GREATEST) (ap (λ (o : Option ℕ). release_moment 0 o) e) low
 last_some at t (Some u) e low f = f t e
 
-pub last_low : (ops : List WorkerOp) (last : Option ℕ) (t : ℕ) → last ≡ last_moment ops → AreTimed ops → last ≡ Some t → t ≤ GREATEST
+pub last_low : (ops : List WorkerOp) (last : Option ℕ) (t : ℕ) → last ≡ last_moment ops → MomentsInRange ops → last ≡ Some t → t ≤ GREATEST
 last_low [] last t is timed e = absurd (let bad : None ≡ Some t = sym is ∙ e in cc)
 last_low (o ∷ ops) last t is timed e = last_some o.at t (last_moment ops) (sym is ∙ e) timed.0 (λ u x. last_low ops (last_moment ops) u refl timed.1 x)
 
-pub made_low : (plan : Plan) (hs : List SharedHandle) (n : ℕ) (d : SharedHandle) → length hs ≡ n → AreMade plan hs → AreTimedSpans plan n
+pub made_low : (plan : Plan) (hs : List SharedHandle) (n : ℕ) (d : SharedHandle) → length hs ≡ n → AreMadeAsPlanned plan hs → SpanMomentsInRange plan n
 made_low plan hs n d e made = (made.0 ∙ e, λ s l low. (made.1 s d l (omega (arith, e, low))).1)
 
-pub all_left : (plan : Plan) (k : ℕ) (ops : List WorkerOp) (last : Option ℕ) (hs gs : List SharedHandle) (rs : List Released) → last ≡ last_moment ops → AreMade plan hs → length gs ≡ length hs → AllAtWork plan k (last_moment ops) ops [] hs gs → AllReleased plan last gs rs → AllLeft plan k ops hs rs
+pub all_left : (plan : Plan) (k : ℕ) (ops : List WorkerOp) (last : Option ℕ) (hs gs : List SharedHandle) (rs : List Released) → last ≡ last_moment ops → AreMadeAsPlanned plan hs → length gs ≡ length hs → AllAtWork plan k (last_moment ops) ops [] hs gs → AllReleased plan last gs rs → AllLeft plan k ops hs rs
 all_left plan k ops last hs gs rs is made len working released s d e low =
     let l : SharedLine = record { at = 0; site = 0 } in
     let h = slice_index_or hs s d in

@@ -4,7 +4,7 @@ use mathlib.Core.List.{IsPrefix}
 use Rattle.trace_threads.specs.declared.handle.Released.{Released}
 use Rattle.trace_threads.specs.History.{IsLegal, entries_by}
 use Rattle.trace_threads.specs.Turns.{entries, first_view}
-use Rattle.trace_threads.specs.Handles.{SharedHandle, ReleasedHandle, open_of, ClosedAs}
+use Rattle.trace_threads.specs.Handles.{SharedHandle, ReleasedHandle, open_count_of, ClosedAs}
 use Rattle.thread_script.specs.Asks.{FollowsAsks, clones_asked, clone_entries}
 
 -- the first handle of a span that was made at this moment
@@ -16,15 +16,15 @@ numbers_of [] = []
 numbers_of (h ∷ hs) = h.number ∷ numbers_of hs
 
 -- no entry is open
-abbrev pub AreOut : List SharedHandle → Type 0
-AreOut hs = (i : ℕ) (d : SharedHandle) → i < length hs → open_of (slice_index_or hs i d) ≡ 0
+abbrev pub HaveNoneOpen : List SharedHandle → Type 0
+HaveNoneOpen hs = (i : ℕ) (d : SharedHandle) → i < length hs → open_count_of (slice_index_or hs i d) ≡ 0
 
 -- these handles were made by the first one, which did nothing else
 pub record AreCloned (h g : SharedHandle) (hs : List SharedHandle) : Type 0 where
   pub span : g.span ≡ h.span
   pub number : g.number ≡ 0
   pub origin : g.view.origin ≡ h.view.origin
-  pub out : open_of g ≡ 0
+  pub out : open_count_of g ≡ 0
   pub follows : FollowsAsks 0 h.view.origin.made_at (clones_asked h.view.origin.made_at (numbers_of hs)) (entries g.view.seen)
   pub own_entries : entries_by 0 (entries g.view.seen) ≡ g.view.mine
   pub each : (i : ℕ) (d : SharedHandle) → i < length hs → ((slice_index_or hs i d).span ≡ h.span) × ((slice_index_or hs i d).view.origin ≡ h.view.origin) × ((slice_index_or hs i d).view.mine ≡ [])

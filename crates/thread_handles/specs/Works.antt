@@ -11,12 +11,12 @@ use Rattle.trace_threads.specs.Moves.{move_of, open_count_after}
 use Rattle.trace_threads.specs.History.{IsLegal, entries_by, has_end}
 use Rattle.trace_threads.specs.Turns.{entries}
 use Rattle.trace_threads.specs.Calls.{MakesEntry}
-use Rattle.trace_threads.specs.Handles.{SharedHandle, open_of, IsSameHandle, ClosedAs}
+use Rattle.trace_threads.specs.Handles.{SharedHandle, open_count_of, IsSameHandle, ClosedAs}
 use Rattle.thread_script.specs.declared.plan.Plan.{Plan}
 use Rattle.thread_script.specs.declared.script.SharedLine.{SharedLine}
 use Rattle.thread_script.specs.declared.script.WorkerOp.{WorkerOp}
 use Rattle.thread_script.specs.Asks.{Ask, FollowsAsks, is_balanced}
-use Rattle.thread_script.specs.Plans.{op_on_span, asks_on, last_moment, release_moment, AreTimed}
+use Rattle.thread_script.specs.Plans.{op_on_span, asks_on, last_moment, release_moment, MomentsInRange}
 
 -- ---- one call of a worker
 
@@ -24,19 +24,19 @@ use Rattle.thread_script.specs.Plans.{op_on_span, asks_on, last_moment, release_
 abbrev pub DidCall : SharedHandle → SharedHandle → ℕ → Option Op → Type 0
 DidCall h g at None = g ≡ h
 DidCall h g at (Some op) =
-    IsSameHandle h g × MakesEntry h.view g.view h.number at (Call op) × (open_of g ≡ open_count_after (open_of h) (move_of op))
+    IsSameHandle h g × MakesEntry h.view g.view h.number at (Call op) × (open_count_of g ≡ open_count_after (open_count_of h) (move_of op))
 
 -- the handle at this place did this op, and the others nothing
 abbrev pub DidAt : ℕ → ℕ → Option Op → List SharedHandle → List SharedHandle → Type 0
 DidAt place at op hs gs = (s : ℕ) (d : SharedHandle) → s < length hs → DidCall (slice_index_or hs s d) (slice_index_or gs s d) at (if place == s then op else None)
 
 -- each handle did what this call is on its span
-abbrev pub DidAll : Plan → WorkerOp → List SharedHandle → List SharedHandle → Type 0
-DidAll plan o hs gs = (s : ℕ) (d : SharedHandle) → s < length hs → DidCall (slice_index_or hs s d) (slice_index_or gs s d) o.at (op_on_span plan s o)
+abbrev pub DidCallOnSpan : Plan → WorkerOp → List SharedHandle → List SharedHandle → Type 0
+DidCallOnSpan plan o hs gs = (s : ℕ) (d : SharedHandle) → s < length hs → DidCall (slice_index_or hs s d) (slice_index_or gs s d) o.at (op_on_span plan s o)
 
 -- an exit has an open entry
 abbrev pub MayDo : Plan → WorkerOp → List SharedHandle → Type 0
-MayDo plan o hs = (s : ℕ) (d : SharedHandle) → s < length hs → op_on_span plan s o ≡ Some Exit → 0 < open_of (slice_index_or hs s d)
+MayDo plan o hs = (s : ℕ) (d : SharedHandle) → s < length hs → op_on_span plan s o ≡ Some Exit → 0 < open_count_of (slice_index_or hs s d)
 
 -- ---- while a worker works
 
@@ -49,7 +49,7 @@ pub record IsAtWork (k : ℕ) (all left : List Ask) (h g : SharedHandle) : Type 
   pub whole : asked ++ left ≡ all
   pub follows : FollowsAsks k h.view.origin.made_at asked (entries g.view.seen)
   pub own_entries : entries_by k (entries g.view.seen) ≡ g.view.mine
-  pub balanced : is_balanced left (open_of g) ≡ true
+  pub balanced : is_balanced left (open_count_of g) ≡ true
 
 -- what a worker is asked on the span of a handle, by the calls of a list
 abbrev pub asks_of : Plan → Option ℕ → ℕ → SharedHandle → List WorkerOp → List Ask
@@ -63,14 +63,14 @@ AllAtWork plan k last all left hs gs =
 -- ---- when it is done
 
 -- the spans of these handles were made at the moments of the plan
-abbrev pub AreMade : Plan → List SharedHandle → Type 0
-AreMade plan hs =
+abbrev pub AreMadeAsPlanned : Plan → List SharedHandle → Type 0
+AreMadeAsPlanned plan hs =
     (length plan.shared ≡ length hs)
     × ((s : ℕ) (d : SharedHandle) (l : SharedLine) → s < length hs → ((slice_index_or plan.shared s l).at ≡ (slice_index_or hs s d).view.origin.made_at) × ((slice_index_or plan.shared s l).at ≤ GREATEST))
 
 -- the plan has so many shared spans, and none is made too late
-abbrev pub AreTimedSpans : Plan → ℕ → Type 0
-AreTimedSpans plan n = (length plan.shared ≡ n) × ((s : ℕ) (l : SharedLine) → s < n → (slice_index_or plan.shared s l).at ≤ GREATEST)
+abbrev pub SpanMomentsInRange : Plan → ℕ → Type 0
+SpanMomentsInRange plan n = (length plan.shared ≡ n) × ((s : ℕ) (l : SharedLine) → s < n → (slice_index_or plan.shared s l).at ≤ GREATEST)
 
 -- what the release of a handle leaves
 pub record WasReleased (h : SharedHandle) (r : Released) (at : ℕ) : Type 0 where
@@ -81,7 +81,7 @@ pub record WasReleased (h : SharedHandle) (r : Released) (at : ℕ) : Type 0 whe
 -- the handles were released, if none had an entry open
 abbrev pub AllReleased : Plan → Option ℕ → List SharedHandle → List Released → Type 0
 AllReleased plan last hs rs =
-    (s : ℕ) (d : SharedHandle) (e : Released) (l : SharedLine) → s < length hs → open_of (slice_index_or hs s d) ≡ 0
+    (s : ℕ) (d : SharedHandle) (e : Released) (l : SharedLine) → s < length hs → open_count_of (slice_index_or hs s d) ≡ 0
     → WasReleased (slice_index_or hs s d) (slice_index_or rs s e) (release_moment (slice_index_or plan.shared s l).at last)
 
 -- What is left of the handle k of a span, which did all that it was asked.
@@ -100,7 +100,7 @@ AllLeft plan k ops hs rs =
 
 -- a worker that hasn't begun
 pub record IsReadyWorker (plan : Plan) (k : ℕ) (ops : List WorkerOp) (last : Option ℕ) (hs : List SharedHandle) : Type 0 where
-  pub timed : AreTimed ops
+  pub timed : MomentsInRange ops
   pub last_is : last ≡ last_moment ops
-  pub made : AreMade plan hs
+  pub made : AreMadeAsPlanned plan hs
   pub begins : AllAtWork plan k (last_moment ops) ops ops hs hs

@@ -1,8 +1,8 @@
 //! A shared span gets a handle for each worker, and its first handle is released.
 ghost use Rattle.std.specs.Prelude.{◌≡◌, ℕ, ◌+◌, ◌<◌, ◌≤◌, [], length, IfOk, OnOk, vec_len, vec_capacity, slice_index_or};
 ghost use Rattle.otel_state.specs.declared.times.TheConstants.{GREATEST};
-ghost use Rattle.trace_threads.specs.Handles.{SharedHandle, open_of};
-ghost use Rattle.thread_handles.specs.Shares.{IsFirst, AreCloned, AreOut, HaveLearnt, IsShared};
+ghost use Rattle.trace_threads.specs.Handles.{SharedHandle, open_count_of};
+ghost use Rattle.thread_handles.specs.Shares.{IsFirst, AreCloned, HaveNoneOpen, HaveLearnt, IsShared};
 
 use otel_base::memory::Memory;
 use otel_base::record::Moment;
@@ -24,7 +24,7 @@ fn make_clones<R: Wait>(
     requires empty { handles.old.items ≡ [] }
     requires room { count ≤ vec_capacity handles.old }
     ensures cloned { OnOk result (AreCloned first.old first.new handles.new.items) }
-    ensures out { (open_of first.new ≡ 0) × AreOut handles.new.items }
+    ensures out { (open_count_of first.new ≡ 0) × HaveNoneOpen handles.new.items }
     ensures len { OnOk result (vec_len handles.new ≡ count) }
 {
     for _ in 0..count {
@@ -37,7 +37,7 @@ fn make_clones<R: Wait>(
 // Releases handles that have no entry open.
 fn release_all<R: Wait>(rt: &R, mut handles: Vec<Handle>, at: Moment)
     requires moment { at ≤ GREATEST }
-    requires out { AreOut handles.items }
+    requires out { HaveNoneOpen handles.items }
 {
     while let Some(handle) = handles.pop() {
         drop(handle.release(rt, at));

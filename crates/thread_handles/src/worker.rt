@@ -2,10 +2,10 @@
 ghost use Rattle.std.specs.Prelude.{◌≡◌, ℕ, ◌+◌, ◌<◌, ◌≤◌, [], length, IfOk, OnOk, true, Some, vec_len, vec_capacity, slice_index_or};
 ghost use Rattle.otel_state.specs.declared.op.Op.TheVariants.{Exit};
 ghost use Rattle.otel_state.specs.declared.times.TheConstants.{GREATEST};
-ghost use Rattle.trace_threads.specs.Handles.{SharedHandle, open_of};
-ghost use Rattle.thread_script.specs.Plans.{AreNoLevels, AreTimed, last_moment, release_moment};
+ghost use Rattle.trace_threads.specs.Handles.{SharedHandle, open_count_of};
+ghost use Rattle.thread_script.specs.Plans.{AreNoLevels, MomentsInRange, last_moment, release_moment};
 ghost use Rattle.thread_script.specs.declared.script.SharedLine.{SharedLine};
-ghost use Rattle.thread_handles.specs.Works.{DidCall, DidAt, DidAll, MayDo, AllAtWork, AllLeft, AreTimedSpans, WasReleased, AllReleased, IsReadyWorker};
+ghost use Rattle.thread_handles.specs.Works.{DidCall, DidAt, DidCallOnSpan, MayDo, AllAtWork, AllLeft, SpanMomentsInRange, WasReleased, AllReleased, IsReadyWorker};
 
 use crate::job::Job;
 use event_gate::{EventGate, Levels};
@@ -23,7 +23,7 @@ use turnstile::Turnstile;
 // Applies an op to a handle, if there is one.
 fn call_on<R: Wait>(rt: &R, handle: &mut Handle, at: Moment, op: Option<Op>) -> Result<(), Memory>
     requires moment { at ≤ GREATEST }
-    requires entered { op ≡ Some Exit → 0 < open_of handle.old }
+    requires entered { op ≡ Some Exit → 0 < open_count_of handle.old }
     ensures did { OnOk result (DidCall handle.old handle.new at op) }
 {
     match op {
@@ -44,7 +44,7 @@ fn call_at<R: Wait>(
     op: Option<Op>,
 ) -> Result<(), Memory>
     requires moment { at ≤ GREATEST }
-    requires entered { (d : SharedHandle) → place < length handles.old → op ≡ Some Exit → 0 < open_of (slice_index_or handles.old place d) }
+    requires entered { (d : SharedHandle) → place < length handles.old → op ≡ Some Exit → 0 < open_count_of (slice_index_or handles.old place d) }
     ensures len { length handles.new ≡ length handles.old }
     ensures did { OnOk result (DidAt place at op handles.old handles.new) }
 {
@@ -71,7 +71,7 @@ fn make_call<R: Wait, G: EventGate>(
     requires entered { MayDo plan.now op handles.old }
     ensures same { G.opening gate.new ≡ G.opening gate.old }
     ensures len { length handles.new ≡ length handles.old }
-    ensures did { OnOk result (DidAll plan.now op handles.old handles.new) }
+    ensures did { OnOk result (DidCallOnSpan plan.now op handles.old handles.new) }
 {
     let WorkerOp { at, span, what } = op;
     let asked = op_of(alloc, plan, gate, levels, at, span, what)?;
@@ -90,7 +90,7 @@ fn make_calls<R: Wait, G: EventGate, T: Turnstile>(
     ops: &mut VecDeque<WorkerOp>,
 ) -> Result<(), Memory>
     requires opening { G.opening gate.old ≡ plan.now.filter }
-    requires timed { AreTimed ops.old.items }
+    requires timed { MomentsInRange ops.old.items }
     requires begins { AllAtWork plan.now (worker + 1) (last_moment ops.old.items) ops.old.items ops.old.items handles.old handles.old }
     ensures len { length handles.new ≡ length handles.old }
     ensures done { OnOk result (AllAtWork plan.now (worker + 1) (last_moment ops.old.items) ops.old.items [] handles.old handles.new) }
@@ -112,7 +112,7 @@ fn make_calls<R: Wait, G: EventGate, T: Turnstile>(
 // Closes the entries that a handle has open.
 fn close_entries<R: Wait>(rt: &R, handle: &mut Handle, at: Moment)
     requires moment { at ≤ GREATEST }
-    ensures closed { open_of handle.new ≡ 0 }
+    ensures closed { open_count_of handle.new ≡ 0 }
 {
     while handle.open_entries() > 0 {
         let Ok(_) = handle.call(rt, at, Op::Exit) else {
@@ -124,7 +124,7 @@ fn close_entries<R: Wait>(rt: &R, handle: &mut Handle, at: Moment)
 /// Ends a handle. Where the worker didn't get to its end, entries that are open are closed first.
 pub fn end_handle<R: Wait>(rt: &R, mut handle: Handle, at: Moment) -> Released
     requires moment { at ≤ GREATEST }
-    ensures released { open_of handle ≡ 0 → WasReleased handle result at }
+    ensures released { open_count_of handle ≡ 0 → WasReleased handle result at }
 {
     if handle.open_entries() > 0 {
         close_entries(rt, &mut handle, at);
@@ -154,7 +154,7 @@ fn end_all<R: Wait, T: Turnstile>(
     handles: &mut Vec<Handle>,
     left: &mut Vec<Released>,
 )
-    requires moments { AreTimedSpans plan.now (length handles.old.items) }
+    requires moments { SpanMomentsInRange plan.now (length handles.old.items) }
     requires last { (at : ℕ) → last ≡ Some at → at ≤ GREATEST }
     requires room { vec_len handles.old ≤ vec_capacity left.old }
     requires empty { left.old.items ≡ [] }

@@ -21,11 +21,11 @@ use Rattle.thread_script.specs.declared.script.WorkerOp.{WorkerOp}
 use Rattle.thread_script.specs.declared.script.WorkerCall.{WorkerCall}
 use Rattle.thread_script.specs.declared.script.WorkerCall.TheVariants as work
 use Rattle.thread_script.specs.Asks.{Ask, is_balanced, balanced_by}
-use Rattle.thread_script.specs.Plans.{op_of_call, op_of_record, op_of_admitted_event, shared_callsite, with_ask, asks_on, AreTimed}
+use Rattle.thread_script.specs.Plans.{op_of_call, op_of_record, op_of_admitted_event, shared_callsite, with_ask, asks_on, MomentsInRange}
 use Rattle.thread_lines.specs.declared.line.ThreadOp.{ThreadOp}
 use Rattle.thread_lines.specs.declared.line.ThreadCall.{ThreadCall}
 use Rattle.thread_lines.specs.declared.line.ThreadCall.TheVariants as said
-use Rattle.thread_lines.specs.Steps.{◌>>=◌, refuse_unless, unknown_name, need, time_tested, move_of_call, open_entries_on, open_entries_after, has_entry_for, shared_tested, entry_tested, call_tested, op_tested, ops_tested}
+use Rattle.thread_lines.specs.Steps.{◌>>=◌, refuse_unless, unknown_name, need, time_tested, move_of_call, open_count_on, open_counts_after, has_entry_for, shared_tested, entry_tested, call_tested, op_tested, ops_tested}
 
 -- ---- tests that were passed
 
@@ -100,44 +100,44 @@ by_part n at m (Some op) rest moves has e =
 -- ---- one call of a list
 
 -- what is open on a span after a call there, and after one elsewhere
-here : (entered : List ℕ) (span k : ℕ) (m : Move) → span ≡ k → k < length entered → slice_index_or (open_entries_after entered span m) k 0 ≡ open_count_after (slice_index_or entered k 0) m
+here : (entered : List ℕ) (span k : ℕ) (m : Move) → span ≡ k → k < length entered → slice_index_or (open_counts_after entered span m) k 0 ≡ open_count_after (slice_index_or entered k 0) m
 here entered span k m e low =
-    ap (λ (x : ℕ). slice_index_or (set entered x (open_count_after (open_entries_on entered x) m)) k 0) e
-    ∙ get_or-set_same entered k (open_count_after (open_entries_on entered k) m) 0 low
+    ap (λ (x : ℕ). slice_index_or (set entered x (open_count_after (open_count_on entered x) m)) k 0) e
+    ∙ get_or-set_same entered k (open_count_after (open_count_on entered k) m) 0 low
 
-elsewhere : (entered : List ℕ) (span k : ℕ) (m : Move) → (k ≡ span → ⊥) → slice_index_or (open_entries_after entered span m) k 0 ≡ slice_index_or entered k 0
-elsewhere entered span k m other = get_or-set_other entered span k (open_count_after (open_entries_on entered span) m) 0 other
+elsewhere : (entered : List ℕ) (span k : ℕ) (m : Move) → (k ≡ span → ⊥) → slice_index_or (open_counts_after entered span m) k 0 ≡ slice_index_or entered k 0
+elsewhere entered span k m other = get_or-set_other entered span k (open_count_after (open_count_on entered span) m) 0 other
 
 one_more : (plan : Plan) (entered : List ℕ) (k : ℕ) (o : WorkerOp) (rest : List Ask) (b : Bool) → (o.span == k) ≡ b → k < length entered
-    → has_entry_for (open_entries_on entered o.span) (move_of_call o.what) ≡ true
-    → is_balanced rest (slice_index_or (open_entries_after entered o.span (move_of_call o.what)) k 0) ≡ true
+    → has_entry_for (open_count_on entered o.span) (move_of_call o.what) ≡ true
+    → is_balanced rest (slice_index_or (open_counts_after entered o.span (move_of_call o.what)) k 0) ≡ true
     → is_balanced (with_ask o.at (if b then op_of_call plan o.span o.at o.what else None) rest) (slice_index_or entered k 0) ≡ true
 one_more plan entered k o rest true is low has e =
     let same : o.span ≡ k = eqb-true o.span k is in
     by_part (slice_index_or entered k 0) o.at (move_of_call o.what) (op_of_call plan o.span o.at o.what) rest (asked_moves plan o.span o.at o.what)
-    (subst (λ (x : ℕ). has_entry_for (open_entries_on entered x) (move_of_call o.what) ≡ true) same has)
+    (subst (λ (x : ℕ). has_entry_for (open_count_on entered x) (move_of_call o.what) ≡ true) same has)
     (subst (λ (n : ℕ). is_balanced rest n ≡ true) (here entered o.span k (move_of_call o.what) same low) e)
 one_more plan entered k o rest false is low has e =
     subst (λ (n : ℕ). is_balanced rest n ≡ true) (elsewhere entered o.span k (move_of_call o.what) (λ same. eqb-false o.span k is (sym same))) e
 
 -- ---- what the tests of a call say
 
-call_has : (s : ThreadScript) (entered : List ℕ) (span : ℕ) (call : ThreadCall) (what : WorkerCall) → call_tested s entered span call ≡ Ok what → has_entry_for (open_entries_on entered span) (move_of_call what) ≡ true
+call_has : (s : ThreadScript) (entered : List ℕ) (span : ℕ) (call : ThreadCall) (what : WorkerCall) → call_tested s entered span call ≡ Ok what → has_entry_for (open_count_on entered span) (move_of_call what) ≡ true
 call_has s entered span (said.Record fields) what e =
     let a = then_ok (shared_tested s span) _ what e in
     let is : work.Record fields ≡ what = cc a.2 in
-    subst (λ (w : WorkerCall). has_entry_for (open_entries_on entered span) (move_of_call w) ≡ true) is refl
+    subst (λ (w : WorkerCall). has_entry_for (open_count_on entered span) (move_of_call w) ≡ true) is refl
 call_has s entered span (said.Event site fields) what e =
     let a = then_ok (need names.Site (event_site s.callsites site)) _ what e in
     let b = then_ok (shared_tested s span) _ what a.2 in
     let c = then_ok (need names.Field (all_values a.0 fields)) _ what b.2 in
     let is : work.Event site c.0 ≡ what = cc c.2 in
-    subst (λ (w : WorkerCall). has_entry_for (open_entries_on entered span) (move_of_call w) ≡ true) is refl
+    subst (λ (w : WorkerCall). has_entry_for (open_count_on entered span) (move_of_call w) ≡ true) is refl
 call_has s entered span (said.Own op) what e =
     let a = then_ok (shared_tested s span) _ what e in
-    let b = then_ok (entry_tested (open_entries_on entered span) op) _ what a.2 in
+    let b = then_ok (entry_tested (open_count_on entered span) op) _ what a.2 in
     let is : work.Own op ≡ what = cc b.2 in
-    subst (λ (w : WorkerCall). has_entry_for (open_entries_on entered span) (move_of_call w) ≡ true) is (held (unknown_name names.Guard) (has_entry_for (open_entries_on entered span) (move_of op)) b.0 b.1)
+    subst (λ (w : WorkerCall). has_entry_for (open_count_on entered span) (move_of_call w) ≡ true) is (held (unknown_name names.Guard) (has_entry_for (open_count_on entered span) (move_of op)) b.0 b.1)
 
 not_late : (a b : Bool) → not (a || b) ≡ true → b ≡ false
 not_late true b e = absurd (true≢false (sym e))
@@ -150,7 +150,7 @@ timely before at u e = let h = ltb-false LAST_MOMENT at (not_late (nat_lt at bef
 -- A call that passed: it isn't too late, and it exits only what is entered.
 pub record Passed (entered : List ℕ) (o : WorkerOp) : Type 0 where
   pub timed : o.at ≤ GREATEST
-  pub has : has_entry_for (open_entries_on entered o.span) (move_of_call o.what) ≡ true
+  pub has : has_entry_for (open_count_on entered o.span) (move_of_call o.what) ≡ true
 
 passed : (s : ThreadScript) (before : ℕ) (entered : List ℕ) (o : ThreadOp) (op : WorkerOp) → op_tested s before entered o ≡ Ok op → Passed entered op
 passed s before entered o op e =
@@ -168,15 +168,15 @@ none_open (n ∷ entered) (suc k) all low = none_open entered k (both (n == 0) (
 
 -- no call is too late, and on no span of the plan an entry is closed that isn't open, or left open
 pub record Balances (plan : Plan) (entered : List ℕ) (ops : List WorkerOp) : Type 0 where
-  pub timed : AreTimed ops
+  pub timed : MomentsInRange ops
   pub closed : (k : ℕ) → k < length entered → is_balanced (asks_on plan k 0 ops) (slice_index_or entered k 0) ≡ true
 
-more_balances : (plan : Plan) (entered : List ℕ) (o : WorkerOp) (ops : List WorkerOp) → Passed entered o → Balances plan (open_entries_after entered o.span (move_of_call o.what)) ops → Balances plan entered (o ∷ ops)
+more_balances : (plan : Plan) (entered : List ℕ) (o : WorkerOp) (ops : List WorkerOp) → Passed entered o → Balances plan (open_counts_after entered o.span (move_of_call o.what)) ops → Balances plan entered (o ∷ ops)
 more_balances plan entered o ops p b = record {
   timed = (p.timed, b.timed);
   closed = λ k low.
       one_more plan entered k o (asks_on plan k 0 ops) (o.span == k) refl low p.has
-      (b.closed k (omega (arith, low, length-set entered o.span (open_count_after (open_entries_on entered o.span) (move_of_call o.what)))));
+      (b.closed k (omega (arith, low, length-set entered o.span (open_count_after (open_count_on entered o.span) (move_of_call o.what)))));
 }
 
 pub all_balance : (s : ThreadScript) (plan : Plan) (before : ℕ) (entered : List ℕ) (os : List ThreadOp) (ops : List WorkerOp) → ops_tested s before entered os ≡ Ok ops → Balances plan entered ops
@@ -186,7 +186,7 @@ all_balance s plan before entered [] ops e =
     subst (λ (x : List WorkerOp). Balances plan entered x) is (record { timed = tt; closed = λ k low. none_open entered k (held _ _ a.0 a.1) low })
 all_balance s plan before entered (o ∷ os) ops e =
     let a = then_ok (op_tested s before entered o) _ ops e in
-    let b = then_ok (ops_tested s a.0.at (open_entries_after entered a.0.span (move_of_call a.0.what)) os) _ ops a.2 in
+    let b = then_ok (ops_tested s a.0.at (open_counts_after entered a.0.span (move_of_call a.0.what)) os) _ ops a.2 in
     let is : a.0 ∷ b.0 ≡ ops = cc b.2 in
     subst (λ (x : List WorkerOp). Balances plan entered x) is
-    (more_balances plan entered a.0 b.0 (passed s before entered o a.0 a.1) (all_balance s plan a.0.at (open_entries_after entered a.0.span (move_of_call a.0.what)) os b.0 b.1))
+    (more_balances plan entered a.0 b.0 (passed s before entered o a.0 a.1) (all_balance s plan a.0.at (open_counts_after entered a.0.span (move_of_call a.0.what)) os b.0 b.1))

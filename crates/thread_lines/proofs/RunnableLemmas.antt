@@ -19,7 +19,7 @@ use Rattle.thread_lines.specs.declared.line.ThreadLine.{ThreadLine}
 use Rattle.thread_lines.specs.declared.line.ThreadLine.TheVariants as line
 use Rattle.thread_lines.specs.declared.line.ThreadOp.{ThreadOp}
 use Rattle.thread_lines.specs.Runnable.{AreValidSharedLines, IsRunnable}
-use Rattle.thread_lines.specs.Steps.{need, time_tested, lane_tested, last_shared_moment, no_workers, with_shared, with_worker, shared_added, ops_tested, worker_added, line_added, text_added}
+use Rattle.thread_lines.specs.Steps.{need, time_tested, lane_tested, last_shared_moment, has_no_workers, with_shared, with_worker, shared_added, ops_tested, worker_added, line_added, text_added}
 use Rattle.thread_lines.proofs.BalanceLemmas.{then_ok, held, both, timely, all_balance}
 
 is_named : {A : Type 0} (w : What) (o : Option A) (a : A) → need w o ≡ Ok a → is_some o ≡ true
@@ -32,7 +32,7 @@ shared_push : (cs : List Callsite) (ls : List SharedLine) (l : SharedLine) → A
 shared_push cs [] l all low some = ((low, some), tt)
 shared_push cs (x ∷ ls) l all low some = (all.0, shared_push cs ls l all.1 low some)
 
-no_one_tested : (plan : Plan) (workers : List (List WorkerOp)) → no_workers workers ≡ true → AllValidWork plan workers
+no_one_tested : (plan : Plan) (workers : List (List WorkerOp)) → has_no_workers workers ≡ true → AllValidWork plan workers
 no_one_tested plan [] e = tt
 no_one_tested plan (ops ∷ workers) e = absurd (cc e)
 
@@ -46,7 +46,7 @@ with_shared_runs s l t e r =
     let b = then_ok (time_tested (last_shared_moment s.shared) l.at) _ t a.2 in
     let c = then_ok (lane_tested s 0) _ t b.2 in
     let d = then_ok (need what.Site (span_site s.callsites l.site)) _ t c.2 in
-    let room = both (no_workers s.workers) (nat_lt (length s.shared) MAX_SHARED_SPANS) (held _ _ a.0 a.1) in
+    let room = both (has_no_workers s.workers) (nat_lt (length s.shared) MAX_SHARED_SPANS) (held _ _ a.0 a.1) in
     let few = ltb-true (length s.shared) MAX_SHARED_SPANS room.1 in
     let lanes = ltb-true 0 (length s.lanes) (held _ (nat_lt 0 (length s.lanes)) c.0 c.1) in
     let runs : IsRunnable (with_shared s l) = record {

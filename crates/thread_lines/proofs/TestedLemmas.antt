@@ -10,7 +10,7 @@ use Rattle.thread_lines.specs.declared.limits.TheConstants.{MAX_WORKERS}
 use Rattle.thread_lines.specs.declared.stop.ScriptStop.{ScriptStop}
 use Rattle.thread_lines.specs.declared.stop.ScriptStop.TheVariants as stop
 use Rattle.thread_lines.specs.Answers.{AnswersTest, AddsToScript}
-use Rattle.thread_lines.specs.Steps.{◌>>=◌, refuse_unless, lane_tested, last_shared_moment, with_worker, worker_added, move_of_call, open_entries_after, op_tested, ops_tested}
+use Rattle.thread_lines.specs.Steps.{◌>>=◌, refuse_unless, lane_tested, last_shared_moment, with_worker, worker_added, move_of_call, open_counts_after, op_tested, ops_tested}
 
 abbrev pub in_front : {A : Type 0} → List A → Result (List A) Told → Result (List A) Told
 in_front front (Ok more) = Ok (front ++ more)
@@ -29,17 +29,17 @@ moved front op (Ok ops) = ap Ok (append_assoc front (op ∷ []) ops)
 moved front op (Err why) = refl
 
 pub one_passed : (s : ThreadScript) (before : ℕ) (entered after : List ℕ) (front : List WorkerOp) (o : ThreadOp) (os : List ThreadOp) (op : WorkerOp)
-    → op_tested s before entered o ≡ Ok op → after ≡ open_entries_after entered op.span (move_of_call op.what)
+    → op_tested s before entered o ≡ Ok op → after ≡ open_counts_after entered op.span (move_of_call op.what)
     → in_front (front ++ op ∷ []) (ops_tested s op.at after os) ≡ in_front front (ops_tested s before entered (o ∷ os))
 one_passed s before entered after front o os op passed is =
     ap (λ (l : List ℕ). in_front (front ++ op ∷ []) (ops_tested s op.at l os)) is
-    ∙ moved front op (ops_tested s op.at (open_entries_after entered op.span (move_of_call op.what)) os)
-    ∙ ap (λ (r : Result WorkerOp Told). in_front front (r >>= (λ x. ops_tested s x.at (open_entries_after entered x.span (move_of_call x.what)) os >>= (λ ops. Ok (x ∷ ops))))) (sym passed)
+    ∙ moved front op (ops_tested s op.at (open_counts_after entered op.span (move_of_call op.what)) os)
+    ∙ ap (λ (r : Result WorkerOp Told). in_front front (r >>= (λ x. ops_tested s x.at (open_counts_after entered x.span (move_of_call x.what)) os >>= (λ ops. Ok (x ∷ ops))))) (sym passed)
 
 pub one_refused : (s : ThreadScript) (before : ℕ) (entered : List ℕ) (front : List WorkerOp) (o : ThreadOp) (os : List ThreadOp) (w : Told)
     → op_tested s before entered o ≡ Err w → Err w ≡ in_front front (ops_tested s before entered (o ∷ os))
 one_refused s before entered front o os w refused =
-    ap (λ (r : Result WorkerOp Told). in_front front (r >>= (λ x. ops_tested s x.at (open_entries_after entered x.span (move_of_call x.what)) os >>= (λ ops. Ok (x ∷ ops))))) (sym refused)
+    ap (λ (r : Result WorkerOp Told). in_front front (r >>= (λ x. ops_tested s x.at (open_counts_after entered x.span (move_of_call x.what)) os >>= (λ ops. Ok (x ∷ ops))))) (sym refused)
 
 -- ---- at the end
 

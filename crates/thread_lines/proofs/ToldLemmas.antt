@@ -26,7 +26,7 @@ use Rattle.thread_lines.specs.declared.line.ThreadCall.{ThreadCall}
 use Rattle.thread_lines.specs.declared.line.ThreadCall.TheVariants as said
 use Rattle.input_lines.specs.declared.refused_line.RefusedLine.{RefusedLine}
 use Rattle.input_lines.specs.Refusals.{HasRefusalLine}
-use Rattle.thread_lines.specs.Steps.{◌>>=◌, refuse_unless, unknown_name, need, time_tested, lane_tested, directives_tested, script_at_first, script_if_read, script_opened, last_shared_moment, may_add_shared, shared_added, move_of_call, open_entries_on, open_entries_after, shared_tested, entry_tested, call_tested, op_tested, ops_tested, worker_added, line_added, text_added, unless_refused_at, lines_added, script_from, script_of}
+use Rattle.thread_lines.specs.Steps.{◌>>=◌, refuse_unless, unknown_name, need, time_tested, lane_tested, directives_tested, script_at_first, script_if_read, script_opened, last_shared_moment, may_add_shared, shared_added, move_of_call, open_count_on, open_counts_after, shared_tested, entry_tested, call_tested, op_tested, ops_tested, worker_added, line_added, text_added, unless_refused_at, lines_added, script_from, script_of}
 use Rattle.thread_lines.specs.ThreadForm.{thread_form}
 
 -- what refuses is told
@@ -99,7 +99,7 @@ call_told s entered span (said.Event site fields) =
     then_told _ _ (named_told what.Field _) (λ v. none_told _)))
 call_told s entered span (said.Own op) =
     then_told (shared_tested s span) _ (there_told s span) (λ a.
-    then_told (entry_tested (open_entries_on entered span) op) _ (entered_told (open_entries_on entered span) op) (λ b. none_told _))
+    then_told (entry_tested (open_count_on entered span) op) _ (entered_told (open_count_on entered span) op) (λ b. none_told _))
 
 op_told : (s : ThreadScript) (before : ℕ) (entered : List ℕ) (o : ThreadOp) → Tells (op_tested s before entered o)
 op_told s before entered o =
@@ -111,7 +111,7 @@ ops_told s before entered [] =
     then_told _ _ (required_told (told.Step refusal.InUse) (list_all (λ n. n == 0) entered) (step_told refusal.InUse (λ e. cc e))) (λ a. none_told _)
 ops_told s before entered (o ∷ os) =
     then_told (op_tested s before entered o) _ (op_told s before entered o) (λ op.
-    then_told (ops_tested s op.at (open_entries_after entered op.span (move_of_call op.what)) os) _ (ops_told s op.at (open_entries_after entered op.span (move_of_call op.what)) os) (λ ops. none_told _))
+    then_told (ops_tested s op.at (open_counts_after entered op.span (move_of_call op.what)) os) _ (ops_told s op.at (open_counts_after entered op.span (move_of_call op.what)) os) (λ ops. none_told _))
 
 worker_told : (s : ThreadScript) (os : List ThreadOp) → Tells (worker_added s os)
 worker_told s os =

@@ -88,13 +88,13 @@ last_shared_moment [] = 0
 last_shared_moment (l ∷ []) = l.at
 last_shared_moment (l ∷ m ∷ ls) = last_shared_moment (m ∷ ls)
 
-abbrev pub no_workers : List (List WorkerOp) → Bool
-no_workers [] = true
-no_workers (ops ∷ workers) = false
+abbrev pub has_no_workers : List (List WorkerOp) → Bool
+has_no_workers [] = true
+has_no_workers (ops ∷ workers) = false
 
 -- shared spans come before workers, and there is a most
 abbrev pub may_add_shared : ThreadScript → Bool
-may_add_shared s = no_workers s.workers && nat_lt (length s.shared) MAX_SHARED_SPANS
+may_add_shared s = has_no_workers s.workers && nat_lt (length s.shared) MAX_SHARED_SPANS
 
 abbrev pub with_shared : ThreadScript → SharedLine → ThreadScript
 with_shared s l = record s { shared = s.shared ++ l ∷ [] }
@@ -117,11 +117,11 @@ move_of_call (work.Event site values) = stays
 move_of_call (work.Own op) = move_of op
 
 -- how many entries a worker has open on a span, of these numbers for all spans
-abbrev pub open_entries_on : List ℕ → ℕ → ℕ
-open_entries_on entered span = slice_index_or entered span 0
+abbrev pub open_count_on : List ℕ → ℕ → ℕ
+open_count_on entered span = slice_index_or entered span 0
 
-abbrev pub open_entries_after : List ℕ → ℕ → Move → List ℕ
-open_entries_after entered span m = set entered span (open_count_after (open_entries_on entered span) m)
+abbrev pub open_counts_after : List ℕ → ℕ → Move → List ℕ
+open_counts_after entered span m = set entered span (open_count_after (open_count_on entered span) m)
 
 -- there is such a shared span
 abbrev pub shared_tested : ThreadScript → ℕ → Result ⊤ Told
@@ -154,7 +154,7 @@ call_tested s entered span (said.Event site fields) = do
   Ok (work.Event site values)
 call_tested s entered span (said.Own op) = do
   there ← shared_tested s span
-  op_call_tested (open_entries_on entered span) op
+  op_call_tested (open_count_on entered span) op
 
 abbrev pub op_tested : ThreadScript → ℕ → List ℕ → ThreadOp → Result WorkerOp Told
 op_tested s before entered o = do
@@ -167,7 +167,7 @@ abbrev pub ops_tested : ThreadScript → ℕ → List ℕ → List ThreadOp → 
 ops_tested s before entered [] = refuse_unless (told.Step refusal.InUse) (list_all (λ n. n == 0) entered) >>= (λ closed. Ok [])
 ops_tested s before entered (o ∷ os) =
     op_tested s before entered o
-    >>= (λ op. ops_tested s op.at (open_entries_after entered op.span (move_of_call op.what)) os >>= (λ ops. Ok (op ∷ ops)))
+    >>= (λ op. ops_tested s op.at (open_counts_after entered op.span (move_of_call op.what)) os >>= (λ ops. Ok (op ∷ ops)))
 
 -- ---- the line of a worker
 

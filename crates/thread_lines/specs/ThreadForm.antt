@@ -15,7 +15,7 @@ use Rattle.trace_lines.specs.forms.AttributeForm.{otel_value_of, attributes_form
 use Rattle.trace_lines.specs.forms.ExtensionForm.{time_form}
 use Rattle.trace_lines.specs.forms.FieldForm.{fields_of}
 use Rattle.trace_lines.specs.forms.Forms.{Form, ◌>>=◌, give, when, natural, text, member, optional, each, object_of}
-use Rattle.trace_lines.specs.text.Hex.{id_word, long_id_word}
+use Rattle.trace_lines.specs.text.Hex.{id_of_word, long_id_of_word}
 use Rattle.trace_lines.specs.forms.RequestForm.{fields_form}
 
 -- ---- what each word goes on with
@@ -59,10 +59,10 @@ valid_context trace span = if (trace == 0) || (span == 0) then None else Some (r
 
 -- ids are texts of all their digits
 abbrev pub trace_id_of : Data → Option ℕ
-trace_id_of d = option_and_then long_id_word (as_str d)
+trace_id_of d = option_and_then long_id_of_word (as_str d)
 
 abbrev pub span_id_of : Data → Option ℕ
-span_id_of d = option_and_then id_word (as_str d)
+span_id_of d = option_and_then id_of_word (as_str d)
 
 unfoldable pub link_op_form : Form Op
 link_op_form = do

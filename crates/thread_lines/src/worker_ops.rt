@@ -4,7 +4,7 @@ ghost use Rattle.std.specs.Prelude.{◌≡◌, ◌<◌, ◌==◌, IfOk, OnOk, le
 ghost use Rattle.span_script.specs.Fields.{all_values};
 ghost use Rattle.span_script.specs.declared.reply.What.TheVariants.{Field};
 ghost use Rattle.thread_lines.specs.Answers.{AnswersTest};
-ghost use Rattle.thread_lines.specs.Steps.{need, shared_tested, has_entry_for, op_call_tested, move_of_call, open_entries_after, call_tested, op_tested, ops_tested};
+ghost use Rattle.thread_lines.specs.Steps.{need, shared_tested, has_entry_for, op_call_tested, move_of_call, open_counts_after, call_tested, op_tested, ops_tested};
 ghost use Rattle.trace_threads.specs.Moves.{move_of, open_count_after};
 
 use crate::line::{ThreadCall, ThreadOp};
@@ -131,7 +131,7 @@ fn open_count_after_call(entries: u64, call: &WorkerCall) -> Result<u64, Memory>
 fn count_entry(entered: &mut [u64], op: &WorkerOp) -> Result<(), Memory>
     requires { op.now.span < length entered.old }
     ensures len { length entered.new ≡ length entered.old }
-    ensures counted { OnOk result (entered.new ≡ open_entries_after entered.old op.now.span (move_of_call op.now.what)) }
+    ensures counted { OnOk result (entered.new ≡ open_counts_after entered.old op.now.span (move_of_call op.now.what)) }
 {
     let entries = entered[op.span as usize];
     entered[op.span as usize] = open_count_after_call(entries, &op.what)?;
@@ -156,7 +156,7 @@ fn test_and_count(
     requires { length entered.old ≡ length script.now.shared }
     ensures tested { AnswersTest (λ o. o) result (op_tested script.now before entered.old op) }
     ensures len { length entered.new ≡ length entered.old }
-    ensures counted { IfOk result (λ o. entered.new ≡ open_entries_after entered.old o.span (move_of_call o.what)) }
+    ensures counted { IfOk result (λ o. entered.new ≡ open_counts_after entered.old o.span (move_of_call o.what)) }
 {
     let op = test_op(alloc, script, before, entered, op)?;
     count_entry(entered, &op)?;

@@ -10,7 +10,7 @@ use Rattle.thread_lines.specs.Runnable.{IsRunnable}
 use Rattle.thread_lines.specs.Steps.{script_of}
 use Rattle.thread_lines.proofs.StoppedLemmas.{script_stays}
 use Rattle.thread_run.specs.Fits.{AllFit}
-use Rattle.thread_run.specs.Texts.{all_text}
+use Rattle.thread_run.specs.Texts.{ended_text}
 use Rattle.thread_run.specs.Inputs.{accepts_threads, TellsOf, TellsEnded, TellsThreads}
 
 -- what the lines come to, as it was read
@@ -25,10 +25,10 @@ runnable read script is known = subst (λ (r : Read). IfOk r IsRunnable) is know
 pub accepted : (lines : List (List ℕ)) (read : Read) (script : ThreadScript) → read ≡ script_of lines → read ≡ Ok script → accepts_threads lines ≡ true
 accepted lines read script of_lines is = ap is_ok (sym of_lines ∙ is)
 
-pub tells_ended : (lines : List (List ℕ)) (read : Read) (script : ThreadScript) (es slice : List Ended) (text : List ℕ) → read ≡ script_of lines → read ≡ Ok script → AllFit script es → slice ≡ es → text ≡ all_text slice
+pub tells_ended : (lines : List (List ℕ)) (read : Read) (script : ThreadScript) (es slice : List Ended) (text : List ℕ) → read ≡ script_of lines → read ≡ Ok script → AllFit script es → slice ≡ es → text ≡ ended_text slice
     → TellsEnded lines es text
 tells_ended lines read script es slice text of_lines is fits same text_is =
-    subst (λ (r : Read). TellsOf r es text) (sym is ∙ of_lines) (fits, text_is ∙ ap all_text same)
+    subst (λ (r : Read). TellsOf r es text) (sym is ∙ of_lines) (fits, text_is ∙ ap ended_text same)
 
 -- ---- a refused line
 

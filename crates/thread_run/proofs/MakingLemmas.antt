@@ -21,7 +21,7 @@ use Rattle.thread_script.specs.declared.script.ThreadScript.{ThreadScript}
 use Rattle.thread_script.specs.Plans.{plan_of}
 use Rattle.thread_work.specs.Spans.{AreFirsts}
 use Rattle.thread_lines.specs.Runnable.{AreValidSharedLines, IsRunnable}
-use Rattle.thread_run.specs.Spans.{lane_of, IsLane, ids_at, no_values, making_on, shared_making, IsMadeFor, AreMadeUpTo, AreMadeFor}
+use Rattle.thread_run.specs.Spans.{lane_of, IsFirstLane, ids_at, no_values, making_on, shared_making, IsMadeFor, AreMadeUpTo, AreMadeFor}
 
 -- ---- lists
 
@@ -77,7 +77,7 @@ site_low cs [] s l all low = absurd (omega (arith, low))
 site_low cs (x ∷ ls) zero l all low = there_by cs x.site all.0.1
 site_low cs (x ∷ ls) (suc s) l all low = site_low cs ls s l all.1 (omega (arith, low))
 
-making_is : (script : ThreadScript) (place : ℕ) (l : SharedLine) (c : Callsite) (lane : Lane) → place < length script.shared → l ≡ slice_index_or script.shared place l → l.site < length script.callsites → c ≡ slice_index_or script.callsites l.site c → IsLane script.lanes lane
+making_is : (script : ThreadScript) (place : ℕ) (l : SharedLine) (c : Callsite) (lane : Lane) → place < length script.shared → l ≡ slice_index_or script.shared place l → l.site < length script.callsites → c ≡ slice_index_or script.callsites l.site c → IsFirstLane script.lanes lane
     → shared_making script place ≡ Some (making_of c lane script.layer l.at (ids_at place) empty_context no_values)
 making_is script place l c lane low line_is there site_is lane_is =
     ap (option_and_then (making_on script place)) (got script.shared place l low ∙ ap Some (sym line_is))
@@ -93,7 +93,7 @@ is_made script place h m number view making = record {
 
 -- what is made of what a script says, if anything is
 pub made_where : {E : Type 0} (script : ThreadScript) (place : ℕ) (l : SharedLine) (c : Callsite) (lane : Lane) (own : SpanContext) (parent : Context) (values : ValueSet) (r : Result SharedHandle E)
-    → place < length script.shared → l ≡ slice_index_or script.shared place l → l.site < length script.callsites → c ≡ slice_index_or script.callsites l.site c → IsLane script.lanes lane
+    → place < length script.shared → l ≡ slice_index_or script.shared place l → l.site < length script.callsites → c ≡ slice_index_or script.callsites l.site c → IsFirstLane script.lanes lane
     → own ≡ ids_at place → parent ≡ empty_context → values ≡ no_values
     → IfOk r (λ h. h.view ≡ first_view (making_of c lane script.layer l.at own parent values)) → IfOk r (λ h. h.number ≡ 0) → IfOk r (IsMadeFor script place)
 made_where script place l c lane own parent values (Err why) low line_is there site_is lane_is own_is parent_is values_is view number = tt

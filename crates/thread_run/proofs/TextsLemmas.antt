@@ -7,15 +7,15 @@ use Rattle.trace_lines.specs.text.Texts.{record_text, end_text}
 use Rattle.trace_lines.specs.text.Writes.{AddsText}
 use Rattle.trace_lines.specs.text.WrittenText.{WrittenText}
 use Rattle.trace_threads.specs.declared.history.Entry.{Entry}
-use Rattle.thread_run.specs.declared.entry.EntryText.{EntryText}
-use Rattle.thread_run.specs.Texts.{entry_texts_after, entries_line, history_text, spans_text, all_text}
+use Rattle.thread_run.specs.declared.entry.EntryDeed.{EntryDeed}
+use Rattle.thread_run.specs.Texts.{entry_deeds_after, entries_line, history_text, spans_text, ended_text}
 
 -- the line of a span's history was added, and then other bytes
-pub span_added : {E : Type 0} (place : ℕ) (log shown : List Entry) (told slice : List EntryText) (out new behind : List ℕ) (r : Result WrittenText E) → shown ≡ log → told ≡ entry_texts_after [] shown → slice ≡ told → AddsText out new (entries_line place slice)
+pub span_added : {E : Type 0} (place : ℕ) (log shown : List Entry) (told slice : List EntryDeed) (out new behind : List ℕ) (r : Result WrittenText E) → shown ≡ log → told ≡ entry_deeds_after [] shown → slice ≡ told → AddsText out new (entries_line place slice)
     → IfOk r (λ text. text.items ≡ new ++ behind) → IfOk r (λ text. text.items ≡ out ++ (history_text place log ++ behind))
 span_added place log shown told slice out new behind (Ok text) same telling shows adds last =
     last
-    ∙ ap (λ (l : List ℕ). l ++ behind) (adds.0 ∙ ap (λ (t : List EntryText). out ++ entries_line place t) (shows ∙ telling ∙ ap (entry_texts_after []) same))
+    ∙ ap (λ (l : List ℕ). l ++ behind) (adds.0 ∙ ap (λ (t : List EntryDeed). out ++ entries_line place t) (shows ∙ telling ∙ ap (entry_deeds_after []) same))
     ∙ append_assoc out (history_text place log) behind
 span_added place log shown told slice out new behind (Err why) same telling shows adds last = tt
 
@@ -35,6 +35,6 @@ spans_all es i out all past before =
 
 -- the end line was added behind all spans
 pub end_added : {E : Type 0} (es : List Ended) (count : ℕ) (out : List ℕ) (r : Result (Vec ℕ Global) E) → out ≡ spans_text 0 es → count ≡ length es
-    → IfOk r (λ text. text.items ≡ out ++ end_text 0 count) → IfOk r (λ text. text.items ≡ all_text es)
+    → IfOk r (λ text. text.items ≡ out ++ end_text 0 count) → IfOk r (λ text. text.items ≡ ended_text es)
 end_added es count out (Ok text) spans counted last = last ∙ ap (λ (l : List ℕ). l ++ end_text 0 count) spans ∙ ap (λ (n : ℕ). spans_text 0 es ++ end_text 0 n) counted
 end_added es count out (Err why) spans counted last = tt

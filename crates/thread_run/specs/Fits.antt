@@ -7,7 +7,7 @@ use Rattle.trace_threads.specs.Shared.{content_of}
 use Rattle.trace_threads.specs.Turns.{entries}
 use Rattle.thread_script.specs.declared.script.ThreadScript.{ThreadScript}
 use Rattle.thread_script.specs.Asks.{DoesAll}
-use Rattle.thread_script.specs.Plans.{plan_of, asks_of_workers}
+use Rattle.thread_script.specs.Plans.{plan_of, asks_of_worker}
 use Rattle.thread_handles.specs.declared.gather.Ended.{Ended}
 use Rattle.thread_run.specs.Spans.{shared_making}
 
@@ -16,7 +16,7 @@ use Rattle.thread_run.specs.Spans.{shared_making}
 pub record FitsScript (script : ThreadScript) (place : ℕ) (log : List Entry) (finished : Record) : Type 0 where
   pub making : Making
   pub of_span : shared_making script place ≡ Some making
-  pub does : DoesAll making.made_at (length script.workers) (asks_of_workers (plan_of script) place making.made_at script.workers) log
+  pub does : DoesAll making.made_at (length script.workers) (asks_of_worker (plan_of script) place making.made_at script.workers) log
   pub content : finished ≡ content_of making log
 
 -- the pass that comes with it is of a span that was made so, and has seen just that history

@@ -17,8 +17,8 @@ abbrev pub lane_of : ℕ × Option (List ℕ) → Lane
 lane_of l = record { id = l.0; name = l.1; default = None; contexts = record { live = []; room = 0 } }
 
 -- such a lane stands for the first of these
-abbrev pub IsLane : List (ℕ × Option (List ℕ)) → Lane → Type 0
-IsLane lanes lane = slice_get lanes 0 ≡ Some (lane.id, lane.name)
+abbrev pub IsFirstLane : List (ℕ × Option (List ℕ)) → Lane → Type 0
+IsFirstLane lanes lane = slice_get lanes 0 ≡ Some (lane.id, lane.name)
 
 -- the ids of the shared span at a place
 abbrev pub ids_at : ℕ → SpanContext

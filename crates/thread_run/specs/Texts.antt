@@ -7,7 +7,7 @@ use Rattle.trace_lines.specs.text.Texts.{record_text, end_text}
 use Rattle.trace_threads.specs.declared.history.Entry.{Entry}
 use Rattle.trace_threads.specs.declared.history.HandleAct.{HandleAct}
 use Rattle.trace_threads.specs.declared.history.HandleAct.TheVariants.{Clone, Call, Join, Release}
-use Rattle.thread_run.specs.declared.entry.EntryText.{EntryText}
+use Rattle.thread_run.specs.declared.entry.EntryDeed.{EntryDeed}
 use Rattle.thread_run.specs.declared.entry.Deed.{Deed}
 use Rattle.thread_run.specs.declared.entry.Deed.TheVariants as deed
 use Rattle.thread_handles.specs.declared.gather.Ended.{Ended}
@@ -34,13 +34,13 @@ deed_after before k (Call op) = deed.Call (call_count k before)
 deed_after before k (Join n) = deed.Join
 deed_after before k Release = deed.Release
 
-abbrev pub entry_text_after : List Entry → Entry → EntryText
-entry_text_after before e = record { caller = e.caller; deed = deed_after before e.caller e.what }
+abbrev pub entry_deed_after : List Entry → Entry → EntryDeed
+entry_deed_after before e = record { caller = e.caller; deed = deed_after before e.caller e.what }
 
 -- what the entries of a history tell, some having come before
-abbrev pub entry_texts_after : List Entry → List Entry → List EntryText
-entry_texts_after before [] = []
-entry_texts_after before (e ∷ log) = entry_text_after before e ∷ entry_texts_after (before ++ e ∷ []) log
+abbrev pub entry_deeds_after : List Entry → List Entry → List EntryDeed
+entry_deeds_after before [] = []
+entry_deeds_after before (e ∷ log) = entry_deed_after before e ∷ entry_deeds_after (before ++ e ∷ []) log
 
 abbrev pub deed_data : Deed → Data
 deed_data deed.Clone = string (codes "clone")
@@ -48,21 +48,21 @@ deed_data deed.Join = string (codes "join")
 deed_data deed.Release = string (codes "release")
 deed_data (deed.Call k) = whole_number k
 
-abbrev pub entry_data : EntryText → Data
+abbrev pub entry_data : EntryDeed → Data
 entry_data e = array (item (whole_number e.caller) (item (deed_data e.deed) no_items))
 
 -- what the entries of the shared span at a place tell
-abbrev pub history_data : ℕ → List EntryText → Data
+abbrev pub history_data : ℕ → List EntryDeed → Data
 history_data place told = object (by_name (
     (codes "history", array_of entry_data told)
     ∷ (codes "shared", whole_number place) ∷ []))
 
-unfoldable pub entries_line : ℕ → List EntryText → List ℕ
+unfoldable pub entries_line : ℕ → List EntryDeed → List ℕ
 entries_line place told = line_of (history_data place told)
 
 -- the line of a history
 abbrev pub history_text : ℕ → List Entry → List ℕ
-history_text place log = entries_line place (entry_texts_after [] log)
+history_text place log = entries_line place (entry_deeds_after [] log)
 
 -- a history line and a record line for each shared span, so many having come before
 abbrev pub spans_text : ℕ → List Ended → List ℕ
@@ -70,5 +70,5 @@ spans_text place [] = []
 spans_text place (e ∷ es) = (history_text place e.history ++ record_text (place + 1) e.finished) ++ spans_text (place + 1) es
 
 -- then the end line: no span is open
-abbrev pub all_text : List Ended → List ℕ
-all_text es = spans_text 0 es ++ end_text 0 (length es)
+abbrev pub ended_text : List Ended → List ℕ
+ended_text es = spans_text 0 es ++ end_text 0 (length es)

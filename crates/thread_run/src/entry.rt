@@ -1,6 +1,6 @@
 //! What the entries of a history tell.
 ghost use Rattle.std.specs.Prelude.{◌≡◌, ◌+◌, ◌<◌, ◌==◌, ℕ, List, [], ◌∷◌, ◌++◌, IfOk, OnOk, if◌then◌else◌, slice_index_or, vec_len};
-ghost use Rattle.thread_run.specs.Texts.{CallsAreCounted, deed_after, entry_texts_after};
+ghost use Rattle.thread_run.specs.Texts.{CallsAreCounted, deed_after, entry_deeds_after};
 ghost use Rattle.trace_threads.specs.declared.history.Entry.{Entry};
 
 use otel_base::memory::Memory;
@@ -9,7 +9,7 @@ use trace_threads::history::{Entry, HandleAct};
 
 /// What an entry of a history tells.
 #[derive(Clone, Copy)]
-pub struct EntryText {
+pub struct EntryDeed {
     /// The number of the handle.
     pub caller: u64,
     /// What it did.
@@ -43,7 +43,7 @@ fn ensure_count(counts: &mut Vec<u64>, at: usize) -> Result<(), Memory>
 
 // The number of a caller's next call, by those that were counted, which is counted. No span has so many calls that a sum
 // wraps.
-fn next_call(counts: &mut Vec<u64>, caller: u64) -> Result<u64, Memory>
+fn take_call_number(counts: &mut Vec<u64>, caller: u64) -> Result<u64, Memory>
     ensures number { IfOk result (λ n. n ≡ slice_index_or counts.old.items caller 0) }
     ensures counted { OnOk result ((k : ℕ) → slice_index_or counts.new.items k 0
         ≡ (if caller == k then slice_index_or counts.old.items k 0 + 1 else slice_index_or counts.old.items k 0)) }
@@ -65,7 +65,7 @@ fn deed_of(counts: &mut Vec<u64>, entry: &Entry) -> Result<Deed, Memory>
     match &entry.what {
         HandleAct::Clone { new: _ } => Ok(Deed::Clone),
         HandleAct::Call { op: _ } => {
-            let number = next_call(counts, entry.caller)?;
+            let number = take_call_number(counts, entry.caller)?;
             Ok(Deed::Call { number })
         }
         HandleAct::Join { ended: _ } => Ok(Deed::Join),
@@ -74,14 +74,14 @@ fn deed_of(counts: &mut Vec<u64>, entry: &Entry) -> Result<Deed, Memory>
 }
 
 /// What the entries of a history tell, in order.
-pub(crate) fn entry_texts(alloc: Global, history: &[Entry]) -> Result<Vec<EntryText>, Memory>
-    ensures { IfOk result (λ told. told.items ≡ entry_texts_after [] history.now) }
+pub(crate) fn entry_deeds(alloc: Global, history: &[Entry]) -> Result<Vec<EntryDeed>, Memory>
+    ensures { IfOk result (λ told. told.items ≡ entry_deeds_after [] history.now) }
 {
     let mut counts = Vec::new(alloc);
     let mut told = Vec::new(alloc);
     for entry in history {
         let deed = deed_of(&mut counts, entry)?;
-        told.push(EntryText {
+        told.push(EntryDeed {
             caller: entry.caller,
             deed,
         })?;

@@ -27,7 +27,7 @@ pub struct ThreadsOutcome {
 /// What comes of the script for threads that these bytes are, or its refusal line alone. It waits for the threads of its
 /// workers, and `turns` is called round each of their calls. `Memory` freely.
 #[tactic(auto, using(crate::proofs::InputLemmas::runnable, crate::proofs::InputLemmas::accepted, crate::proofs::InputLemmas::tells_ended, crate::proofs::InputLemmas::told_of, crate::proofs::InputLemmas::tells_refused, crate::proofs::InputLemmas::not_accepted))]
-pub fn threads_answer<R: Threads + Wait + Sync, T: Turnstile + Sync>(
+pub fn threads_outcome<R: Threads + Wait + Sync, T: Turnstile + Sync>(
     rt: &R,
     alloc: Global,
     turns: &T,

@@ -1,7 +1,7 @@
 //! The shared spans of a script, before any worker.
 ghost use Rattle.std.specs.Prelude.{◌≡◌, ◌<◌, ◌≤◌, [], length, IfOk, OnOk, vec_capacity};
 ghost use Rattle.thread_lines.specs.Runnable.{IsRunnable};
-ghost use Rattle.thread_run.specs.Spans.{IsMadeFor, AreMadeFor, IsLane};
+ghost use Rattle.thread_run.specs.Spans.{IsMadeFor, AreMadeFor, IsFirstLane};
 
 use otel_base::context::{Context, SpanContext};
 use otel_base::list::Items;
@@ -19,7 +19,7 @@ use trace_threads::handle::Handle;
 // The lane on which the spans are made, which is the first.
 fn first_lane(alloc: Global, lanes: &[(u64, Option<Text>)]) -> Result<Lane, Memory>
     requires { 0 < length lanes.now }
-    ensures { IfOk result (IsLane lanes.now) }
+    ensures { IfOk result (IsFirstLane lanes.now) }
 {
     let (id, name) = &lanes[0];
     Ok(Lane {

@@ -4,9 +4,9 @@ ghost use Rattle.serde_json.specs.Written.{compact_text};
 ghost use Rattle.trace_lines.specs.reading.Object.{array_of};
 ghost use Rattle.trace_lines.specs.text.Texts.{record_text};
 ghost use Rattle.trace_lines.specs.text.Writes.{Writes};
-ghost use Rattle.thread_run.specs.Texts.{deed_data, entry_data, history_text, entries_line, spans_text, all_text};
+ghost use Rattle.thread_run.specs.Texts.{deed_data, entry_data, history_text, entries_line, spans_text, ended_text};
 
-use crate::entry::{Deed, EntryText, entry_texts};
+use crate::entry::{Deed, EntryDeed, entry_deeds};
 use otel_base::memory::Memory;
 use std::alloc::{AllocError, Global};
 use thread_handles::Ended;
@@ -26,7 +26,7 @@ fn add_deed(out: &mut TextBuffer, front: &str, deed: Deed) -> Result<(), AllocEr
 }
 
 // Adds an entry.
-fn add_entry(out: &mut TextBuffer, front: &str, entry: &EntryText) -> Result<(), AllocError>
+fn add_entry(out: &mut TextBuffer, front: &str, entry: &EntryDeed) -> Result<(), AllocError>
     ensures { Writes result out.old out.new (front.now ++ compact_text (entry_data entry.now)) }
 {
     add(out, front)?;
@@ -37,7 +37,7 @@ fn add_entry(out: &mut TextBuffer, front: &str, entry: &EntryText) -> Result<(),
 }
 
 // Adds the entries of a history.
-fn add_entries(out: &mut TextBuffer, front: &str, entries: &[EntryText]) -> Result<(), AllocError>
+fn add_entries(out: &mut TextBuffer, front: &str, entries: &[EntryDeed]) -> Result<(), AllocError>
     ensures { Writes result out.old out.new (front.now ++ compact_text (array_of entry_data entries.now)) }
 {
     add(out, front)?;
@@ -52,7 +52,7 @@ fn add_entries(out: &mut TextBuffer, front: &str, entries: &[EntryText]) -> Resu
 }
 
 // Adds the line of what the entries of a span tell.
-fn add_history(out: &mut TextBuffer, place: u64, entries: &[EntryText]) -> Result<(), AllocError>
+fn add_history(out: &mut TextBuffer, place: u64, entries: &[EntryDeed]) -> Result<(), AllocError>
     ensures { Writes result out.old out.new (entries_line place entries.now) }
 {
     add_entries(out, "{\"history\":", entries)?;
@@ -69,7 +69,7 @@ fn add_span(alloc: Global, out: TextBuffer, place: u64, ended: &Ended) -> Result
     ensures { IfOk result (λ text. text.items ≡ out.items ++ (history_text place ended.now.history ++ record_text (place + 1) ended.now.finished)) }
 {
     let mut out = out;
-    let entries = entry_texts(alloc, ended.history.as_slice())?;
+    let entries = entry_deeds(alloc, ended.history.as_slice())?;
     add_history(&mut out, place, entries.as_slice())?;
     add_record_line(&mut out, place + 1, &ended.finished)?;
     Ok(out)
@@ -78,7 +78,7 @@ fn add_span(alloc: Global, out: TextBuffer, place: u64, ended: &Ended) -> Result
 /// The lines of what came of a script: for each span its history and its record, and then the end line. `Memory` freely.
 #[tactic(auto, using(crate::proofs::TextsLemmas::spans_more, crate::proofs::TextsLemmas::spans_all, crate::proofs::TextsLemmas::end_added))]
 pub fn ended_text(alloc: Global, ended: &[Ended]) -> Result<Vec<u8>, Memory>
-    ensures { IfOk result (λ text. text.items ≡ all_text ended.now) }
+    ensures { IfOk result (λ text. text.items ≡ ended_text ended.now) }
 {
     let mut out = TextBuffer::new(alloc);
     for place in 0..ended.len() {

@@ -7,7 +7,7 @@ use Rattle.trace_base.specs.Field.{place_of}
 use Rattle.otel_state.specs.declared.op.Op.{Op}
 use Rattle.otel_state.specs.declared.op.Op.TheVariants.{Update}
 use Rattle.otel_state.specs.declared.times.TheConstants.{GREATEST}
-use Rattle.otel_state.specs.fields.EventFields.{event_of}
+use Rattle.otel_state.specs.fields.EventFields.{event_op}
 use Rattle.otel_state.specs.fields.SpanFields.{span_update}
 use Rattle.event_gate.specs.declared.levels.Levels.{Levels}
 use Rattle.event_gate.specs.Rules.{gate_rule, fixed_text_filter}
@@ -56,7 +56,7 @@ op_of_record plan fields (Some c) = Some (Update (span_update c (values_of c fie
 -- an event is told if the filter lets it through
 abbrev pub op_of_admitted_event : Plan → ℕ → ValueSet → Option Callsite → Option Op
 op_of_admitted_event plan at values None = None
-op_of_admitted_event plan at values (Some c) = if text_admits plan.filter c then Some (event_of c values plan.layer at) else None
+op_of_admitted_event plan at values (Some c) = if text_admits plan.filter c then Some (event_op c values plan.layer at) else None
 
 abbrev pub op_of_call : Plan → ℕ → ℕ → WorkerCall → Option Op
 op_of_call plan s at (calls.Record fields) = op_of_record plan fields (shared_callsite plan s)
@@ -93,12 +93,12 @@ release_moment made None = made
 release_moment made (Some at) = at
 
 -- no moment is too great
-abbrev pub AreTimed : List WorkerOp → Type 0
-AreTimed [] = Unit {0}
-AreTimed (o ∷ ops) = (o.at ≤ GREATEST) × AreTimed ops
+abbrev pub MomentsInRange : List WorkerOp → Type 0
+MomentsInRange [] = Unit {0}
+MomentsInRange (o ∷ ops) = (o.at ≤ GREATEST) × MomentsInRange ops
 
 -- what each worker asks of the span s, which was made at this moment
-abbrev pub asks_of_workers : Plan → ℕ → ℕ → List (List WorkerOp) → ℕ → List Ask
-asks_of_workers plan s made [] w = []
-asks_of_workers plan s made (ops ∷ workers) zero = asks_on plan s (release_moment made (last_moment ops)) ops
-asks_of_workers plan s made (ops ∷ workers) (suc w) = asks_of_workers plan s made workers w
+abbrev pub asks_of_worker : Plan → ℕ → ℕ → List (List WorkerOp) → ℕ → List Ask
+asks_of_worker plan s made [] w = []
+asks_of_worker plan s made (ops ∷ workers) zero = asks_on plan s (release_moment made (last_moment ops)) ops
+asks_of_worker plan s made (ops ∷ workers) (suc w) = asks_of_worker plan s made workers w

@@ -3,11 +3,11 @@ use Rattle.std.specs.Prelude.{◌≡◌, ℕ, ◌<◌, List, [], ◌∷◌, leng
 use Rattle.thread_script.specs.declared.plan.Plan.{Plan}
 use Rattle.thread_script.specs.declared.script.WorkerOp.{WorkerOp}
 use Rattle.thread_script.specs.Asks.{is_balanced}
-use Rattle.thread_script.specs.Plans.{AreTimed, asks_on}
+use Rattle.thread_script.specs.Plans.{MomentsInRange, asks_on}
 
 -- No call is made too late. On no span does a worker close an entry that it hasn't opened there, and it leaves none open.
 pub record IsValidWork (plan : Plan) (ops : List WorkerOp) : Type 0 where
-  pub timed : AreTimed ops
+  pub timed : MomentsInRange ops
   pub closed : (s : ℕ) → s < length plan.shared → is_balanced (asks_on plan s 0 ops) 0 ≡ true
 
 abbrev pub AllValidWork : Plan → List (List WorkerOp) → Type 0

@@ -67,7 +67,7 @@ fn record_op(
 }
 
 // What an event tells a span, if its callsite is there and the filter lets it through.
-fn admitted_event<G: EventGate>(
+fn admitted_event_op<G: EventGate>(
     alloc: Global,
     plan: &Plan,
     gate: &mut G,
@@ -108,7 +108,7 @@ pub fn op_of<G: EventGate>(
 {
     match what {
         WorkerCall::Record { fields } => record_op(alloc, plan, span, fields),
-        WorkerCall::Event { site, values } => admitted_event(
+        WorkerCall::Event { site, values } => admitted_event_op(
             alloc, plan, gate, levels, at, site, values,
         ),
         WorkerCall::Own { op } => Ok(Some(op)),

@@ -1,9 +1,9 @@
 //! One span on which several threads write, each through a handle of its own.
 ghost use Rattle.std.specs.Prelude.{◌≡◌, ◌<◌};
 ghost use Rattle.std.specs.Thread.{IsSync};
-ghost use Rattle.trace_threads.specs.Handles.{open_of, IsSameHandle};
+ghost use Rattle.trace_threads.specs.Handles.{open_count_of, IsSameHandle};
 
-use crate::spans::{SPAN_IDS, alone, span};
+use crate::spans::{SPAN_IDS, lone_state, span};
 use otel_base::memory::Memory;
 use otel_base::record::Record;
 use otel_base::text::Text;
@@ -23,7 +23,7 @@ const CALLS: u16 = 1000;
 // Adds an attribute that tells a number.
 fn write<R: Wait>(rt: &R, alloc: Global, handle: &mut Handle, number: u16) -> bool
     ensures same { IsSameHandle handle.old handle.new }
-    ensures idle { open_of handle.new ≡ open_of handle.old }
+    ensures idle { open_count_of handle.new ≡ open_count_of handle.old }
 {
     let pair = KeyValue {
         key: Text::from_word(Word::Target),
@@ -35,7 +35,7 @@ fn write<R: Wait>(rt: &R, alloc: Global, handle: &mut Handle, number: u16) -> bo
 // Writes the numbers from 0 on, each in a call.
 fn write_all<R: Wait>(rt: &R, alloc: Global, handle: &mut Handle) -> bool
     ensures same { IsSameHandle handle.old handle.new }
-    ensures idle { open_of handle.new ≡ open_of handle.old }
+    ensures idle { open_count_of handle.new ≡ open_count_of handle.old }
 {
     let mut is_done = true;
     for number in 0..CALLS {
@@ -53,7 +53,7 @@ fn write_by<R: Threads + Wait + Sync>(
 ) -> bool
     requires { IsSync R.row }
     ensures same { IsSameHandle handle.old handle.new }
-    ensures idle { open_of handle.new ≡ open_of handle.old }
+    ensures idle { open_count_of handle.new ≡ open_count_of handle.old }
 {
     if others == 0 {
         return write_all(rt, alloc, handle);
@@ -66,7 +66,7 @@ fn write_by<R: Threads + Wait + Sync>(
                 &mut || -> bool
                     requires { IsSync R.row × (0 < others) }
                     ensures same { IsSameHandle other.entry other.exit }
-                    ensures idle { open_of other.exit ≡ open_of other.entry }
+                    ensures idle { open_count_of other.exit ≡ open_count_of other.entry }
                 { write_by(rt, alloc, &mut other, others - 1) },
             );
             handle.join(rt, other, 7);
@@ -90,7 +90,7 @@ fn number_of(op: &Op) -> i64 {
 }
 
 // Whether an op is the next one of its handle, if there are so many handles.
-fn is_next(next: &mut [i64], caller: u64, op: &Op) -> bool {
+fn check_next(next: &mut [i64], caller: u64, op: &Op) -> bool {
     match next.get_mut(caller.min(99) as usize) {
         Some(next) => {
             let is_next = *next == number_of(op);
@@ -106,7 +106,7 @@ fn apply_next(state: &mut SpanState, entry: &Entry, next: &mut [i64]) -> Result<
     match &entry.what {
         HandleAct::Call { op } => {
             state.apply(entry.at, op.clone()?)?;
-            Ok(is_next(next, entry.caller, op))
+            Ok(check_next(next, entry.caller, op))
         }
         _ => Ok(true),
     }
@@ -128,7 +128,7 @@ fn is_in_turn(
     record: &Record,
     next: &mut [i64],
 ) -> Result<bool, Memory> {
-    let mut state = alone(alloc)?;
+    let mut state = lone_state(alloc)?;
     let is_in_order = apply_all(&mut state, history, next)?;
     state.apply(11, Op::Start { own: SPAN_IDS })?;
     Ok(is_in_order && is_same_record(&state.close(11), record))
@@ -178,7 +178,7 @@ fn is_same(one: &KeyValue, other: &KeyValue) -> bool {
 }
 
 // Whether some threads and this one write on a span, and its history and record are what they wrote.
-fn is_written<R: Threads + Wait + Sync>(
+fn write_and_check<R: Threads + Wait + Sync>(
     rt: &R,
     alloc: Global,
     others: u8,
@@ -198,7 +198,7 @@ fn is_written<R: Threads + Wait + Sync>(
 #[test]
 fn two_threads_write(rt: HostRuntime) -> Result<(), Fail> {
     let mut next = [0; 2];
-    let is_written = is_written(&rt, rt.alloc(), 1, &mut next)?;
+    let is_written = write_and_check(&rt, rt.alloc(), 1, &mut next)?;
     assert!(rt; is_written && next == [1000; 2]);
     Ok(())
 }
@@ -206,7 +206,7 @@ fn two_threads_write(rt: HostRuntime) -> Result<(), Fail> {
 #[test]
 fn eight_threads_write(rt: HostRuntime) -> Result<(), Fail> {
     let mut next = [0; 8];
-    let is_written = is_written(&rt, rt.alloc(), 7, &mut next)?;
+    let is_written = write_and_check(&rt, rt.alloc(), 7, &mut next)?;
     assert!(rt; is_written && next == [1000; 8]);
     Ok(())
 }

@@ -1,6 +1,6 @@
 //! One span that two handles of one thread share.
 ghost use Rattle.std.specs.Prelude.{◌≡◌, IfOk};
-ghost use Rattle.trace_threads.specs.Handles.{open_of, IsSameHandle};
+ghost use Rattle.trace_threads.specs.Handles.{open_count_of, IsSameHandle};
 
 use crate::spans::{SPAN_IDS, span};
 use otel_base::context::{Context, SpanContext};
@@ -17,7 +17,7 @@ use trace_threads::history::{Entry, HandleAct};
 // Two handles of one span: the first, and a clone.
 fn two_handles<R: Wait>(rt: &R, alloc: Global) -> Result<(Handle, Handle), Memory>
     ensures span { IfOk result (λ two. two.1.span ≡ two.0.span) }
-    ensures idle { IfOk result (λ two. (open_of two.0 ≡ 0) × (open_of two.1 ≡ 0)) }
+    ensures idle { IfOk result (λ two. (open_count_of two.0 ≡ 0) × (open_count_of two.1 ≡ 0)) }
 {
     let mut first = span(alloc)?;
     match first.clone_handle(rt, 7) {
@@ -30,20 +30,20 @@ fn two_handles<R: Wait>(rt: &R, alloc: Global) -> Result<(Handle, Handle), Memor
 }
 
 // Joins another handle of the same span.
-fn meet<R: Wait>(rt: &R, handle: &mut Handle, other: Handle)
+fn join_handle<R: Wait>(rt: &R, handle: &mut Handle, other: Handle)
     requires span { other.span ≡ handle.old.span }
-    requires idle { open_of other ≡ 0 }
+    requires idle { open_count_of other ≡ 0 }
     ensures same { IsSameHandle handle.old handle.new }
-    ensures idle { open_of handle.new ≡ open_of handle.old }
+    ensures idle { open_count_of handle.new ≡ open_count_of handle.old }
 {
     handle.join(rt, other, 6);
 }
 
 // Enters and exits in two turns.
 fn enter_and_exit<R: Wait>(rt: &R, handle: &mut Handle) -> bool
-    requires idle { open_of handle.old ≡ 0 }
+    requires idle { open_count_of handle.old ≡ 0 }
     ensures same { IsSameHandle handle.old handle.new }
-    ensures idle { open_of handle.new ≡ 0 }
+    ensures idle { open_count_of handle.new ≡ 0 }
 {
     if handle.call(rt, 8, Op::Enter).is_err() {
         return false;
@@ -54,7 +54,7 @@ fn enter_and_exit<R: Wait>(rt: &R, handle: &mut Handle) -> bool
 // Sets the parent at a moment long past, and tells at which place, and whether it was set.
 fn set_parent<R: Wait>(rt: &R, handle: &mut Handle) -> Option<(u64, bool)>
     ensures same { IsSameHandle handle.old handle.new }
-    ensures idle { open_of handle.new ≡ open_of handle.old }
+    ensures idle { open_count_of handle.new ≡ open_count_of handle.old }
 {
     let context = Context {
         span: Some(SPAN_IDS),
@@ -68,17 +68,17 @@ fn set_parent<R: Wait>(rt: &R, handle: &mut Handle) -> Option<(u64, bool)>
 // Starts the span, with ids that aren't its own.
 fn start<R: Wait>(rt: &R, handle: &mut Handle)
     ensures same { IsSameHandle handle.old handle.new }
-    ensures idle { open_of handle.new ≡ open_of handle.old }
+    ensures idle { open_count_of handle.new ≡ open_count_of handle.old }
 {
     let own = SpanContext { trace: 1, span: 1 };
     let _ = handle.call(rt, 9, Op::Start { own });
 }
 
 // Two handles call by turns, and tells whether each call was answered as it should.
-fn calls_by_turns<R: Wait>(rt: &R, first: &mut Handle, second: &mut Handle) -> bool
-    requires idle { open_of first.old ≡ 0 }
+fn call_by_turns<R: Wait>(rt: &R, first: &mut Handle, second: &mut Handle) -> bool
+    requires idle { open_count_of first.old ≡ 0 }
     ensures same { IsSameHandle first.old first.new × IsSameHandle second.old second.new }
-    ensures idle { (open_of first.new ≡ 0) × (open_of second.new ≡ open_of second.old) }
+    ensures idle { (open_count_of first.new ≡ 0) × (open_count_of second.new ≡ open_count_of second.old) }
 {
     let entered = enter_and_exit(rt, first);
     let before = set_parent(rt, second);
@@ -114,7 +114,7 @@ fn other_of(what: &HandleAct) -> Option<u64> {
     }
 }
 
-fn is_entry(entry: &Entry, wanted: &(u64, u64, &str, Option<u64>)) -> bool {
+fn is_wanted_entry(entry: &Entry, wanted: &(u64, u64, &str, Option<u64>)) -> bool {
     let (caller, at, word, other) = *wanted;
     entry.caller == caller
         && entry.at == at
@@ -127,14 +127,14 @@ fn has_entries(history: &[Entry], wanted: &[(u64, u64, &str, Option<u64>)]) -> b
         return false;
     }
     for i in 0..history.len() {
-        if !is_entry(&history[i], &wanted[i]) {
+        if !is_wanted_entry(&history[i], &wanted[i]) {
             return false;
         }
     }
     true
 }
 
-fn is_whole(history: &[Entry]) -> bool {
+fn is_wanted_history(history: &[Entry]) -> bool {
     has_entries(
         history,
         &[
@@ -173,9 +173,9 @@ fn is_its_record(record: &Record) -> bool {
         )
 }
 
-fn are_told(released: &Released) -> bool {
+fn is_closed_as_wanted(released: &Released) -> bool {
     match &released.closed {
-        Some((history, record)) => is_whole(history.as_slice()) && is_its_record(record),
+        Some((history, record)) => is_wanted_history(history.as_slice()) && is_its_record(record),
         None => false,
     }
 }
@@ -183,10 +183,10 @@ fn are_told(released: &Released) -> bool {
 #[test]
 fn one_thread_clones_calls_and_joins(rt: HostRuntime) -> Result<(), Fail> {
     let (mut first, mut second) = two_handles(&rt, rt.alloc())?;
-    let are_answered = calls_by_turns(&rt, &mut first, &mut second);
+    let are_answered = call_by_turns(&rt, &mut first, &mut second);
     let numbers = (first.number(), second.number());
-    meet(&rt, &mut first, second);
-    let are_told = are_told(&first.release(&rt, 11));
+    join_handle(&rt, &mut first, second);
+    let are_told = is_closed_as_wanted(&first.release(&rt, 11));
     assert!(rt; are_answered && are_told && numbers == (0, 1));
     Ok(())
 }
@@ -194,7 +194,7 @@ fn one_thread_clones_calls_and_joins(rt: HostRuntime) -> Result<(), Fail> {
 // Releases two handles, and tells whether the last release alone closed the span.
 fn closes_at_the_last<R: Wait>(rt: &R, first: Handle, second: Handle) -> bool
     requires span { second.span ≡ first.span }
-    requires idle { (open_of first ≡ 0) × (open_of second ≡ 0) }
+    requires idle { (open_count_of first ≡ 0) × (open_count_of second ≡ 0) }
 {
     let Released { mut pass, closed } = first.release(rt, 7);
     let Released {

@@ -1,6 +1,6 @@
 //! The span that the tests share, and the same with nobody to share it.
 ghost use Rattle.std.specs.Prelude.{◌≡◌, IfOk};
-ghost use Rattle.trace_threads.specs.Handles.{open_of};
+ghost use Rattle.trace_threads.specs.Handles.{open_count_of};
 
 use otel_base::context::{Context, SpanContext};
 use otel_base::list::Items;
@@ -21,7 +21,7 @@ pub const SPAN_IDS: SpanContext = SpanContext { trace: 7, span: 9 };
 
 /// The first handle of a span that is made at moment 5 on the lane 4, with 3 in its field `a`.
 pub fn span(alloc: Global) -> Result<Handle, Memory>
-    ensures { IfOk result (λ h. open_of h ≡ 0) }
+    ensures { IfOk result (λ h. open_count_of h ≡ 0) }
 {
     Handle::make(
         alloc,
@@ -36,8 +36,16 @@ pub fn span(alloc: Global) -> Result<Handle, Memory>
 }
 
 /// The state of a span that is made as the shared one, with nobody to share it.
-pub fn alone(alloc: Global) -> Result<SpanState, Memory> {
-    let mut state = SpanState::new(alloc, "s", Context::empty(), 5, first(alloc)?, false, true)?;
+pub fn lone_state(alloc: Global) -> Result<SpanState, Memory> {
+    let mut state = SpanState::new(
+        alloc,
+        "s",
+        Context::empty(),
+        5,
+        start_attributes(alloc)?,
+        false,
+        true,
+    )?;
     state.apply(
         5,
         Op::Update {
@@ -47,7 +55,7 @@ pub fn alone(alloc: Global) -> Result<SpanState, Memory> {
     Ok(state)
 }
 
-fn first(alloc: Global) -> Result<Items<KeyValue>, Memory> {
+fn start_attributes(alloc: Global) -> Result<Items<KeyValue>, Memory> {
     let settings = LayerSettings::default();
     first_attributes(alloc, &callsite(alloc)?, &lane(alloc), &settings, 0)
 }

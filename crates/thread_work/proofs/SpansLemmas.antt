@@ -13,11 +13,11 @@ use Rattle.trace_threads.specs.Handles.{SharedHandle}
 use Rattle.thread_script.specs.declared.plan.Plan.{Plan}
 use Rattle.thread_script.specs.declared.script.WorkerOp.{WorkerOp}
 use Rattle.thread_script.specs.Asks.{Ask, is_balanced}
-use Rattle.thread_script.specs.Plans.{last_moment, release_moment, with_ask, op_on_span, asks_on, asks_of_workers}
+use Rattle.thread_script.specs.Plans.{last_moment, release_moment, with_ask, op_on_span, asks_on, asks_of_worker}
 use Rattle.thread_handles.specs.declared.job.Job.{Job}
 use Rattle.thread_handles.specs.declared.gather.Ended.{Ended}
 use Rattle.thread_handles.specs.Gathers.{IsEnded}
-use Rattle.thread_handles.specs.Works.{asks_of, AllAtWork, IsAtWork, AreMade, IsReadyWorker, IsLeft}
+use Rattle.thread_handles.specs.Works.{asks_of, AllAtWork, IsAtWork, AreMadeAsPlanned, IsReadyWorker, IsLeft}
 use Rattle.thread_handles.specs.Shares.{IsFresh, IsShared}
 use Rattle.thread_handles.specs.Columns.{column, AllComeToClosed, AreJoined}
 use Rattle.thread_handles.proofs.GatheredLemmas.{asks_plain}
@@ -38,12 +38,12 @@ pub part_plain : (plan : Plan) (s at : ℕ) (ops : List WorkerOp) → asks_plain
 part_plain plan s at [] = refl
 part_plain plan s at (o ∷ ops) = by_part o.at (op_on_span plan s o) (asks_on plan s at ops) (part_plain plan s at ops)
 
-parts_plain : {G : Type 0} (plan : Plan) (s made : ℕ) (jobs : List (Job G)) (w : ℕ) → w < length jobs → asks_plain (asks_of_workers plan s made (lists_of jobs) w) ≡ true
+parts_plain : {G : Type 0} (plan : Plan) (s made : ℕ) (jobs : List (Job G)) (w : ℕ) → w < length jobs → asks_plain (asks_of_worker plan s made (lists_of jobs) w) ≡ true
 parts_plain plan s made [] w low = absurd (omega (arith, low))
 parts_plain plan s made (job ∷ jobs) zero low = part_plain plan s (release_moment made (last_moment job.ops.items)) job.ops.items
 parts_plain plan s made (job ∷ jobs) (suc w) low = parts_plain plan s made jobs w (omega (arith, low))
 
-parts_at : {G : Type 0} (plan : Plan) (s : ℕ) (first : SharedHandle) (xs : List (Job G)) (i : ℕ) (x : Job G) → i < length xs → asks_of_workers plan s first.view.origin.made_at (lists_of xs) i ≡ asks_of plan (last_moment (slice_index_or xs i x).ops.items) s first (slice_index_or xs i x).ops.items
+parts_at : {G : Type 0} (plan : Plan) (s : ℕ) (first : SharedHandle) (xs : List (Job G)) (i : ℕ) (x : Job G) → i < length xs → asks_of_worker plan s first.view.origin.made_at (lists_of xs) i ≡ asks_of plan (last_moment (slice_index_or xs i x).ops.items) s first (slice_index_or xs i x).ops.items
 parts_at plan s first [] i x low = absurd (omega (arith, low))
 parts_at plan s first (y ∷ ys) zero x low = refl
 parts_at plan s first (y ∷ ys) (suc i) x low = parts_at plan s first ys i x (omega (arith, low))
@@ -75,7 +75,7 @@ module _ {G : Type 0} (opening : G → List ℕ) (plan : Plan) (spans : List Sha
       let i : HasGot (length spans) job new = sh.got w d here in
       let x : IsPreparedFor opening plan spans job = p w d here in
       let n = i.count in
-      let made : AreMade plan hs = (
+      let made : AreMadeAsPlanned plan hs = (
         f.0 ∙ sym n,
         λ s y l less. let m = f.1 s y l (omega (arith, n, less)) in let o = sh.fresh s w y d (omega (arith, n, less)) here in
             (sym m.0.2 ∙ ap (λ (q : Making). q.made_at) (sym o.origin), m.1),
@@ -105,7 +105,7 @@ module _ {G : Type 0} (opening : G → List ℕ) (plan : Plan) (spans : List Sha
         omega (arith, ok, m, n, ok')
 
     -- the release of a worker's handle of the span s
-    left_at : (s w : ℕ) (x : SharedHandle) (d : Job G) (e : Released) → s < length spans → w < length jobs → IsLeft (w + 1) (asks_of_workers plan s (slice_index_or spans s x).view.origin.made_at (lists_of jobs) w) (slice_index_or spans s x).span (slice_index_or spans s x).view.origin (slice_index_or (slice_index_or run w d).left.items s e)
+    left_at : (s w : ℕ) (x : SharedHandle) (d : Job G) (e : Released) → s < length spans → w < length jobs → IsLeft (w + 1) (asks_of_worker plan s (slice_index_or spans s x).view.origin.made_at (lists_of jobs) w) (slice_index_or spans s x).span (slice_index_or spans s x).view.origin (slice_index_or (slice_index_or run w d).left.items s e)
     left_at s w x d e less low =
         let hs = (slice_index_or given w d).handles.items in
         let h = slice_index_or hs s x in
@@ -130,9 +130,9 @@ module _ {G : Type 0} (opening : G → List ℕ) (plan : Plan) (spans : List Sha
           left_from t making parts e s (n + 1) xs (λ i d low. let same : n + suc i ≡ n + 1 + i = omega arith in subst (λ (k : ℕ). IsLeft (k + 1) (parts k) t making (slice_index_or (slice_index_or xs i d).left.items s e)) same (h (suc i) d (omega (arith, low)))),
         )
 
-    column_left : (s : ℕ) (x : SharedHandle) (e : Released) → s < length spans → LeftFrom (slice_index_or spans s x).span (slice_index_or spans s x).view.origin (asks_of_workers plan s (slice_index_or spans s x).view.origin.made_at (lists_of jobs)) 0 (column e s run)
-    column_left s x e less = left_from (slice_index_or spans s x).span (slice_index_or spans s x).view.origin (asks_of_workers plan s (slice_index_or spans s x).view.origin.made_at (lists_of jobs)) e s 0 run (λ w d low. let same : w ≡ 0 + w = omega arith in
-        subst (λ (k : ℕ). IsLeft (k + 1) (asks_of_workers plan s (slice_index_or spans s x).view.origin.made_at (lists_of jobs) k) (slice_index_or spans s x).span (slice_index_or spans s x).view.origin (slice_index_or (slice_index_or run w d).left.items s e)) same (left_at s w x d e less (omega (arith, len_run, low))))
+    column_left : (s : ℕ) (x : SharedHandle) (e : Released) → s < length spans → LeftFrom (slice_index_or spans s x).span (slice_index_or spans s x).view.origin (asks_of_worker plan s (slice_index_or spans s x).view.origin.made_at (lists_of jobs)) 0 (column e s run)
+    column_left s x e less = left_from (slice_index_or spans s x).span (slice_index_or spans s x).view.origin (asks_of_worker plan s (slice_index_or spans s x).view.origin.made_at (lists_of jobs)) e s 0 run (λ w d low. let same : w ≡ 0 + w = omega arith in
+        subst (λ (k : ℕ). IsLeft (k + 1) (asks_of_worker plan s (slice_index_or spans s x).view.origin.made_at (lists_of jobs) k) (slice_index_or spans s x).span (slice_index_or spans s x).view.origin (slice_index_or (slice_index_or run w d).left.items s e)) same (left_at s w x d e less (omega (arith, len_run, low))))
 
     span_at : (s : ℕ) → s < length spans → SharedHandle
     span_at s less = item spans s less
@@ -153,7 +153,7 @@ module _ {G : Type 0} (opening : G → List ℕ) (plan : Plan) (spans : List Sha
               let here : w < length jobs = omega (arith, len_run, low) in
               let n = left_len w y here in
               (omega (arith, n, less'), λ e. (left_at s w x y e less' here).span ∙ sym q.shared.span);
-          closes = span_closed (slice_index_or spans s x) q.handles r (asks_of_workers plan s (slice_index_or spans s x).view.origin.made_at (lists_of jobs)) (column r s run) (length jobs) (parts_plain plan s (slice_index_or spans s x).view.origin.made_at jobs) q.len (column_len r s run ∙ len_run) q.shared (column_left s x r less');
+          closes = span_closed (slice_index_or spans s x) q.handles r (asks_of_worker plan s (slice_index_or spans s x).view.origin.made_at (lists_of jobs)) (column r s run) (length jobs) (parts_plain plan s (slice_index_or spans s x).view.origin.made_at jobs) q.len (column_len r s run ∙ len_run) q.shared (column_left s x r less');
         }
 
     pub all_ended : (es : List Ended) → AreJoined rs run es → AllEnded plan spans (lists_of jobs) es
@@ -162,8 +162,8 @@ module _ {G : Type 0} (opening : G → List ℕ) (plan : Plan) (spans : List Sha
         let r = slice_index_or rs s d in
         let q = sh.shared s x d less in
         let k = j s d e (omega (arith, rlen, less)) in
-        subst (λ (n : ℕ). IsEnded (slice_index_or spans s x).span (slice_index_or spans s x).view.origin n (asks_of_workers plan s (slice_index_or spans s x).view.origin.made_at (lists_of jobs)) (slice_index_or es s e)) (sym (lists_len jobs))
-        (span_ended (slice_index_or spans s x) q.handles r (asks_of_workers plan s (slice_index_or spans s x).view.origin.made_at (lists_of jobs)) (column r s run) (length jobs) (parts_plain plan s (slice_index_or spans s x).view.origin.made_at jobs) q.len (column_len r s run ∙ len_run) q.shared (column_left s x r less) k.whole (slice_index_or es s e) k.met k.pass k.closed)
+        subst (λ (n : ℕ). IsEnded (slice_index_or spans s x).span (slice_index_or spans s x).view.origin n (asks_of_worker plan s (slice_index_or spans s x).view.origin.made_at (lists_of jobs)) (slice_index_or es s e)) (sym (lists_len jobs))
+        (span_ended (slice_index_or spans s x) q.handles r (asks_of_worker plan s (slice_index_or spans s x).view.origin.made_at (lists_of jobs)) (column r s run) (length jobs) (parts_plain plan s (slice_index_or spans s x).view.origin.made_at jobs) q.len (column_len r s run ∙ len_run) q.shared (column_left s x r less) k.whole (slice_index_or es s e) k.met k.pass k.closed)
       where
         item : (xs : List Released) (i : ℕ) → i < length xs → Released
         item [] i low = absurd (omega (arith, low))

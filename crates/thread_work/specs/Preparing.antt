@@ -19,7 +19,7 @@ AllUnstarted count (job ∷ jobs) = IsUnstarted count job × AllUnstarted count 
 -- what is made for a script, its gates and so many shared spans
 pub record WasPrepared {G : Type 0} (count : ℕ) (script : ThreadScript) (given : List G) (p : Prepared G) : Type 0 where
   pub plan : p.plan ≡ plan_of script
-  pub begun : AllUnstarted count p.jobs.items
+  pub unstarted : AllUnstarted count p.jobs.items
   pub lists : lists_of p.jobs.items ≡ script.workers
   pub gates : gates_of p.jobs.items ≡ given
   pub no_firsts : p.firsts.items ≡ []

@@ -7,7 +7,7 @@ use Rattle.thread_script.specs.declared.plan.Plan.{Plan}
 use Rattle.thread_script.specs.declared.script.SharedLine.{SharedLine}
 use Rattle.thread_script.specs.declared.script.WorkerOp.{WorkerOp}
 use Rattle.thread_script.specs.Asks.{is_balanced}
-use Rattle.thread_script.specs.Plans.{AreTimed, last_moment, asks_of_workers}
+use Rattle.thread_script.specs.Plans.{MomentsInRange, last_moment, asks_of_worker}
 use Rattle.thread_handles.specs.declared.gather.Ended.{Ended}
 use Rattle.thread_handles.specs.declared.job.Job.{Job}
 use Rattle.thread_handles.specs.Works.{asks_of}
@@ -69,7 +69,7 @@ pub record WereShared {G : Type 0} (n : ℕ) (spans : List SharedHandle) (jobs n
 
 -- worker w may get its handles of these spans
 pub record IsPreparedFor {G : Type 0} (opening : G → List ℕ) (plan : Plan) (spans : List SharedHandle) (job : Job G) : Type 0 where
-  pub timed : AreTimed job.ops.items
+  pub timed : MomentsInRange job.ops.items
   pub last : job.last ≡ last_moment job.ops.items
   pub gate : opening job.gate ≡ plan.filter
   pub balanced : (s : ℕ) (x : SharedHandle) → s < length spans → is_balanced (asks_of plan (last_moment job.ops.items) s (slice_index_or spans s x) job.ops.items) 0 ≡ true
@@ -83,4 +83,4 @@ abbrev pub AllEnded : Plan → List SharedHandle → List (List WorkerOp) → Li
 AllEnded plan spans workers es =
     (s : ℕ) (x : SharedHandle) (e : Ended) → s < length spans
     → IsEnded (slice_index_or spans s x).span (slice_index_or spans s x).view.origin (length workers)
-    (asks_of_workers plan s (slice_index_or spans s x).view.origin.made_at workers) (slice_index_or es s e)
+    (asks_of_worker plan s (slice_index_or spans s x).view.origin.made_at workers) (slice_index_or es s e)

@@ -7,7 +7,7 @@ use Rattle.trace_base.specs.declared.span.Parent.{Parent}
 use Rattle.trace_base.specs.declared.span.Parent.TheVariants as parent
 use Rattle.trace_base.specs.Spans.{Span, Entries, Spans, no_span, span_at, entries_on, with_entries, is_in, times_in, is_child_of, is_open_child, open_child_count, bound_holds, without_last, with_hold, span_without_hold, without_hold, current_of, parent_on, parent_to_release}
 use Rattle.trace_base.specs.Calls.{SubscriberCall, NewSpan, Records, Follows, Event, Enter, Exit, CloneSpan, TryClose, spans_after_call, with_new_span, with_span_entry, with_span_exit}
-use Rattle.trace_base.specs.Conditions.{Allowed, IsLive, IsLiveParent, HasOwnHold, MayExit}
+use Rattle.trace_base.specs.Conditions.{Allowed, IsLive, IsLiveParent, HasUnboundHold, MayExit}
 use Rattle.trace_base.specs.Sound.{IsSound, OneEach, has_lane}
 use Rattle.trace_base.proofs.EntryLemmas.{count_push, counted_if_any, any_if_counted, made_if_held}
 use Rattle.trace_base.proofs.HoldLemmas.{children_set, same_child, keeps_children, less_last, less_more, less_holds, less_under, holds_set, holds_other, first_with, in_push_other, in_push_same, in_by_times, times_without, current_in, first_if_in}
@@ -63,7 +63,7 @@ sound_held spans id sound live =
     }
 
 -- one hold less, where another than those of entries and children was left
-pub sound_released : (spans : Spans) (id : ℕ) → IsSound spans → HasOwnHold spans id → IsSound (record spans { made = without_hold spans.made id })
+pub sound_released : (spans : Spans) (id : ℕ) → IsSound spans → HasUnboundHold spans id → IsSound (record spans { made = without_hold spans.made id })
 sound_released spans id sound own =
     let within = made_if_held spans.made id (omega (arith, own)) in
     let was = span_at spans.made id in
@@ -292,10 +292,10 @@ parent_live spans lane parent.Current sound live = if_some (current_of (entries_
 parent_live spans lane (parent.Of id) sound live = live
 
 -- the next span to be released has a hold of its own
-pub next_own : (spans : Spans) (id : ℕ) → IsSound spans → HasOwnHold spans id → IfSome (parent_to_release spans.made id) (λ p. (p < id) × HasOwnHold (record spans { made = without_hold spans.made id }) p)
+pub next_own : (spans : Spans) (id : ℕ) → IsSound spans → HasUnboundHold spans id → IfSome (parent_to_release spans.made id) (λ p. (p < id) × HasUnboundHold (record spans { made = without_hold spans.made id }) p)
 next_own spans id sound own =
     let was = span_at spans.made id in
-    let P : ℕ → Type 0 = λ p. (p < id) × HasOwnHold (record spans { made = without_hold spans.made id }) p in
+    let P : ℕ → Type 0 = λ p. (p < id) × HasUnboundHold (record spans { made = without_hold spans.made id }) p in
     elim (cases_Bool (was.holds == 1)) [
       | inr more ↦ subst (λ (o : Option ℕ). IfSome o P) (sym (cond-false {A = Option ℕ} (was.holds == 1) was.parent None more)) tt
       | inl last ↦ subst (λ (o : Option ℕ). IfSome o P) (sym (cond-true {A = Option ℕ} (was.holds == 1) was.parent None last)) (if_some was.parent P (λ p is.
@@ -324,7 +324,7 @@ sound_call x (CloneSpan id) sound allowed = sound_held x id sound allowed
 sound_call x (TryClose id at) sound allowed = sound_released x id sound allowed
 
 -- a span just made has a hold of its own
-pub new_own : (x : Spans) (above : Option ℕ) (site : ℕ) → IsSound x → IfSome above (λ p. IsLive x.made p) → HasOwnHold (with_new_span x above site) (length x.made)
+pub new_own : (x : Spans) (above : Option ℕ) (site : ℕ) → IsSound x → IfSome above (λ p. IsLive x.made p) → HasUnboundHold (with_new_span x above site) (length x.made)
 new_own x None site sound live =
     let new : Span = record { holds = 1; parent = None; site = site } in
     let n = length x.made in
@@ -349,7 +349,7 @@ new_own x (Some p) site sound live =
     omega (arith, children, kept, past, bound, h, apart)
 
 -- a span with one hold more has one of its own
-pub clone_own : (x : Spans) (id : ℕ) → IsSound x → IsLive x.made id → HasOwnHold (record x { made = with_hold x.made id }) id
+pub clone_own : (x : Spans) (id : ℕ) → IsSound x → IsLive x.made id → HasUnboundHold (record x { made = with_hold x.made id }) id
 clone_own x id sound live =
     let within = made_if_held x.made id live in
     let now : Span = record (span_at x.made id) { holds = (span_at x.made id).holds + 1 } in

@@ -16,8 +16,8 @@ IsLiveParent made parent.Current = Unit {0}
 IsLiveParent made (parent.Of id) = IsLive made id
 
 -- a span with a hold beside those of its entries and its open children
-abbrev pub HasOwnHold : Spans → ℕ → Type 0
-HasOwnHold spans id = bound_holds spans id < (span_at spans.made id).holds
+abbrev pub HasUnboundHold : Spans → ℕ → Type 0
+HasUnboundHold spans id = bound_holds spans id < (span_at spans.made id).holds
 
 -- an entry of the span is open on the lane, and another hold is left where its hold goes
 abbrev pub MayExit : Spans → ℕ → ℕ → Type 0
@@ -32,7 +32,7 @@ Allowed spans (Event lane at parent site callsite values) = IsLiveParent spans.m
 Allowed spans (Enter id at before later) = IsLive spans.made id
 Allowed spans (Exit id at before later) = MayExit spans id before.id
 Allowed spans (CloneSpan id) = IsLive spans.made id
-Allowed spans (TryClose id at) = HasOwnHold spans id
+Allowed spans (TryClose id at) = HasUnboundHold spans id
 
 -- Holds and spans are counted in 64 bits: the next one is counted below 2^63.
 abbrev pub HasFewHolds : List Span → ℕ → Type 0
@@ -42,5 +42,5 @@ abbrev pub AreFew : Spans → Type 0
 AreFew spans = length spans.made < 2 ^ 63
 
 -- the same of the span that is the parent of a new one on a lane
-abbrev pub HasFewHoldsAbove : Spans → ℕ → Parent → Type 0
-HasFewHoldsAbove spans lane parent = IfSome (parent_on (entries_on lane spans.lanes) parent) (HasFewHolds spans.made)
+abbrev pub ParentHasFewHolds : Spans → ℕ → Parent → Type 0
+ParentHasFewHolds spans lane parent = IfSome (parent_on (entries_on lane spans.lanes) parent) (HasFewHolds spans.made)

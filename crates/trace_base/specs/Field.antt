@@ -13,8 +13,8 @@ abbrev pub has_field : ℕ → Callsite → Field → Bool
 has_field site callsite field = field.site == site && nat_lt field.place (length callsite.fields)
 
 -- the field itself, where the callsite has it
-abbrev pub same_field : Field → ℕ → Callsite → Option Field
-same_field field site callsite = if has_field site callsite field then Some field else None
+abbrev pub field_itself : Field → ℕ → Callsite → Option Field
+field_itself field site callsite = if has_field site callsite field then Some field else None
 
 -- the first field of a name, where the callsite has one
 abbrev pub named_field : List ℕ → ℕ → Callsite → Option Field

@@ -2,7 +2,7 @@
 ghost use Rattle.std.specs.Prelude.{◌≡◌, ℕ, Option, IfSome, IsTrue};
 ghost use Rattle.trace_base.specs.declared.callsite.Callsite.{Callsite};
 ghost use Rattle.trace_base.specs.declared.field.Field.{Field};
-ghost use Rattle.trace_base.specs.Field.{has_field, same_field, named_field};
+ghost use Rattle.trace_base.specs.Field.{has_field, field_itself, named_field};
 
 use crate::callsite::{Callsite, SiteId};
 use otel_base::list::Items;
@@ -65,7 +65,7 @@ pub trait AsField {
 
 /// A field names itself at its own callsite, and nothing anywhere else.
 impl AsField for Field {
-    ghost field_of = { same_field };
+    ghost field_of = { field_itself };
 
     fn as_field(&self, site: SiteId, callsite: &Callsite) -> Option<Field> {
         if self.site == site && self.place < callsite.fields.as_slice().len() {

@@ -7,7 +7,7 @@ ghost use Rattle.trace_base.specs.declared.lane.Lane.{Lane};
 ghost use Rattle.trace_base.specs.declared.level.LevelFilter.{LevelFilter};
 ghost use Rattle.trace_base.specs.declared.subscriber.Interest.{Interest};
 ghost use Rattle.trace_base.specs.lanes.Contexts.{AreAttached, KeepsLane, KeepsLive, IsFull};
-ghost use Rattle.trace_base.specs.layers.Hooks.{Hook, OnNewSpan, OnRecord, OnFollows, OnEvent, OnEnter, OnExit, OnClose, Preparation, ForNewSpan, ForRecord, ForFollows, ForEvent, ForEnter, KnownSpans, Sees, HookLanes};
+ghost use Rattle.trace_base.specs.layers.Hooks.{Hook, OnNewSpan, OnRecord, OnFollows, OnEvent, OnEnter, OnExit, OnClose, Preparation, ForNewSpan, ForRecord, ForFollows, ForEvent, ForEnter, KnownSpans, Sees, HookKeepsLanes};
 
 use crate::callsite::Callsite;
 use crate::field::ValueSet;
@@ -205,10 +205,10 @@ pub trait Layer {
     ghost sees: { (s : Self) (hook : Hook) (t : Self) → does s hook t → Sees (seen s) hook (seen t) };
 
     /// As many contexts are attached or detached as it keeps more or less.
-    ghost lanes: { (s : Self) (hook : Hook) (t : Self) → does s hook t → HookLanes (attaches s) (kept s) hook (kept t) };
+    ghost keeps_lanes: { (s : Self) (hook : Hook) (t : Self) → does s hook t → HookKeepsLanes (attaches s) (kept s) hook (kept t) };
 
     /// Only entries keep something attached: on a lane without them nothing is.
-    ghost kept_by_entries: { (s : Self) (lane number : ℕ) → ((id : ℕ) → (seen s).entries lane id ≡ 0) → kept s lane number ≡ 0 };
+    ghost none_kept_without_entries: { (s : Self) (lane number : ℕ) → ((id : ℕ) → (seen s).entries lane id ≡ 0) → kept s lane number ≡ 0 };
 
     /// An entry of a span that it doesn't know leaves a lane's contexts as they are.
     ghost passive: { (s : Self) (id at : ℕ) (before later : Lane) (t : Self) → does s (OnEnter id at before later) t → (seen s).knows id ≡ false → later.contexts.live ≡ before.contexts.live };

@@ -258,7 +258,7 @@ fn named_level_filter(text: &str) -> Option<LevelFilter>
 {
     match filter_of_word(text) {
         Some(filter) => Some(filter),
-        None => filter_of_number(text),
+        None => filter_of_decimal(text),
     }
 }
 
@@ -288,17 +288,17 @@ fn all_level_filters() -> array::IntoIter<LevelFilter, 6>
 }
 
 // A number that doesn't fit a byte is past every level.
-fn filter_of_number(text: &str) -> Option<LevelFilter>
+fn filter_of_decimal(text: &str) -> Option<LevelFilter>
     ensures { result ≡ option_and_then filter_of_number (decimal_value text.now) }
 {
     match text.parse::<u8>() {
-        Ok(verbosity) => with_verbosity(verbosity),
+        Ok(verbosity) => filter_with_verbosity(verbosity),
         Err(_) => None,
     }
 }
 
 #[tactic(auto, unfolding(crate::specs::words::LevelWords::filter_of_number))]
-fn with_verbosity(verbosity: u8) -> Option<LevelFilter>
+fn filter_with_verbosity(verbosity: u8) -> Option<LevelFilter>
     ensures { result ≡ filter_of_number verbosity }
 {
     match verbosity {

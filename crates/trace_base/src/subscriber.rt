@@ -8,9 +8,9 @@ ghost use Rattle.trace_base.specs.declared.subscriber.Interest.{Interest};
 ghost use Rattle.trace_base.specs.declared.subscriber.Interest.TheVariants as interest;
 ghost use Rattle.trace_base.specs.Spans.{Spans, span_at, current_on, current_of, entries_on, parent_to_release};
 ghost use Rattle.trace_base.specs.Calls.{SubscriberCall, NewSpan, Records, Follows, Event, Enter, Exit, CloneSpan, TryClose, spans_after_call};
-ghost use Rattle.trace_base.specs.Conditions.{Allowed, IsLive, IsLiveParent, HasFewHolds, HasFewHoldsAbove, AreFew, MayExit, HasOwnHold};
+ghost use Rattle.trace_base.specs.Conditions.{Allowed, IsLive, IsLiveParent, HasFewHolds, ParentHasFewHolds, AreFew, MayExit, HasUnboundHold};
 ghost use Rattle.trace_base.specs.Sound.{IsSound};
-ghost use Rattle.trace_base.specs.lanes.Contexts.{AreAttached, KeepsLane, KeepsLive, IsFull, CallLanes};
+ghost use Rattle.trace_base.specs.lanes.Contexts.{AreAttached, KeepsLane, KeepsLive, IsFull, CallKeepsLanes};
 
 use crate::callsite::{Callsite, SiteId};
 use crate::field::ValueSet;
@@ -136,7 +136,7 @@ pub trait Subscriber {
         requires live { IsLiveParent (spans self.old).made parent }
         requires current { current ≡ current_of (entries_on lane.now.id (spans self.old).lanes) }
         requires few { AreFew (spans self.old) }
-        requires few_holds { HasFewHoldsAbove (spans self.old) lane.now.id parent }
+        requires few_holds { ParentHasFewHolds (spans self.old) lane.now.id parent }
         ensures id { IfOk result (λ id. id ≡ length (spans self.old).made) }
         ensures did { OnOk result (does self.old (NewSpan lane.now at parent site callsite.now values.now) self.new) }
         ensures memory_leaves { OnErr result (same_but_room self.old self.new) };
@@ -212,10 +212,10 @@ pub trait Subscriber {
     /// answered, it has a hold to release next, and is older.
     fn try_close(&mut self, id: Id, at: u64) -> Closing
         requires whole { is_whole self.old }
-        requires own { HasOwnHold (spans self.old) id }
+        requires own { HasUnboundHold (spans self.old) id }
         ensures closed { result.closed ≡ ((span_at (spans self.old).made id).holds == 1) }
         ensures next { result.next ≡ parent_to_release (spans self.old).made id }
-        ensures next_held { IfSome result.next (λ p. (p < id) × HasOwnHold (spans self.new) p) }
+        ensures next_held { IfSome result.next (λ p. (p < id) × HasUnboundHold (spans self.new) p) }
         ensures did { does self.old (TryClose id at) self.new };
 
     /// A lane's current span, if there is one: what `new_span` and `event` are told.
@@ -259,10 +259,10 @@ pub trait Subscriber {
     ghost shows: { (s : Self) (call : SubscriberCall) (t : Self) → does s call t → spans t ≡ spans_after_call (spans s) call };
 
     /// As many contexts are attached or detached as it keeps more or less.
-    ghost lanes: { (s : Self) (call : SubscriberCall) (t : Self) → does s call t → CallLanes (attaches s) (kept s) call (kept t) };
+    ghost keeps_lanes: { (s : Self) (call : SubscriberCall) (t : Self) → does s call t → CallKeepsLanes (attaches s) (kept s) call (kept t) };
 
     /// Only entries keep something attached: on a lane without them nothing is.
-    ghost kept_by_entries: { (s : Self) (lane number : ℕ) → is_whole s → entries_on lane (spans s).lanes ≡ [] → kept s lane number ≡ 0 };
+    ghost none_kept_without_entries: { (s : Self) (lane number : ℕ) → is_whole s → entries_on lane (spans s).lanes ≡ [] → kept s lane number ≡ 0 };
 
     /// An entry that attaches no context leaves a lane's contexts as they are.
     ghost passive: { (s : Self) (id at : ℕ) (before later : Lane) (t : Self) → does s (Enter id at before later) t → activates s id ≡ false → later.contexts.live ≡ before.contexts.live };

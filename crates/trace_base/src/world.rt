@@ -171,7 +171,11 @@ impl<S: Subscriber> World<S> {
 
     /// A subscriber, to be changed, and a callsite beside it with the interest that was cached: what is admitted by `passes`
     /// is made of these without a second look-up.
-    pub fn interest(&mut self, dispatch: Dispatch, site: SiteId) -> (&mut S, &Callsite, Interest)
+    pub fn subscriber_site_and_interest(
+        &mut self,
+        dispatch: Dispatch,
+        site: SiteId,
+    ) -> (&mut S, &Callsite, Interest)
         requires there { dispatch < length self.old.subscribers }
         requires site { site < length self.old.sites }
         ensures* lends { sem 𝓛 (LendsSubscriber S.row self.entry dispatch result.0) }

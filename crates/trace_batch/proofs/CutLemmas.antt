@@ -22,7 +22,7 @@ pub cut_full : (n : ℕ) (items : List Sent) (bs : List (List Sent)) → 0 < n �
 cut_full n items bs some a e = record {
   whole = e;
   full = λ k less. full_at n bs a k (omega arith);
-  some = λ k less. let f = full_at n bs a k less in (omega arith, omega arith);
+  sized = λ k less. let f = full_at n bs a k less in (omega arith, omega arith);
 }
 
 last_at : (n : ℕ) (bs : List (List Sent)) (b : List Sent) → AllFull n bs → 0 < length b → length b ≤ n → (k : ℕ) → k < length (bs ++ b ∷ [])
@@ -41,7 +41,7 @@ pub cut_last : (n : ℕ) (items : List Sent) (bs : List (List Sent)) (b : List S
 cut_last n items bs b some a low high e = record {
   whole = joined_more bs b ∙ e;
   full = λ k less. before_last n bs b a k less;
-  some = λ k less. last_at n bs b a low high k less;
+  sized = λ k less. last_at n bs b a low high k less;
 }
 
 pub full_step : (n : ℕ) (bs cs : List (List Sent)) (part full rest ys : List Sent) (x : Sent) → 0 < n → AllFull n bs → all_items bs ++ part ≡ ys → full ≡ part ++ x ∷ [] → length full ≡ n → cs ≡ bs ++ full ∷ [] → rest ≡ []

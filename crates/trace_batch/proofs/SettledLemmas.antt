@@ -6,8 +6,8 @@ use Rattle.crossbeam_queue.specs.Passes.{view}
 use Rattle.trace_batch.specs.declared.item.Item.{Item}
 use Rattle.trace_batch.specs.declared.item.Sent.{Sent}
 use Rattle.trace_batch.specs.declared.writer.Writer.{Writer}
-use Rattle.trace_batch.specs.Merges.{sent_of, of_lane, texts, IsMerge}
-use Rattle.trace_batch.specs.Rule.{writer, lanes_of, KnowsEndedLanes}
+use Rattle.trace_batch.specs.Merges.{sent_of, of_lane, items_with_texts, IsMerge}
+use Rattle.trace_batch.specs.Rule.{writer_view, lane_count_of, KnowsEndedLanes}
 use Rattle.trace_batch.specs.Serving.{HasServed, Serving}
 use Rattle.trace_batch.proofs.Lanes.{of_append}
 use Rattle.trace_batch.proofs.Texts.{sent_all, AllOf, of_own_texts, of_other_texts, all_drop}
@@ -27,7 +27,7 @@ module _ {F : Type 0} (text : F → ℕ → ℕ → List ℕ) where
     late_other l n =
         late_of l ∙ ap (λ (ys : List Sent). of_lane l w.late ++ ys) (of_other_texts text lane l (drop sent list) n (all_drop lane sent list own)) ∙ append-nil (of_lane l w.late)
 
-    late_at : (d l : ℕ) → l - lane ≡ d → lane ≤ l → get_or (map (sent_of text) (take sent list) ∷ known) d [] ++ of_lane l v.late ≡ texts text lists l
+    late_at : (d l : ℕ) → l - lane ≡ d → lane ≤ l → get_or (map (sent_of text) (take sent list) ∷ known) d [] ++ of_lane l v.late ≡ items_with_texts text lists l
     late_at zero l e h =
         let same : l ≡ lane = omega arith in
         ap (λ (m : ℕ). map (sent_of text) (take sent list) ++ of_lane m v.late) same
@@ -48,7 +48,7 @@ module _ {F : Type 0} (text : F → ℕ → ℕ → List ℕ) where
       others = λ l less. late_other l (λ e. omega arith) ∙ k.others l (omega arith);
     }
 
-  pub merged : (lists : List (List (Item F))) (known : List (List Sent)) (got out : List Sent) (w : Writer) → HasServed text lists 0 known got w → KnowsEndedLanes (writer 0 known got) [] → out ≡ w.taken ++ w.late
+  pub merged : (lists : List (List (Item F))) (known : List (List Sent)) (got out : List Sent) (w : Writer) → HasServed text lists 0 known got w → KnowsEndedLanes (writer_view 0 known got) [] → out ≡ w.taken ++ w.late
       → IsMerge text lists out
   merged lists known got out w k told is l =
       ap (of_lane l) is ∙ of_append l w.taken w.late
@@ -57,10 +57,10 @@ module _ {F : Type 0} (text : F → ℕ → ℕ → List ℕ) where
       ∙ k.late l (omega arith)
 
   -- what the writer has when all senders have ended, and the queue is empty
-  pub all_merged : {E : Type 0} (lists : List (List (Item F))) (old w : Writer) (r : Result (Vec Sent Global) E) → Serving text lists 0 old → lanes_of (view w.pass) ≡ lanes_of (view old.pass)
-      → Serving text lists (lanes_of (view w.pass)) w → KnowsEndedLanes (view w.pass) [] → IfOk r (λ v. (w.lacks_memory ≡ false) × (v.items ≡ w.taken ++ w.late)) → IfOk r (λ v. IsMerge text lists v.items)
+  pub all_merged : {E : Type 0} (lists : List (List (Item F))) (old w : Writer) (r : Result (Vec Sent Global) E) → Serving text lists 0 old → lane_count_of (view w.pass) ≡ lane_count_of (view old.pass)
+      → Serving text lists (lane_count_of (view w.pass)) w → KnowsEndedLanes (view w.pass) [] → IfOk r (λ v. (w.lacks_memory ≡ false) × (v.items ≡ w.taken ++ w.late)) → IfOk r (λ v. IsMerge text lists v.items)
   all_merged lists old w (Ok v) before same s told all =
-      let none : lanes_of (view w.pass) ≡ 0 = same ∙ ap lanes_of before.knows in
+      let none : lane_count_of (view w.pass) ≡ 0 = same ∙ ap lane_count_of before.knows in
       let now : Serving text lists 0 w = subst (λ n. Serving text lists n w) none s in
       merged lists now.known now.got v.items w (now.kept all.0) (subst (λ u. KnowsEndedLanes u []) now.knows told) all.1
   all_merged lists old w (Err why) before same s told all = tt

@@ -10,7 +10,7 @@ use Rattle.trace_batch.specs.declared.item.Sent.{Sent}
 use Rattle.trace_batch.specs.declared.queue.View.{View}
 use Rattle.trace_batch.specs.declared.queue.View.TheVariants.{Nobody, Sender, Writer}
 use Rattle.trace_batch.specs.Merges.{of_lane}
-use Rattle.trace_batch.specs.Rule.{sender, writer, known_at, ViewFits, KeepsRule, one_more, next_sender, one_fewer, put_into, took_out, KnowsEndedLanes}
+use Rattle.trace_batch.specs.Rule.{sender_view, writer_view, known_at, ViewFits, KeepsRule, one_more, next_sender, one_fewer, put_into, took_out, KnowsEndedLanes}
 use Rattle.trace_batch.proofs.Lanes.{of_more_own, of_more_other, of_moved}
 
 at_end : (l : List View) (a b : View) (j : ℕ) → get_elem? l j ≢ some b → get_elem? (l ++ a ∷ []) j ≡ some b → j ≡ length l
@@ -33,7 +33,7 @@ all_set : (F : ℕ → View → Type 0) (views : List View) (port : ℕ) (w : Vi
 all_set F views port w mine others j u e = ⊎_elim (λ (x : (j ≡ port) × (w ≡ u)). subst (λ (y : ℕ × View). F y.0 y.1) (λ i. (sym x.0 i, x.1 i)) mine)
     (λ (x : (j ≢ port) × (get_elem? views j ≡ some u)). others j u x.0 x.1) (at_set views port j w u e)
 
-pub begins : KeepsRule [] (writer 0 [] [] ∷ [])
+pub begins : KeepsRule [] (writer_view 0 [] [] ∷ [])
 begins = record {
   reader = 0;
   pass = λ l. 0;
@@ -41,7 +41,7 @@ begins = record {
   known = [];
   got = [];
   ended = λ l h. refl;
-  each = all_set (ViewFits [] 0 (λ l. 0) 0 [] []) (writer 0 [] [] ∷ []) 0 (writer 0 [] []) (refl, refl, refl, refl) (λ j u other e. absurd (other (at_end [] _ u j (λ x. some-ne-none u (sym x)) e)));
+  each = all_set (ViewFits [] 0 (λ l. 0) 0 [] []) (writer_view 0 [] [] ∷ []) 0 (writer_view 0 [] []) (refl, refl, refl, refl) (λ j u other e. absurd (other (at_end [] _ u j (λ x. some-ne-none u (sym x)) e)));
 }
 
 -- ---- a sender puts an item in
@@ -53,10 +53,10 @@ puts_beside items x reader pass lanes known got port is j (Sender l p) other f =
     (f.0, f.1, f.2 ∙ sym (of_more_other l got items x (λ e. other (sym f.1 ∙ ap pass (sym e) ∙ is))))
 puts_beside items x reader pass lanes known got port is j (Writer n k g) other f = f
 
-puts_at : (lane : ℕ) (put : List Sent) (n port : ℕ) (x : Sent) → x.lane ≡ lane → Pushes KeepsRule n port (sender lane put) x (λ w. w ≡ sender lane (put ++ x ∷ []))
+puts_at : (lane : ℕ) (put : List Sent) (n port : ℕ) (x : Sent) → x.lane ≡ lane → Pushes KeepsRule n port (sender_view lane put) x (λ w. w ≡ sender_view lane (put ++ x ∷ []))
 puts_at lane put n port x is items views room r at =
-    let mine = r.each port (sender lane put) at in (
-      sender lane (put ++ x ∷ []),
+    let mine = r.each port (sender_view lane put) at in (
+      sender_view lane (put ++ x ∷ []),
       record {
         reader = r.reader;
         pass = r.pass;
@@ -65,14 +65,14 @@ puts_at lane put n port x is items views room r at =
         got = r.got;
         ended = λ l past. of_more_other l r.got items x (λ e. let m = mine.0 in omega arith) ∙ r.ended l past;
         each =
-            all_set (ViewFits (items ++ x ∷ []) r.reader r.pass r.lanes r.known r.got) views port (sender lane (put ++ x ∷ []))
+            all_set (ViewFits (items ++ x ∷ []) r.reader r.pass r.lanes r.known r.got) views port (sender_view lane (put ++ x ∷ []))
             (mine.0, mine.1, ap (λ (l : List Sent). l ++ x ∷ []) mine.2 ∙ sym (of_more_own lane r.got items x is))
             (λ j u other e. puts_beside items x r.reader r.pass r.lanes r.known r.got port (ap r.pass is ∙ mine.1) j u other (r.each j u e));
       },
       refl,
     )
 
-pub puts : (n port : ℕ) (v : View) (lane : ℕ) (put : List Sent) (x : Sent) → v ≡ sender lane put → x.lane ≡ lane → Pushes KeepsRule n port v x (λ w. w ≡ put_into v x)
+pub puts : (n port : ℕ) (v : View) (lane : ℕ) (put : List Sent) (x : Sent) → v ≡ sender_view lane put → x.lane ≡ lane → Pushes KeepsRule n port v x (λ w. w ≡ put_into v x)
 puts n port v lane put x e is = subst (λ (u : View). Pushes KeepsRule n port u x (λ w. w ≡ put_into u x)) (sym e) (puts_at lane put n port x is)
 
 pub nothing : (port : ℕ) (v : View) → Learns KeepsRule port v (λ items. ⊤)
@@ -86,10 +86,10 @@ takes_beside items x reader pass lanes known got j Nobody other f = tt
 takes_beside items x reader pass lanes known got j (Sender l p) other f = (f.0, f.1, f.2 ∙ sym (of_moved l got items x))
 takes_beside items x reader pass lanes known got j (Writer n k g) other f = absurd (other f.0)
 
-takes_at : (lanes : ℕ) (known : List (List Sent)) (got : List Sent) (port : ℕ) → Pops KeepsRule port (writer lanes known got) (λ x w. w ≡ writer lanes known (got ++ x ∷ []))
+takes_at : (lanes : ℕ) (known : List (List Sent)) (got : List Sent) (port : ℕ) → Pops KeepsRule port (writer_view lanes known got) (λ x w. w ≡ writer_view lanes known (got ++ x ∷ []))
 takes_at lanes known got port x items views r at =
-    let mine = r.each port (writer lanes known got) at in (
-      writer lanes known (got ++ x ∷ []),
+    let mine = r.each port (writer_view lanes known got) at in (
+      writer_view lanes known (got ++ x ∷ []),
       record {
         reader = r.reader;
         pass = r.pass;
@@ -98,23 +98,23 @@ takes_at lanes known got port x items views r at =
         got = r.got ++ x ∷ [];
         ended = λ l past. of_moved l r.got items x ∙ r.ended l past;
         each =
-            all_set (ViewFits items r.reader r.pass r.lanes r.known (r.got ++ x ∷ [])) views port (writer lanes known (got ++ x ∷ []))
+            all_set (ViewFits items r.reader r.pass r.lanes r.known (r.got ++ x ∷ [])) views port (writer_view lanes known (got ++ x ∷ []))
             (mine.0, mine.1, mine.2, ap (λ (l : List Sent). l ++ x ∷ []) mine.3)
             (λ j u other e. takes_beside items x r.reader r.pass r.lanes r.known r.got j u (λ h. other (h ∙ sym mine.0)) (r.each j u e));
       },
       refl,
     )
 
-pub takes : (port : ℕ) (v : View) (lanes : ℕ) (known : List (List Sent)) (got : List Sent) → v ≡ writer lanes known got → Pops KeepsRule port v (λ x w. w ≡ took_out v x)
+pub takes : (port : ℕ) (v : View) (lanes : ℕ) (known : List (List Sent)) (got : List Sent) → v ≡ writer_view lanes known got → Pops KeepsRule port v (λ x w. w ≡ took_out v x)
 takes port v lanes known got e = subst (λ (u : View). Pops KeepsRule port u (λ x w. w ≡ took_out u x)) (sym e) (takes_at lanes known got port)
 
-learns_at : (lanes : ℕ) (known : List (List Sent)) (got : List Sent) (port : ℕ) → Learns KeepsRule port (writer lanes known got) (KnowsEndedLanes (writer lanes known got))
+learns_at : (lanes : ℕ) (known : List (List Sent)) (got : List Sent) (port : ℕ) → Learns KeepsRule port (writer_view lanes known got) (KnowsEndedLanes (writer_view lanes known got))
 learns_at lanes known got port items views r at l past =
-    let mine = r.each port (writer lanes known got) at in
+    let mine = r.each port (writer_view lanes known got) at in
     let past' : r.lanes ≤ l = let m = mine.1 in omega arith in
     ap (λ (g : List Sent). of_lane l (g ++ items)) mine.3 ∙ r.ended l past' ∙ ap (λ (p : ℕ × List (List Sent)). known_at p.0 p.1 l) (λ i. (sym mine.1 i, sym mine.2 i))
 
-pub learns : (port : ℕ) (v : View) (lanes : ℕ) (known : List (List Sent)) (got : List Sent) → v ≡ writer lanes known got → Learns KeepsRule port v (KnowsEndedLanes v)
+pub learns : (port : ℕ) (v : View) (lanes : ℕ) (known : List (List Sent)) (got : List Sent) → v ≡ writer_view lanes known got → Learns KeepsRule port v (KnowsEndedLanes v)
 learns port v lanes known got e = subst (λ (u : View). Learns KeepsRule port u (KnowsEndedLanes u)) (sym e) (learns_at lanes known got port)
 
 -- ---- the writer makes a pass for the next lane's sender
@@ -134,16 +134,16 @@ forks_beside items reader pass lanes new known got j Nobody other f = tt
 forks_beside items reader pass lanes new known got j (Sender l p) other f = ((let h = f.0 in omega arith), seat_old pass lanes new l f.0 ∙ f.1, f.2)
 forks_beside items reader pass lanes new known got j (Writer n k g) other f = absurd (other f.0)
 
-forks_at : (lanes : ℕ) (got : List Sent) (port : ℕ) → Forks KeepsRule port (writer lanes [] got) (writer (lanes + 1) [] got) (sender lanes [])
+forks_at : (lanes : ℕ) (got : List Sent) (port : ℕ) → Forks KeepsRule port (writer_view lanes [] got) (writer_view (lanes + 1) [] got) (sender_view lanes [])
 forks_at lanes got port items views r at =
-    let mine = r.each port (writer lanes [] got) at in
-    let left : View = writer (lanes + 1) [] got in
+    let mine = r.each port (writer_view lanes [] got) at in
+    let left : View = writer_view (lanes + 1) [] got in
     let new : ℕ = length (set views port left) in
     let F : ℕ → View → Type 0 = ViewFits items r.reader (seat_next r.pass r.lanes new) (r.lanes + 1) [] r.got in
     let old : All F (set views port left) =
     all_set F views port left (mine.0, ap (λ n. n + 1) mine.1, refl, mine.3)
     (λ j u other e. forks_beside items r.reader r.pass r.lanes new r.known r.got j u (λ h. other (h ∙ sym mine.0)) (r.each j u e)) in
-    let fresh : F new (sender lanes []) = (
+    let fresh : F new (sender_view lanes []) = (
       (let h = mine.1 in omega arith),
       ap (seat_next r.pass r.lanes new) mine.1 ∙ seat_new r.pass r.lanes new,
       ap (λ (k : List (List Sent)). known_at r.lanes k lanes) mine.2 ∙ sym (r.ended lanes (let h = mine.1 in omega arith)),
@@ -156,11 +156,11 @@ forks_at lanes got port items views r at =
       got = r.got;
       ended = λ l past. r.ended l (omega arith) ∙ ap (λ (k : List (List Sent)). known_at r.lanes k l) (sym mine.2);
       each = λ j u e. ⊎_elim (λ h. old j u h)
-          (λ (h : (j ≡ new) × (sender lanes [] ≡ u)). subst (λ (y : ℕ × View). F y.0 y.1) (λ i. (sym h.0 i, h.1 i)) fresh)
-          (added (set views port left) (sender lanes []) u j e);
+          (λ (h : (j ≡ new) × (sender_view lanes [] ≡ u)). subst (λ (y : ℕ × View). F y.0 y.1) (λ i. (sym h.0 i, h.1 i)) fresh)
+          (added (set views port left) (sender_view lanes []) u j e);
     }
 
-pub forks : (port : ℕ) (v : View) (lanes : ℕ) (got : List Sent) → v ≡ writer lanes [] got → Forks KeepsRule port v (one_more v) (next_sender v)
+pub forks : (port : ℕ) (v : View) (lanes : ℕ) (got : List Sent) → v ≡ writer_view lanes [] got → Forks KeepsRule port v (one_more v) (next_sender v)
 forks port v lanes got e = subst (λ (u : View). Forks KeepsRule port u (one_more u) (next_sender u)) (sym e) (forks_at lanes got port)
 
 -- ---- the writer takes in the pass of the last lane's sender
@@ -177,12 +177,12 @@ merges_beside items reader pass lane lanes other put known got j (Sender l p) ap
     ((let n : l ≢ lane = λ e. beside (sym f.1 ∙ ap pass e ∙ at) in let h = f.0 in omega arith), f.1, f.2)
 merges_beside items reader pass lane lanes other put known got j (Writer n k g) apart beside is at f = absurd (apart f.0)
 
-merges_at : (lane : ℕ) (known : List (List Sent)) (got put : List Sent) (port other : ℕ) → Merges KeepsRule port (writer (lane + 1) known got) other (sender lane put) (writer lane (put ∷ known) got) Nobody
+merges_at : (lane : ℕ) (known : List (List Sent)) (got put : List Sent) (port other : ℕ) → Merges KeepsRule port (writer_view (lane + 1) known got) other (sender_view lane put) (writer_view lane (put ∷ known) got) Nobody
 merges_at lane known got put port other items views r at two at' =
-    let mine = r.each port (writer (lane + 1) known got) at in
-    let both : View = writer lane (put ∷ known) got in
-    let was : get_elem? views other ≡ some (sender lane put) = ⊎_elim (λ (x : (other ≡ port) × (both ≡ sender lane put)). absurd (two x.0)) (λ x. x.1) (at_set views port other both (sender lane put) at') in
-    let theirs = r.each other (sender lane put) was in
+    let mine = r.each port (writer_view (lane + 1) known got) at in
+    let both : View = writer_view lane (put ∷ known) got in
+    let was : get_elem? views other ≡ some (sender_view lane put) = ⊎_elim (λ (x : (other ≡ port) × (both ≡ sender_view lane put)). absurd (two x.0)) (λ x. x.1) (at_set views port other both (sender_view lane put) at') in
+    let theirs = r.each other (sender_view lane put) was in
     let F : ℕ → View → Type 0 = ViewFits items r.reader r.pass lane (put ∷ r.known) r.got in
     let Now : ℕ → View → Type 0 = λ j u. j ≢ other → F j u in
     let now : All Now (set views port both) =
@@ -199,6 +199,6 @@ merges_at lane known got put port other items views r at two at' =
       each = all_set F (set views port both) other Nobody tt (λ j u apart e. now j u e apart);
     }
 
-pub merges : (port : ℕ) (v : View) (other : ℕ) (u : View) (lane : ℕ) (known : List (List Sent)) (got put : List Sent) → v ≡ writer (lane + 1) known got → u ≡ sender lane put
+pub merges : (port : ℕ) (v : View) (other : ℕ) (u : View) (lane : ℕ) (known : List (List Sent)) (got put : List Sent) → v ≡ writer_view (lane + 1) known got → u ≡ sender_view lane put
     → Merges KeepsRule port v other u (one_fewer v u) Nobody
 merges port v other u lane known got put e e' = subst (λ (p : View × View). Merges KeepsRule port p.0 other p.1 (one_fewer p.0 p.1) Nobody) (λ i. (sym e i, sym e' i)) (merges_at lane known got put port other)

@@ -15,9 +15,9 @@ module _ {F : Type 0} (text : F → ℕ → ℕ → List ℕ) where
   sent_of i = record { lane = i.lane; place = i.place; text = text i.finished i.lane i.place }
 
   -- the items of a lane, with their texts; of a lane that there isn't, none
-  abbrev pub texts : List (List (Item F)) → ℕ → List Sent
-  texts lists l = map sent_of (get_or lists l [])
+  abbrev pub items_with_texts : List (List (Item F)) → ℕ → List Sent
+  items_with_texts lists l = map sent_of (get_or lists l [])
 
   -- of each lane its items with their texts, in order, and nothing of other lanes
   abbrev pub IsMerge : List (List (Item F)) → List Sent → Type 0
-  IsMerge lists out = (l : ℕ) → of_lane l out ≡ texts lists l
+  IsMerge lists out = (l : ℕ) → of_lane l out ≡ items_with_texts lists l

@@ -8,12 +8,12 @@ use Rattle.trace_batch.specs.declared.queue.View.TheVariants.{Nobody, Sender, Wr
 use Rattle.trace_batch.specs.Merges.{of_lane}
 
 -- the view of the sender of a lane, which put these in
-abbrev pub sender : ℕ → List Sent → View
-sender lane put = Sender lane put
+abbrev pub sender_view : ℕ → List Sent → View
+sender_view lane put = Sender lane put
 
 -- the view of the writer: how many lanes may have a sender, what is known of the others, what it took out
-abbrev pub writer : ℕ → List (List Sent) → List Sent → View
-writer lanes known got = Writer lanes known got
+abbrev pub writer_view : ℕ → List (List Sent) → List Sent → View
+writer_view lanes known got = Writer lanes known got
 
 -- what is known of a lane that has no sender any more, or never had one
 abbrev pub known_at : ℕ → List (List Sent) → ℕ → List Sent
@@ -76,10 +76,10 @@ KnowsEndedLanes Nobody items = Unit {0}
 
 -- it is the view of this lane's sender
 abbrev pub IsSenderOf : ℕ → View → Type 0
-IsSenderOf l v = (p : List Sent) × (v ≡ sender l p)
+IsSenderOf l v = (p : List Sent) × (v ≡ sender_view l p)
 
 -- how many lanes may have a sender, as the writer knows it
-abbrev pub lanes_of : View → ℕ
-lanes_of (Writer n k g) = n
-lanes_of (Sender l p) = 0
-lanes_of Nobody = 0
+abbrev pub lane_count_of : View → ℕ
+lane_count_of (Writer n k g) = n
+lane_count_of (Sender l p) = 0
+lane_count_of Nobody = 0

@@ -26,18 +26,18 @@ pub enum View {
 pub struct LanesInOrder;
 
 impl Protocol<Sent, View> for LanesInOrder {
-    ghost use Rattle.trace_batch.specs.Rule.{KeepsRule, writer};
+    ghost use Rattle.trace_batch.specs.Rule.{KeepsRule, writer_view};
     ghost use Rattle.std.specs.Prelude.{[]};
 
     ghost holds = { KeepsRule };
 
-    ghost first = { writer 0 [] [] };
+    ghost first = { writer_view 0 [] [] };
 }
 
 /// The writer makes a pass for the sender of the next lane.
-pub(crate) struct Next;
+pub(crate) struct OpensLane;
 
-impl Split<View> for Next {
+impl Split<View> for OpensLane {
     ghost use Rattle.trace_batch.specs.Rule.{one_more, next_sender};
 
     ghost left = { one_more };
@@ -46,9 +46,9 @@ impl Split<View> for Next {
 }
 
 /// The writer takes in the pass of the last lane's sender.
-pub(crate) struct End;
+pub(crate) struct EndsLane;
 
-impl Join<View> for End {
+impl Join<View> for EndsLane {
     ghost use Rattle.trace_batch.specs.Rule.{one_fewer};
     ghost use Rattle.trace_batch.specs.declared.queue.View.TheVariants.{Nobody};
 

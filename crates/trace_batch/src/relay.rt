@@ -63,7 +63,7 @@ fn finish<R: Wait, F: Finished>(
 }
 
 // Starts a sender for each list, in threads that end before it returns.
-fn senders<H: Threads + Wait + Sync, F: Finished + Sync, T: Turnstile + Sync>(
+fn run_senders<H: Threads + Wait + Sync, F: Finished + Sync, T: Turnstile + Sync>(
     rt: &H,
     alloc: Global,
     queue: &Queue,
@@ -139,8 +139,8 @@ pub fn relay_on_stacks<H: Threads + Wait + Sync, F: Finished + Sync + Drop, T: T
 {
     let (queue, pass) = Queue::ruled(alloc, QUEUE_CAPACITY)?;
     let progress = SendProgress {
-        refused: AtomicU64::new(u64::MAX),
-        ended: AtomicU64::new(0),
+        refused_lane: AtomicU64::new(u64::MAX),
+        ended_count: AtomicU64::new(0),
     };
     let writer = Writer {
         pass,
@@ -149,7 +149,7 @@ pub fn relay_on_stacks<H: Threads + Wait + Sync, F: Finished + Sync + Drop, T: T
         lacks_memory: false,
     };
     let lists = lists.as_slice();
-    let writer = senders(
+    let writer = run_senders(
         rt,
         alloc,
         &queue,

@@ -1,7 +1,7 @@
 //! What a sender does: it makes the texts of its items, and puts them into the queue.
 ghost use Rattle.std.specs.Prelude.{◌≡◌, [], All};
 ghost use Rattle.crossbeam_queue.specs.Passes.{view, IsPassOf};
-ghost use Rattle.trace_batch.specs.Rule.{sender, put_into, IsSenderOf};
+ghost use Rattle.trace_batch.specs.Rule.{sender_view, put_into, IsSenderOf};
 ghost use Rattle.trace_batch.specs.Sending.{Sends};
 
 use crate::item::{Finished, Item, Sent, sent_of};
@@ -18,7 +18,7 @@ pub struct SenderEnd {
     /// Its pass of the queue.
     pub pass: QueuePass,
     /// How many of its items it put in, from the first on.
-    pub sent: usize,
+    pub sent_count: usize,
     /// Whether it ended for want of memory.
     pub lacks_memory: bool,
 }
@@ -27,9 +27,9 @@ pub struct SenderEnd {
 #[derive(Drop)]
 pub struct SendProgress {
     /// The lane whose thread could not be started last; above all lanes where there is none.
-    pub refused: AtomicU64,
+    pub refused_lane: AtomicU64,
     /// How many senders have ended.
-    pub ended: AtomicU64,
+    pub ended_count: AtomicU64,
 }
 
 // Puts an item in, as soon as there is room.
@@ -62,14 +62,14 @@ pub fn send<R: Wait, F: Finished, T: Turnstile>(
     turns: &T,
     pass: QueuePass,
 ) -> SenderEnd
-    requires queue { IsPassOf queue.now pass × (view pass ≡ sender lane []) }
+    requires queue { IsPassOf queue.now pass × (view pass ≡ sender_view lane []) }
     requires lane { All (λ i. i.lane ≡ lane) list.now }
     ensures { Sends F.text queue.now lane list.now result }
 {
     let mut pass = pass;
     let mut sent = 0;
     let mut lacks_memory = false;
-    if progress.refused.load(Ordering::SeqCst) != lane {
+    if progress.refused_lane.load(Ordering::SeqCst) != lane {
         for item in list {
             let Ok(made) = sent_of(alloc, item) else {
                 lacks_memory = true;
@@ -81,10 +81,10 @@ pub fn send<R: Wait, F: Finished, T: Turnstile>(
             sent += 1;
         }
     }
-    progress.ended.fetch_add(1, Ordering::SeqCst);
+    progress.ended_count.fetch_add(1, Ordering::SeqCst);
     SenderEnd {
         pass,
-        sent,
+        sent_count: sent,
         lacks_memory,
     }
 }

@@ -1,7 +1,7 @@
 //! How a lane's sender is started, in a thread of its own where one can be had.
 ghost use Rattle.std.specs.Prelude.{◌≡◌, [], All};
 ghost use Rattle.crossbeam_queue.specs.Passes.{view, IsPassOf};
-ghost use Rattle.trace_batch.specs.Rule.{sender};
+ghost use Rattle.trace_batch.specs.Rule.{sender_view};
 ghost use Rattle.trace_batch.specs.Sending.{Sends};
 ghost use Rattle.trace_batch.specs.Starting.{EndsAsPromised};
 ghost use Rattle.trace_batch.specs.declared.sender.SenderEnd.{SenderEnd};
@@ -62,7 +62,7 @@ pub(crate) fn start<'s, E, R: Threads + Wait + Sync, F: Finished + Sync, T: Turn
     turns: &'s T,
     pass: QueuePass,
 ) -> Started<SenderPromise<'s, F>>
-    requires queue { IsPassOf queue.now pass × (view pass ≡ sender lane []) }
+    requires queue { IsPassOf queue.now pass × (view pass ≡ sender_view lane []) }
     requires own { All (λ i. i.lane ≡ lane) list.now }
     ensures { (end : SenderEnd) → EndsAsPromised ⟦<SenderPromise<'s, F> as Promise<SenderEnd>>⟧.kept_by result end
         → Sends F.text queue.now lane list.now end }
@@ -72,7 +72,7 @@ pub(crate) fn start<'s, E, R: Threads + Wait + Sync, F: Finished + Sync, T: Turn
         scope,
         promise,
         move || -> SenderEnd
-            requires queue { IsPassOf queue.now pass × (view pass ≡ sender lane []) }
+            requires queue { IsPassOf queue.now pass × (view pass ≡ sender_view lane []) }
             requires own { All (λ i. i.lane ≡ lane) list.now }
             ensures { Sends F.text queue.entry.now lane list.entry.now result }
         { send(rt, alloc, queue, list, lane, progress, turns, pass) },
@@ -82,7 +82,7 @@ pub(crate) fn start<'s, E, R: Threads + Wait + Sync, F: Finished + Sync, T: Turn
         Err(refused) => {
             // The closure came back with the pass in it. It is called for the pass alone: it would wait for ever for
             // room in a queue that nobody empties.
-            progress.refused.store(lane, Ordering::SeqCst);
+            progress.refused_lane.store(lane, Ordering::SeqCst);
             Started::Ended((refused.value)())
         }
     }

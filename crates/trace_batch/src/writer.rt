@@ -2,12 +2,12 @@
 ghost use Rattle.std.specs.Prelude.{◌≡◌, ◌<◌, ◌≤◌, ◌+◌, ◌∷◌, ◌++◌, ℕ, [], false, All, length, get_or, map, drop};
 ghost use Rattle.crossbeam_queue.specs.Passes.{view, IsPassOf};
 ghost use Rattle.trace_batch.specs.Merges.{sent_of};
-ghost use Rattle.trace_batch.specs.Rule.{KnowsEndedLanes, lanes_of};
+ghost use Rattle.trace_batch.specs.Rule.{KnowsEndedLanes, lane_count_of};
 ghost use Rattle.trace_batch.specs.Sending.{Sends};
 ghost use Rattle.trace_batch.specs.Serving.{Serving, IsNewWriter};
 
 use crate::item::{Finished, Item, Sent, sent_of};
-use crate::queue::{End, Next, Queue, QueuePass, Take};
+use crate::queue::{EndsLane, OpensLane, Queue, QueuePass, Take};
 use crate::sender::{SendProgress, SenderEnd};
 use crate::start::{end_of, stack_of, start};
 use otel_base::list::Items;
@@ -49,10 +49,10 @@ fn take_one<R: Wait, F: Finished>(
     writer: &mut Writer,
 ) -> bool
     requires queue { IsPassOf queue.now writer.old.pass }
-    requires serving { Serving F.text lists.now (lanes_of (view writer.old.pass)) writer.old }
+    requires serving { Serving F.text lists.now (lane_count_of (view writer.old.pass)) writer.old }
     ensures queue { IsPassOf queue.now writer.new.pass }
-    ensures lanes { lanes_of (view writer.new.pass) ≡ lanes_of (view writer.old.pass) }
-    ensures serving { Serving F.text lists.now (lanes_of (view writer.new.pass)) writer.new }
+    ensures lanes { lane_count_of (view writer.new.pass) ≡ lane_count_of (view writer.old.pass) }
+    ensures serving { Serving F.text lists.now (lane_count_of (view writer.new.pass)) writer.new }
     ensures empty { result ≡ false → KnowsEndedLanes (view writer.new.pass) [] }
 {
     match queue.pop_as::<Take, R>(rt, &mut writer.pass) {
@@ -73,14 +73,14 @@ pub(crate) fn take_all<R: Wait, F: Finished>(
     writer: &mut Writer,
 )
     requires queue { IsPassOf queue.now writer.old.pass }
-    requires serving { Serving F.text lists.now (lanes_of (view writer.old.pass)) writer.old }
+    requires serving { Serving F.text lists.now (lane_count_of (view writer.old.pass)) writer.old }
     ensures queue { IsPassOf queue.now writer.new.pass }
-    ensures lanes { lanes_of (view writer.new.pass) ≡ lanes_of (view writer.old.pass) }
-    ensures serving { Serving F.text lists.now (lanes_of (view writer.new.pass)) writer.new }
+    ensures lanes { lane_count_of (view writer.new.pass) ≡ lane_count_of (view writer.old.pass) }
+    ensures serving { Serving F.text lists.now (lane_count_of (view writer.new.pass)) writer.new }
     ensures empty { KnowsEndedLanes (view writer.new.pass) [] }
 {
     for _ in rt.forever() {
-        let have_ended = progress.ended.load(Ordering::SeqCst) == lists.len() as u64;
+        let have_ended = progress.ended_count.load(Ordering::SeqCst) == lists.len() as u64;
         let is_taken = take_one(rt, queue, lists, writer);
         if !is_taken {
             if have_ended {
@@ -143,10 +143,10 @@ fn settle<F: Finished>(
 {
     let SenderEnd {
         pass,
-        sent,
+        sent_count: sent,
         lacks_memory,
     } = ended;
-    queue.absorb::<End>(&mut writer.pass, pass);
+    queue.absorb::<EndsLane>(&mut writer.pass, pass);
     writer.lacks_memory |= lacks_memory;
     let rest = items_from(lists[lane].as_slice(), sent);
     serve_rest(alloc, rest, &mut writer.late, &mut writer.lacks_memory);
@@ -177,7 +177,7 @@ pub(crate) fn serve<'s, E, R: Threads + Wait + Sync, F: Finished + Sync, T: Turn
         return;
     }
     let list = lists[lane].as_slice();
-    let pass = queue.another::<Next>(&mut writer.pass);
+    let pass = queue.another::<OpensLane>(&mut writer.pass);
     let stack = stack_of(stack_sizes, lane);
     let started = start(
         scope,

@@ -35,28 +35,28 @@ struct RowDetails {
 
 /// The lines of traces, each but the first of all behind a comma. Rows are numbered from 1.
 #[derive(Clone, Copy, Default)]
-pub struct Rows {
+pub struct ChromeRows {
     row_count: u64,
 }
 
 // The rows of one trace: its spans that haven't ended where the last one of the row began, by their ends.
 #[derive(Drop)]
 struct TraceRows {
-    first: u64,
-    open: Vec<Vec<u64>>,
+    first_number: u64,
+    open_ends: Vec<Vec<u64>>,
 }
 
-impl Rows {
+impl ChromeRows {
     /// The lines of a trace whose spans come in the order of their starts, the longer one first: each span, with its
     /// events, in the first row of the trace in which it nests. A new row begins with its name.
     pub fn lines(&mut self, alloc: Global, trace: Trace) -> Result<String, Fault> {
         let mut lines = String::new(alloc);
         let mut rows = TraceRows {
-            first: self.row_count.saturating_add(1),
-            open: Vec::new(alloc),
+            first_number: self.row_count.saturating_add(1),
+            open_ends: Vec::new(alloc),
         };
         for record in trace.records {
-            let (row, is_new) = rows.row(alloc, record.start, record.end)?;
+            let (row, is_new) = rows.row_for(alloc, record.start, record.end)?;
             if is_new {
                 self.row_count = self.row_count.saturating_add(1);
                 if self.row_count > 1 {
@@ -72,21 +72,21 @@ impl Rows {
 
 impl TraceRows {
     // The number of the row of a span, and whether it is a new one.
-    fn row(&mut self, alloc: Global, start: u64, end: u64) -> Result<(u64, bool), Fault> {
-        let mut number = self.first;
-        for open in self.open.iter_mut() {
-            if fits_in_row(open, start, end)? {
+    fn row_for(&mut self, alloc: Global, start: u64, end: u64) -> Result<(u64, bool), Fault> {
+        let mut number = self.first_number;
+        for open in self.open_ends.iter_mut() {
+            if put_in_row_if_it_nests(open, start, end)? {
                 return Ok((number, false));
             }
             number = number.saturating_add(1);
         }
-        self.open.push(vec![in alloc; end]?)?;
+        self.open_ends.push(vec![in alloc; end]?)?;
         Ok((number, true))
     }
 }
 
 // Whether a span that starts now nests in a row: those that have ended are left out, and it ends within the last other.
-fn fits_in_row(open: &mut Vec<u64>, start: u64, end: u64) -> Result<bool, Fault> {
+fn put_in_row_if_it_nests(open: &mut Vec<u64>, start: u64, end: u64) -> Result<bool, Fault> {
     for _ in 0..open.len() {
         match open.last() {
             Some(last) if *last <= start => open.pop(),

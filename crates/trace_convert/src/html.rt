@@ -91,8 +91,8 @@ fn class_of(status: &Status) -> &'static str {
 
 // The time of a span and of its events within that of the trace.
 fn bar(alloc: Global, record: &Record, scale: Scale) -> Result<String, Fault> {
-    let from = scale.at(record.start);
-    let wide = scale.at(record.end).saturating_sub(from);
+    let from = scale.step_at(record.start);
+    let wide = scale.step_at(record.end).saturating_sub(from);
     let left = percent(alloc, from)?;
     let width = percent(alloc, wide)?;
     let mut bar = format!(in alloc;
@@ -100,7 +100,7 @@ fn bar(alloc: Global, record: &Record, scale: Scale) -> Result<String, Fault> {
     )?;
     for event in record.events.iter() {
         let name = escape(alloc, event.name.as_str())?;
-        let at = percent(alloc, scale.at(event.time))?;
+        let at = percent(alloc, scale.step_at(event.time))?;
         bar.push_str(format!(in alloc; "<u style=\"left:{at}\" title=\"{name}\"></u>")?.as_str())?;
     }
     bar.push_str("</span>")?;

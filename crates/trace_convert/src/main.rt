@@ -10,7 +10,7 @@ mod scale;
 mod text;
 mod traces;
 
-use crate::chrome::Rows;
+use crate::chrome::ChromeRows;
 use crate::otlp::Batch;
 use crate::record::record_of;
 use crate::traces::{Trace, Traces};
@@ -42,7 +42,7 @@ fn convert(rt: &HostRuntime) -> Result<(), Fault> {
     }
     match (format, option) {
         (Format::Otlp, Some(service)) => write_otlp(rt, service.as_str()),
-        (Format::Otlp, None) => write_otlp(rt, NO_SERVICE),
+        (Format::Otlp, None) => write_otlp(rt, DEFAULT_SERVICE),
         (Format::Text, Some(width)) => {
             let width = width_of(width.as_str()).ok_or(Fault::Usage)?;
             write_text(rt, width)
@@ -55,7 +55,7 @@ fn convert(rt: &HostRuntime) -> Result<(), Fault> {
 }
 
 // The service's name where none is given, by the conventions of OpenTelemetry.
-const NO_SERVICE: &str = "unknown_service";
+const DEFAULT_SERVICE: &str = "unknown_service";
 // The columns of a line where no number is given.
 const DEFAULT_WIDTH: usize = 100;
 
@@ -92,7 +92,7 @@ fn write_batch(rt: &HostRuntime, batch: Batch, service: &str) -> Result<(), Faul
 // One array, an event a line.
 fn write_chrome(rt: &HostRuntime) -> Result<(), Fault> {
     let traces = read_traces(rt)?;
-    let mut rows = Rows::default();
+    let mut rows = ChromeRows::default();
     println!(rt; "[")?;
     for trace in traces {
         let lines = rows.lines(rt.alloc(), trace)?;

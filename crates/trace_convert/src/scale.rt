@@ -10,7 +10,7 @@ pub struct Scale {
 
 impl Scale {
     /// The step at a moment: none behind the last.
-    pub fn at(self, moment: u64) -> u64 {
+    pub fn step_at(self, moment: u64) -> u64 {
         let whole = u128::from(self.end.saturating_sub(self.start));
         let part = u128::from(moment.saturating_sub(self.start)).min(whole);
         if whole == 0 {
@@ -22,6 +22,6 @@ impl Scale {
 
     /// The column of eight steps that a moment falls in: the last one at the end.
     pub fn column(self, moment: u64) -> u64 {
-        (self.at(moment) / 8).min((self.steps / 8).saturating_sub(1))
+        (self.step_at(moment) / 8).min((self.steps / 8).saturating_sub(1))
     }
 }

@@ -62,7 +62,7 @@ fn line(
 ) -> Result<String, Fault> {
     let mut line = String::new(alloc);
     line.push_str(mark_of(&record.status))?;
-    line.push_str(name_of(alloc, record.name.as_str(), row.depth, columns.name)?.as_str())?;
+    line.push_str(name_column(alloc, record.name.as_str(), row.depth, columns.name)?.as_str())?;
     let lasts = duration(alloc, record.end.saturating_sub(record.start))?;
     push_blanks(
         &mut line,
@@ -86,7 +86,7 @@ fn mark_of(status: &Status) -> &'static str {
 }
 
 // A name behind the blanks of its depth, cut or filled up to so many columns.
-fn name_of(alloc: Global, name: &str, depth: usize, columns: usize) -> Result<String, Fault> {
+fn name_column(alloc: Global, name: &str, depth: usize, columns: usize) -> Result<String, Fault> {
     let mut text = String::new(alloc);
     let indent = depth.saturating_mul(2).min(columns / 2);
     push_blanks(&mut text, indent)?;
@@ -141,8 +141,10 @@ fn push_blanks(text: &mut String, count: usize) -> Result<(), Fault> {
 // The time of a span as a bar, its events as marks on it.
 fn bar_of(alloc: Global, record: &Record, columns: usize, scale: Scale) -> Result<String, Fault> {
     // A span of no length at the end of its trace has the last eighth.
-    let from = scale.at(record.start).min(scale.steps.saturating_sub(1));
-    let to = scale.at(record.end);
+    let from = scale
+        .step_at(record.start)
+        .min(scale.steps.saturating_sub(1));
+    let to = scale.step_at(record.end);
     let mut bar = String::new(alloc);
     for column in 0..columns as u64 {
         let left = column.saturating_mul(8);

@@ -36,7 +36,7 @@ impl Traces {
 
     /// Adds a record to its trace.
     pub fn add(&mut self, alloc: Global, record: Record) -> Result<(), Fault> {
-        let place = self.place_of(alloc, record.trace.as_str())?;
+        let place = self.place_or_add(alloc, record.trace.as_str())?;
         if let Some(trace) = self.traces.get_mut(place) {
             trace.records.push(record)?;
         }
@@ -53,7 +53,7 @@ impl Traces {
         Ok(self.traces)
     }
 
-    fn place_of(&mut self, alloc: Global, id: &str) -> Result<usize, Fault> {
+    fn place_or_add(&mut self, alloc: Global, id: &str) -> Result<usize, Fault> {
         if let Some(place) = self.places.get(id) {
             return Ok(*place);
         }
@@ -113,7 +113,7 @@ impl Trace {
     fn span_tree(&self, alloc: Global) -> Result<SpanTree, Fault> {
         let places = self.places(alloc)?;
         let mut roots = Vec::new(alloc);
-        let mut children = self.no_children(alloc)?;
+        let mut children = self.empty_child_lists(alloc)?;
         for (place, record) in self.records.iter().enumerate() {
             let parent = record.parent.as_str();
             let under = if parent < record.span.as_str() {
@@ -138,7 +138,7 @@ impl Trace {
         Ok(places)
     }
 
-    fn no_children(&self, alloc: Global) -> Result<Vec<Vec<usize>>, Fault> {
+    fn empty_child_lists(&self, alloc: Global) -> Result<Vec<Vec<usize>>, Fault> {
         let mut children = Vec::new(alloc);
         for _ in self.records.iter() {
             children.push(Vec::new(alloc))?;

@@ -18,7 +18,7 @@ use Rattle.trace_eager.specs.Written.{answers_text, line_numbers, requests_of}
 use Rattle.trace_eager.proofs.AnswersLemmas.{text_of_answers}
 
 renames : (settings : Settings) (n : ℕ) (lines : List (List ℕ)) → (report_on signal.Traces (setup_by settings) [] n 0 lines).accepted ≡ true
-    → RenamesIds (record { settings = settings; number = n; lines = lines }) (report_on signal.Traces (setup_by settings) [] n 0 lines).written
+    → RenamesIds (record { settings = settings; line_number = n; lines = lines }) (report_on signal.Traces (setup_by settings) [] n 0 lines).written
 renames settings n lines accepted eager may =
     let setup = setup_by settings in
     let requests = requests_of lines in
@@ -30,7 +30,7 @@ abbrev IsRenamedBy : Option Script → Report → Type 0
 IsRenamedBy script r = r.accepted ≡ true → MatchOption script (Unit {0}) (λ script. RenamesIds script r.written)
 
 by_read : (read : OpeningRead) (settings : Settings) (n : ℕ) (lines : List (List ℕ))
-    → IsRenamedBy (Some (record { settings = settings; number = n; lines = lines })) (report_on_opening read (report_on signal.Traces (setup_by settings) [] n 0 lines) n)
+    → IsRenamedBy (Some (record { settings = settings; line_number = n; lines = lines })) (report_on_opening read (report_on signal.Traces (setup_by settings) [] n 0 lines) n)
 by_read (Err unread) settings n lines accepted = absurd (cc accepted)
 by_read (Ok read) settings n lines accepted = renames settings n lines accepted
 

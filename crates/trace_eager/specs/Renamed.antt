@@ -13,11 +13,11 @@ use Rattle.trace_eager.specs.Written.{answers_text, line_numbers, requests_of}
 -- the settings of a script, the number of their line, and the lines behind it
 pub record Script : Type 0 where
   pub settings : Settings
-  pub number : ℕ
+  pub line_number : ℕ
   pub lines : List (List ℕ)
 
 abbrev pub script_by : Result Settings Told → ℕ → List (List ℕ) → Option Script
-script_by (Ok settings) number lines = Some (record { settings = settings; number = number; lines = lines })
+script_by (Ok settings) number lines = Some (record { settings = settings; line_number = number; lines = lines })
 script_by (Err why) number lines = None
 
 -- the first line that isn't blank is the settings line, so many lines having come before
@@ -30,7 +30,7 @@ abbrev pub renamed_text : Script → List ℕ
 renamed_text script =
     let setup = lazy_setup (setup_by script.settings) in
     let requests = requests_of script.lines in
-    answers_text 0 (line_numbers script.number script.lines) (map (renamed_answer (eager_id setup requests)) (answers setup requests)) (outcome_of setup requests).left_open
+    answers_text 0 (line_numbers script.line_number script.lines) (map (renamed_answer (eager_id setup requests)) (answers setup requests)) (outcome_of setup requests).left_open
 
 -- a text of such a script, if spans start early in it and that changes ids alone
 abbrev pub RenamesIds : Script → List ℕ → Type 0

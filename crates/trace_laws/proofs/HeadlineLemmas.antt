@@ -47,9 +47,9 @@ module _ (setup : Setup) (requests : List Request) where
     refused = is_refused setup requests (no_tables setup);
     admitted = λ fore rest e is.
         let step = step_at fore rest e is in
-        record { request = step.0; place = step.1; effect = step.3; made = if_admitted setup fore step.0 e step.2 step.3 };
+        record { request = step.0; is_request = step.1; effect = step.3; made = if_admitted setup fore step.0 e step.2 step.3 };
     answered = each_answer (HoldsCalls setup requests h) (each_known setup h legal IsAt step_at);
-    under = each_answer (HasContextOf setup h) (is_under setup h legal);
+    contexts = each_answer (HasContextOf setup h) (is_under setup h legal);
     once = λ s. subst (λ (ids : List ℕ). occurrences s ids ≤ 1) (closed_is (no_tables setup) h) (closed_once setup h s legal);
     when_ended = λ fore rest s is.
         subst (λ (ids : List ℕ). is_in s ids ≡ (nat_lt s (length (tables setup fore).spans) && not (is_open (tables setup fore).handles s))) (closed_is (no_tables setup) fore)

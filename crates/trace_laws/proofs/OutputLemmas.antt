@@ -9,7 +9,7 @@ use Rattle.trace_lines.specs.forms.SettingsForm.{settings_form}
 use Rattle.trace_laws.proofs.AnswersLemmas.{text_is}
 
 by_read : (read : OpeningRead) (settings : Settings) (n : ℕ) (lines : List (List ℕ))
-    → (report_on_opening read (report_on signal.Traces (setup_by settings) [] n 0 lines) n).written ≡ opened_text read (record { settings = settings; number = n; lines = lines })
+    → (report_on_opening read (report_on signal.Traces (setup_by settings) [] n 0 lines) n).written ≡ opened_text read (record { settings = settings; line_number = n; lines = lines })
 by_read (Ok read) settings n lines =
     let setup = setup_by settings in
     let outcome = outcome_of setup (requests_of lines) in

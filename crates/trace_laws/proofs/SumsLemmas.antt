@@ -30,7 +30,7 @@ numbers_are n (r ∷ requests) all =
     let behind = line_numbers (n + 1) (map request_line requests) in
     ap (λ (b : Bool). if b then behind else (n + 1) ∷ behind) all.0.shown ∙ ap (λ (numbers : List ℕ). (n + 1) ∷ numbers) (numbers_are (n + 1) requests all.1)
 
-made_from : (n : ℕ) → n ≤ 50000 → script_from 0 (lines_of (generated_script n)) ≡ Some (record { settings = generated_settings; number = 1; lines = map request_line (generated_requests n) })
+made_from : (n : ℕ) → n ≤ 50000 → script_from 0 (lines_of (generated_script n)) ≡ Some (record { settings = generated_settings; line_number = 1; lines = map request_line (generated_requests n) })
 made_from n few = ap (script_from 0) (script_lines n few) ∙ rw settings_read refl
 
 -- ---- the history of requests that are all served
@@ -78,7 +78,7 @@ module _ (n : ℕ) (few : n ≤ 50000) (valid : IsValid (generated_script n)) (h
   lines = map request_line requests
 
   abbrev script : Script
-  script = record { settings = generated_settings; number = 1; lines = lines }
+  script = record { settings = generated_settings; line_number = 1; lines = lines }
 
   abbrev all : List (Reply × List Record)
   all = answers generated_setup requests

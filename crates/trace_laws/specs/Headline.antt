@@ -36,7 +36,7 @@ AnswersEach IsOf (e ∷ h) [] = ⊥
 -- directives in force then admit
 pub record MakesIfAdmitted (setup : Setup) (requests : List Request) (h : History) (e : Effect) : Type 0 where
   pub request : Request
-  pub place : slice_get requests (length h) ≡ Some request
+  pub is_request : slice_get requests (length h) ≡ Some request
   pub effect : effect_of setup (tables setup h) request ≡ Ok e
   pub made : is_some e.new_span ≡ is_making setup (tables setup h) request
 
@@ -47,7 +47,7 @@ pub record TellsSpans (setup : Setup) (requests : List Request) (h : History) (a
   pub refused : (request : Request) → slice_get requests (length h) ≡ Some request → IsErr (effect_of setup (tables setup h) request)
   pub admitted : (fore rest : History) (e : Effect) → h ≡ fore ++ e ∷ rest → MakesIfAdmitted setup requests fore e
   pub answered : AnswersEach (HoldsCalls setup requests h) h all
-  pub under : AnswersEach (HasContextOf setup h) h all
+  pub contexts : AnswersEach (HasContextOf setup h) h all
   pub once : (s : ℕ) → occurrences s (closed_spans h) ≤ 1
   -- so far those are closed that were made and that no unspent handle holds, theirs or a descendant's
   pub when_ended : (fore rest : History) (s : ℕ) → h ≡ fore ++ rest

@@ -51,12 +51,12 @@ abbrev pub script_text : Script → List ℕ
 script_text script =
     let setup = setup_by script.settings in
     let requests = requests_of script.lines in
-    outcome_text (line_numbers script.number script.lines) (first_bad_line script.number script.lines) (answers setup requests) (outcome_of setup requests)
+    outcome_text (line_numbers script.line_number script.lines) (first_bad_line script.line_number script.lines) (answers setup requests) (outcome_of setup requests)
 
 -- what is written of a script: a refusal line alone where a text of directives isn't read
 abbrev pub opened_text : OpeningRead → Script → List ℕ
 opened_text (Ok read) script = script_text script
-opened_text (Err unread) script = refusal_text script.number (told.Directive unread.0 unread.1)
+opened_text (Err unread) script = refusal_text script.line_number (told.Directive unread.0 unread.1)
 
 -- the number of the first line that isn't blank, else of the one past the last, so many lines having come before
 abbrev pub first_line_number : ℕ → List (List ℕ) → ℕ

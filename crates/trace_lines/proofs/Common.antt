@@ -41,7 +41,7 @@ pub use Rattle.span_script.specs.calls.Here.{Resolved, here_at}
 pub use Rattle.span_script.specs.declared.request.Call.{Call}
 pub use Rattle.span_script.specs.declared.request.Request.{Request}
 pub use Rattle.span_script.specs.declared.request.TheConstants.{LAST_MOMENT}
-pub use Rattle.trace_lines.specs.Generated.{generated_lines, generated_requests, generated_script, generated_settings, generated_setup, generated_site, request_line, request_members, root_fields, requests_of_round, requests_of_rounds, row_fields, settings_line}
+pub use Rattle.trace_lines.specs.Generated.{generated_lines, generated_requests, generated_script, generated_settings, generated_setup, generated_site, request_line, request_members, root_fields, requests_of_round, requests_of_rounds, row_fields, generated_settings_line}
 pub use Rattle.trace_lines.specs.Lines.{is_blank, lines_of}
 pub use Rattle.trace_lines.specs.Replay.{history_after, history_unless_refused}
 unfoldable pub use Rattle.trace_lines.specs.Replay.{summary_text}
@@ -49,11 +49,11 @@ pub use Rattle.trace_lines.specs.Report.{IsValid, Report, accepts, answer_count,
 unfoldable pub use Rattle.trace_lines.specs.Report.{effect_of_line}
 pub use Rattle.trace_lines.specs.declared.read.syntax.scan.TheConstants.{MAX_DEPTH}
 pub use Rattle.trace_lines.specs.declared.told.Told.TheVariants.{BadLine}
-pub use Rattle.trace_lines.specs.forms.AttributeForm.{attribute_spelled, key_value, list_of, otel_value_of, status_spelled}
+pub use Rattle.trace_lines.specs.forms.AttributeForm.{attribute_spelled, key_value, text_list_of, otel_value_of, status_spelled}
 unfoldable pub use Rattle.trace_lines.specs.forms.AttributeForm.{error_status_form}
 pub use Rattle.trace_lines.specs.forms.FieldForm.{field_data, field_of, fields_of, value_spelled}
 unfoldable pub use Rattle.trace_lines.specs.forms.FieldForm.{error_form, typed_form}
-pub use Rattle.trace_lines.specs.forms.Forms.{all_of, as_whole, at_most, each, no_more, object_of, pair_with, unit_if, without_member}
+pub use Rattle.trace_lines.specs.forms.Forms.{all_of, as_whole, if_at_most, each, no_more, object_of, pair_with, unit_if, without_member}
 unfoldable pub use Rattle.trace_lines.specs.forms.RequestForm.{attach_form, clone_form, context_form, detach_form, drop_form, enabled_form, enter_form, entered_form, event_form, exit_form, has_field_form, new_form, or_current_form, record_form, reload_form, remote_form, request_form}
 pub use Rattle.trace_lines.specs.forms.SettingsForm.{GivenLane, all_differ, lane_ids}
 unfoldable pub use Rattle.trace_lines.specs.forms.SettingsForm.{callsite_form, error_flags, lane_form, layer_form, settings_form, span_flags}
@@ -63,11 +63,11 @@ unfoldable pub use Rattle.trace_lines.specs.reading.Object.{line_of}
 pub use Rattle.trace_lines.specs.reading.Placed.{Before, FindsMember, FitsIn}
 pub use Rattle.trace_lines.specs.reading.Spelled.{line_members, line_value}
 unfoldable pub use Rattle.trace_lines.specs.reading.Spelled.{request_spelled, settings_spelled}
-pub use Rattle.trace_lines.specs.text.Compact.{BeginsItems, BeginsMembers, BeginsNested, BeginsWithValue, ReadsValue, members_of, nested_value, onto, plain_data}
-pub use Rattle.trace_lines.specs.text.Decimals.{below_zero, from_zero, i128_word, if_decimal}
-unfoldable pub use Rattle.trace_lines.specs.text.Decimals.{u128_word}
-pub use Rattle.trace_lines.specs.text.Hex.{digit_value, go_on, hex32}
-unfoldable pub use Rattle.trace_lines.specs.text.Hex.{hex16, hex_word}
+pub use Rattle.trace_lines.specs.text.Compact.{BeginsItems, BeginsMembers, BeginsNested, BeginsWithValue, ReadsValue, members_of, nested_value, with_members_first, plain_data}
+pub use Rattle.trace_lines.specs.text.Decimals.{negative_of, nonnegative_of, i128_of_word, if_decimal}
+unfoldable pub use Rattle.trace_lines.specs.text.Decimals.{u128_of_word}
+pub use Rattle.trace_lines.specs.text.Hex.{digit_value, with_more_digits, hex32}
+unfoldable pub use Rattle.trace_lines.specs.text.Hex.{hex16, number_of_hex}
 unfoldable pub use Rattle.trace_lines.specs.text.Texts.{end_text, measure_text, measures_end_text, record_text, refusal_text, reply_text}
 pub use Rattle.trace_lines.specs.text.Writes.{AddsText}
 pub use Rattle.trace_lines.specs.values.Building.{with_lane}

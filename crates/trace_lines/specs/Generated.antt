@@ -53,8 +53,8 @@ generated_settings = record {
   layer = default_settings;
 }
 
-abbrev pub settings_line : List ℕ
-settings_line = codes "{\"callsites\":[{\"fields\":[\"otel.kind\",\"id\"],\"kind\":\"span\",\"level\":\"info\",\"name\":\"request\",\"target\":\"web\"},{\"fields\":[],\"kind\":\"span\",\"level\":\"info\",\"name\":\"query\",\"target\":\"web::db\"},{\"fields\":[\"message\"],\"kind\":\"event\",\"level\":\"info\",\"name\":\"row\",\"target\":\"web::db\"}],\"filter\":\"info\",\"lanes\":[{\"id\":1,\"name\":\"a\"},{\"id\":2,\"name\":\"b\"}]}"
+abbrev pub generated_settings_line : List ℕ
+generated_settings_line = codes "{\"callsites\":[{\"fields\":[\"otel.kind\",\"id\"],\"kind\":\"span\",\"level\":\"info\",\"name\":\"request\",\"target\":\"web\"},{\"fields\":[],\"kind\":\"span\",\"level\":\"info\",\"name\":\"query\",\"target\":\"web::db\"},{\"fields\":[\"message\"],\"kind\":\"event\",\"level\":\"info\",\"name\":\"row\",\"target\":\"web::db\"}],\"filter\":\"info\",\"lanes\":[{\"id\":1,\"name\":\"a\"},{\"id\":2,\"name\":\"b\"}]}"
 
 abbrev pub generated_setup : Setup
 generated_setup = setup_by generated_settings
@@ -113,7 +113,7 @@ abbrev pub request_line : Request → List ℕ
 request_line request = compact_text (object (request_members request))
 
 abbrev pub generated_lines : ℕ → List (List ℕ)
-generated_lines n = settings_line ∷ map request_line (generated_requests n)
+generated_lines n = generated_settings_line ∷ map request_line (generated_requests n)
 
 -- each line ends by a line feed
 abbrev pub generated_script : ℕ → List ℕ

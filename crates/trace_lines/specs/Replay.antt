@@ -29,13 +29,13 @@ history_after setup h (request ∷ requests) =
 
 -- ---- the summary
 
-abbrev pub if_positive : ℤ → ℕ
-if_positive (pos n) = n
-if_positive (negsuc n) = 0
+abbrev pub natural_or_zero : ℤ → ℕ
+natural_or_zero (pos n) = n
+natural_or_zero (negsuc n) = 0
 
 abbrev pub number_in : OtelValue → ℕ
 number_in (otel.Bool b) = 0
-number_in (otel.I64 z) = if_positive z
+number_in (otel.I64 z) = natural_or_zero z
 number_in (otel.Str s) = 0
 number_in (otel.List texts) = 0
 

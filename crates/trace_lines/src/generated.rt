@@ -140,11 +140,11 @@ pub fn requests_of_round(alloc: Global, i: u64) -> Result<Vec<Request>, Memory>
     let root = root_fields(alloc, i)?;
     let row = row_fields(alloc)?;
     let none = Items::new(alloc);
-    Ok(Vec::from_array(alloc, calls(i, root, none, row))?)
+    Ok(Vec::from_array(alloc, round_with(i, root, none, row))?)
 }
 
 // The calls of a round, with the fields of its two spans and of its event.
-fn calls(
+fn round_with(
     i: u64,
     root: Items<(Text, Value)>,
     below: Items<(Text, Value)>,

@@ -1,7 +1,7 @@
 -- Names of other modules that proofs of the crate import, passed on from one place. Declares nothing.
 pub use Rattle.span_handles.specs.Handles.{HasOn, HeldSpan, as_parent}
 pub use Rattle.env_filter.specs.Filtering.{plain_filter}
-pub use Rattle.span_stack.specs.Reading.{StackWorlds, stack_interest}
+pub use Rattle.span_stack.specs.Reading.{StackWorld, stack_interest}
 pub use Rattle.span_script.proofs.entries.EntriesLemmas.{by_view_opens, by_view_opens_refused, entered_is, entered_ok, entered_refused, keeps_entered, keeps_exited, serves_entered, serves_exited}
 pub use Rattle.span_script.proofs.fields.FieldsLemmas.{all_given, keeps_asked, keeps_recorded, needs_site, not_given, refuses_event, refuses_new, serves_asked, serves_recorded}
 pub use Rattle.span_script.proofs.filter.CounterLemmas.{stack_same}
@@ -21,8 +21,8 @@ pub use Rattle.span_script.proofs.steps.LanesLemmas.{has_own, on_err, own_serves
 pub use Rattle.span_script.proofs.steps.RequiresLemmas.{exit_may, exit_still, guard_entry, guard_named, needs_few, needs_known, needs_there, needs_whole}
 pub use Rattle.span_script.proofs.steps.ServesLemmas.{by_view, by_view_error, by_view_refused, serves_refusal}
 pub use Rattle.span_script.specs.Fields.{Fields, all_values, declared_value}
-pub use Rattle.span_script.specs.Fits.{StandsFor, PipelineState, held_by, held_of, stack_views, without_first, without_first_measure}
+pub use Rattle.span_script.specs.Fits.{StandsFor, PipelineState, held_by, held_of, stack_views, without_oldest_record, without_oldest_measure}
 pub use Rattle.span_script.specs.Setups.{event_site, id_at, setup_by, span_site}
-pub use Rattle.span_script.specs.Slots.{named_values, names_handle, parent_for}
+pub use Rattle.span_script.specs.Slots.{values_or_refusal, names_handle, parent_for}
 pub use Rattle.span_script.specs.Tables.{Scope, Tables, slot_at, tables}
 pub use Rattle.trace_pipeline.specs.Parts.{parts_of}

@@ -2,7 +2,7 @@
 ghost use Rattle.std.specs.Prelude.{◌≡◌, false, option_map, Some, Err, IfOk, IfErr};
 ghost use Rattle.span_script.specs.Fields.{values_of, all_values, values_by};
 ghost use Rattle.span_script.specs.Fits.{is_for_memory};
-ghost use Rattle.span_script.specs.Slots.{named_values};
+ghost use Rattle.span_script.specs.Slots.{values_or_refusal};
 
 use otel_base::list::Items;
 use otel_base::memory::Memory;
@@ -47,7 +47,7 @@ fn all_values(
 }
 
 /// Under what a new span or an event of a callsite goes and the values of all its fields, where what a request names is there.
-pub fn named_at(
+pub fn parent_and_values(
     alloc: Global,
     callsite: &Callsite,
     parent: Option<Parent>,
@@ -56,7 +56,7 @@ pub fn named_at(
     ensures parent { IfOk result (λ named. parent ≡ Some named.0) }
     ensures values { IfOk result (λ named. all_values callsite.now fields ≡ Some named.1) }
     ensures refused { IfErr result (λ refusal. is_for_memory refusal ≡ false
-        → named_values (Some callsite.now) parent fields ≡ Err refusal) }
+        → values_or_refusal (Some callsite.now) parent fields ≡ Err refusal) }
 {
     let Some(parent) = parent else {
         return Err(Refusal::UnknownName { what: What::Handle });

@@ -34,7 +34,7 @@ use trace_base::world::World;
 pub struct Pipeline {
     pub(crate) world: World<Stack>,
     pub(crate) dispatch: Dispatch,
-    pub(crate) opening: FilterTexts,
+    pub(crate) filter_texts: FilterTexts,
     pub(crate) lanes: Vec<Lane>,
     pub(crate) handles: Slots<Span>,
     pub(crate) guards: Guards,
@@ -60,7 +60,7 @@ impl Discard for Pipeline {
         let Pipeline {
             world,
             dispatch: _,
-            opening: _,
+            filter_texts: _,
             lanes: _,
             handles,
             guards,
@@ -143,7 +143,7 @@ impl Pipeline {
         Ok(Pipeline {
             world,
             dispatch,
-            opening: FilterTexts { filter, counting },
+            filter_texts: FilterTexts { filter, counting },
             lanes,
             handles: Slots::new(alloc),
             guards: Guards::new(alloc),

@@ -27,14 +27,14 @@ fn count_open(registry: &Registry, ids: u64) -> u64
 impl Pipeline {
     ghost use Rattle.span_script.specs.Tables.{Tables};
     ghost use Rattle.span_script.specs.calls.Spans.{open_spans};
-    ghost use Rattle.span_script.specs.Fits.{StandsFor, without_first, without_first_measure};
+    ghost use Rattle.span_script.specs.Fits.{StandsFor, without_oldest_record, without_oldest_measure};
 
     /// The oldest record that hasn't been taken, if there is one: what an `opentelemetry_sdk::trace::SpanExporter`
     /// would get next.
     pub fn take_record(&mut self) -> Option<Record>
         ensures oldest { MatchOption result (self.old.recording.finished ≡ [])
             (λ record'. self.old.recording.finished ≡ record' ∷ self.new.recording.finished) }
-        ensures rest { self.new ≡ without_first self.old }
+        ensures rest { self.new ≡ without_oldest_record self.old }
     {
         laws::takes_record();
         stack::take_record(&mut self.world, self.dispatch)
@@ -45,7 +45,7 @@ impl Pipeline {
     pub fn take_measure(&mut self) -> Option<Measure>
         ensures oldest { MatchOption result (self.old.measures ≡ [])
             (λ measure. self.old.measures ≡ measure ∷ self.new.measures) }
-        ensures rest { self.new ≡ without_first_measure self.old }
+        ensures rest { self.new ≡ without_oldest_measure self.old }
     {
         laws::takes_measure();
         stack::take_measure(&mut self.world, self.dispatch)

@@ -18,7 +18,7 @@ unfoldable pub use Rattle.trace_lines.specs.Report.{effect_of_line}
 pub use Rattle.trace_lines.specs.declared.told.Told.{Told}
 pub use Rattle.trace_lines.specs.reading.Spelled.{request_spelled, settings_spelled}
 pub use Rattle.input_lines.specs.Refusals.{HasRefusalLine, Refuses}
-pub use Rattle.trace_records.specs.Following.{EndsAs, HasFollowed, IsOpening, IsRefusedBy, IsRunning, IsStopped, StandsAt, without_outputs}
+pub use Rattle.trace_records.specs.Following.{EndsAs, HasFollowed, IsOpening, TellsRefusedLine, IsRunning, IsStopped, StandsAt, without_outputs}
 pub use Rattle.trace_records.specs.Inputs.{AreRefused, EndsWith, TellsRun, accepts_within, last_line_of}
 pub use Rattle.trace_records.specs.Lines.{AnswersLine, AnswersRequest, Opens, OpensLine}
 pub use Rattle.trace_records.specs.Scripts.{ScriptHistory, ScriptResult, allows_lanes, lane_spelled, lanes_on, run_unless_refused, script_from, script_of, script_on, setup_if_read, setup_of_settings}

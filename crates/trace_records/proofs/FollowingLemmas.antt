@@ -1,6 +1,6 @@
 -- One line more is followed, and the lines end.
 use Rattle.std.proofs.Common.{◌≡◌, ℕ, List, [], ◌∷◌, ◌++◌, refl, sym, ap, subst, ◌∙◌, append_assoc, ◌+◌, length, map, inr, Option, Some, None, Result, Ok, Err, OnOk, true, false}
-use Rattle.trace_records.proofs.Common.{map-append, Record, Setup, History, Tables, no_tables, tables, records_of, open_spans, records_of_history, PipelineState, StandsFor, records_push, is_blank, FinishedSpans, OpenedPipeline, RequestAnswer, ScriptResult, lanes_on, script_of, Opens, AnswersRequest, without_outputs, IsOpening, IsRunning, IsStopped, StandsAt, EndsAs, IsRefusedBy}
+use Rattle.trace_records.proofs.Common.{map-append, Record, Setup, History, Tables, no_tables, tables, records_of, open_spans, records_of_history, PipelineState, StandsFor, records_push, is_blank, FinishedSpans, OpenedPipeline, RequestAnswer, ScriptResult, lanes_on, script_of, Opens, AnswersRequest, without_outputs, IsOpening, IsRunning, IsStopped, StandsAt, EndsAs, TellsRefusedLine}
 use Rattle.std.proofs.lemmas.List.{append-nil}
 use Rattle.trace_lines.specs.declared.told.Told.TheVariants as told
 use Rattle.input_lines.proofs.BlankLemmas.{some_before, one_not_blank}
@@ -25,7 +25,7 @@ opened_on of most lines count next old new line opened o counted is opens spans 
   stands = opens.stands;
   taken = opens.records;
   spans_are = spans ∙ o.no_spans;
-  lanes_are = number ∙ opens.lanes;
+  lane_count_is = number ∙ opens.lanes;
   script_is = λ more. on_line most lines more line _ (o.script_is (line ∷ more) ∙ rw (is, opens.setup, counted, lanes, o.no_lanes) refl);
 }
 
@@ -42,7 +42,7 @@ beside k t s = record {
     latest = s.fits.latest;
     balanced = s.fits.balanced;
     made = s.fits.made;
-    one_lane = s.fits.one_lane;
+    one_row = s.fits.one_row;
     scopes = s.fits.scopes;
     still = s.fits.still;
     own_scopes = s.fits.own_scopes;
@@ -66,7 +66,7 @@ back k t s = record {
     latest = s.fits.latest;
     balanced = s.fits.balanced;
     made = s.fits.made;
-    one_lane = s.fits.one_lane;
+    one_row = s.fits.one_row;
     scopes = s.fits.scopes;
     still = s.fits.still;
     own_scopes = s.fits.own_scopes;
@@ -102,7 +102,7 @@ answered_on of most lines count next old mid new before after line answered r co
       stands = subst (λ (s : Setup). StandsFor new (tables s (h ++ a.effect ∷ []))) (sym setup) (stands_beside mid new (tables old.setup (h ++ a.effect ∷ [])) same a.stands);
       taken = taken;
       spans_are = all ∙ ap (λ (s : Setup). map of (records_of_history s (h ++ a.effect ∷ []))) (sym setup);
-      lanes_are = number ∙ r.lanes_are ∙ ap (λ (s : Setup). length s.ids) (sym setup);
+      lane_count_is = number ∙ r.lane_count_is ∙ ap (λ (s : Setup). length s.ids) (sym setup);
       script_is = λ later. on_line most lines later line _ (r.script_is (line ∷ later) ∙ rw (is, a.is, counted, lanes, setup) refl);
     }
 
@@ -127,10 +127,10 @@ pub running_end : {K : Type 0} (of : Record → K) (most : Option ℕ) (lines : 
 running_end of most lines count kept before after r spans_are lanes_are number counts = (
   record { setup = kept.setup; history = r.history; lanes = before.lanes.items },
   with_none most lines ∙ r.script_is [],
-  record { spans_are = spans_are ∙ r.spans_are; lanes_are = lanes_are; lane_count = number ∙ r.lanes_are; left_open = counts r.history r.stands },
+  record { spans_are = spans_are ∙ r.spans_are; lanes_are = lanes_are; lane_count = number ∙ r.lane_count_is; left_open = counts r.history r.stands },
 )
 
-pub running_refuses_none : {K : Type 0} (of : Record → K) (most : Option ℕ) (lines : List (List ℕ)) (count : ℕ) (kept : PipelineState) (finished : FinishedSpans K) → IsRunning of most lines count kept finished → IsRefusedBy most lines None
+pub running_refuses_none : {K : Type 0} (of : Record → K) (most : Option ℕ) (lines : List (List ℕ)) (count : ℕ) (kept : PipelineState) (finished : FinishedSpans K) → IsRunning of most lines count kept finished → TellsRefusedLine most lines None
 running_refuses_none of most lines count kept finished r = inr (record { setup = kept.setup; history = r.history; lanes = finished.lanes.items }, with_none most lines ∙ r.script_is [])
 
 pub stopped_end : {K : Type 0} (of : Record → K) (most : Option ℕ) (lines : List (List ℕ)) (refused : RefusedLine) → IsStopped most lines refused → EndsAs of most lines (Err refused)

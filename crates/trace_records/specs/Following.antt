@@ -32,7 +32,7 @@ pub record IsRunning {K : Type 0} (of : Record → K) (most : Option ℕ) (lines
   pub stands : StandsFor kept (tables kept.setup history)
   pub taken : kept.recording.finished ≡ []
   pub spans_are : finished.spans.items ≡ map of (records_of_history kept.setup history)
-  pub lanes_are : finished.lane_count ≡ length kept.setup.ids
+  pub lane_count_is : finished.lane_count ≡ length kept.setup.ids
   pub script_is : (more : List (List ℕ))
       → script_of most (lines ++ more) ≡ script_on kept.setup history finished.lanes.items count more
 
@@ -50,12 +50,12 @@ StandsAt of most (stage.Refused refused) lines count finished = IsStopped most l
 
 -- what a script keeps that has followed these lines
 abbrev pub HasFollowed : {K : Type 0} → (Record → K) → Option ℕ → List (List ℕ) → ScriptRun K → Type 0
-HasFollowed of most lines run = StandsAt of most run.stage lines run.lines run.finished
+HasFollowed of most lines run = StandsAt of most run.stage lines run.line_count run.finished
 
 -- the line that is refused whatever lines follow, if there is one; else all are blank or a script
-abbrev pub IsRefusedBy : Option ℕ → List (List ℕ) → Option RefusedLine → Type 0
-IsRefusedBy most lines (Some refused) = IsStopped most lines refused
-IsRefusedBy most lines None = (are_blank lines ≡ true) ⊎ ((script : ScriptHistory) × (script_of most lines ≡ Ok script))
+abbrev pub TellsRefusedLine : Option ℕ → List (List ℕ) → Option RefusedLine → Type 0
+TellsRefusedLine most lines (Some refused) = IsStopped most lines refused
+TellsRefusedLine most lines None = (are_blank lines ≡ true) ⊎ ((script : ScriptHistory) × (script_of most lines ≡ Ok script))
 
 -- ---- the end
 

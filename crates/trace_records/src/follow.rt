@@ -25,7 +25,7 @@ pub fn follow_lines<K: FromRecord>(
     let mut rest = bytes;
     while !rest.is_empty() {
         let (line, after) = first_line(rest);
-        if run.line(alloc, most_lanes, line).is_err() {
+        if run.follow_line(alloc, most_lanes, line).is_err() {
             run.discard();
             return Err(Memory);
         }

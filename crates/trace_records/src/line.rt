@@ -43,7 +43,7 @@ fn allows_lanes(most_lanes: Option<u64>, lane_count: u64) -> bool
 
 /// Opens a pipeline by the settings on a line, or tells why the line is refused: it spells none, a text of directives isn't
 /// read, or there are more lanes than the most that are taken. `Memory` freely.
-pub fn open_line(
+pub fn open_pipeline(
     alloc: Global,
     most_lanes: Option<u64>,
     line: &[u8],

@@ -1,10 +1,10 @@
 //! A script that runs line by line.
 ghost use Rattle.std.specs.Prelude.{◌≡◌, ℕ, List, Option, [], ◌∷◌, ◌++◌, OnOk, IfOk};
-ghost use Rattle.trace_records.specs.Following.{HasFollowed, EndsAs, IsRefusedBy};
+ghost use Rattle.trace_records.specs.Following.{HasFollowed, EndsAs, TellsRefusedLine};
 
 use crate::finished::{FinishedSpans, drop_measures};
 use crate::from_record::FromRecord;
-use crate::line::{OpenedPipeline, answer_line, open_line};
+use crate::line::{OpenedPipeline, answer_line, open_pipeline};
 use input_lines::{RefusedLine, is_blank};
 use otel_base::memory::Memory;
 use std::alloc::Global;
@@ -37,7 +37,7 @@ impl Discard for ScriptStage {
 /// A script that runs line by line, and the spans that finished so far. It has to be spent, by `end` or `discard`.
 pub struct ScriptRun<K> {
     /// How many lines came, blank ones included.
-    pub lines: u64,
+    pub line_count: u64,
     /// Where the script stands.
     pub stage: ScriptStage,
     /// The spans that finished so far.
@@ -48,7 +48,7 @@ pub struct ScriptRun<K> {
 impl<K: FromRecord> Discard for ScriptRun<K> {
     fn discard(self) {
         let ScriptRun {
-            lines: _,
+            line_count: _,
             stage,
             finished: _,
         } = self;
@@ -69,7 +69,7 @@ impl<K: FromRecord> ScriptRun<K> {
         ensures { (most : Option ℕ) → HasFollowed K.of_record most [] result }
     {
         ScriptRun {
-            lines: 0,
+            line_count: 0,
             stage: ScriptStage::Opening,
             finished: FinishedSpans::new(alloc),
         }
@@ -77,7 +77,7 @@ impl<K: FromRecord> ScriptRun<K> {
 
     /// Runs one line more of a script that may have so many lanes. Behind a refused line nothing is run. `Memory` freely;
     /// what is left then follows no lines.
-    pub fn line(
+    pub fn follow_line(
         &mut self,
         alloc: Global,
         most_lanes: Option<u64>,
@@ -87,13 +87,13 @@ impl<K: FromRecord> ScriptRun<K> {
             → OnOk result (HasFollowed K.of_record most_lanes (lines ++ line.now ∷ []) self.new) }
     {
         // No input has so many lines that the sum wraps.
-        let number = self.lines.checked_add(1).ok_or(Memory)?;
-        self.lines = number;
+        let number = self.line_count.checked_add(1).ok_or(Memory)?;
+        self.line_count = number;
         if is_blank(line) {
             return Ok(());
         }
         match &mut self.stage {
-            ScriptStage::Opening => match open_line(alloc, most_lanes, line)? {
+            ScriptStage::Opening => match open_pipeline(alloc, most_lanes, line)? {
                 Ok(
                     OpenedPipeline {
                         pipeline,
@@ -134,7 +134,7 @@ impl<K: FromRecord> ScriptRun<K> {
     /// The line that is refused whatever lines follow, if one is.
     pub fn refused_line(&self) -> Option<RefusedLine>
         ensures { (most : Option ℕ) (lines : List (List ℕ)) → HasFollowed K.of_record most lines self.now
-            → IsRefusedBy most lines result }
+            → TellsRefusedLine most lines result }
     {
         match &self.stage {
             ScriptStage::Opening => None,
@@ -153,14 +153,14 @@ impl<K: FromRecord> ScriptRun<K> {
             → IfOk result (EndsAs K.of_record most lines) }
     {
         let ScriptRun {
-            lines,
+            line_count,
             stage,
             mut finished,
         } = self;
         match stage {
             ScriptStage::Opening => {
                 // No input has so many lines that the sum wraps.
-                let line = lines.checked_add(1).ok_or(Memory)?;
+                let line = line_count.checked_add(1).ok_or(Memory)?;
                 let told = Told::BadLine;
                 Ok(Err(RefusedLine { line, told }))
             }

@@ -22,4 +22,4 @@ pub use Rattle.trace_stream.specs.Streams.{CountsFault, Puts, PutsFront, Streams
 pub use Rattle.trace_stream.specs.declared.status.Status.{Status}
 pub use Rattle.trace_run.specs.Commands.Batch.{TellsBatchesOfLines, TellsBatchesOf, accepts_batch}
 pub use Rattle.trace_run.specs.Commands.Tree.{TellsTreeOf, TellsTrees}
-pub use Rattle.trace_run.specs.Making.{Counts, ServesRequests, SumsUp, totals_of_requests, with_records}
+pub use Rattle.trace_run.specs.Making.{StandsWithTotals, ServesRequests, SumsUp, totals_of_requests, with_records}

@@ -2,7 +2,7 @@
 use Rattle.std.proofs.Common.{◌≡◌, ℕ, zero, suc, ◌+◌, List, [], ◌∷◌, ◌++◌, length, Some, Ok, refl, sym, ap, subst, ◌∙◌, arith, append_assoc, append-nil, length-append}
 use Rattle.std.specs.List.{sum_by}
 use Rattle.std.proofs.lemmas.List.Sums.{sum_by-append}
-use Rattle.trace_run.proofs.Common.{Record, Request, PipelineState, StandsFor, IsServedByHistory, records_of_history, Setup, History, Tables, no_tables, tables, records_of, generated_setup, generated_requests, generated_script, requests_of_round, requests_of_rounds, history_unless_refused, history_after, busy_of, event_count, IsValid, without_outputs, SumsUp, with_records, totals_of_requests, Counts, ServesRequests}
+use Rattle.trace_run.proofs.Common.{Record, Request, PipelineState, StandsFor, IsServedByHistory, records_of_history, Setup, History, Tables, no_tables, tables, records_of, generated_setup, generated_requests, generated_script, requests_of_round, requests_of_rounds, history_unless_refused, history_after, busy_of, event_count, IsValid, without_outputs, SumsUp, with_records, totals_of_requests, StandsWithTotals, ServesRequests}
 use Rattle.span_script.specs.declared.reply.Reply.{Reply}
 use Rattle.span_script.specs.calls.Here.{Resolved}
 use Rattle.span_script.specs.Effects.{effect_of}
@@ -47,7 +47,7 @@ with_request n m rs ss t next is =
 
 -- ---- histories
 
-pub served : (h : History) (old mid new : PipelineState) (before last : Totals) (request : Request) (reply : Reply) → Counts h old before
+pub served : (h : History) (old mid new : PipelineState) (before last : Totals) (request : Request) (reply : Reply) → StandsWithTotals h old before
     → IsServedByHistory (effect_of old.setup (tables old.setup h) request) h old mid reply
     → last ≡ with_records (record before { requests = before.requests + 1 }) mid.recording.finished → new.recording.finished ≡ [] → without_outputs new ≡ without_outputs mid
     → ServesRequests (request ∷ []) h new last
@@ -87,7 +87,7 @@ rounds_more first (suc i) =
 
 -- ---- the whole run
 
-pub opened : (k : PipelineState) → k.setup ≡ generated_setup → StandsFor k (tables generated_setup []) → k.recording.finished ≡ [] → Counts [] k (totals_of_requests 0)
+pub opened : (k : PipelineState) → k.setup ≡ generated_setup → StandsFor k (tables generated_setup []) → k.recording.finished ≡ [] → StandsWithTotals [] k (totals_of_requests 0)
 opened k setup stands taken = record { setup = setup; stands = stands; taken = taken; totals_are = sym (with_none (totals_of_requests 0)) }
 
 pub summed : (n : ℕ) (k : PipelineState) (t : Totals) (summary : Summary) (spans lines : ℕ) (s : ServesRequests (generated_requests n) [] k t) → ((h : History) → history_after generated_setup [] (generated_requests n) ≡ Some h → IsValid (generated_script n))

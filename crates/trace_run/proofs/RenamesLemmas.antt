@@ -19,7 +19,7 @@ by_left before now (Some bytes) leaves =
     let put = leaves.2 in
     (put.0, subst (IsRenamed (lines_of bytes)) (sym put.1) (is_renamed (lines_of bytes) leaves.0.accepted), put.2)
 
-pub renames_ids : (told : Signal) (status : Status) (before now : Streams) → CarriesOut (meaning_of_runs told) status before now → RenamesIds (invocation.Script (command.Run told)) status before now
+pub renames_ids : (told : Signal) (status : Status) (before now : Streams) → CarriesOut (meaning_of_runs told) status before now → RenamesIds (invocation.WithoutThreads (command.Run told)) status before now
 renames_ids signal.Metrics status before now carries = tt
 renames_ids signal.Traces status before now carries = λ ok.
     let done = subst (λ (s : Status). CarriesOut (meaning_of_runs signal.Traces) s before now) ok carries in

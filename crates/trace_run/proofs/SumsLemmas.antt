@@ -3,15 +3,15 @@ use Rattle.std.proofs.Common.{◌≡◌, ℕ, List, [], refl, sym, subst, arith,
 use Rattle.std.proofs.lemmas.List.{append-nil}
 use Rattle.trace_run.proofs.Common.{Status, Streams, CountsFault, PutsFront, HasCause, CarriesOut}
 use Rattle.trace_stream.specs.declared.status.Status.TheVariants as ends
-use Rattle.trace_run.specs.Commands.Make.{generated_line, LeavesSummary, CompletesSummary, meaning_of_make}
+use Rattle.trace_run.specs.Commands.Make.{generated_summary_line, LeavesSummary, CompletesSummary, meaning_of_make}
 
-sum_front : (status : Status) (rounds : ℕ) (before now : Option (List ℕ)) → LeavesSummary status rounds before now → PutsFront before now (generated_line rounds)
-sum_front ends.Ok rounds before now left = (generated_line rounds, ([], sym (append-nil (generated_line rounds))), left.1)
+sum_front : (status : Status) (rounds : ℕ) (before now : Option (List ℕ)) → LeavesSummary status rounds before now → PutsFront before now (generated_summary_line rounds)
+sum_front ends.Ok rounds before now left = (generated_summary_line rounds, ([], sym (append-nil (generated_summary_line rounds))), left.1)
 sum_front ends.Usage rounds before now left = absurd left
 sum_front ends.Refused rounds before now left = absurd left
 sum_front ends.ReadFault rounds before now left = absurd left
 sum_front ends.WriteFault rounds before now left = left
-sum_front ends.Memory rounds before now left = ([], (generated_line rounds, refl), left)
+sum_front ends.Memory rounds before now left = ([], (generated_summary_line rounds, refl), left)
 sum_front ends.TooLong rounds before now left = absurd left
 
 sum_causes : (status : Status) (rounds : ℕ) (before now : Streams) → LeavesSummary status rounds before.held now.held

@@ -14,7 +14,7 @@ use Rattle.trace_run.specs.declared.script.Command.{Command}
 use Rattle.trace_run.specs.declared.script.Command.TheVariants as command
 use Rattle.trace_lines.specs.declared.generated.TheConstants.{MAX_ROUNDS}
 use Rattle.trace_lines.specs.declared.signal.Signal.TheVariants as signal
-use Rattle.trace_lines.specs.text.Decimals.{u128_word}
+use Rattle.trace_lines.specs.text.Decimals.{u128_of_word}
 pub mod Make
 pub mod Tree
 pub mod Tasks
@@ -23,7 +23,7 @@ pub mod Threads
 
 -- a number from 1 to a greatest one, by its decimal
 abbrev pub number_up_to : ℕ → List ℕ → Option ℕ
-number_up_to most word = option_and_then (λ n. if nat_le 1 n && nat_le n most then Some n else None) (u128_word word)
+number_up_to most word = option_and_then (λ n. if nat_le 1 n && nat_le n most then Some n else None) (u128_of_word word)
 
 -- ---- commands without threads
 
@@ -50,12 +50,12 @@ meaning_of command.Tasks = meaning_of_tasks
 
 abbrev pub invocation_by : List ℕ → Option Invocation
 invocation_by word =
-    if bytes_eq word (codes "threads") then Some invocation.Threads else option_map invocation.Script (command_by word)
+    if bytes_eq word (codes "threads") then Some invocation.Threads else option_map invocation.WithoutThreads (command_by word)
 
 abbrev pub invocation_with : List ℕ → List ℕ → Option Invocation
 invocation_with word number =
     if bytes_eq word (codes "batch") then option_map invocation.Batch (number_up_to MAX_BATCH_ITEMS number)
-    else option_map invocation.Script (command_with word number)
+    else option_map invocation.WithoutThreads (command_with word number)
 
 abbrev pub invocation_of : List (List ℕ) → Option Invocation
 invocation_of [] = None
@@ -64,6 +64,6 @@ invocation_of (word ∷ number ∷ []) = invocation_with word number
 invocation_of (word ∷ number ∷ other ∷ more) = None
 
 abbrev pub meaning_by : Invocation → Meaning
-meaning_by (invocation.Script command) = meaning_of command
+meaning_by (invocation.WithoutThreads command) = meaning_of command
 meaning_by (invocation.Batch size) = meaning_of_batches size
 meaning_by invocation.Threads = meaning_of_threads

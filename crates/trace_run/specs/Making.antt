@@ -10,7 +10,7 @@ use Rattle.trace_lines.specs.Generated.{generated_setup, generated_requests, gen
 use Rattle.trace_lines.specs.Replay.{history_after, busy_of, event_count, summary_of}
 use Rattle.trace_lines.specs.Report.{IsValid}
 use Rattle.trace_lines.specs.declared.write.summary.Summary.{Summary}
-use Rattle.trace_run.specs.Commands.Make.{generated_line}
+use Rattle.trace_run.specs.Commands.Make.{generated_summary_line}
 use Rattle.trace_run.specs.declared.script.make.Totals.{Totals}
 
 -- The script is valid, each of its requests has an effect, and a summary is that of these effects.
@@ -21,8 +21,8 @@ pub record SumsUp (rounds : ℕ) (summary : Summary) : Type 0 where
   pub summary_is : summary ≡ summary_of generated_setup history
 
 -- the script is valid, and a text is its summary
-abbrev pub IsGeneratedLine : ℕ → List ℕ → Type 0
-IsGeneratedLine rounds text = IsValid (generated_script rounds) × (text ≡ generated_line rounds)
+abbrev pub IsGeneratedSummaryLine : ℕ → List ℕ → Type 0
+IsGeneratedSummaryLine rounds text = IsValid (generated_script rounds) × (text ≡ generated_summary_line rounds)
 
 -- the totals with those of some records more
 abbrev pub with_records : Totals → List Record → Totals
@@ -40,7 +40,7 @@ abbrev pub totals_of : History → Totals
 totals_of h = with_records (totals_of_requests (length h)) (records_of_history generated_setup h)
 
 -- A pipeline stands for a history, its records are taken, and the totals are those of the history.
-pub record Counts (h : History) (kept : PipelineState) (totals : Totals) : Type 0 where
+pub record StandsWithTotals (h : History) (kept : PipelineState) (totals : Totals) : Type 0 where
   pub setup : kept.setup ≡ generated_setup
   pub stands : StandsFor kept (tables generated_setup h)
   pub taken : kept.recording.finished ≡ []
@@ -49,5 +49,5 @@ pub record Counts (h : History) (kept : PipelineState) (totals : Totals) : Type 
 -- Behind a history some requests were served: they have effects, and the totals are those of all effects.
 pub record ServesRequests (requests : List Request) (h : History) (kept : PipelineState) (totals : Totals) : Type 0 where
   pub history : History
-  pub counts : Counts history kept totals
+  pub counts : StandsWithTotals history kept totals
   pub replays : (more : List Request) → history_after generated_setup h (requests ++ more) ≡ history_after generated_setup history more

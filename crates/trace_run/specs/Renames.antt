@@ -13,6 +13,6 @@ use Rattle.trace_stream.specs.declared.status.Status.TheVariants as ends
 -- On Ok of `run` the sink gained a text that is, where spans start early and that changes ids alone, the one of the same
 -- script without that, with each id replaced by the number of its span's making.
 abbrev pub RenamesIds : Invocation → Status → Streams → Streams → Type 0
-RenamesIds (invocation.Script (command.Run signal.Traces)) status before now = status ≡ ends.Ok
+RenamesIds (invocation.WithoutThreads (command.Run signal.Traces)) status before now = status ≡ ends.Ok
     → IfSome before.left (λ bytes. (text : List ℕ) × IsRenamed (lines_of bytes) text × Puts before.held now.held text)
 RenamesIds other status before now = Unit {0}

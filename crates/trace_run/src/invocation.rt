@@ -10,7 +10,7 @@ use trace_lines::read::u128_of;
 #[derive(Clone, Copy, Debug, PartialEq, Eq)]
 pub enum Invocation {
     /// A command that needs no threads.
-    Script { command: Command },
+    WithoutThreads { command: Command },
     /// To run a script, and to tell its records in batches of a size, whose texts threads make.
     Batch { size: u64 },
     /// To run a script for threads.
@@ -36,7 +36,7 @@ fn invocation_by(word: &str) -> Option<Invocation>
         "threads" => Some(Invocation::Threads),
         _ => {
             let command = command_by(word)?;
-            Some(Invocation::Script { command })
+            Some(Invocation::WithoutThreads { command })
         }
     }
 }
@@ -52,7 +52,7 @@ fn invocation_with(word: &str, number: &str) -> Option<Invocation>
         }
         _ => {
             let command = command_with(word, number)?;
-            Some(Invocation::Script { command })
+            Some(Invocation::WithoutThreads { command })
         }
     }
 }

@@ -5,7 +5,7 @@ ghost use Rattle.trace_stream.specs.Carries.{CarriesOut, StopsAtFault};
 ghost use Rattle.trace_stream.specs.Streams.{StopsReading, StopsWriting, streams_of};
 ghost use Rattle.trace_run.specs.Commands.{command_by, command_with, meaning_of};
 ghost use Rattle.trace_run.specs.Renames.{RenamesIds};
-ghost use Rattle.trace_run.specs.declared.invocation.Invocation.TheVariants.{Script};
+ghost use Rattle.trace_run.specs.declared.invocation.Invocation.TheVariants.{WithoutThreads};
 
 mod make;
 pub mod tasks;
@@ -80,7 +80,7 @@ pub fn run_script<H: RandomSource + AllocGlobal, R: Source, W: Sink>(
     ensures carries { let at = streams_of R.remaining R.ends R.faults W.holds W.faults in
         CarriesOut (meaning_of command) result (at source.old sink.old) (at source.new sink.new) }
     ensures renames { let at = streams_of R.remaining R.ends R.faults W.holds W.faults in
-        RenamesIds (Script command) result (at source.old sink.old) (at source.new sink.new) }
+        RenamesIds (WithoutThreads command) result (at source.old sink.old) (at source.new sink.new) }
     // A command that reads nothing doesn't touch the source, told or not.
     ensures unread { (meaning_of command).reads ≡ false → source.new ≡ source.old }
     ensures stops { StopsAtFault result (StopsReading R.faults R.remaining source.old source.new)

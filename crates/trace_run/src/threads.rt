@@ -16,7 +16,7 @@ use std::alloc::Global;
 use std::sync::Wait;
 use std::thread::Threads;
 use thread_handles::Ended;
-use thread_run::{ThreadsOutcome, threads_answer, threads_refusal};
+use thread_run::{ThreadsOutcome, threads_outcome, threads_refusal};
 use trace_lines::limits::MAX_INPUT;
 use trace_stream::all_lines::status_of;
 use trace_stream::failed::Failed;
@@ -69,7 +69,7 @@ fn threads_input<H: Threads + Wait + Sync, T: Turnstile + Sync>(
         ComesOf input.now.end input.now.bytes.items outcome.ended.items outcome.answer.text.items) }
 {
     match input.end {
-        End::Whole => threads_answer(rt, alloc, turns, input.bytes.as_slice()),
+        End::Whole => threads_outcome(rt, alloc, turns, input.bytes.as_slice()),
         End::Fault | End::TooLong => {
             let most = input.bytes.len().min(MAX_INPUT);
             let answer = threads_cut(alloc, whole_part(&input.bytes[..most]))?;

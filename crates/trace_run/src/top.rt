@@ -43,7 +43,9 @@ pub fn top<H: Threads + Wait + Sync + RandomSource + AllocGlobal, R: Source, W: 
         (StopsWriting W.faults W.holds sink.old sink.new) }
 {
     match invocation_of(words) {
-        Some(Invocation::Script { command }) => run_script(rt, alloc, command, source, sink),
+        Some(Invocation::WithoutThreads { command }) => run_script(
+            rt, alloc, command, source, sink,
+        ),
         Some(Invocation::Batch { size }) => run_batch(
             rt,
             alloc,

@@ -1,6 +1,6 @@
 -- What a command that reads all lines leaves, from what was read, answered and written.
 use Rattle.std.proofs.Common.{◌≡◌, ◌≢◌, ℕ, List, [], ◌∷◌, ◌++◌, refl, sym, ap, subst, ◌∙◌, take, drop, length, ◌<◌, ◌≤◌, ◌+◌, ◌⊎◌, inl, inr, arith, Bool, true, false, not, min, Option, Some, None, IfSome, Result, Ok, Err, IfOk}
-use Rattle.trace_stream.proofs.Common.{IsAtEnd, cases_lt, lines_of, MAX_INPUT, Refuses, NoneRefused, whole_part, whole_lines, HasCause, CarriesOut, StopsAtFault, HasRefused, PutsSome, LeavesStreams, IsRefusedAt, Streams, CountsFault, MeetsEnd, Takes, Puts, PutsFront}
+use Rattle.trace_stream.proofs.Common.{IsAtEnd, cases_lt, lines_of, MAX_INPUT, Refuses, NoneRefused, whole_part, whole_lines, HasCause, CarriesOut, StopsAtFault, HasRefused, PutsNothingOrFront, LeavesStreams, IsRefusedForCause, Streams, CountsFault, MeetsEnd, Takes, Puts, PutsFront}
 use Rattle.std.proofs.lemmas.List.{append-nil, take_all}
 use Rattle.input_lines.specs.declared.answer.Answer.{Answer}
 use Rattle.trace_stream.specs.declared.input.End.{End}
@@ -42,13 +42,13 @@ module _ (accepts : List (List ℕ) → Bool) (Whole : List (List ℕ) → List 
 
   -- where a front of the text was written, nothing was, or a front of one for the whole input
   cut_some : (refused : Bool) (bytes read rest text : List ℕ) (before now : Option (List ℕ)) → bytes ≡ read ++ rest
-      → AnswersCut accepts Whole refused (whole_lines (take MAX_INPUT read)) text → PutsFront before now text → PutsSome (answering_of_all_lines accepts Whole) bytes before now
+      → AnswersCut accepts Whole refused (whole_lines (take MAX_INPUT read)) text → PutsFront before now text → PutsNothingOrFront (answering_of_all_lines accepts Whole) bytes before now
   cut_some true bytes read rest text before now is cuts put = inr (text, stops_whole bytes read rest text is cuts, put)
   cut_some false bytes read rest text before now is cuts put = inl (front_none before now (subst (λ (t : List ℕ). PutsFront before now t) cuts.1 put))
 
   tells_some : (ending : End) (bytes : List ℕ) (left before now : Option (List ℕ)) (read : List ℕ) (answer : Answer) → Takes (Some bytes) left read
       → (ending ≡ end.Whole → IsAtEnd left) → WritesAnswer accepts Whole ending read answer → PutsFront before now answer.text.items
-      → PutsSome (answering_of_all_lines accepts Whole) bytes before now
+      → PutsNothingOrFront (answering_of_all_lines accepts Whole) bytes before now
   tells_some end.Whole bytes left before now read answer took none tells put =
       let same : read ≡ bytes = (all_read bytes left read took (none refl)).1 in
       inr (answer.text.items, subst (λ (b : List ℕ). Whole (lines_of b) answer.text.items) same tells.0, put)
@@ -59,7 +59,7 @@ module _ (accepts : List (List ℕ) → Bool) (Whole : List (List ℕ) → List 
 
   pub some_of : (ending : End) (old left before now : Option (List ℕ)) (read : List ℕ) (answer : Answer) → Takes old left read
       → (ending ≡ end.Whole → IsAtEnd left) → WritesAnswer accepts Whole ending read answer → PutsFront before now answer.text.items
-      → IfSome old (λ bytes. PutsSome (answering_of_all_lines accepts Whole) bytes before now)
+      → IfSome old (λ bytes. PutsNothingOrFront (answering_of_all_lines accepts Whole) bytes before now)
   some_of ending None left before now read answer took none tells put = tt
   some_of ending (Some bytes) left before now read answer took none tells put = tells_some ending bytes left before now read answer took none tells put
 
@@ -125,14 +125,14 @@ module _ (accepts : List (List ℕ) → Bool) (Whole : List (List ℕ) → List 
   -- ---- what holds whether bytes are told or not
 
   refused_cut : (ending : End) (refused : Bool) (before now : Streams) (read text : List ℕ) → (ending ≡ end.Whole → ⊥) → Takes before.left now.left read
-      → AnswersCut accepts Whole refused (whole_lines (take MAX_INPUT read)) text → IsRefusedAt (answering_of_all_lines accepts Whole) (status_at_end refused ending) before now
+      → AnswersCut accepts Whole refused (whole_lines (take MAX_INPUT read)) text → IsRefusedForCause (answering_of_all_lines accepts Whole) (status_at_end refused ending) before now
   refused_cut ending true before now read text part took cuts = λ told. (read, took, inl (stops_refused (whole_lines (take MAX_INPUT read)) text cuts))
   refused_cut end.Whole false before now read text part took cuts = absurd (part refl)
   refused_cut end.Fault false before now read text part took cuts = λ told. cc
   refused_cut end.TooLong false before now read text part took cuts = λ told. cc
 
   pub refused_of : (ending : End) (before now : Streams) (read : List ℕ) (answer : Answer) → Takes before.left now.left read
-      → (ending ≡ end.Whole → MeetsEnd before.ends now.ends) → WritesAnswer accepts Whole ending read answer → IsRefusedAt (answering_of_all_lines accepts Whole) (status_at_end answer.refused ending) before now
+      → (ending ≡ end.Whole → MeetsEnd before.ends now.ends) → WritesAnswer accepts Whole ending read answer → IsRefusedForCause (answering_of_all_lines accepts Whole) (status_at_end answer.refused ending) before now
   refused_of end.Whole before now read answer took meets tells = λ told. (read, took, inr (meets refl))
   refused_of end.Fault before now read answer took meets tells = refused_cut end.Fault answer.refused before now read answer.text.items (λ is. cc) took tells
   refused_of end.TooLong before now read answer took meets tells = refused_cut end.TooLong answer.refused before now read answer.text.items (λ is. cc) took tells
@@ -142,7 +142,7 @@ module _ (accepts : List (List ℕ) → Bool) (Whole : List (List ℕ) → List 
       → (ending ≡ end.Whole → IsAtEnd now.left) → WritesAnswer accepts Whole ending read answer → PutsFront before.held now.held answer.text.items
       → CountsFault before.write_faults now.write_faults → now.ends ≤ before.ends + 1 → CarriesOut (meaning_of_all_lines accepts Whole) ends.WriteFault before now
   carries_broken ending before now read answer took none tells put fault once =
-      let some : IfSome before.left (λ bytes. PutsSome (answering_of_all_lines accepts Whole) bytes before.held now.held) =
+      let some : IfSome before.left (λ bytes. PutsNothingOrFront (answering_of_all_lines accepts Whole) bytes before.held now.held) =
       some_of ending before.left now.left before.held now.held read answer took none tells put in
       record {
         does = reads_lines (answering_of_all_lines accepts Whole) ends.WriteFault before now some some fault (λ told. cc) (λ told. cc);
@@ -172,11 +172,11 @@ long_of false end.Whole told = cc
 long_of false end.Fault told = cc
 long_of false end.TooLong told = refl
 
-whole_of : (refused : Bool) (ending : End) → status_at_end refused ending ≡ ends.Ok → ending ≡ end.Whole
-whole_of true ending told = cc
-whole_of false end.Whole told = refl
-whole_of false end.Fault told = cc
-whole_of false end.TooLong told = cc
+whole_number_of : (refused : Bool) (ending : End) → status_at_end refused ending ≡ ends.Ok → ending ≡ end.Whole
+whole_number_of true ending told = cc
+whole_number_of false end.Whole told = refl
+whole_number_of false end.Fault told = cc
+whole_number_of false end.TooLong told = cc
 
 not_usage : (refused : Bool) (ending : End) → status_at_end refused ending ≢ ends.Usage
 not_usage true ending = λ told. cc
@@ -212,7 +212,7 @@ carries_whole accepts Whole ending before now read answer is tells put =
           (some_of accepts Whole ending before.left now.left before.held now.held read answer is.took is.none tells all)
           causes
           (refused_of accepts Whole ending before now read answer is.took is.met tells)
-          (λ told. is.met (whole_of answer.refused ending told));
+          (λ told. is.met (whole_number_of answer.refused ending told));
       ended = record {
         causes = causes;
         over = λ told. let long = long_of answer.refused ending told in (is.over long, is.sure (not_fault ending long));

@@ -1,6 +1,6 @@
 -- What a run leaves, from what was read, answered and written.
 use Rattle.std.proofs.Common.{◌≡◌, ℕ, List, [], ◌++◌, refl, sym, ap, subst, ◌∙◌, take, drop, length, ◌<◌, ◌≤◌, inl, inr, Bool, true, false, Option, Some, None, IfSome}
-use Rattle.trace_stream.proofs.Common.{IsAtEnd, lines_of, Signal, Report, report_from, report, output, accepts, MAX_INPUT, Progress, Status, Streams, Takes, Puts, PutsFront, whole_lines, AnswersAll, IsStopped, AnswersBrokenOff, is_refused, answering_of_run, HasRefused, PutsWhole, PutsSome, LeavesStreams, IsRefusedAt, HasAnsweredLines, IsMidway, HasFront, Reports, last_status}
+use Rattle.trace_stream.proofs.Common.{IsAtEnd, lines_of, Signal, Report, report_from, report, output, accepts, MAX_INPUT, Progress, Status, Streams, Takes, Puts, PutsFront, whole_lines, AnswersAll, IsStopped, AnswersBrokenOff, is_refused, answering_of_run, HasRefused, PutsWhole, PutsNothingOrFront, LeavesStreams, IsRefusedForCause, HasAnsweredLines, IsMidway, HasFront, Reports, status_if_accepted}
 use Rattle.std.proofs.lemmas.List.{append-nil, take_all}
 use Rattle.trace_lines.proofs.laws.OutputsLaws.{alike}
 use Rattle.trace_stream.specs.declared.status.Status.TheVariants as ends
@@ -13,7 +13,7 @@ abbrev pub Ends : Signal → Status → Option (List ℕ) → Option (List ℕ) 
 Ends signal status old left before now = IfSome old (λ bytes. LeavesStreams (answering_of_run signal) status bytes left before now)
 
 abbrev pub Fronts : Signal → Option (List ℕ) → Option (List ℕ) → Option (List ℕ) → Type 0
-Fronts signal old before now = IfSome old (λ bytes. PutsSome (answering_of_run signal) bytes before now)
+Fronts signal old before now = IfSome old (λ bytes. PutsNothingOrFront (answering_of_run signal) bytes before now)
 
 -- lines are accepted as a report on them says, whatever it tells
 accepted_as : (signal : Signal) (lines : List (List ℕ)) (text : List ℕ) (accepted : Bool) → report_from signal 0 lines ≡ record { written = text; accepted = accepted }
@@ -26,12 +26,12 @@ puts_report : (signal : Signal) (before now : Option (List ℕ)) (text bytes : L
 puts_report signal before now text bytes accepted is put = (text, sym (ap (λ (r : Report). r.written) is), put)
 
 -- some of the output was written
-puts_some : (signal : Signal) (before now : Option (List ℕ)) (bytes : List ℕ) → PutsFront before now (output signal bytes) → PutsSome (answering_of_run signal) bytes before now
+puts_some : (signal : Signal) (before now : Option (List ℕ)) (bytes : List ℕ) → PutsFront before now (output signal bytes) → PutsNothingOrFront (answering_of_run signal) bytes before now
 puts_some signal before now bytes put = inr (output signal bytes, refl, put)
 
 leaves_whole : (signal : Signal) (accepted : Bool) (bytes : List ℕ) (left before now : Option (List ℕ)) (text read : List ℕ) → Takes (Some bytes) left read → IsAtEnd left
     → length bytes ≤ MAX_INPUT → report signal bytes ≡ record { written = text; accepted = accepted } → Puts before now text
-    → LeavesStreams (answering_of_run signal) (last_status accepted) bytes left before now
+    → LeavesStreams (answering_of_run signal) (status_if_accepted accepted) bytes left before now
 leaves_whole signal false bytes left before now text read took none short told put = record {
   refused = accepted_as signal (lines_of bytes) text false told;
   read = read;
@@ -63,7 +63,7 @@ front_of signal most (Some bytes) left before now read took front =
 
 -- no byte was left
 pub ends_whole : (signal : Signal) (accepted : Bool) (old left before now : Option (List ℕ)) (read : List ℕ) → Takes old left read → IsAtEnd left → length read ≤ MAX_INPUT
-    → Reports signal accepted before now read → Ends signal (last_status accepted) old left before now
+    → Reports signal accepted before now read → Ends signal (status_if_accepted accepted) old left before now
 ends_whole signal accepted None left before now read took none short told = tt
 ends_whole signal accepted (Some bytes) left before now read took none short told =
     let same : read ≡ bytes = (all_read bytes left read took none).1 in
@@ -81,7 +81,7 @@ pub reports_front : (signal : Signal) (accepted : Bool) (before now : Option (Li
 reports_front signal accepted before now read told = (told.0, same_front signal told.0 read accepted told.1, told.2)
 
 pub ends_met : (signal : Signal) (accepted told : Bool) (old mid left before now : Option (List ℕ)) (read buf : List ℕ) (total count : ℕ) → Takes old mid read → Takes mid left (take count buf) → count ≡ 0
-    → IsAtEnd left → total ≡ length read → total ≤ MAX_INPUT → told ≡ accepted → Reports signal told before now (take MAX_INPUT read) → Ends signal (last_status accepted) old left before now
+    → IsAtEnd left → total ≡ length read → total ≤ MAX_INPUT → told ≡ accepted → Reports signal told before now (take MAX_INPUT read) → Ends signal (status_if_accepted accepted) old left before now
 ends_met signal accepted told old mid left before now read buf total count first second gone none size within is reports =
     let short : length read ≤ MAX_INPUT = subst (λ (n : ℕ). n ≤ MAX_INPUT) size within in
     ends_whole signal accepted old left before now read (takes_none old mid left read buf count first second gone) none short
@@ -100,7 +100,7 @@ answered_all : (signal : Signal) (put front : List ℕ) (p : Progress) → HasAn
     → AnswersAll signal (whole_lines front) put
 answered_all signal put front p k empty going =
     let cuts : AnswersBrokenOff signal (is_refused p.answers.stage) (whole_lines front) (put ++ p.answers.written.text.items) =
-    cut_at signal p.answers.stage (whole_lines front) p.answers.lines (put ++ p.answers.written.text.items) p.answers.written.count k.answered in
+    cut_at signal p.answers.stage (whole_lines front) p.answers.line_count (put ++ p.answers.written.text.items) p.answers.written.count k.answered in
     let text : put ++ p.answers.written.text.items ≡ put = ap (λ (r : List ℕ). put ++ r) empty ∙ append-nil put in
     (rw (going, text) at cuts).0
 
@@ -136,7 +136,7 @@ stopped : (signal : Signal) (put front : List ℕ) (p : Progress) → HasAnswere
     → IsStopped signal (whole_lines front) put
 stopped signal put front p k empty going =
     let cuts : AnswersBrokenOff signal (is_refused p.answers.stage) (whole_lines front) (put ++ p.answers.written.text.items) =
-    cut_at signal p.answers.stage (whole_lines front) p.answers.lines (put ++ p.answers.written.text.items) p.answers.written.count k.answered in
+    cut_at signal p.answers.stage (whole_lines front) p.answers.line_count (put ++ p.answers.written.text.items) p.answers.written.count k.answered in
     let text : put ++ p.answers.written.text.items ≡ put = ap (λ (r : List ℕ). put ++ r) empty ∙ append-nil put in
     rw (going, text) at cuts
 
@@ -156,7 +156,7 @@ ends_refused signal (Some bytes) left before now read p took m empty is =
 
 pub refused_at : (signal : Signal) (before now : Streams) (read : List ℕ) (p : Progress) → Takes before.left now.left read
     → IsMidway signal before.held now.held (take MAX_INPUT read) p → p.answers.written.text.items ≡ [] → is_refused p.answers.stage ≡ true
-    → IsRefusedAt (answering_of_run signal) ends.Refused before now
+    → IsRefusedForCause (answering_of_run signal) ends.Refused before now
 refused_at signal before now read p took m empty is = λ same.
     let stops : IsStopped signal (whole_lines (take MAX_INPUT read)) m.put = stopped signal m.put (take MAX_INPUT read) p m.keeps empty is in (
       read,

@@ -1,6 +1,6 @@
 -- Where lines end.
 use Rattle.std.proofs.Common.{◌≡◌, ℕ, List, [], ◌∷◌, ◌++◌, refl, sym, ap, ◌∙◌, append_assoc, take, drop, length, get_or, ◌+◌, ◌-◌, ◌<◌, ◌==◌, arith, Bool, true, false, inl, inr}
-use Rattle.trace_stream.proofs.Common.{cases_Bool, take_more, drop_more, take_rest, onto, lines_of, NoFeed, ended_line, has_feed, whole_part, whole_lines}
+use Rattle.trace_stream.proofs.Common.{cases_Bool, take_more, drop_more, take_rest, with_byte_first, lines_of, NoFeed, ended_line, has_feed, whole_part, whole_lines}
 use Rattle.std.proofs.lemmas.List.{take-append-drop}
 
 -- ---- the first line
@@ -10,11 +10,11 @@ pub split_at_feed : (bytes : List ℕ) (at : ℕ) → at < length bytes → get_
 split_at_feed bytes at within feed =
     rw (take_rest bytes (at + 1)) (sym (take-append-drop at bytes) ∙ ap (λ (r : List ℕ). take at bytes ++ r) (drop_more bytes at 0 within ∙ ap (λ (b : ℕ). b ∷ drop (at + 1) bytes) feed))
 
-onto_front : (b : ℕ) (front more : List (List ℕ)) → 0 < length front → onto b (front ++ more) ≡ onto b front ++ more
+onto_front : (b : ℕ) (front more : List (List ℕ)) → 0 < length front → with_byte_first b (front ++ more) ≡ with_byte_first b front ++ more
 onto_front b [] more some = absurd (omega (arith, some))
 onto_front b (line ∷ lines) more some = refl
 
-onto_some : (b : ℕ) (lines : List (List ℕ)) → 0 < length (onto b lines)
+onto_some : (b : ℕ) (lines : List (List ℕ)) → 0 < length (with_byte_first b lines)
 onto_some b [] = omega arith
 onto_some b (line ∷ lines) = omega arith
 
@@ -100,7 +100,7 @@ part_on (b ∷ bs) tail = elim (cases_Bool (has_feed (b ∷ bs))) [
       → lines_of (b ∷ (whole_part bs ++ tail)) ≡ lines_of (b ∷ whole_part bs) ++ lines_of tail
   line_on b bs tail some on = elim (cases_Bool (b == 10)) [
     | inl is ↦ rw is (ap (λ (ls : List (List ℕ)). [] ∷ ls) on)
-    | inr is ↦ rw is (ap (onto b) on ∙ onto_front b (whole_lines bs) (lines_of tail) (part_some bs (rw is at some)))
+    | inr is ↦ rw is (ap (with_byte_first b) on ∙ onto_front b (whole_lines bs) (lines_of tail) (part_some bs (rw is at some)))
   ]
 
 -- a line feed ends the line of which some bytes were kept

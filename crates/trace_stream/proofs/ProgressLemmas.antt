@@ -38,7 +38,7 @@ kept_on signal put front piece old new k none is same = record {
 
 -- what was answered is put
 pub put_on : (signal : Signal) (put front : List ℕ) (old new : Progress) → HasAnsweredLines signal put front old
-    → new.answers.stage ≡ old.answers.stage → new.answers.lines ≡ old.answers.lines → new.answers.written.count ≡ old.answers.written.count
+    → new.answers.stage ≡ old.answers.stage → new.answers.line_count ≡ old.answers.line_count → new.answers.written.count ≡ old.answers.written.count
     → new.answers.written.text.items ≡ [] → new.partial_line ≡ old.partial_line → HasAnsweredLines signal (put ++ old.answers.written.text.items) front new
 put_on signal put front old new k stage lines count empty kept =
     let text : List ℕ = put ++ old.answers.written.text.items in
@@ -51,7 +51,7 @@ put_on signal put front old new k stage lines count empty kept =
 
 pub midway_put : (signal : Signal) (before mid now : Option (List ℕ)) (front : List ℕ) (old new : Progress) → IsMidway signal before mid front old
     → Puts mid now old.answers.written.text.items
-    → new.answers.stage ≡ old.answers.stage → new.answers.lines ≡ old.answers.lines → new.answers.written.count ≡ old.answers.written.count
+    → new.answers.stage ≡ old.answers.stage → new.answers.line_count ≡ old.answers.line_count → new.answers.written.count ≡ old.answers.written.count
     → new.answers.written.text.items ≡ [] → new.partial_line ≡ old.partial_line → IsMidway signal before now front new
 midway_put signal before mid now front old new m puts stage lines count empty kept = record {
   put = m.put ++ old.answers.written.text.items;
@@ -83,7 +83,7 @@ front_again text part bytes first second =
 answered_front : (signal : Signal) (put front tail : List ℕ) (p : Progress) → HasAnsweredLines signal put front p → IsFrontOf (put ++ p.answers.written.text.items) (output signal (front ++ tail))
 answered_front signal put front tail p k =
     cut_front signal (is_refused p.answers.stage) front tail (put ++ p.answers.written.text.items)
-    (cut_at signal p.answers.stage (whole_lines front) p.answers.lines (put ++ p.answers.written.text.items) p.answers.written.count k.answered)
+    (cut_at signal p.answers.stage (whole_lines front) p.answers.line_count (put ++ p.answers.written.text.items) p.answers.written.count k.answered)
 
 pub put_front : (put part text : List ℕ) → IsFrontOf part text → IsFrontOf (put ++ part) (put ++ text)
 put_front put part text front = (front.0, ap (λ (t : List ℕ). put ++ t) front.1 ∙ sym (append_assoc put part front.0))

@@ -1,6 +1,6 @@
 -- What a command that reads lines does, from its parts.
 use Rattle.std.proofs.Common.{◌≡◌, ℕ, List, [], ◌++◌, refl, sym, ap, subst, ◌∙◌, append_assoc, take, drop, length, ◌<◌, ◌+◌, inl, inr, arith, true, false, Option, Some, None, IfSome}
-use Rattle.trace_stream.proofs.Common.{IsAtEnd, Status, Streams, MeetsEnd, Takes, Puts, HasCause, Answering, PutsSome, LeavesStreams, Completes, IsRefusedAt, ReadsLines}
+use Rattle.trace_stream.proofs.Common.{IsAtEnd, Status, Streams, MeetsEnd, Takes, Puts, HasCause, Answering, PutsNothingOrFront, LeavesStreams, Completes, IsRefusedForCause, ReadsLines}
 use Rattle.std.proofs.lemmas.List.{append-nil, take-append-drop, length-append}
 use Rattle.trace_stream.specs.declared.status.Status.TheVariants as ends
 use Rattle.trace_stream.proofs.StreamsLemmas.{takes_still}
@@ -49,8 +49,8 @@ completes_told answers ends.TooLong bytes before now causes left =
 -- what a command that reads lines does, from its parts
 pub reads_lines : (answers : Answering) (status : Status) (before now : Streams)
     → IfSome before.left (λ bytes. LeavesStreams answers status bytes now.left before.held now.held)
-    → IfSome before.left (λ bytes. PutsSome answers bytes before.held now.held) → HasCause status before now
-    → IsRefusedAt answers status before now → (status ≡ ends.Ok → MeetsEnd before.ends now.ends) → ReadsLines answers status before now
+    → IfSome before.left (λ bytes. PutsNothingOrFront answers bytes before.held now.held) → HasCause status before now
+    → IsRefusedForCause answers status before now → (status ≡ ends.Ok → MeetsEnd before.ends now.ends) → ReadsLines answers status before now
 reads_lines answers status before now leaves front causes refused met = record {
   leaves = leaves;
   front = front;

@@ -41,6 +41,6 @@ FinishesRun signal (Ok accepted) before now front = Reports signal accepted befo
 FinishesRun signal (Err why) before now front = PutsFront before now (output signal front)
 
 -- the status by whether all lines are accepted
-abbrev pub last_status : Bool → Status
-last_status true = ends.Ok
-last_status false = ends.Refused
+abbrev pub status_if_accepted : Bool → Status
+status_if_accepted true = ends.Ok
+status_if_accepted false = ends.Refused

@@ -75,9 +75,9 @@ KeepsTurn Fails result = IsErr result
 KeepsTurn (Moves most) result = IfOk result (λ n. n ≤ most)
 
 -- a turn that moves one byte at the least
-abbrev pub moves_some : Turn → Turn
-moves_some Fails = Fails
-moves_some (Moves most) = Moves (max most 1)
+abbrev pub moving_at_least_one : Turn → Turn
+moving_at_least_one Fails = Fails
+moving_at_least_one (Moves most) = Moves (max most 1)
 
 -- the turns of the calls behind it
 abbrev pub later_turns : List Turn → List Turn

@@ -12,7 +12,7 @@ use std::mem;
 use trace_base::discard::Discard;
 use trace_lines::{Signal, Told};
 use trace_pipeline::pipeline::Pipeline;
-use trace_records::line::{OpenedPipeline, answer_line, open_line};
+use trace_records::line::{OpenedPipeline, answer_line, open_pipeline};
 
 /// Where a run stands between two lines.
 pub enum RunStage {
@@ -39,7 +39,7 @@ pub struct Answers {
     /// What is written for them.
     pub written: Written,
     /// How many they are, blank ones included.
-    pub lines: u64,
+    pub line_count: u64,
     /// Where the run stands.
     pub stage: RunStage,
 }
@@ -49,7 +49,7 @@ impl Discard for Answers {
     fn discard(self) {
         let Answers {
             written: _,
-            lines: _,
+            line_count: _,
             stage,
         } = self;
         stage.discard();
@@ -81,7 +81,7 @@ impl Answers {
     {
         Answers {
             written: Written::new(alloc),
-            lines: 0,
+            line_count: 0,
             stage: RunStage::Opening,
         }
     }
@@ -92,10 +92,10 @@ impl Answers {
     fn begin(&mut self, alloc: Global, signal: Signal, line: &[u8]) -> Result<(), Memory>
         ensures { (put : List ℕ) (before : List (List ℕ)) (count : ℕ)
             → IsOpening signal before count (put ++ self.old.written.text.items) self.old.written.count
-            → self.old.lines ≡ count + 1 → is_blank line.now ≡ false
+            → self.old.line_count ≡ count + 1 → is_blank line.now ≡ false
             → OnOk result (AnswersTo signal put (before ++ line.now ∷ []) self.new) }
     {
-        let next = open(alloc, signal, &mut self.written, self.lines, line)?;
+        let next = open(alloc, signal, &mut self.written, self.line_count, line)?;
         set_stage(&mut self.stage, next);
         Ok(())
     }
@@ -107,8 +107,8 @@ impl Answers {
             → OnOk result (AnswersTo signal put (lines ++ line.now ∷ []) self.new) }
     {
         // No input has so many lines that the sum wraps.
-        let number = self.lines.checked_add(1).ok_or(Memory)?;
-        self.lines = number;
+        let number = self.line_count.checked_add(1).ok_or(Memory)?;
+        self.line_count = number;
         if is_blank(line) {
             return Ok(());
         }
@@ -145,7 +145,7 @@ impl Answers {
         match &self.stage {
             RunStage::Opening => {
                 // No input has so many lines that the sum wraps.
-                let end = self.lines.checked_add(1).ok_or(Memory)?;
+                let end = self.line_count.checked_add(1).ok_or(Memory)?;
                 self.written.refuse(end, &Told::BadLine)?;
                 Ok(false)
             }
@@ -173,7 +173,7 @@ pub fn open(
         → IfOk result (λ stage. AnswersAt signal stage (before ++ line.now ∷ []) lines
         (put ++ written.new.text.items) written.new.count) }
 {
-    match open_line(alloc, None, line)? {
+    match open_pipeline(alloc, None, line)? {
         Ok(opened) => {
             let OpenedPipeline {
                 pipeline,

@@ -5,7 +5,7 @@ ghost use Rattle.trace_stream.specs.reading.Answers.{is_refused};
 ghost use Rattle.trace_stream.specs.Carries.{CarriesOut, HasCause, IsTooLongForCause, StopsAtFault};
 ghost use Rattle.trace_stream.specs.Runs.{answering_of_run, meaning_of_runs};
 ghost use Rattle.trace_stream.specs.Progress.{HasAnsweredLines};
-ghost use Rattle.trace_stream.specs.reading.Reading.{LeavesStreams, PutsSome, IsRefusedAt};
+ghost use Rattle.trace_stream.specs.reading.Reading.{LeavesStreams, PutsNothingOrFront, IsRefusedForCause};
 ghost use Rattle.trace_stream.specs.Streams.{MeetsEnd, StopsReading, StopsWriting, streams_of};
 
 use crate::failed::Failed;
@@ -66,14 +66,14 @@ fn run_blocks<R: Source, W: Sink>(
     ensures leaves { IfSome (R.remaining source.old) (λ bytes. LeavesStreams (answering_of_run signal) result bytes
         (R.remaining source.new) (W.holds sink.old) (W.holds sink.new)) }
     ensures front { IfSome (R.remaining source.old) (λ bytes.
-        PutsSome (answering_of_run signal) bytes (W.holds sink.old) (W.holds sink.new)) }
+        PutsNothingOrFront (answering_of_run signal) bytes (W.holds sink.old) (W.holds sink.new)) }
 
     ensures causes { let at = streams_of R.remaining R.ends R.faults W.holds W.faults in
         HasCause result (at source.old sink.old) (at source.new sink.new) }
     ensures stops { StopsAtFault result (StopsReading R.faults R.remaining source.old source.new)
         (StopsWriting W.faults W.holds sink.old sink.new) }
     ensures refused { let at = streams_of R.remaining R.ends R.faults W.holds W.faults in
-        IsRefusedAt (answering_of_run signal) result (at source.old sink.old) (at source.new sink.new) }
+        IsRefusedForCause (answering_of_run signal) result (at source.old sink.old) (at source.new sink.new) }
     ensures met { result ≡ Status.Ok → MeetsEnd (R.ends source.old) (R.ends source.new) }
     ensures over { let at = streams_of R.remaining R.ends R.faults W.holds W.faults in
         IsTooLongForCause result (at source.old sink.old) (at source.new sink.new) }

@@ -2,7 +2,7 @@
 ghost use Rattle.std.specs.Prelude.{◌≡◌, ℕ, ◌+◌, ◌<◌, ◌≤◌, List, [], Option, Some, length, take, IfOk, OnErr, IsErr};
 ghost use Rattle.std.specs.Io.KnownBytes.{IsAtEnd};
 ghost use Rattle.trace_stream.specs.declared.turns.Turn.TheVariants.{Fails};
-ghost use Rattle.trace_stream.specs.Streams.{CountsFault, MeetsEnd, Takes, KeepsTurn, moves_some, first_turn, later_turns};
+ghost use Rattle.trace_stream.specs.Streams.{CountsFault, MeetsEnd, Takes, KeepsTurn, moving_at_least_one, first_turn, later_turns};
 
 use crate::failed::Failed;
 use crate::turns::{Turn, next_turn};
@@ -129,7 +129,7 @@ impl<'a> Source for MemSource<'a> {
 
         // A turn of no bytes gives one byte, since none would tell the end.
         ensures turns { self.new.turns.now ≡ later_turns self.old.turns.now }
-        ensures turn { KeepsTurn (moves_some (first_turn self.old.turns.now)) result }
+        ensures turn { KeepsTurn (moving_at_least_one (first_turn self.old.turns.now)) result }
         ensures fails { IsErr result → first_turn self.old.turns.now ≡ Fails }
     {
         let (turn, turns) = next_turn(self.turns);

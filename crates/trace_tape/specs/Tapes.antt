@@ -25,10 +25,10 @@ pub record RequestsWithRoom : Type 0 where
 -- child closed, the open entries, how many guards were made, and the requests that were spelled
 pub record TapeValue : Type 0 where
   pub below : RegistryValue
-  pub handles : List ℕ
+  pub handle_counts : List ℕ
   pub due : Option ℕ
   pub entries : List OpenEntry
-  pub guards : ℕ
+  pub made_guard_count : ℕ
   pub requests : List Request
 
 -- ---- what is spelled
@@ -59,8 +59,8 @@ abbrev pub one_more_handle : ℕ → ℕ
 one_more_handle n = if nat_lt 0 n then one_more n else 0
 
 -- how many handles a span has
-abbrev pub handles_of : List ℕ → ℕ → ℕ
-handles_of handles id = slice_index_or handles id 0
+abbrev pub handle_count_of : List ℕ → ℕ → ℕ
+handle_count_of handles id = slice_index_or handles id 0
 
 -- the entry is of the span on the lane
 abbrev pub is_entry_of : ℕ → ℕ → OpenEntry → Bool
@@ -78,8 +78,8 @@ drop_requests at id handles = if handles == 1 then on_first_lane at (call.Drop i
 -- a handle of a span goes
 abbrev pub without_handle : TapeValue → ℕ → ℕ → TapeValue
 without_handle s id at = record s {
-  handles = slice_set s.handles id (handles_of s.handles id - 1);
-  requests = s.requests ++ drop_requests at id (handles_of s.handles id);
+  handle_counts = slice_set s.handle_counts id (handle_count_of s.handle_counts id - 1);
+  requests = s.requests ++ drop_requests at id (handle_count_of s.handle_counts id);
 }
 
 -- a hold is released: that of a child that closed, or else a handle's
@@ -93,7 +93,7 @@ after_release s id at = if is_due s.due id then s else without_handle s id at
 -- what a call makes of a tape, beside its registry
 abbrev pub tape_after : TapeValue → SubscriberCall → TapeValue
 tape_after s (NewSpan lane at parent site callsite values) = record s {
-  handles = s.handles ++ 1 ∷ [];
+  handle_counts = s.handle_counts ++ 1 ∷ [];
   requests = s.requests ++ on_first_lane at (call.New site (spelled_parent parent) (named_values callsite values)) ∷ [];
 }
 tape_after s (Records id at callsite values) = record s { requests = s.requests ++ on_first_lane at (call.Record id (named_values callsite values)) ∷ [] }
@@ -102,15 +102,15 @@ tape_after s (Event lane at parent site callsite values) = record s {
   requests = s.requests ++ on_first_lane at (call.Event site (spelled_parent parent) (named_values callsite values)) ∷ [];
 }
 tape_after s (Enter id at before later) = record s {
-  entries = s.entries ++ record { lane = before.id; id = id; guard = s.guards } ∷ [];
-  guards = one_more s.guards;
+  entries = s.entries ++ record { lane = before.id; id = id; guard = s.made_guard_count } ∷ [];
+  made_guard_count = one_more s.made_guard_count;
   requests = s.requests ++ on_first_lane at (call.Enter id) ∷ [];
 }
 tape_after s (Exit id at before later) = record s {
   entries = without_last (is_entry_of before.id id) s.entries;
   requests = s.requests ++ exit_requests at (last_passing (is_entry_of before.id id) s.entries);
 }
-tape_after s (CloneSpan id) = record s { handles = slice_set s.handles id (one_more_handle (handles_of s.handles id)) }
+tape_after s (CloneSpan id) = record s { handle_counts = slice_set s.handle_counts id (one_more_handle (handle_count_of s.handle_counts id)) }
 tape_after s (TryClose id at) = record (after_release s id at) { due = parent_to_release s.below.spans.made id }
 
 -- a call is the registry's, and spells its requests
@@ -124,9 +124,9 @@ abbrev pub has_handles : ℕ → Bool
 has_handles n = nat_lt 0 n
 
 -- an exit for each open entry, and a drop for each span with a handle
-abbrev pub requests_owed : List ℕ → List OpenEntry → ℕ
-requests_owed handles entries = length entries + count_by has_handles handles
+abbrev pub owed_request_count : List ℕ → List OpenEntry → ℕ
+owed_request_count handles entries = length entries + count_by has_handles handles
 
 -- no span was made and nothing spelled
 abbrev pub blank_tape : RegistryValue → TapeValue
-blank_tape below = record { below = below; handles = []; due = None; entries = []; guards = 0; requests = [] }
+blank_tape below = record { below = below; handle_counts = []; due = None; entries = []; made_guard_count = 0; requests = [] }

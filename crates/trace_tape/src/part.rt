@@ -21,7 +21,7 @@ use trace_base::span::Id;
 impl OtelPart for Tape {
     ghost has_layer = { λ s. true };
 
-    ghost span_data = { λ s. None };
+    ghost all_span_data = { λ s. None };
 
     ghost touches = { TouchesTape };
 

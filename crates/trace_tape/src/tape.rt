@@ -3,7 +3,7 @@ ghost use Rattle.std.specs.Prelude.{◌≡◌, ◌≤◌, ◌+◌, ◌-◌, [], 
 ghost use Rattle.std.proofs.Common.{refl, ◌∙◌, ap};
 ghost use Rattle.trace_base.specs.declared.lane.Lane.{Lane};
 ghost use Rattle.trace_base.specs.declared.subscriber.Interest.TheVariants as interests;
-ghost use Rattle.trace_tape.specs.Tapes.{TapeValue, DoesTape, blank_tape, one_more, one_more_handle, handles_of, drop_requests, has_handles, spelled_parent};
+ghost use Rattle.trace_tape.specs.Tapes.{TapeValue, DoesTape, blank_tape, one_more, one_more_handle, handle_count_of, drop_requests, has_handles, spelled_parent};
 ghost use Rattle.trace_tape.specs.TapeLaws.{tape_same, tape_lanes};
 ghost use Rattle.span_registry.specs.Registering.{no_spans};
 
@@ -29,22 +29,22 @@ use trace_base::subscriber::{Interest, Subscriber};
 pub struct Tape {
     alloc: Global,
     pub(crate) registry: Registry,
-    handles: Vec<u64>,
+    handle_counts: Vec<u64>,
     due: Option<Id>,
     entries: Vec<OpenEntry>,
-    guards: u64,
+    made_guard_count: u64,
     pub(crate) roll: Roll,
 }
 
 impl Model for Tape {
     ghost use Rattle.std.specs.Prelude.{◌≤◌};
-    ghost use Rattle.trace_tape.specs.Tapes.{TapeValue, requests_owed};
+    ghost use Rattle.trace_tape.specs.Tapes.{TapeValue, owed_request_count};
 
     ghost Value = { TapeValue };
 
-    ghost view = { λ t. record { below = t.registry; handles = t.handles.items; due = t.due; entries = t.entries.items; guards = t.guards; requests = t.roll.requests } };
+    ghost view = { λ t. record { below = t.registry; handle_counts = t.handle_counts.items; due = t.due; entries = t.entries.items; made_guard_count = t.made_guard_count; requests = t.roll.requests } };
 
-    ghost invariant = { λ t. requests_owed t.handles.items t.entries.items ≤ t.roll.spare };
+    ghost invariant = { λ t. owed_request_count t.handle_counts.items t.entries.items ≤ t.roll.spare };
 }
 
 impl Tape {
@@ -55,10 +55,10 @@ impl Tape {
         Tape {
             alloc,
             registry: Registry::new(alloc),
-            handles: Vec::new(alloc),
+            handle_counts: Vec::new(alloc),
             due: None,
             entries: Vec::new(alloc),
-            guards: 0,
+            made_guard_count: 0,
             roll: Roll::new(alloc),
         }
     }
@@ -127,9 +127,9 @@ impl Subscriber for Tape {
 
     ghost shows = { λ s call t d. d.below.shows };
 
-    ghost lanes = { tape_lanes };
+    ghost keeps_lanes = { tape_lanes };
 
-    ghost kept_by_entries = { λ s lane number w none. refl };
+    ghost none_kept_without_entries = { λ s lane number w none. refl };
 
     ghost passive = { λ s id at before later t d neither. ap (λ (l : Lane). l.contexts.live) d.below.lane };
 
@@ -161,7 +161,7 @@ impl Subscriber for Tape {
         callsite: &Callsite,
         values: &ValueSet,
     ) -> Result<Id, Memory> {
-        self.handles.reserve(1)?;
+        self.handle_counts.reserve(1)?;
         self.roll.reserve()?;
         self.roll.reserve()?;
         let fields = named_values(self.alloc, callsite, values)?;
@@ -172,7 +172,7 @@ impl Subscriber for Tape {
             .new_span(lane, at, parent, current, site, callsite, values)
         {
             Ok(id) => {
-                self.handles.push_reserved(1);
+                self.handle_counts.push_reserved(1);
                 self.roll.push_request(request(
                     at,
                     Call::New {
@@ -259,8 +259,8 @@ impl Subscriber for Tape {
             return Err(EnterError::Memory);
         }
         self.registry.enter(id, lane, at)?;
-        let guard = self.guards;
-        self.guards = one_more(guard);
+        let guard = self.made_guard_count;
+        self.made_guard_count = one_more(guard);
         self.entries.push_reserved(OpenEntry {
             lane: lane.id,
             id,
@@ -285,7 +285,7 @@ impl Subscriber for Tape {
 
     fn clone_span(&mut self, id: Id) {
         self.registry.clone_span(id);
-        add_handle(&mut self.handles, id);
+        add_handle(&mut self.handle_counts, id);
     }
 
     fn try_close(&mut self, id: Id, at: u64) -> Closing {
@@ -296,7 +296,7 @@ impl Subscriber for Tape {
         };
         self.due = closing.next;
         if !is_due {
-            drop_handle(&mut self.handles, &mut self.roll, id, at);
+            drop_handle(&mut self.handle_counts, &mut self.roll, id, at);
         }
         closing
     }
@@ -352,7 +352,7 @@ fn one_more(n: u64) -> u64
 
 // One handle of a span more.
 fn add_handle(handles: &mut Vec<u64>, id: Id)
-    ensures value { handles.new.items ≡ slice_set handles.old.items id (one_more_handle (handles_of handles.old.items id)) }
+    ensures value { handles.new.items ≡ slice_set handles.old.items id (one_more_handle (handle_count_of handles.old.items id)) }
     ensures room { count_by has_handles handles.new.items ≡ count_by has_handles handles.old.items }
 {
     let place = id.place() as usize;
@@ -367,8 +367,8 @@ fn add_handle(handles: &mut Vec<u64>, id: Id)
 // One handle of a span less, which spells a drop if it was the last one.
 fn drop_handle(handles: &mut Vec<u64>, roll: &mut Roll, id: Id, at: u64)
     requires { count_by has_handles handles.old.items ≤ roll.old.spare }
-    ensures handles { handles.new.items ≡ slice_set handles.old.items id (handles_of handles.old.items id - 1) }
-    ensures requests { roll.new.requests ≡ roll.old.requests ++ drop_requests at id (handles_of handles.old.items id) }
+    ensures handles { handles.new.items ≡ slice_set handles.old.items id (handle_count_of handles.old.items id - 1) }
+    ensures requests { roll.new.requests ≡ roll.old.requests ++ drop_requests at id (handle_count_of handles.old.items id) }
     ensures room { (others : ℕ) → others + count_by has_handles handles.old.items ≤ roll.old.spare
         → others + count_by has_handles handles.new.items ≤ roll.new.spare }
 {

@@ -14,7 +14,7 @@ use Rattle.trace_tasks.specs.declared.running.TaskFuture.{TaskFuture}
 use Rattle.trace_tasks.specs.declared.script.Task.{Task}
 use Rattle.trace_tasks.specs.Carrying.{MakesGated, CarriesNew, Carries}
 use Rattle.span_script.specs.Fields.{Fields}
-use Rattle.trace_tasks.specs.Flat.{tasks_at_first, makings, all_polls, flat_list}
+use Rattle.trace_tasks.specs.Flat.{tasks_at_first, makings, poll_count, flat_list}
 use Rattle.trace_tasks.specs.Turning.{IsAlone, ReadyToPoll, dispatch_serving}
 use Rattle.trace_tasks.specs.Waiting.{AllWait, AllStand}
 
@@ -62,7 +62,7 @@ pub record AreBegun {S : Type 0} (spans : S → Spans) (hint : S → Option Leve
 -- what a run of tasks did: exactly the requests of the flat list, in order
 pub record RunsTasks {S : Type 0} (spans : S → Spans) (hint : S → Option LevelFilter) (enables : S → ℕ → Callsite → Bool) (does : S → SubscriberCall → S → Type 0) (touches : S → PartCall → S → Type 0)
     (sites : List Callsite) (tasks : List Task) (old new : WorldValue S) (before later : Lane) (polls : ℕ) : Type 0 where
-  pub answer : polls ≡ all_polls (tasks_at_first 0 tasks)
+  pub answer : polls ≡ poll_count (tasks_at_first 0 tasks)
   pub handles : List Handle
   pub guards : List HeldSpan
   pub carried : Carries spans hint enables does touches (dispatch_serving before) (flat_list sites tasks) (record { world = old; lane = before; handles = []; guards = [] }) (record { world = new; lane = later; handles = handles; guards = guards })

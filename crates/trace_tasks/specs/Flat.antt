@@ -72,8 +72,8 @@ yield_count (step.SetAttribute key value ∷ steps) = yield_count steps
 abbrev pub polls_left : UnfinishedTask → ℕ
 polls_left t = yield_count t.steps + 1
 
-abbrev pub all_polls : List UnfinishedTask → ℕ
-all_polls ts = sum_by polls_left ts
+abbrev pub poll_count : List UnfinishedTask → ℕ
+poll_count ts = sum_by polls_left ts
 
 -- the tasks at first, numbered in order
 abbrev pub tasks_at_first : ℕ → List Task → List UnfinishedTask
@@ -86,7 +86,7 @@ makings tasks = map (λ t. on_first_lane 0 (call.New t.site request_parent.Conte
 
 -- the whole list: the makings, and then rounds until all tasks are finished, which they are after as many rounds as polls
 abbrev pub flat_list : List Callsite → List Task → List Request
-flat_list sites tasks = makings tasks ++ rounds_requests sites (all_polls (tasks_at_first 0 tasks)) 0 (tasks_at_first 0 tasks)
+flat_list sites tasks = makings tasks ++ rounds_requests sites (poll_count (tasks_at_first 0 tasks)) 0 (tasks_at_first 0 tasks)
 
 -- the same, with the tasks in a queue: the first is polled, and goes to the end if it isn't finished
 abbrev pub requeue : List UnfinishedTask → Option UnfinishedTask → List UnfinishedTask

@@ -47,8 +47,8 @@ pub record IsNewTape (world : WorldValue TapeValue) (d : ℕ) (tape : TapeValue)
   pub there : slice_get world.subscribers d ≡ Some tape
   pub cached : (site : ℕ) → site < length world.sites → cached_at world.cached d site ≡ interests.Always
   pub no_spans : tape.below.spans.made ≡ []
-  pub no_handles : tape.handles ≡ []
+  pub no_handles : tape.handle_counts ≡ []
   pub no_due : tape.due ≡ None
   pub no_entries : tape.entries ≡ []
-  pub no_guards : tape.guards ≡ 0
+  pub no_guards : tape.made_guard_count ≡ 0
   pub no_requests : tape.requests ≡ []

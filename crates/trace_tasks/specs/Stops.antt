@@ -22,7 +22,7 @@ use Rattle.trace_tasks.specs.declared.script.Task.{Task}
 use Rattle.trace_tasks.specs.Acts.{WantsMemory}
 use Rattle.trace_tasks.specs.Begun.{AreBegun}
 use Rattle.trace_tasks.specs.Carrying.{TaskScene, Carries}
-use Rattle.trace_tasks.specs.Flat.{UnfinishedTask, all_polls, tasks_at_first, makings, flat_list, moment_of, entry_and_steps, requeue, after_poll, turns_requests}
+use Rattle.trace_tasks.specs.Flat.{UnfinishedTask, poll_count, tasks_at_first, makings, flat_list, moment_of, entry_and_steps, requeue, after_poll, turns_requests}
 use Rattle.trace_tasks.specs.Turning.{dispatch_serving, unfinished_task}
 use Rattle.trace_tasks.specs.Waiting.{AllStand}
 
@@ -116,7 +116,7 @@ module _ {S : Type 0} (spans : S → Spans) (hint : S → Option LevelFilter) (e
     pub next : left_after polls ts ≡ t ∷ waiting
     pub part : List Request
     pub others : List Request
-    pub within : turns_requests sites polls 0 ts ++ part ++ others ≡ turns_requests sites (all_polls ts) 0 ts
+    pub within : turns_requests sites polls 0 ts ++ part ++ others ≡ turns_requests sites (poll_count ts) 0 ts
     pub in_poll : IsRefusedPart sites polls t part
     pub not_entered : e ≡ Full → part ≡ []
     pub full_at_first : e ≡ Full → IsFull s.lane

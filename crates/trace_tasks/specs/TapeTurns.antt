@@ -9,10 +9,10 @@ use Rattle.span_handles.specs.Worlds.{Replaced}
 use Rattle.span_handles.specs.Handles.{Handle, HeldSpan, handle_of}
 use Rattle.span_futures.specs.declared.instrument.Instrumented.{Instrumented}
 use Rattle.span_script.specs.declared.request.Request.{Request}
-use Rattle.trace_tape.specs.Tapes.{TapeValue, handles_of}
+use Rattle.trace_tape.specs.Tapes.{TapeValue, handle_count_of}
 use Rattle.trace_tasks.specs.declared.running.TaskFuture.{TaskFuture}
 use Rattle.trace_tasks.specs.Carrying.{TaskScene}
-use Rattle.trace_tasks.specs.Flat.{UnfinishedTask, all_polls, turns_requests}
+use Rattle.trace_tasks.specs.Flat.{UnfinishedTask, poll_count, turns_requests}
 use Rattle.trace_tasks.specs.Spelled.{StepsAreDeclared}
 use Rattle.trace_tasks.specs.Turning.{root_of_one_handle}
 use Rattle.trace_tasks.specs.Waiting.{AllStand}
@@ -24,7 +24,7 @@ pub record BetweenPolls (d : ℕ) (sites : List Callsite) (k : ℕ) (s : TaskSce
   pub cached : (n : ℕ) → n < length sites → cached_at s.world.cached d n ≡ interests.Always
   pub no_due : tape.due ≡ None
   pub no_entries : tape.entries ≡ []
-  pub guards : tape.guards ≡ k
+  pub guards : tape.made_guard_count ≡ k
   pub guard_count : length s.guards ≡ k
   pub none_open : entries_on s.lane.id tape.below.spans.lanes ≡ []
 
@@ -32,7 +32,7 @@ pub record BetweenPolls (d : ℕ) (sites : List Callsite) (k : ℕ) (s : TaskSce
 pub record HeldOnce (d : ℕ) (s : TaskScene TapeValue) (tape : TapeValue) (t : UnfinishedTask) : Type 0 where
   pub handle : slice_get s.handles t.number ≡ Some (handle_of d t.number t.site)
   pub lone : span_at tape.below.spans.made t.number ≡ root_of_one_handle t.site
-  pub once : handles_of tape.handles t.number ≡ 1
+  pub once : handle_count_of tape.handle_counts t.number ≡ 1
 
 -- a task that waits on a tape, with steps that were tested
 pub record CanBePolled (d : ℕ) (sites : List Callsite) (s : TaskScene TapeValue) (tape : TapeValue) (t : UnfinishedTask) : Type 0 where
@@ -79,5 +79,5 @@ pub record HandsOn {K : Type 0} (takes : K → Request → K → Type 0) (d : �
 
 -- the turns of some tasks were taken over a tape, and their requests handed on
 pub record HandsTurnsOn {K : Type 0} (takes : K → Request → K → Type 0) (sites : List Callsite) (ts : List UnfinishedTask) (polls : ℕ) (before later : K) : Type 0 where
-  pub polled : polls ≡ all_polls ts
-  pub taken : TakesAll takes (turns_requests sites (all_polls ts) 0 ts) before later
+  pub polled : polls ≡ poll_count ts
+  pub taken : TakesAll takes (turns_requests sites (poll_count ts) 0 ts) before later

@@ -6,7 +6,7 @@ use Rattle.trace_base.specs.declared.lane.Lane.{Lane}
 use Rattle.trace_base.specs.declared.level.LevelFilter.{LevelFilter}
 use Rattle.trace_base.specs.Calls.{SubscriberCall}
 use Rattle.trace_base.specs.Gate.{WorldValue}
-use Rattle.trace_base.specs.lanes.Contexts.{attached_as}
+use Rattle.trace_base.specs.lanes.Contexts.{attached_count}
 use Rattle.trace_base.specs.Spans.{Span, Spans, span_at, entries_on}
 use Rattle.span_handles.specs.Worlds.{spans_in}
 use Rattle.span_handles.specs.Handles.{Handle, HeldSpan}
@@ -57,13 +57,13 @@ IsAfterPoll None f = steps_left f.inner.steps.items ≡ None
 IsAfterPoll (Some g) f = (steps_left f.inner.steps.items ≡ Some g.inner.steps.items) × (g.span ≡ f.span)
 
 -- the spans after a poll: all are the same, but for one that closed
-abbrev pub SpansStay : Option (Instrumented TaskFuture) → HeldSpan → List Span → List Span → Type 0
-SpansStay None held old new = (q : ℕ) → (option_map (λ h. h.1) held ≡ Some q → ⊥) → span_at new q ≡ span_at old q
-SpansStay (Some g) held old new = new ≡ old
+abbrev pub OtherSpansStay : Option (Instrumented TaskFuture) → HeldSpan → List Span → List Span → Type 0
+OtherSpansStay None held old new = (q : ℕ) → (option_map (λ h. h.1) held ≡ Some q → ⊥) → span_at new q ≡ span_at old q
+OtherSpansStay (Some g) held old new = new ≡ old
 
 -- the same contexts are attached to a lane, by their numbers
 abbrev pub SameAttached : Lane → Lane → Type 0
-SameAttached before later = (number : ℕ) → attached_as number later ≡ attached_as number before
+SameAttached before later = (number : ℕ) → attached_count number later ≡ attached_count number before
 
 -- a poll of a task, and its end if it is finished, are the requests of its poll
 pub record PollsTask {S : Type 0} (spans : S → Spans) (hint : S → Option LevelFilter) (enables : S → ℕ → Callsite → Bool) (kept : S → ℕ → ℕ → ℕ) (is_whole : S → Type 0) (does : S → SubscriberCall → S → Type 0) (touches : S → PartCall → S → Type 0)
@@ -75,7 +75,7 @@ pub record PollsTask {S : Type 0} (spans : S → Spans) (hint : S → Option Lev
   pub attached : SameAttached before later
   pub sites : new.sites ≡ old.sites
   pub count : length new.subscribers ≡ length old.subscribers
-  pub stay : SpansStay left f.span.held (spans_in spans old (dispatch_serving before)).made (spans_in spans new (dispatch_serving before)).made
+  pub stay : OtherSpansStay left f.span.held (spans_in spans old (dispatch_serving before)).made (spans_in spans new (dispatch_serving before)).made
   pub carried : (number site k : ℕ) (handles : List Handle) (guards : List HeldSpan) → at ≡ moment_of k → length guards ≡ k → slice_get handles number ≡ Some f.span → f.span.site ≡ Some site
       → Carries spans hint enables does touches (dispatch_serving before) (poll_requests old.sites k (unfinished_task number site f.inner))
       (record { world = old; lane = before; handles = handles; guards = guards }) (record { world = new; lane = later; handles = handles; guards = guards ++ f.span.held ∷ [] })

@@ -12,7 +12,7 @@ use Rattle.span_futures.specs.declared.instrument.Instrumented.{Instrumented}
 use Rattle.otel_layer.specs.Parts.{PartCall}
 use Rattle.trace_tasks.specs.declared.running.TaskFuture.{TaskFuture}
 use Rattle.trace_tasks.specs.Carrying.{Carries}
-use Rattle.trace_tasks.specs.Flat.{UnfinishedTask, yield_count, all_polls, turns_requests}
+use Rattle.trace_tasks.specs.Flat.{UnfinishedTask, yield_count, poll_count, turns_requests}
 use Rattle.trace_tasks.specs.Turning.{IsAlone, PollsTask, dispatch_serving}
 
 -- a task whose handle is known and alone holds its span
@@ -35,13 +35,13 @@ AllWait spans world d [] = Unit {0}
 AllWait spans world d (f ∷ fs) = Waits spans world d f × AreApart f fs × AllWait spans world d fs
 
 -- the handles of all tasks of a queue are known
-abbrev pub AllKnown : {S : Type 0} → (S → Spans) → WorldValue S → List (Instrumented TaskFuture) → Type 0
-AllKnown spans world [] = Unit {0}
-AllKnown spans world (f ∷ fs) = IsKnown spans world f.span.held × AreApart f fs × AllKnown spans world fs
+abbrev pub AllKnownAndApart : {S : Type 0} → (S → Spans) → WorldValue S → List (Instrumented TaskFuture) → Type 0
+AllKnownAndApart spans world [] = Unit {0}
+AllKnownAndApart spans world (f ∷ fs) = IsKnown spans world f.span.held × AreApart f fs × AllKnownAndApart spans world fs
 
 -- the handles of all spans but one stay known
-abbrev pub KeepsBut : {S : Type 0} → (S → Spans) → WorldValue S → WorldValue S → HeldSpan → Type 0
-KeepsBut spans old new closed = (held : HeldSpan) → (held ≡ closed → ⊥) → IsKnown spans old held → IsKnown spans new held
+abbrev pub KeepsKnownBut : {S : Type 0} → (S → Spans) → WorldValue S → WorldValue S → HeldSpan → Type 0
+KeepsKnownBut spans old new closed = (held : HeldSpan) → (held ≡ closed → ⊥) → IsKnown spans old held → IsKnown spans new held
 
 -- tasks, and where they stand in a script
 pub record TaskStands (handles : List Handle) (t : UnfinishedTask) (f : Instrumented TaskFuture) : Type 0 where
@@ -85,6 +85,6 @@ TakesTurnIf spans hint enables kept is_whole does touches at false first old bef
 pub record TakesTurns {S : Type 0} (spans : S → Spans) (hint : S → Option LevelFilter) (enables : S → ℕ → Callsite → Bool) (does : S → SubscriberCall → S → Type 0) (touches : S → PartCall → S → Type 0)
     (handles : List Handle) (ts : List UnfinishedTask) (old new : WorldValue S) (before later : Lane) (polls : ℕ) : Type 0 where
   pub guards : List HeldSpan
-  pub polled : polls ≡ all_polls ts
-  pub carried : Carries spans hint enables does touches (dispatch_serving before) (turns_requests old.sites (all_polls ts) 0 ts)
+  pub polled : polls ≡ poll_count ts
+  pub carried : Carries spans hint enables does touches (dispatch_serving before) (turns_requests old.sites (poll_count ts) 0 ts)
       (record { world = old; lane = before; handles = handles; guards = [] }) (record { world = new; lane = later; handles = handles; guards = guards })

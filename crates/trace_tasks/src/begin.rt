@@ -8,7 +8,7 @@ ghost use Rattle.trace_tasks.specs.Acts.{WantsMemory};
 ghost use Rattle.trace_tasks.specs.Begun.{MakesTaskSpan, Begins, AllHaveCallsites, AreBegun};
 ghost use Rattle.trace_tasks.specs.Stops.{StopsBeginning};
 ghost use Rattle.trace_tasks.specs.Turning.{ReadyToPoll, dispatch_serving};
-ghost use Rattle.trace_tasks.specs.Waiting.{AllKnown};
+ghost use Rattle.trace_tasks.specs.Waiting.{AllKnownAndApart};
 
 use crate::fields::values_of;
 use crate::running::TaskFuture;
@@ -109,7 +109,7 @@ pub(crate) fn begin_all<S: OtelSubscriber>(
     ensures stops { OnErr result (StopsBeginning S.Subscriber.spans S.Subscriber.hint S.Subscriber.enables
         S.Subscriber.kept S.Subscriber.is_whole S.Subscriber.does S.OtelPart.touches S.Subscriber.same_but_room tasks lane.now
         world.old world.new queue.new.items) }
-    ensures known { AllKnown S.Subscriber.spans world.new queue.new.items }
+    ensures known { AllKnownAndApart S.Subscriber.spans world.new queue.new.items }
     ensures whole { HasAll S.Subscriber.is_whole world.new }
 {
     for task in tasks.into_vec() {

@@ -5,7 +5,7 @@ ghost use Rattle.futures.specs.Task.{Keeps};
 ghost use Rattle.span_futures.specs.Lent.{HasAll};
 ghost use Rattle.trace_tasks.specs.Stops.{StopsTurns, StopsInTurn, DropsAll};
 ghost use Rattle.trace_tasks.specs.Turning.{ReadyToPoll, dispatch_serving};
-ghost use Rattle.trace_tasks.specs.Waiting.{AllWait, AllKnown, AllStand, TakesTurnIf, TakesTurns, polls_in, queue_with};
+ghost use Rattle.trace_tasks.specs.Waiting.{AllWait, AllKnownAndApart, AllStand, TakesTurnIf, TakesTurns, polls_in, queue_with};
 
 use crate::running::TaskFuture;
 use crate::turn::poll_task;
@@ -99,7 +99,7 @@ pub(crate) fn close_all<S: OtelSubscriber>(
     world: &mut World<S>,
     at: u64,
 )
-    requires known { AllKnown S.Subscriber.spans world.old queue.old.items }
+    requires known { AllKnownAndApart S.Subscriber.spans world.old queue.old.items }
     requires whole { HasAll S.Subscriber.is_whole world.old }
     ensures dropped { DropsAll S.Subscriber.spans S.Subscriber.hint S.Subscriber.enables S.Subscriber.does
         S.OtelPart.touches at queue.old.items world.old world.new }

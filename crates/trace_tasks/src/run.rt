@@ -3,7 +3,7 @@ ghost use Rattle.std.specs.Prelude.{◌≡◌, ◌<◌, ◌^◌, ◌+◌, [], le
 ghost use Rattle.futures.specs.Task.{Keeps};
 ghost use Rattle.span_handles.specs.Worlds.{spans_in};
 ghost use Rattle.trace_tasks.specs.Begun.{AllHaveCallsites, RunsTasks};
-ghost use Rattle.trace_tasks.specs.Flat.{all_polls, tasks_at_first, yield_count};
+ghost use Rattle.trace_tasks.specs.Flat.{poll_count, tasks_at_first, yield_count};
 ghost use Rattle.trace_tasks.specs.Stops.{GaveUp};
 ghost use Rattle.trace_tasks.specs.Turning.{ReadyToPoll, dispatch_serving};
 
@@ -37,7 +37,7 @@ pub fn run_tasks<S: OtelSubscriber>(
     requires sites { world.old.sites ≡ script.now.settings.callsites }
     requires sited { AllHaveCallsites (length script.now.settings.callsites) script.now.tasks }
     requires few { length (spans_in S.Subscriber.spans world.old (dispatch_serving lane.old)).made + length script.now.tasks < 2 ^ 63 }
-    requires few_polls { all_polls (tasks_at_first 0 script.now.tasks) < 2 ^ 60 }
+    requires few_polls { poll_count (tasks_at_first 0 script.now.tasks) < 2 ^ 60 }
 
     ensures ok { IfOk result (RunsTasks S.Subscriber.spans S.Subscriber.hint S.Subscriber.enables S.Subscriber.does
         S.OtelPart.touches script.now.settings.callsites script.now.tasks world.old world.new lane.old lane.new) }
@@ -71,7 +71,7 @@ fn begin_and_poll<S: OtelSubscriber>(
     requires ready { ReadyToPoll S.Subscriber.spans S.Subscriber.kept S.Subscriber.is_whole world.old lane.old }
     requires sited { AllHaveCallsites (length world.old.sites) tasks }
     requires few { length (spans_in S.Subscriber.spans world.old (dispatch_serving lane.old)).made + length tasks < 2 ^ 63 }
-    requires few_polls { all_polls (tasks_at_first 0 tasks) < 2 ^ 60 }
+    requires few_polls { poll_count (tasks_at_first 0 tasks) < 2 ^ 60 }
 
     ensures ok { IfOk result (RunsTasks S.Subscriber.spans S.Subscriber.hint S.Subscriber.enables S.Subscriber.does
         S.OtelPart.touches world.old.sites tasks world.old world.new lane.old lane.new) }

@@ -10,7 +10,7 @@ ghost use Rattle.trace_tape.specs.PartCalls.{TouchesTape};
 ghost use Rattle.trace_tasks.specs.declared.script.Task.{Task};
 ghost use Rattle.trace_tasks.specs.Begun.{AllHaveCallsites, RunsTasks};
 ghost use Rattle.trace_tasks.specs.Carrying.{TaskScene};
-ghost use Rattle.trace_tasks.specs.Flat.{all_polls, tasks_at_first, flat_list, yield_count};
+ghost use Rattle.trace_tasks.specs.Flat.{poll_count, tasks_at_first, flat_list, yield_count};
 ghost use Rattle.trace_tasks.specs.Spelled.{TasksAreDeclared, IsNewTape, KeepsOnTape, tape_spans};
 ghost use Rattle.trace_tasks.specs.Stops.{GaveUp};
 ghost use Rattle.trace_tasks.specs.TapeTurns.{WaitOnTape, TakesAll, OnlyRequestsChange, HandsOn, HandsTurnsOn};
@@ -40,7 +40,7 @@ pub fn runs_over_a_tape()
     ensures spelled { (tasks : List Task) (old new : WorldValue TapeValue) (before later : Lane) (tape : TapeValue) (polls : ℕ)
         → IsNewTape old (dispatch_serving before) tape
         → ReadyToPoll tape_spans (λ s lane number. 0) (λ s. Unit {0}) old before
-        → TasksAreDeclared old.sites tasks → all_polls (tasks_at_first 0 tasks) < 2 ^ 60
+        → TasksAreDeclared old.sites tasks → poll_count (tasks_at_first 0 tasks) < 2 ^ 60
         → RunsTasks tape_spans (λ s. None) (λ s lane c. true) DoesTape TouchesTape old.sites tasks old new before later polls
         → KeepsOnTape (dispatch_serving before) (flat_list old.sites tasks) new }
     ensures never_full { (d : ℕ) (sites : List Callsite) (tasks : List Task) (s : TaskScene TapeValue)
@@ -67,7 +67,7 @@ pub fn run_on_tape<K: RequestSink>(
     requires sited { AllHaveCallsites (length world.old.sites) tasks }
     requires tested { TasksAreDeclared world.old.sites tasks }
     requires few { length tasks < 2 ^ 63 }
-    requires few_polls { all_polls (tasks_at_first 0 tasks) < 2 ^ 60 }
+    requires few_polls { poll_count (tasks_at_first 0 tasks) < 2 ^ 60 }
 
     ensures polls { IfOk result (λ polls. polls ≡ sum_by (λ t. yield_count t.steps) tasks + length tasks) }
     ensures never_full { result ≢ Err faults.Full }
@@ -98,7 +98,7 @@ fn begin_and_spell<K: RequestSink>(
     requires sited { AllHaveCallsites (length world.old.sites) tasks }
     requires tested { TasksAreDeclared world.old.sites tasks }
     requires few { length tasks < 2 ^ 63 }
-    requires few_polls { all_polls (tasks_at_first 0 tasks) < 2 ^ 60 }
+    requires few_polls { poll_count (tasks_at_first 0 tasks) < 2 ^ 60 }
 
     ensures polls { IfOk result (λ polls. polls ≡ sum_by (λ t. yield_count t.steps) tasks + length tasks) }
     ensures never_full { result ≢ Err faults.Full }

@@ -6,7 +6,7 @@ ghost use Rattle.span_handles.specs.Worlds.{spans_in};
 ghost use Rattle.span_futures.specs.Lent.{HasAll};
 ghost use Rattle.trace_tasks.specs.Stops.{TurnStops};
 ghost use Rattle.trace_tasks.specs.Turning.{ReadyToPoll, IsAlone, PollsTask, dispatch_serving};
-ghost use Rattle.trace_tasks.specs.Waiting.{KeepsBut};
+ghost use Rattle.trace_tasks.specs.Waiting.{KeepsKnownBut};
 
 use crate::running::TaskFuture;
 use futures::task::{Context, Poll};
@@ -35,7 +35,7 @@ pub(crate) fn poll_task<S: OtelSubscriber>(
     ensures stops { IfErr result (λ e.
         TurnStops S.Subscriber.spans S.Subscriber.hint S.Subscriber.enables S.Subscriber.activates S.Subscriber.does
         S.OtelPart.touches S.Subscriber.same_but_room at task world.old lane.old e world.new lane.new) }
-    ensures keeps { KeepsBut S.Subscriber.spans world.old world.new task.span.held }
+    ensures keeps { KeepsKnownBut S.Subscriber.spans world.old world.new task.span.held }
     ensures known { IfOk result (λ left. IfSome left (λ g. IsKnown S.Subscriber.spans world.new g.span.held)) }
     ensures whole { HasAll S.Subscriber.is_whole world.new }
     ensures context { Keeps cx.old cx.new }

@@ -10,7 +10,7 @@ use Rattle.otel_state.specs.declared.op.OpReply.{OpReply}
 use Rattle.trace_threads.specs.declared.turns.View.{View}
 use Rattle.trace_threads.specs.declared.turns.TicketStage.TheVariants.{Idle, Waits, Holds}
 use Rattle.trace_threads.specs.History.{IsLegal, entries_by, written_entry, is_closed}
-use Rattle.trace_threads.specs.Shared.{Shared, shared_of, reply_at}
+use Rattle.trace_threads.specs.Shared.{SharedSpanValue, shared_of, reply_at}
 use Rattle.trace_threads.specs.Turns.{Turn, Slot, SeatValue, entries, view, AllBegin, Known, home_of, view_after, after_turn, MayTurn}
 
 -- a seat that has no ticket, and was not joined into another
@@ -35,7 +35,7 @@ IsAtRest m k =
     IsIdle m × (m.0.number ≡ Some k) × (m.0.other ≡ None) × (entries_by k (entries m.0.seen) ≡ m.0.mine)
 
 -- the turn came, and the state was taken out of the slot
-pub record Begun (m w : SeatValue) (ticket : ℕ) (had : Shared) : Type 0 where
+pub record Begun (m w : SeatValue) (ticket : ℕ) (had : SharedSpanValue) : Type 0 where
   pub view : w.0 ≡ view m.0.origin w.0.seen [] m.0.number m.0.mine m.0.other m.0.theirs (Holds ticket)
   pub slot : w.1 ≡ (0, None) ∷ []
   pub state : had ≡ shared_of m.0.origin (entries w.0.seen)
@@ -64,7 +64,7 @@ pub record Called (v w : View) (k at : ℕ) (op : Op) (place : ℕ) (reply : OpR
   pub replied : reply ≡ reply_at v.origin (entries (v.seen ++ made.between)) op
 
 -- no entry more: where for want of memory the turn is passed on empty, and where a handle learns what others have seen
-pub record LeftAsIs (v w : View) (k : ℕ) : Type 0 where
+pub record MakesNoEntry (v w : View) (k : ℕ) : Type 0 where
   pub begins : IsPrefix v.seen w.seen
   pub mine : w.mine ≡ v.mine
   pub own_entries : entries_by k (entries w.seen) ≡ w.mine
@@ -72,14 +72,14 @@ pub record LeftAsIs (v w : View) (k : ℕ) : Type 0 where
   pub same : w.origin ≡ v.origin
 
 -- what `finish` asks: the state with what this turn added, and some handle held
-abbrev pub MayFinish : View → Shared → Type 0
+abbrev pub MayFinish : View → SharedSpanValue → Type 0
 MayFinish v state =
     (ticket : ℕ) × (turn : Turn) × (v.stage ≡ Holds ticket) × (state ≡ after_turn v turn)
     × (home_of v.origin (entries (v.seen ++ turn ∷ [])) ≡ Some (after_turn v turn))
     × MayTurn v (entries v.seen) turn
 
 -- and what it leaves
-abbrev pub PassedWith : View → Shared → SeatValue → Type 0
+abbrev pub PassedWith : View → SharedSpanValue → SeatValue → Type 0
 PassedWith v state w = (turn : Turn) × (state ≡ after_turn v turn) × (w ≡ (view_after v turn, []))
 
 -- what the last turn asks: no handle is held

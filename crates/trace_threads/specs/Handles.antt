@@ -12,7 +12,7 @@ use Rattle.trace_threads.specs.declared.turns.View.{View}
 use Rattle.trace_threads.specs.History.{IsLegal, is_closed, open_count}
 use Rattle.trace_threads.specs.Shared.{content_of}
 use Rattle.trace_threads.specs.Turns.{Turn, SeatValue, IsSized, entries}
-use Rattle.trace_threads.specs.Calls.{IsIdle, IsBare, IsAtRest, MakesEntry, Called, LeftAsIs}
+use Rattle.trace_threads.specs.Calls.{IsIdle, IsBare, IsAtRest, MakesEntry, Called, MakesNoEntry}
 
 -- a handle: of which span it is, its number, and what it knows
 pub record SharedHandle : Type 0 where
@@ -40,8 +40,8 @@ pub record IsPass (table seat : TableId) (me : SeatValue) : Type 0 where
   pub bare : IsBare me
 
 -- how many entries of a handle are open
-abbrev pub open_of : SharedHandle → ℕ
-open_of h = open_count h.view.mine
+abbrev pub open_count_of : SharedHandle → ℕ
+open_count_of h = open_count h.view.mine
 
 -- what a turn of a handle leaves: an entry more, a call's entry more, or none, after Memory or where the handle learns
 abbrev pub AddsEntry : SharedHandle → SharedHandle → ℕ → HandleAct → Type 0
@@ -50,8 +50,8 @@ AddsEntry h g at what = MakesEntry h.view g.view h.number at what
 abbrev pub Calls : SharedHandle → SharedHandle → ℕ → Op → ℕ → OpReply → Type 0
 Calls h g at op place reply = Called h.view g.view h.number at op place reply
 
-abbrev pub LeavesHandle : SharedHandle → SharedHandle → Type 0
-LeavesHandle h g = LeftAsIs h.view g.view h.number
+abbrev pub AddsNoEntry : SharedHandle → SharedHandle → Type 0
+AddsNoEntry h g = MakesNoEntry h.view g.view h.number
 
 -- the same was seen of the same span, and the same entries were made
 abbrev pub IsSameSight : View → View → Type 0

@@ -8,7 +8,7 @@ ghost use Rattle.trace_threads.specs.Moves.{move_of, open_count_after};
 ghost use Rattle.trace_threads.specs.History.{entries_by, open_count};
 ghost use Rattle.trace_threads.specs.Turns.{entries, first_view};
 ghost use Rattle.trace_threads.specs.Calls.{MakesEntry, IsBare, IsCloneOf, IsIdle};
-ghost use Rattle.trace_threads.specs.Handles.{open_of, AddsEntry, Calls, LeavesHandle, IsSameHandle, IsSameSight, ClosedAs};
+ghost use Rattle.trace_threads.specs.Handles.{open_count_of, AddsEntry, Calls, AddsNoEntry, IsSameHandle, IsSameSight, ClosedAs};
 
 use crate::cell::{call_once, clone_once, cut_off, join_once, release_once, see_all, take_in};
 use crate::history::History;
@@ -95,7 +95,7 @@ impl Handle {
 
     /// How many of its entries are open.
     pub fn open_entries(&self) -> u64
-        ensures open { result ≡ open_of self.now }
+        ensures open { result ≡ open_count_of self.now }
         ensures seen { result ≡ open_count (entries_by self.now.number (entries self.now.view.seen)) }
     {
         self.inside
@@ -105,11 +105,11 @@ impl Handle {
     /// never answers `Memory`. After `Memory` the handle's entries in the history are as they were.
     pub fn call<R: Wait>(&mut self, rt: &R, at: Moment, op: Op) -> Result<CallReply, Memory>
         requires moment { at ≤ GREATEST }
-        requires entered { op ≡ Exit → 0 < open_of self.old }
+        requires entered { op ≡ Exit → 0 < open_count_of self.old }
         ensures same { IsSameHandle self.old self.new }
         ensures called { IfOk result (λ r. Calls self.old self.new at op r.place r.reply) }
-        ensures entered { OnOk result (open_of self.new ≡ open_count_after (open_of self.old) (move_of op)) }
-        ensures memory_leaves { OnErr result (LeavesHandle self.old self.new) }
+        ensures entered { OnOk result (open_count_of self.new ≡ open_count_after (open_count_of self.old) (move_of op)) }
+        ensures memory_leaves { OnErr result (AddsNoEntry self.old self.new) }
         ensures memory { OnErr result (op ≢ Exit) }
     {
         let Handle {
@@ -131,8 +131,8 @@ impl Handle {
         ensures same { IsSameHandle self.old self.new }
         ensures given { IfOk result (λ h. (h.span ≡ self.old.span) × IsCloneOf self.new.view h.view) }
         ensures made { IfOk result (λ h. AddsEntry self.old self.new at (Clone h.number)) }
-        ensures entered { open_of self.new ≡ open_of self.old }
-        ensures memory_leaves { OnErr result (LeavesHandle self.old self.new) }
+        ensures entered { open_count_of self.new ≡ open_count_of self.old }
+        ensures memory_leaves { OnErr result (AddsNoEntry self.old self.new) }
     {
         let Handle {
             turns,
@@ -155,11 +155,11 @@ impl Handle {
     pub fn join<R: Wait>(&mut self, rt: &R, other: Handle, at: Moment)
         requires span { other.span ≡ self.old.span }
         requires moment { at ≤ GREATEST }
-        requires entered { open_of other ≡ 0 }
+        requires entered { open_count_of other ≡ 0 }
 
         ensures same { IsSameHandle self.old self.new }
         ensures made { AddsEntry self.old self.new at (Join other.number) }
-        ensures entered { open_of self.new ≡ open_of self.old }
+        ensures entered { open_count_of self.new ≡ open_count_of self.old }
         ensures seen { IsPrefix other.view.seen self.new.view.seen }
         ensures theirs { entries_by other.number (entries self.new.view.seen) ≡ other.view.mine }
         // Handles of one span know the same making.
@@ -186,7 +186,7 @@ impl Handle {
     pub fn learn(&mut self, pass: &mut Pass)
         requires span { pass.old.span ≡ self.old.span }
         ensures same { IsSameHandle self.old self.new }
-        ensures sees { LeavesHandle self.old self.new }
+        ensures sees { AddsNoEntry self.old self.new }
         ensures theirs { IsPrefix pass.old.view.seen self.new.view.seen }
         ensures origin { pass.old.view.origin ≡ self.old.view.origin }
         ensures pass { (pass.new.span ≡ pass.old.span) × IsSameSight pass.old.view pass.new.view }
@@ -200,11 +200,11 @@ impl Handle {
     pub fn learn_from(&mut self, other: &mut Handle)
         requires span { other.old.span ≡ self.old.span }
         ensures same { IsSameHandle self.old self.new }
-        ensures sees { LeavesHandle self.old self.new }
+        ensures sees { AddsNoEntry self.old self.new }
         ensures theirs { IsPrefix other.old.view.seen self.new.view.seen }
         ensures origin { other.old.view.origin ≡ self.old.view.origin }
         ensures other { IsSameHandle other.old other.new × IsSameSight other.old.view other.new.view }
-        ensures entered { open_of other.new ≡ open_of other.old }
+        ensures entered { open_count_of other.new ≡ open_count_of other.old }
     {
         let note = other.note();
         self.take_note(note);
@@ -231,7 +231,7 @@ impl Handle {
         requires span { note.table_id ≡ self.old.span }
         requires note { IsIdle note.me × IsBare note.me }
         ensures same { IsSameHandle self.old self.new }
-        ensures sees { LeavesHandle self.old self.new }
+        ensures sees { AddsNoEntry self.old self.new }
         ensures theirs { IsPrefix note.me.0.seen self.new.view.seen }
         ensures origin { note.me.0.origin ≡ self.old.view.origin }
     {
@@ -249,7 +249,7 @@ impl Handle {
     /// handle is held then.
     pub fn release<R: Wait>(self, rt: &R, at: Moment) -> Released
         requires moment { at ≤ GREATEST }
-        requires entered { open_of self ≡ 0 }
+        requires entered { open_count_of self ≡ 0 }
         ensures span { result.pass.span ≡ self.span }
         ensures made { MakesEntry self.view result.pass.view self.number at Release }
         ensures closed { ClosedAs self.view.origin (entries result.pass.view.seen) result.closed }

@@ -12,7 +12,7 @@ use Rattle.std.proofs.lemmas.Map.Keys.{below_from_sorted}
 use Rattle.trace_tree.specs.declared.span.TreeSpan.{TreeSpan}
 use Rattle.trace_tree.specs.declared.adjacency.Adjacency.{Adjacency}
 use Rattle.trace_tree.specs.Paths.{path_at, tree_parent}
-use Rattle.trace_tree.specs.Walking.{Ordered, has, parent_place_from, parent_place_at, id_at, AreChildren, AreRoots, IsAdjacency, IsIndex}
+use Rattle.trace_tree.specs.Walking.{Ordered, is_among, parent_place_from, parent_place_at, id_at, AreChildren, AreRoots, IsAdjacency, IsIndex}
 use Rattle.trace_tree.proofs.Parents.{up_within, up_parent, up_top, path_under, path_top, path_of_place}
 use Rattle.trace_tree.proofs.Visits.{up_is, id_is}
 
@@ -39,13 +39,13 @@ pub or_true : (b : Bool) → (b || true) ≡ true
 or_true true = refl
 or_true false = refl
 
-kept : (p : ℕ → Bool) (k x : ℕ) (c : Bool) (b : Bool) (xs ys : List ℕ) → (x == k) ≡ b → p x ≡ c → p k ≡ true → (has k xs ≡ true → has k ys ≡ true) → (b || has k xs) ≡ true → has k (cond c (x ∷ ys) ys) ≡ true
-kept p k x true true xs ys e g h rest is = ap (λ b. b || has k ys) e
+kept : (p : ℕ → Bool) (k x : ℕ) (c : Bool) (b : Bool) (xs ys : List ℕ) → (x == k) ≡ b → p x ≡ c → p k ≡ true → (is_among k xs ≡ true → is_among k ys ≡ true) → (b || is_among k xs) ≡ true → is_among k (cond c (x ∷ ys) ys) ≡ true
+kept p k x true true xs ys e g h rest is = ap (λ b. b || is_among k ys) e
 kept p k x false true xs ys e g h rest is = let s : x ≡ k = eqb-true x k e in absurd (true≢false (sym h ∙ ap p (sym s) ∙ g))
 kept p k x true false xs ys e g h rest is = ap (λ b. (x == k) || b) (rest is) ∙ or_true (x == k)
 kept p k x false false xs ys e g h rest is = rest is
 
-filter_has : (p : ℕ → Bool) (k : ℕ) → p k ≡ true → (xs : List ℕ) → has k xs ≡ true → has k (filter p xs) ≡ true
+filter_has : (p : ℕ → Bool) (k : ℕ) → p k ≡ true → (xs : List ℕ) → is_among k xs ≡ true → is_among k (filter p xs) ≡ true
 filter_has p k h [] is = is
 filter_has p k h (x ∷ xs) is = kept p k x (p x) (x == k) xs (filter p xs) refl refl h (λ e. filter_has p k h xs e) is
 
@@ -146,9 +146,9 @@ is_up_from p (Some q) e = ap (λ n. Some n) (eqb-true q p e)
 pub record Places (rs : List TreeSpan) (ps : List ℕ) : Type 0 where
   pub within : AllByRecursion (λ k. k < length rs) ps
   pub ordered : Ordered (λ a b. id_at rs a < id_at rs b) ps
-  pub whole : (k : ℕ) → k < length rs → has k ps ≡ true
+  pub whole : (k : ℕ) → k < length rs → is_among k ps ≡ true
 
-top_or : (rs : List TreeSpan) (ps : List ℕ) (k : ℕ) (o : Option ℕ) → parent_place_at rs k ≡ o → has k ps ≡ true → (has k (filter (λ j. is_none_up (parent_place_at rs j)) ps) ≡ true) ⊎ ((p : ℕ) × (parent_place_at rs k ≡ Some p))
+top_or : (rs : List TreeSpan) (ps : List ℕ) (k : ℕ) (o : Option ℕ) → parent_place_at rs k ≡ o → is_among k ps ≡ true → (is_among k (filter (λ j. is_none_up (parent_place_at rs j)) ps) ≡ true) ⊎ ((p : ℕ) × (parent_place_at rs k ≡ Some p))
 top_or rs ps k None e h = inl (filter_has (λ j. is_none_up (parent_place_at rs j)) k (ap is_none_up e) ps h)
 top_or rs ps k (Some p) e h = inr (p, e)
 
@@ -197,11 +197,11 @@ entries_ordered rs (e ∷ es) a h = (
   entries_ordered rs es a.1 (λ i j l m. h (suc i) (suc j) (omega arith) (omega arith)),
 )
 
-found_at : (k v : ℕ) (b : Bool) (o : Option ℕ) (vs : List ℕ) → (o ≡ Some k → has k vs ≡ true) → cond b (Some v) o ≡ Some k → has k (v ∷ vs) ≡ true
-found_at k v true o vs rest e = let s : v ≡ k = cc in ap (λ b. b || has k vs) (eq-eqb v k s)
+found_at : (k v : ℕ) (b : Bool) (o : Option ℕ) (vs : List ℕ) → (o ≡ Some k → is_among k vs ≡ true) → cond b (Some v) o ≡ Some k → is_among k (v ∷ vs) ≡ true
+found_at k v true o vs rest e = let s : v ≡ k = cc in ap (λ b. b || is_among k vs) (eq-eqb v k s)
 found_at k v false o vs rest e = ap (λ b. (v == k) || b) (rest e) ∙ or_true (v == k)
 
-lookup_has : (test : ℕ → Bool) (k : ℕ) (es : List (ℕ × ℕ)) → lookup test es ≡ Some k → has k (values_of es) ≡ true
+lookup_has : (test : ℕ → Bool) (k : ℕ) (es : List (ℕ × ℕ)) → lookup test es ≡ Some k → is_among k (values_of es) ≡ true
 lookup_has test k [] e = cc
 lookup_has test k (x ∷ es) e = found_at k x.1 (test x.0) (lookup test es) (values_of es) (λ h. lookup_has test k es h) e
 

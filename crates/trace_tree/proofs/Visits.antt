@@ -8,7 +8,7 @@ use Rattle.trace_tree.specs.declared.span.TreeSpan.{TreeSpan}
 use Rattle.trace_tree.specs.declared.node.Node.{Node}
 use Rattle.trace_tree.specs.declared.adjacency.Adjacency.{Adjacency}
 use Rattle.trace_tree.specs.Paths.{ComesBefore, path_at, IsForest}
-use Rattle.trace_tree.specs.Walking.{node_at, Ordered, has, parent_place_from, parent_place_in, parent_place_at, id_at, IsAdjacency}
+use Rattle.trace_tree.specs.Walking.{node_with, Ordered, is_among, parent_place_from, parent_place_in, parent_place_at, id_at, IsAdjacency}
 use Rattle.trace_tree.proofs.Orders.{below_self}
 use Rattle.trace_tree.proofs.Parents.{up_within, up_parent, parent_less}
 use Rattle.trace_tree.proofs.Walks.{Walk, all_append, all_map, step, starts, all_done}
@@ -26,22 +26,22 @@ pub record Visits (rs : List TreeSpan) (nodes waits : List Node) : Type 0 where
   pub deep_waits : AllByRecursion (IsDeep rs) waits
   pub shallow : AllByRecursion (λ (w : Node). w.depth ≤ length nodes) waits
 
-places_of : (depth : ℕ) (ks : List ℕ) → places (map (node_at depth) ks) ≡ ks
+places_of : (depth : ℕ) (ks : List ℕ) → places (map (node_with depth) ks) ≡ ks
 places_of depth [] = refl
 places_of depth (k ∷ ks) = ap (λ (l : List ℕ). k ∷ l) (places_of depth ks)
 
-places_front : (depth : ℕ) (ks : List ℕ) (waits : List Node) → places (map (node_at depth) ks ++ waits) ≡ ks ++ places waits
-places_front depth ks waits = map-append (λ (v : Node). v.place) (map (node_at depth) ks) waits ∙ ap (λ (l : List ℕ). l ++ places waits) (places_of depth ks)
+places_front : (depth : ℕ) (ks : List ℕ) (waits : List Node) → places (map (node_with depth) ks ++ waits) ≡ ks ++ places waits
+places_front depth ks waits = map-append (λ (v : Node). v.place) (map (node_with depth) ks) waits ∙ ap (λ (l : List ℕ). l ++ places waits) (places_of depth ks)
 
-roots_deep : (rs : List TreeSpan) (ts : List ℕ) → AllByRecursion (λ c. (c < length rs) × (path_at rs c ≡ id_at rs c ∷ [])) ts → AllByRecursion (IsDeep rs) (map (node_at 0) ts)
+roots_deep : (rs : List TreeSpan) (ts : List ℕ) → AllByRecursion (λ c. (c < length rs) × (path_at rs c ≡ id_at rs c ∷ [])) ts → AllByRecursion (IsDeep rs) (map (node_with 0) ts)
 roots_deep rs [] a = tt
 roots_deep rs (c ∷ ts) a = (sym (ap length a.0.1), roots_deep rs ts a.1)
 
-roots_shallow : (n : ℕ) (ts : List ℕ) → AllByRecursion (λ (w : Node). w.depth ≤ n) (map (node_at 0) ts)
+roots_shallow : (n : ℕ) (ts : List ℕ) → AllByRecursion (λ (w : Node). w.depth ≤ n) (map (node_with 0) ts)
 roots_shallow n [] = tt
 roots_shallow n (c ∷ ts) = (omega arith, roots_shallow n ts)
 
-pub visits_start : (rs : List TreeSpan) (f : Adjacency) → IsAdjacency rs f → Visits rs [] (map (node_at 0) f.roots)
+pub visits_start : (rs : List TreeSpan) (f : Adjacency) → IsAdjacency rs f → Visits rs [] (map (node_with 0) f.roots)
 visits_start rs f is = record {
   walk = subst (λ (l : List ℕ). Walk (length rs) (path_at rs) (id_at rs) (parent_place_at rs) [] l) (sym (places_of 0 f.roots)) (starts (length rs) (path_at rs) (id_at rs) (parent_place_at rs) f.roots is.roots);
   deep = tt;
@@ -49,14 +49,14 @@ visits_start rs f is = record {
   shallow = roots_shallow 0 f.roots;
 }
 
-kids_deep : (rs : List TreeSpan) (x : Node) (ks : List ℕ) → IsDeep rs x → AllByRecursion (λ c. (c < length rs) × (path_at rs c ≡ path_at rs x.place ++ id_at rs c ∷ [])) ks → AllByRecursion (IsDeep rs) (map (node_at (x.depth + 1)) ks)
+kids_deep : (rs : List TreeSpan) (x : Node) (ks : List ℕ) → IsDeep rs x → AllByRecursion (λ c. (c < length rs) × (path_at rs c ≡ path_at rs x.place ++ id_at rs c ∷ [])) ks → AllByRecursion (IsDeep rs) (map (node_with (x.depth + 1)) ks)
 kids_deep rs x [] e a = tt
 kids_deep rs x (c ∷ ks) e a = (
   (let l = ap length a.0.1 ∙ length-append (path_at rs x.place) (id_at rs c ∷ []) in omega arith),
   kids_deep rs x ks e a.1,
 )
 
-kids_shallow : (depth n : ℕ) (ks : List ℕ) → depth ≤ n → AllByRecursion (λ (w : Node). w.depth ≤ n) (map (node_at depth) ks)
+kids_shallow : (depth n : ℕ) (ks : List ℕ) → depth ≤ n → AllByRecursion (λ (w : Node). w.depth ≤ n) (map (node_with depth) ks)
 kids_shallow depth n [] h = tt
 kids_shallow depth n (c ∷ ks) h = (h, kids_shallow depth n ks h)
 
@@ -67,7 +67,7 @@ next_within rs nodes x waits v = first (places nodes) v.walk.within where
   first (p ∷ ps) a = first ps a.1
 
 pub visits_step : (rs : List TreeSpan) (f : Adjacency) (nodes : List Node) (x : Node) (waits : List Node) → IsAdjacency rs f → Visits rs nodes (x ∷ waits)
-    → Visits rs (nodes ++ x ∷ []) (map (node_at (x.depth + 1)) (get_or f.children.items x.place []) ++ waits)
+    → Visits rs (nodes ++ x ∷ []) (map (node_with (x.depth + 1)) (get_or f.children.items x.place []) ++ waits)
 visits_step rs f nodes x waits is v =
     let ks : List ℕ = get_or f.children.items x.place [] in
     let kids = is.children x.place (next_within rs nodes x waits v) in
@@ -77,8 +77,8 @@ visits_step rs f nodes x waits is v =
       walk = subst W (λ i. (sym (map-append (λ (n : Node). n.place) nodes (x ∷ [])) i, sym (places_front (x.depth + 1) ks waits) i))
           (step (length rs) (path_at rs) (id_at rs) (parent_place_at rs) (places nodes) x.place ks (places waits) v.walk kids);
       deep = all_append (IsDeep rs) nodes (x ∷ []) v.deep (v.deep_waits.0, tt);
-      deep_waits = all_append (IsDeep rs) (map (node_at (x.depth + 1)) ks) waits (kids_deep rs x ks v.deep_waits.0 kids.under) v.deep_waits.1;
-      shallow = all_append (λ (w : Node). w.depth ≤ length (nodes ++ x ∷ [])) (map (node_at (x.depth + 1)) ks) waits
+      deep_waits = all_append (IsDeep rs) (map (node_with (x.depth + 1)) ks) waits (kids_deep rs x ks v.deep_waits.0 kids.under) v.deep_waits.1;
+      shallow = all_append (λ (w : Node). w.depth ≤ length (nodes ++ x ∷ [])) (map (node_with (x.depth + 1)) ks) waits
           (kids_shallow (x.depth + 1) (length (nodes ++ x ∷ [])) ks (let s = v.shallow.0 in omega arith))
           (all_map (λ (w : Node). w.depth ≤ length nodes) (λ (w : Node). w.depth ≤ length (nodes ++ x ∷ [])) (λ w h. omega arith) waits v.shallow.1);
     }
@@ -139,12 +139,12 @@ ordered_places R (x ∷ ns) o = (all_places (R x.place) ns o.0, ordered_places R
 unfoldable Found : ℕ → List Node → Type 0
 Found k ns = (i : ℕ) × (i < length ns) × ((d : Node) → (get_or ns i d).place ≡ k)
 
-found_at : (k : ℕ) (x : Node) (ns : List Node) (b : Bool) → (x.place == k) ≡ b → (has k (places ns) ≡ true → Found k ns) → (b || has k (places ns)) ≡ true → Found k (x ∷ ns)
+found_at : (k : ℕ) (x : Node) (ns : List Node) (b : Bool) → (x.place == k) ≡ b → (is_among k (places ns) ≡ true → Found k ns) → (b || is_among k (places ns)) ≡ true → Found k (x ∷ ns)
 unfolding Found
 found_at k x ns true e rest h = (0, omega arith, λ d. eqb-true x.place k e)
 found_at k x ns false e rest h = let f = rest h in (suc f.0, (let l = f.1 in omega arith), λ d. f.2 d)
 
-found : (k : ℕ) (ns : List Node) → has k (places ns) ≡ true → Found k ns
+found : (k : ℕ) (ns : List Node) → is_among k (places ns) ≡ true → Found k ns
 unfolding Found
 found k [] h = absurd (true≢false (sym h))
 found k (x ∷ ns) h = found_at k x ns (x.place == k) refl (λ e. found k ns e) h

@@ -4,7 +4,7 @@ use Rattle.std.specs.List.{AllByRecursion}
 use Rattle.std.proofs.lemmas.List.{append-nil}
 use mathlib.Core.Logic.{◌⊎◌, inl, inr}
 use Rattle.trace_tree.specs.Paths.{ComesBefore}
-use Rattle.trace_tree.specs.Walking.{Ordered, has, AreChildren, AreRoots}
+use Rattle.trace_tree.specs.Walking.{Ordered, is_among, AreChildren, AreRoots}
 use Rattle.trace_tree.proofs.Orders.{IsBeside, below_trans, beside_below, beside_more, siblings, child_below}
 
 module _ {X : Type 0} (P : X → Type 0) where
@@ -53,7 +53,7 @@ module _ (n : ℕ) (path : ℕ → List ℕ) (id : ℕ → ℕ) (up : ℕ → Op
     pub sorted : Ordered Below (done ++ waits)
     pub apart : Ordered Beside waits
     pub within : AllByRecursion (λ a. a < n) (done ++ waits)
-    pub whole : (k : ℕ) → k < n → (has k (done ++ waits) ≡ true) ⊎ ((p : ℕ) × (up k ≡ Some p) × (has p done ≡ false))
+    pub whole : (k : ℕ) → k < n → (is_among k (done ++ waits) ≡ true) ⊎ ((p : ℕ) × (up k ≡ Some p) × (is_among p done ≡ false))
 
   kids_ordered : (x : ℕ) (ks : List ℕ) → AllByRecursion (λ c. (c < n) × (path c ≡ path x ++ id c ∷ [])) ks → Ordered (λ a b. id a < id b) ks → Ordered Beside ks
   kids_ordered x [] u o = tt
@@ -88,9 +88,9 @@ module _ (n : ℕ) (path : ℕ → List ℕ) (id : ℕ → ℕ) (up : ℕ → Op
   regroup : (done : List ℕ) (x : ℕ) (ks waits : List ℕ) → (done ++ x ∷ []) ++ (ks ++ waits) ≡ done ++ x ∷ (ks ++ waits)
   regroup done x ks waits = append_assoc done (x ∷ []) (ks ++ waits)
 
-  has_append : (k : ℕ) (xs ys : List ℕ) → has k (xs ++ ys) ≡ has k xs || has k ys
+  has_append : (k : ℕ) (xs ys : List ℕ) → is_among k (xs ++ ys) ≡ is_among k xs || is_among k ys
   has_append k [] ys = refl
-  has_append k (x ∷ xs) ys = elim (x == k) as (λ b. b || has k (xs ++ ys) ≡ (b || has k xs) || has k ys) [ true ↦ refl | false ↦ has_append k xs ys ]
+  has_append k (x ∷ xs) ys = elim (x == k) as (λ b. b || is_among k (xs ++ ys) ≡ (b || is_among k xs) || is_among k ys) [ true ↦ refl | false ↦ has_append k xs ys ]
 
   or_grows : (a b c d : Bool) → (a || (b || c)) ≡ true → ((a || (b || false)) || (d || c)) ≡ true
   or_grows true b c d h = refl
@@ -105,25 +105,25 @@ module _ (n : ℕ) (path : ℕ → List ℕ) (id : ℕ → ℕ) (up : ℕ → Op
   or_kid false true c = refl
   or_kid false false c = refl
 
-  step_has : (k : ℕ) (done : List ℕ) (x : ℕ) (ks waits : List ℕ) → has k ((done ++ x ∷ []) ++ (ks ++ waits)) ≡ (has k done || ((x == k) || false)) || (has k ks || has k waits)
+  step_has : (k : ℕ) (done : List ℕ) (x : ℕ) (ks waits : List ℕ) → is_among k ((done ++ x ∷ []) ++ (ks ++ waits)) ≡ (is_among k done || ((x == k) || false)) || (is_among k ks || is_among k waits)
   step_has k done x ks waits =
-      has_append k (done ++ x ∷ []) (ks ++ waits) ∙ ap (λ b. b || has k (ks ++ waits)) (has_append k done (x ∷ [])) ∙ ap (λ b. (has k done || ((x == k) || false)) || b) (has_append k ks waits)
+      has_append k (done ++ x ∷ []) (ks ++ waits) ∙ ap (λ b. b || is_among k (ks ++ waits)) (has_append k done (x ∷ [])) ∙ ap (λ b. (is_among k done || ((x == k) || false)) || b) (has_append k ks waits)
 
-  step_parent : (k p x : ℕ) (done ks waits : List ℕ) → AreChildren n path id up x ks → k < n → up k ≡ Some p → has p done ≡ false → (b : Bool) → (x == p) ≡ b
-      → (has k ((done ++ x ∷ []) ++ (ks ++ waits)) ≡ true) ⊎ ((q : ℕ) × (up k ≡ Some q) × (has q (done ++ x ∷ []) ≡ false))
+  step_parent : (k p x : ℕ) (done ks waits : List ℕ) → AreChildren n path id up x ks → k < n → up k ≡ Some p → is_among p done ≡ false → (b : Bool) → (x == p) ≡ b
+      → (is_among k ((done ++ x ∷ []) ++ (ks ++ waits)) ≡ true) ⊎ ((q : ℕ) × (up k ≡ Some q) × (is_among q (done ++ x ∷ []) ≡ false))
   step_parent k p x done ks waits c less u not true e =
       let same : x ≡ p = eqb-true x p e in
-      let kid : has k ks ≡ true = c.whole k less (u ∙ ap Some (sym same)) in
-      inl (step_has k done x ks waits ∙ ap (λ b. (has k done || ((x == k) || false)) || (b || has k waits)) kid ∙ or_kid (has k done) (x == k) (has k waits))
+      let kid : is_among k ks ≡ true = c.whole k less (u ∙ ap Some (sym same)) in
+      inl (step_has k done x ks waits ∙ ap (λ b. (is_among k done || ((x == k) || false)) || (b || is_among k waits)) kid ∙ or_kid (is_among k done) (x == k) (is_among k waits))
   step_parent k p x done ks waits c less u not false e =
       inr (p, u, has_append p done (x ∷ []) ∙ ap (λ b. b || ((x == p) || false)) not ∙ ap (λ b. b || false) e)
 
-  step_whole : (k x : ℕ) (done ks waits : List ℕ) → AreChildren n path id up x ks → k < n → (has k (done ++ x ∷ waits) ≡ true) ⊎ ((p : ℕ) × (up k ≡ Some p) × (has p done ≡ false))
-      → (has k ((done ++ x ∷ []) ++ (ks ++ waits)) ≡ true) ⊎ ((p : ℕ) × (up k ≡ Some p) × (has p (done ++ x ∷ []) ≡ false))
+  step_whole : (k x : ℕ) (done ks waits : List ℕ) → AreChildren n path id up x ks → k < n → (is_among k (done ++ x ∷ waits) ≡ true) ⊎ ((p : ℕ) × (up k ≡ Some p) × (is_among p done ≡ false))
+      → (is_among k ((done ++ x ∷ []) ++ (ks ++ waits)) ≡ true) ⊎ ((p : ℕ) × (up k ≡ Some p) × (is_among p (done ++ x ∷ []) ≡ false))
   step_whole k x done ks waits c less h =
       ⊎_elim
-      (λ (is : has k (done ++ x ∷ waits) ≡ true). inl (step_has k done x ks waits ∙ or_grows (has k done) (x == k) (has k waits) (has k ks) (sym (has_append k done (x ∷ waits)) ∙ is)))
-      (λ (p : (p : ℕ) × (up k ≡ Some p) × (has p done ≡ false)). step_parent k p.0 x done ks waits c less p.1 p.2 (x == p.0) refl)
+      (λ (is : is_among k (done ++ x ∷ waits) ≡ true). inl (step_has k done x ks waits ∙ or_grows (is_among k done) (x == k) (is_among k waits) (is_among k ks) (sym (has_append k done (x ∷ waits)) ∙ is)))
+      (λ (p : (p : ℕ) × (up k ≡ Some p) × (is_among p done ≡ false)). step_parent k p.0 x done ks waits c less p.1 p.2 (x == p.0) refl)
       h
 
   -- the next one is visited, and its children go onto the stack
@@ -158,16 +158,16 @@ module _ (n : ℕ) (path : ℕ → List ℕ) (id : ℕ → ℕ) (up : ℕ → Op
         sorted = ordered_below ts beside;
         apart = beside;
         within = all_map (λ c. (c < n) × (path c ≡ id c ∷ [])) (λ a. a < n) (λ c h. h.0) ts t.single;
-        whole = λ k less. ⊎_elim (λ (h : has k ts ≡ true). inl h) (λ (p : (p : ℕ) × (up k ≡ Some p)). inr (p.0, p.1, refl)) (t.whole k less);
+        whole = λ k less. ⊎_elim (λ (h : is_among k ts ≡ true). inl h) (λ (p : (p : ℕ) × (up k ≡ Some p)). inr (p.0, p.1, refl)) (t.whole k less);
       }
 
   -- once nothing waits, all were visited
-  pub all_done : (done : List ℕ) → Walk done [] → ((k p : ℕ) → k < n → up k ≡ Some p → (p < n) × (id p < id k)) → (m k : ℕ) → id k < m → k < n → has k done ≡ true
+  pub all_done : (done : List ℕ) → Walk done [] → ((k p : ℕ) → k < n → up k ≡ Some p → (p < n) × (id p < id k)) → (m k : ℕ) → id k < m → k < n → is_among k done ≡ true
   all_done done w down zero k less small = absurd (omega arith)
   all_done done w down (suc m) k less small =
       ⊎_elim
-      (λ (h : has k (done ++ []) ≡ true). ap (has k) (sym (append-nil done)) ∙ h)
-      (λ (p : (p : ℕ) × (up k ≡ Some p) × (has p done ≡ false)).
+      (λ (h : is_among k (done ++ []) ≡ true). ap (is_among k) (sym (append-nil done)) ∙ h)
+      (λ (p : (p : ℕ) × (up k ≡ Some p) × (is_among p done ≡ false)).
       let d = down k p.0 small p.1 in
       let a = d.1 in
       absurd (true≢false (sym (all_done done w down m p.0 (omega arith) d.0) ∙ p.2)))

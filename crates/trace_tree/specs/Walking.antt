@@ -8,16 +8,16 @@ use Rattle.trace_tree.specs.declared.node.Node.{Node}
 use Rattle.trace_tree.specs.declared.adjacency.Adjacency.{Adjacency}
 use Rattle.trace_tree.specs.Paths.{is_parent_of, path_at}
 
-abbrev pub node_at : ℕ → ℕ → Node
-node_at depth place = record { place = place; depth = depth }
+abbrev pub node_with : ℕ → ℕ → Node
+node_with depth place = record { place = place; depth = depth }
 
 -- each element and each later one
 abbrev pub Ordered : {X : Type 0} → (X → X → Type 0) → List X → Type 0
 Ordered R [] = Unit {0}
 Ordered R (x ∷ xs) = AllByRecursion (R x) xs × Ordered R xs
 
-abbrev pub has : ℕ → List ℕ → Bool
-has k xs = list_any (λ x. x == k) xs
+abbrev pub is_among : ℕ → List ℕ → Bool
+is_among k xs = list_any (λ x. x == k) xs
 
 -- the place of the tree parent, in a list that begins at the place i
 abbrev pub parent_place_from : ℕ → List TreeSpan → TreeSpan → Option ℕ
@@ -44,13 +44,13 @@ module _ (n : ℕ) (path : ℕ → List ℕ) (id : ℕ → ℕ) (up : ℕ → Op
   pub record AreChildren (x : ℕ) (ks : List ℕ) : Type 0 where
     pub under : AllByRecursion (λ c. (c < n) × (path c ≡ path x ++ id c ∷ [])) ks
     pub ordered : Ordered (λ a b. id a < id b) ks
-    pub whole : (k : ℕ) → k < n → up k ≡ Some x → has k ks ≡ true
+    pub whole : (k : ℕ) → k < n → up k ≡ Some x → is_among k ks ≡ true
 
   -- the places without a tree parent, in the order of their ids
   pub record AreRoots (ts : List ℕ) : Type 0 where
     pub single : AllByRecursion (λ c. (c < n) × (path c ≡ id c ∷ [])) ts
     pub ordered : Ordered (λ a b. id a < id b) ts
-    pub whole : (k : ℕ) → k < n → (has k ts ≡ true) ⊎ ((p : ℕ) × (up k ≡ Some p))
+    pub whole : (k : ℕ) → k < n → (is_among k ts ≡ true) ⊎ ((p : ℕ) × (up k ≡ Some p))
 
 pub record IsAdjacency (rs : List TreeSpan) (f : Adjacency) : Type 0 where
   pub size : length f.children.items ≡ length rs

@@ -40,7 +40,7 @@ fn place_of(index: &BTreeMap<u64, u64>, id: u64) -> Option<u64>
 }
 
 // Whether a span that has the id of a span's parent is its tree parent.
-fn is_parent(parent: &TreeSpan, one: &TreeSpan) -> bool
+fn may_be_parent(parent: &TreeSpan, one: &TreeSpan) -> bool
     ensures { result ≡ (parent.now.trace == one.now.trace) && ltb one.now.parent one.now.span }
 {
     parent.trace == one.trace && one.parent < one.span
@@ -54,7 +54,7 @@ fn parent_place(finished: &[TreeSpan], index: &BTreeMap<u64, u64>, one: &TreeSpa
 {
     match place_of(index, one.parent) {
         Some(place) => {
-            if is_parent(&finished[place as usize], one) {
+            if may_be_parent(&finished[place as usize], one) {
                 Some(place)
             } else {
                 None

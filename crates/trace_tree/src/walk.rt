@@ -1,7 +1,7 @@
 //! A walk over all spans with a stack of children.
 ghost use Rattle.std.specs.Prelude.{◌≡◌, ◌<◌, ◌++◌, OnOk, IfOk, List, ℕ, length, map, reverse};
 ghost use Rattle.trace_tree.specs.Paths.{IsForest};
-ghost use Rattle.trace_tree.specs.Walking.{node_at, IsAdjacency};
+ghost use Rattle.trace_tree.specs.Walking.{node_with, IsAdjacency};
 
 use crate::adjacency::Adjacency;
 use crate::node::Node;
@@ -11,7 +11,7 @@ use std::alloc::Global;
 
 // Puts places onto the stack, the first one on top.
 fn push_all(places: &[u64], depth: u64, stack: &mut Vec<Node>) -> Result<(), Memory>
-    ensures { OnOk result (stack.new.items ≡ stack.old.items ++ reverse (map (node_at depth) places.now)) }
+    ensures { OnOk result (stack.new.items ≡ stack.old.items ++ reverse (map (node_with depth) places.now)) }
 {
     for i in 0..places.len() {
         stack.push(Node {

@@ -1,13 +1,13 @@
 -- What a program's next call asks for, from what its last calls say: rules for `using` of its tactics. Each takes what is at
 -- hand as it stands, since a tactic looks no further.
 use Rattle.std.proofs.Common.{ℕ, ◌+◌, ◌≤◌, ◌<◌, List, ◌∷◌, Ok}
-use Rattle.traced.proofs.Common.{ValueSet, Lane, Parent, Ghosts, WorldValue, Handle, EntryGuard, IsHeld, CanTell, CanAsk, CanClose, CanExit, StandsAlone, StandsWith, RestoresWorld, MakesIfAnswered, Closes, Enters, IsUnchanged}
+use Rattle.traced.proofs.Common.{ValueSet, Lane, Parent, Ghosts, WorldValue, Handle, EntryGuard, IsHeld, CanTell, CanAsk, CanClose, CanExit, StandsAlone, StandsWith, RestoresWorld, MakesIfGateAdmits, Closes, Enters, IsUnchanged}
 use Rattle.traced.proofs.Rules.{can_tell, can_close}
 use Rattle.traced.proofs.KeptLemmas.{turned_ready, may_make, may_make_under, may_tell, may_enter, is_of_lane, may_close, may_ask, held_kept, ready_stays, keeps_late, keeps_both, keeps_quiet, held_stays, next_made, next_entered, keeps_unmade, keeps_refused, ready_late, ready_made, held_made, ready_entered, held_entered, may_exit_kept, ends_unmade, ends_refused, ends_first, ends_closed, ends_exited}
 
 module _ {S : Type 0} {sub : Ghosts S} {sites n : ℕ} where
   -- behind a span that was made
-  module _ {old begun : WorldValue S} {lane : Lane} {others : List Lane} {at site : ℕ} {parent : Parent} {values : ValueSet} {handle : Handle} (ready : StandsAlone sub n sites old (lane ∷ others)) (makes : MakesIfAnswered sub old begun lane at parent site values (Ok handle)) where
+  module _ {old begun : WorldValue S} {lane : Lane} {others : List Lane} {at site : ℕ} {parent : Parent} {values : ValueSet} {handle : Handle} (ready : StandsAlone sub n sites old (lane ∷ others)) (makes : MakesIfGateAdmits sub old begun lane at parent site values (Ok handle)) where
     pub ask_made : CanAsk begun handle
     ask_made = may_ask (held_made ready makes)
 

@@ -1,6 +1,6 @@
 -- What one call on a subscriber makes of what is read of any.
 use Rattle.std.proofs.Common.{◌≡◌, ℕ, zero, suc, List, [], ◌∷◌, length, false, Option, Some, None, refl, sym, ap, ◌∙◌, subst, arith, slice_get, slice_set, ◌==◌}
-use Rattle.traced.proofs.Common.{option_map_or, cond-true, cond-false, Lane, Ghosts, AreAttached, KeepsAttached, attached_as, WorldValue, Has, Replaced, KeepsPlainData, no_spans, spans_in, kept_in, HeldSpan, ReplacedOn, as_many, AreAtMost, HasOwnId, AreServed, StandsReady}
+use Rattle.traced.proofs.Common.{option_map_or, cond-true, cond-false, Lane, Ghosts, AreAttached, TracksAttached, attached_count, WorldValue, Has, Replaced, KeepsPlainData, no_spans, spans_in, kept_in, HeldSpan, ReplacedOn, as_many, AreAtMost, HasDistinctId, AreServed, StandsReady}
 use Rattle.std.proofs.lemmas.Bool.{eq-eqb, ne_eqb}
 
 get_other : {X : Type 0} (xs : List X) (n m : ℕ) (y : X) → (m ≡ n → ⊥) → slice_get (slice_set xs n y) m ≡ slice_get xs m
@@ -37,7 +37,7 @@ alike_there {S} sub old new d same count = record {
 }
 
 -- what one lane's entries attach is nothing of the others
-pub others_served : (global : Option ℕ) (kept now : ℕ → ℕ → ℕ) (dispatch : ℕ) (before left : Lane) (others : List Lane) → left.id ≡ before.id → KeepsAttached kept before left now → HasOwnId before others → AreServed global kept dispatch others → AreServed global now dispatch others
+pub others_served : (global : Option ℕ) (kept now : ℕ → ℕ → ℕ) (dispatch : ℕ) (before left : Lane) (others : List Lane) → left.id ≡ before.id → TracksAttached kept before left now → HasDistinctId before others → AreServed global kept dispatch others → AreServed global now dispatch others
 others_served global kept now dispatch before left [] same keeps apart served = tt
 others_served global kept now dispatch before left (other ∷ others) same keeps apart served = (
   record {
@@ -45,25 +45,25 @@ others_served global kept now dispatch before left (other ∷ others) same keeps
     attached = λ number. (
         let k = keeps other.id number in
         let s = served.0.attached number in
-        let x = cond-false {A = ℕ} (before.id == other.id) (attached_as number before) 0 (ne_eqb before.id other.id (λ e. apart.0 (sym e))) in
-        let y = cond-false {A = ℕ} (left.id == other.id) (attached_as number left) 0 (ne_eqb left.id other.id (λ e. apart.0 (sym e ∙ same))) in
+        let x = cond-false {A = ℕ} (before.id == other.id) (attached_count number before) 0 (ne_eqb before.id other.id (λ e. apart.0 (sym e))) in
+        let y = cond-false {A = ℕ} (left.id == other.id) (attached_count number left) 0 (ne_eqb left.id other.id (λ e. apart.0 (sym e ∙ same))) in
         omega (arith, k, s, x, y));
   },
   served.1,
   others_served global kept now dispatch before left others same keeps apart.1 served.2,
 )
 
-pub still_apart : (before left : Lane) (others : List Lane) → left.id ≡ before.id → HasOwnId before others → HasOwnId left others
+pub still_apart : (before left : Lane) (others : List Lane) → left.id ≡ before.id → HasDistinctId before others → HasDistinctId left others
 still_apart before left [] same apart = tt
 still_apart before left (other ∷ others) same apart = ((λ e. apart.0 (e ∙ same)), still_apart before left others same apart.1)
 
 -- and what it attaches is attached to it
-pub attached_on_lane : (kept now : ℕ → ℕ → ℕ) (before left : Lane) → left.id ≡ before.id → KeepsAttached kept before left now → AreAttached kept before → AreAttached now left
+pub attached_on_lane : (kept now : ℕ → ℕ → ℕ) (before left : Lane) → left.id ≡ before.id → TracksAttached kept before left now → AreAttached kept before → AreAttached now left
 attached_on_lane kept now before left same keeps still number =
     let k = keeps left.id number in
     let s = still number in
-    let x = cond-true {A = ℕ} (before.id == left.id) (attached_as number before) 0 (eq-eqb before.id left.id (sym same)) in
-    let y = cond-true {A = ℕ} (left.id == left.id) (attached_as number left) 0 (eq-eqb left.id left.id refl) in
+    let x = cond-true {A = ℕ} (before.id == left.id) (attached_count number before) 0 (eq-eqb before.id left.id (sym same)) in
+    let y = cond-true {A = ℕ} (left.id == left.id) (attached_count number left) 0 (eq-eqb left.id left.id refl) in
     let z = ap (λ (l : ℕ). kept l number) same in
     omega (arith, k, s, x, y, z)
 

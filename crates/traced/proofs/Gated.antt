@@ -1,7 +1,7 @@
 -- What the gate's answer makes of a call that stands for a macro.
 use Rattle.std.proofs.Common.{◌≡◌, ℕ, ◌+◌, ◌<◌, length, Bool, true, false, Option, Some, None, Result, Ok, Err, refl, sym, ◌∙◌, arith, OnOk, OnErr, IfOk}
 use Rattle.std.proofs.lemmas.Bool.{true≢false}
-use Rattle.traced.proofs.Common.{Memory, Callsite, ValueSet, Lane, Parent, Ghosts, WorldValue, Admits, IsInWorld, dispatch_on, Handle, no_handle, IsKnown, MakesIf, MayMakeIf, ReplacedIf, KeepsHandles, IsLawful, CanMake, CanTell, AnswersGate, MakesOne, TellsEventIf, TellsOne, MakesIfAnswered}
+use Rattle.traced.proofs.Common.{Memory, Callsite, ValueSet, Lane, Parent, Ghosts, WorldValue, Admits, IsInWorld, dispatch_on, Handle, no_handle, IsKnown, MakesIf, MayMakeIf, ReplacedIf, KeepsHandles, IsLawful, CanMake, CanTell, GateAnswers, MakesOne, TellsEventIf, TellsOne, MakesIfGateAdmits}
 use Rattle.trace_base.specs.declared.level.LevelFilter.{LevelFilter}
 use Rattle.traced.proofs.changes.Restored.{unchanged}
 use Rattle.traced.proofs.Moves.{get_there, later, made, made_one, made_global, made_count, made_can_close, none_made}
@@ -19,7 +19,7 @@ own_if sub world lane parent None may = tt
 own_if sub world lane parent (Some d) may = may.there
 
 module _ {S : Type 0} (sub : Ghosts S) (old new : WorldValue S) (lane : Lane) (at : ℕ) (parent : Parent) (site : ℕ) (values : ValueSet) where
-  not_both : (answer : Bool) → CanMake sub old lane parent site → AnswersGate sub old lane site answer → (other : Bool) → AnswersGate sub old lane site other → answer ≡ other
+  not_both : (answer : Bool) → CanMake sub old lane parent site → GateAnswers sub old lane site answer → (other : Bool) → GateAnswers sub old lane site other → answer ≡ other
   not_both answer can first other second =
       let o = dispatch_on lane.default old.global in
       one_answer sub.hint sub.enables old lane.id site o answer other (own_if sub old lane.id parent o can.may) can.site_there first second
@@ -30,8 +30,8 @@ module _ {S : Type 0} (sub : Ghosts S) (old new : WorldValue S) (lane : Lane) (a
   makes_at (Some d) (Err memory) serves answer did = tt
 
   -- it lets the callsite through, and a span is made
-  pub makes : (law : IsLawful sub) (result : Result Handle Memory) → CanMake sub old lane parent site → AnswersGate sub old lane site true → IfOk result (MakesIf sub.spans sub.does old new lane at parent site values (dispatch_on lane.default old.global))
-      → IfOk result (λ handle. IsKnown sub.spans new handle.held) → KeepsHandles sub.spans old new → OnErr result (ReplacedIf sub.same_but_room old new (dispatch_on lane.default old.global)) → MakesIfAnswered sub old new lane at parent site values result
+  pub makes : (law : IsLawful sub) (result : Result Handle Memory) → CanMake sub old lane parent site → GateAnswers sub old lane site true → IfOk result (MakesIf sub.spans sub.does old new lane at parent site values (dispatch_on lane.default old.global))
+      → IfOk result (λ handle. IsKnown sub.spans new handle.held) → KeepsHandles sub.spans old new → OnErr result (ReplacedIf sub.same_but_room old new (dispatch_on lane.default old.global)) → MakesIfGateAdmits sub old new lane at parent site values result
   makes law result can answer did known keeps left =
       let o = dispatch_on lane.default old.global in
       record {
@@ -47,7 +47,7 @@ module _ {S : Type 0} (sub : Ghosts S) (old new : WorldValue S) (lane : Lane) (a
       }
 
   -- it doesn't, and nothing happens
-  pub makes_none : CanMake sub old lane parent site → AnswersGate sub old lane site false → MakesIfAnswered sub old old lane at parent site values (Ok no_handle)
+  pub makes_none : CanMake sub old lane parent site → GateAnswers sub old lane site false → MakesIfGateAdmits sub old old lane at parent site values (Ok no_handle)
   makes_none can answer = record {
     made = λ through. absurd (true≢false (sym (not_both false can answer true through)));
     refused = λ back. (refl, refl);
@@ -72,9 +72,9 @@ module _ {S : Type 0} (sub : Ghosts S) (old new : WorldValue S) (lane : Lane) (a
   told_at (Some d) (Ok done) serves answer did = record { dispatch = d; serves = serves; told = did }
   told_at (Some d) (Err memory) serves answer did = tt
 
-  pub tells_one : (result : Result (Unit {0}) Memory) → AnswersGate sub old lane site true → OnOk result (TellsEventIf sub.does old new lane at parent site values (dispatch_on lane.default old.global)) → OnOk result (TellsOne sub old new lane at parent site values)
+  pub tells_one : (result : Result (Unit {0}) Memory) → GateAnswers sub old lane site true → OnOk result (TellsEventIf sub.does old new lane at parent site values (dispatch_on lane.default old.global)) → OnOk result (TellsOne sub old new lane at parent site values)
   tells_one result answer did = told_at (dispatch_on lane.default old.global) result refl answer did
 
 -- the gate doesn't both let it through and hold it back
-pub apart : {S : Type 0} (sub : Ghosts S) (world : WorldValue S) (lane : Lane) (site : ℕ) → CanTell sub world lane site → AnswersGate sub world lane site true → AnswersGate sub world lane site false → ⊥
+pub apart : {S : Type 0} (sub : Ghosts S) (world : WorldValue S) (lane : Lane) (site : ℕ) → CanTell sub world lane site → GateAnswers sub world lane site true → GateAnswers sub world lane site false → ⊥
 apart sub world lane site can through back = true≢false (one_answer sub.hint sub.enables world lane.id site (dispatch_on lane.default world.global) true false can.there can.site_there through back)

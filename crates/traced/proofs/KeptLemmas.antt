@@ -1,7 +1,7 @@
 -- What functions of a program leave behind, call by call.
 use Rattle.std.proofs.Common.{◌≡◌, ℕ, ◌+◌, ◌≤◌, ◌<◌, ◌^◌, List, [], ◌∷◌, length, Result, Ok, Err, refl, sym, ◌∙◌, subst, arith, IfSome}
 use Rattle.std.specs.Prelude.{IsErr, is_ok}
-use Rattle.traced.proofs.Common.{Memory, ValueSet, Lane, Parent, Ghosts, WorldValue, dispatch_on, Handle, IsOf, as_parent, KeepsPlainData, EntryGuard, IsHeld, CanMake, CanTell, CanAsk, CanClose, CanEnter, CanExit, MakesAndCloses, EntersAndExits, TellsIfAnswered, StandsAlone, HaveSameIds, RestoresWorld, RestoresAndDid, MakesIfAnswered, Closes, Enters, Refuses, Exits, IsUnchanged, Tells}
+use Rattle.traced.proofs.Common.{Memory, ValueSet, Lane, Parent, Ghosts, WorldValue, dispatch_on, Handle, IsOf, as_parent, KeepsPlainData, EntryGuard, IsHeld, CanMake, CanTell, CanAsk, CanClose, CanEnter, CanExit, MakesAndCloses, EntersAndExits, TellsIfGateAdmits, StandsAlone, HaveSameIds, RestoresWorld, RestoresAndDid, MakesIfGateAdmits, Closes, Enters, Refuses, Exits, IsUnchanged, Tells}
 use Rattle.trace_base.specs.declared.span.Parent.TheVariants as parent
 use Rattle.traced.proofs.changes.Between.{makes_and_closes, enters_and_exits, tells_if_answered}
 use Rattle.traced.proofs.Moves.{later, stays_stands, stays_as_before}
@@ -37,7 +37,7 @@ module _ {S : Type 0} {sub : Ghosts S} where
   pub held_stays : {old new : WorldValue S} {handle : Handle} → IsUnchanged sub old new → IsHeld sub 0 old handle → IsHeld sub 0 new handle
   held_stays {old} {new} {handle} stays held = held_after sub 0 old new handle (stays_as_before sub 0 old new stays) held
 
-  pub held_made : {n sites : ℕ} {old new : WorldValue S} {lane : Lane} {others : List Lane} {at site : ℕ} {parent : Parent} {values : ValueSet} {handle : Handle} → StandsAlone sub n sites old (lane ∷ others) → MakesIfAnswered sub old new lane at parent site values (Ok handle) → IsHeld sub 0 new handle
+  pub held_made : {n sites : ℕ} {old new : WorldValue S} {lane : Lane} {others : List Lane} {at site : ℕ} {parent : Parent} {values : ValueSet} {handle : Handle} → StandsAlone sub n sites old (lane ∷ others) → MakesIfGateAdmits sub old new lane at parent site values (Ok handle) → IsHeld sub 0 new handle
   held_made ready makes = (makes.newest 0 ready.stands.served.0.serves).held
 
   pub held_entered : {old new : WorldValue S} {before left : Lane} {at : ℕ} {handle : Handle} {guard : EntryGuard} → Enters sub old new before left at handle guard → IsHeld sub 0 old handle → IsHeld sub 0 new handle
@@ -104,7 +104,7 @@ module _ {S : Type 0} {sub : Ghosts S} {sites : ℕ} where
   pub keeps_quiet : {n : ℕ} {old new : WorldValue S} {lanes : List Lane} → StandsAlone sub n sites old lanes → IsUnchanged sub old new → RestoresWorld sub n sites old lanes new lanes
   keeps_quiet ready stays = keeps_stays ready stays (omega arith)
 
-  pub next_made : {n : ℕ} {old new : WorldValue S} {lane : Lane} {others : List Lane} {at site : ℕ} {parent : Parent} {values : ValueSet} {result : Result Handle Memory} → StandsAlone sub n sites old (lane ∷ others) → MakesIfAnswered sub old new lane at parent site values result → StandsAlone sub (n + 1) sites new (lane ∷ others)
+  pub next_made : {n : ℕ} {old new : WorldValue S} {lane : Lane} {others : List Lane} {at site : ℕ} {parent : Parent} {values : ValueSet} {result : Result Handle Memory} → StandsAlone sub n sites old (lane ∷ others) → MakesIfGateAdmits sub old new lane at parent site values result → StandsAlone sub (n + 1) sites new (lane ∷ others)
   next_made {n} {old} {new} {lane} {others} ready makes = record { stands = makes.stands n 0 sites (lane ∷ others) ready.stands; alone = makes.count ∙ ready.alone }
 
   pub next_entered : {n : ℕ} {old new : WorldValue S} {before left : Lane} {others : List Lane} {at : ℕ} {handle : Handle} {guard : EntryGuard} → Enters sub old new before left at handle guard → IsHeld sub 0 old handle → StandsAlone sub n sites old (before ∷ others) → StandsAlone sub (n + 1) sites new (left ∷ others)
@@ -126,18 +126,18 @@ module _ {S : Type 0} {sub : Ghosts S} {sites : ℕ} where
 
   -- a span that is made
   module _ {n m : ℕ} {old new : WorldValue S} {lane : Lane} {others : List Lane} {at site : ℕ} {parent : Parent} {values : ValueSet} (ready : StandsAlone sub n sites old (lane ∷ others)) where
-    pub ready_made : {result : Result Handle Memory} → MakesIfAnswered sub old new lane at parent site values result → n + 1 ≤ m → StandsAlone sub m sites new (lane ∷ others)
+    pub ready_made : {result : Result Handle Memory} → MakesIfGateAdmits sub old new lane at parent site values result → n + 1 ≤ m → StandsAlone sub m sites new (lane ∷ others)
     ready_made makes within = record {
       stands = later sub (n + 1) m 0 sites new (lane ∷ others) within (makes.stands n 0 sites (lane ∷ others) ready.stands);
       alone = makes.count ∙ ready.alone;
     }
 
     -- or isn't, for want of memory
-    pub keeps_unmade : {memory : Memory} → MakesIfAnswered sub old new lane at parent site values (Err memory) → n + 1 ≤ m → RestoresWorld sub m sites old (lane ∷ others) new (lane ∷ others)
+    pub keeps_unmade : {memory : Memory} → MakesIfGateAdmits sub old new lane at parent site values (Err memory) → n + 1 ≤ m → RestoresWorld sub m sites old (lane ∷ others) new (lane ∷ others)
     keeps_unmade makes within = record { ready = ready_made makes within; ids = same_ids (lane ∷ others); restores = makes.memory_restores 0 }
 
   -- and is closed, behind what is done meanwhile
-  pub keeps_closed : {n m : ℕ} {old begun ended new : WorldValue S} {lane : Lane} {others left : List Lane} {at site ends : ℕ} {parent : Parent} {values : ValueSet} {handle : Handle} → StandsAlone sub n sites old (lane ∷ others) → MakesIfAnswered sub old begun lane at parent site values (Ok handle)
+  pub keeps_closed : {n m : ℕ} {old begun ended new : WorldValue S} {lane : Lane} {others left : List Lane} {at site ends : ℕ} {parent : Parent} {values : ValueSet} {handle : Handle} → StandsAlone sub n sites old (lane ∷ others) → MakesIfGateAdmits sub old begun lane at parent site values (Ok handle)
       → RestoresWorld sub m sites begun (lane ∷ others) ended left → Closes sub ended new ends handle → RestoresWorld sub m sites old (lane ∷ others) new left
   keeps_closed {m = m} {old = old} {begun = begun} {ended = ended} {left = left} {handle = handle} ready makes keeps closes = record {
     ready = record { stands = closes.stands m 0 sites left keeps.ready.stands; alone = closes.count ∙ keeps.ready.alone };
@@ -178,7 +178,7 @@ module _ {S : Type 0} {sub : Ghosts S} {sites : ℕ} where
   pub ends_failed : {E : Type 0} {m : ℕ} {old new : WorldValue S} {lanes left : List Lane} {result : Result (Unit {0}) E} {done : Type 0} → RestoresWorld sub m sites old lanes new left → IsErr result → RestoresAndDid sub m sites old lanes new left result done
   ends_failed {result = result} keeps fails = record { keeps = keeps; did = failed result fails }
 
-  pub ends_unmade : {E : Type 0} {n m : ℕ} {old new : WorldValue S} {lane : Lane} {others : List Lane} {at site : ℕ} {parent : Parent} {values : ValueSet} {memory : Memory} {result : Result (Unit {0}) E} {done : Type 0} → StandsAlone sub n sites old (lane ∷ others) → MakesIfAnswered sub old new lane at parent site values (Err memory) → IsErr result → n + 1 ≤ m
+  pub ends_unmade : {E : Type 0} {n m : ℕ} {old new : WorldValue S} {lane : Lane} {others : List Lane} {at site : ℕ} {parent : Parent} {values : ValueSet} {memory : Memory} {result : Result (Unit {0}) E} {done : Type 0} → StandsAlone sub n sites old (lane ∷ others) → MakesIfGateAdmits sub old new lane at parent site values (Err memory) → IsErr result → n + 1 ≤ m
       → RestoresAndDid sub m sites old (lane ∷ others) new (lane ∷ others) result done
   ends_unmade ready makes fails within = ends_failed (keeps_unmade ready makes within) fails
 
@@ -194,7 +194,7 @@ module _ {S : Type 0} {sub : Ghosts S} {sites : ℕ} where
 
   -- one of a span, which is made and closed
   pub ends_closed : {E : Type 0} {n m : ℕ} {old begun ended new : WorldValue S} {lane : Lane} {others left : List Lane} {at site ends : ℕ} {parent : Parent} {values : ValueSet} {handle : Handle} {result : Result (Unit {0}) E} {between : Handle → WorldValue S → WorldValue S → Type 0}
-      → StandsAlone sub n sites old (lane ∷ others) → MakesIfAnswered sub old begun lane at parent site values (Ok handle) → RestoresAndDid sub m sites begun (lane ∷ others) ended left result (between handle begun ended) → Closes sub ended new ends handle
+      → StandsAlone sub n sites old (lane ∷ others) → MakesIfGateAdmits sub old begun lane at parent site values (Ok handle) → RestoresAndDid sub m sites begun (lane ∷ others) ended left result (between handle begun ended) → Closes sub ended new ends handle
       → RestoresAndDid sub m sites old (lane ∷ others) new left result (MakesAndCloses sub lane parent site values at ends between old new)
   ends_closed ready makes inner closes = record {
     keeps = keeps_closed ready makes inner.keeps closes;
@@ -212,7 +212,7 @@ module _ {S : Type 0} {sub : Ghosts S} {sites : ℕ} where
 
   -- one of an event
   pub ends_told : {n : ℕ} {old new : WorldValue S} {lane : Lane} {lanes : List Lane} {at site : ℕ} {parent : Parent} {values : ValueSet} {result : Result (Unit {0}) Memory} → StandsAlone sub n sites old lanes → Tells sub old new lane at parent site values result
-      → RestoresAndDid sub n sites old lanes new lanes result (TellsIfAnswered sub old new lane at parent site values)
+      → RestoresAndDid sub n sites old lanes new lanes result (TellsIfGateAdmits sub old new lane at parent site values)
   ends_told ready tells = record { keeps = keeps_quiet ready tells.stays; did = tells_if_answered tells }
 
   pub ends_late : {E : Type 0} {n m : ℕ} {old new : WorldValue S} {lanes left : List Lane} {result : Result (Unit {0}) E} {done : Type 0} → RestoresAndDid sub n sites old lanes new left result done → n ≤ m → RestoresAndDid sub m sites old lanes new left result done
@@ -231,19 +231,19 @@ module _ {S : Type 0} {sub : Ghosts S} {sites : ℕ} where
 
   -- one of a span whose layer is asked before what is done inside
   pub ends_asked : {E : Type 0} {n k m : ℕ} {old begun asked ended new : WorldValue S} {lane : Lane} {others left : List Lane} {at site ends : ℕ} {parent : Parent} {values : ValueSet} {handle : Handle} {result : Result (Unit {0}) E} {between : Handle → WorldValue S → WorldValue S → Type 0} {inner : Type 0}
-      → StandsAlone sub n sites old (lane ∷ others) → MakesIfAnswered sub old begun lane at parent site values (Ok handle) → IsUnchanged sub begun asked → RestoresAndDid sub k sites asked (lane ∷ others) ended left result inner → Closes sub ended new ends handle → k ≤ m → (inner → between handle begun ended)
+      → StandsAlone sub n sites old (lane ∷ others) → MakesIfGateAdmits sub old begun lane at parent site values (Ok handle) → IsUnchanged sub begun asked → RestoresAndDid sub k sites asked (lane ∷ others) ended left result inner → Closes sub ended new ends handle → k ≤ m → (inner → between handle begun ended)
       → RestoresAndDid sub m sites old (lane ∷ others) new left result (MakesAndCloses sub lane parent site values at ends between old new)
   ends_asked ready makes stays inner closes within follows = ends_closed ready makes (ends_so (ends_again (keeps_quiet (next_made ready makes) stays) (ends_late inner within)) follows) closes
 
   -- one of an event behind what was done
   pub ends_then_told : {n m : ℕ} {old mid new : WorldValue S} {lane : Lane} {lanes left : List Lane} {at site : ℕ} {parent : Parent} {values : ValueSet} {result : Result (Unit {0}) Memory} {done : Type 0} → RestoresWorld sub n sites old lanes mid left → Tells sub mid new lane at parent site values result → n ≤ m
-      → (TellsIfAnswered sub mid new lane at parent site values → done) → RestoresAndDid sub m sites old lanes new left result done
+      → (TellsIfGateAdmits sub mid new lane at parent site values → done) → RestoresAndDid sub m sites old lanes new left result done
   ends_then_told keeps tells within follows = ends_so (ends_again keeps (ends_late (ends_told keeps.ready tells) within)) follows
 
   -- one of an event inside an entry
   pub ends_told_inside : {E : Type 0} {n m enters exits at site : ℕ} {old world inner new : WorldValue S} {before lane left : Lane} {others : List Lane} {handle : Handle} {guard : EntryGuard} {values : ValueSet} {parent : Parent} {told : Result (Unit {0}) Memory} {result : Result (Unit {0}) E}
       → StandsAlone sub n sites old (before ∷ others) → Enters sub old world before lane enters handle guard → IsHeld sub 0 old handle → Tells sub world inner lane at parent site values told → Exits sub inner new lane left exits guard → n + 1 ≤ m → is_ok result ≡ is_ok told
-      → RestoresAndDid sub m sites old (before ∷ others) new (left ∷ others) result (EntersAndExits sub handle enters exits (λ in_world in_lane out_world out_lane. (out_lane ≡ in_lane) × TellsIfAnswered sub in_world out_world in_lane at parent site values) old new before left)
+      → RestoresAndDid sub m sites old (before ∷ others) new (left ∷ others) result (EntersAndExits sub handle enters exits (λ in_world in_lane out_world out_lane. (out_lane ≡ in_lane) × TellsIfGateAdmits sub in_world out_world in_lane at parent site values) old new before left)
   ends_told_inside {told = told} {result = result} ready entered held tells exited within same = ends_as (ends_exited entered held (ends_so (ends_late (ends_told (next_entered entered held ready) tells) within) (λ did. (refl, did))) exited) (both_ok result told same)
 
   -- one behind another, at work on the first lane and on the second

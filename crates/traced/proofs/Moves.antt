@@ -1,6 +1,6 @@
 -- What each call keeps and makes.
 use Rattle.std.proofs.Common.{◌≡◌, ℕ, zero, suc, ◌+◌, ◌≤◌, ◌<◌, List, [], ◌∷◌, length, Option, Some, None, Result, Ok, Err, refl, sym, ap, ◌∙◌, subst, arith, inl, inr, count_by, slice_get, ◌==◌, OnOk, OnErr, IfOk, IfSome}
-use Rattle.traced.proofs.Common.{option_map_or, cases_eq, get_or_past, Memory, ValueSet, Callsite, Lane, Parent, Ghosts, WorldValue, dispatch_on, Span, Spans, no_span, span_at, entries_on, parent_on, SubscriberCall, NewSpan, Event, Enter, Exit, spans_after_call, IsLive, IsLiveParent, KeepsAttached, Replaced, ChangesPlainData, KeepsPlainData, Chain, ChainChangesPlainData, spans_in, kept_in, no_spans, HeldSpan, Handle, IsKnown, IsOf, HasOn, Makes, MakesIf, MayMakeIf, ReplacedIf, ReplacedOn, EntryGuard, KeepsLaneButRoom, KeepsKnown, KeepsHandles, KeepsOthers, as_many, shown, alike, chain_shown, IsLawful, AreAtMost, AreServed, StandsReady, IsHeld, CanClose, IsAsBefore, IsOfNewest, HadNoHandle, HasMade, IsLiveOn, IsEntered, HasEntered, TellsEventIf, Enters, Refuses, IsUnchanged}
+use Rattle.traced.proofs.Common.{option_map_or, cases_eq, get_or_past, Memory, ValueSet, Callsite, Lane, Parent, Ghosts, WorldValue, dispatch_on, Span, Spans, no_span, span_at, entries_on, parent_on, SubscriberCall, NewSpan, Event, Enter, Exit, spans_after_call, IsLive, IsLiveParent, TracksAttached, Replaced, ChangesPlainData, KeepsPlainData, Chain, ChainChangesPlainData, spans_in, kept_in, no_spans, HeldSpan, Handle, IsKnown, IsOf, HasOn, Makes, MakesIf, MayMakeIf, ReplacedIf, ReplacedOn, EntryGuard, KeepsLaneButRoom, KeepsKnown, KeepsHandles, KeepsOthers, as_many, shown, alike, chain_shown, IsLawful, AreAtMost, AreServed, StandsReady, IsHeld, CanClose, IsAsBefore, IsOfNewest, HadNoHandle, HasMade, IsLiveOn, GainsEntry, HasEntered, TellsEventIf, Enters, Refuses, IsUnchanged}
 use Rattle.otel_base.specs.declared.enter_error.EnterError.{EnterError}
 use Rattle.trace_base.specs.Sound.{IsSound}
 use Rattle.trace_base.proofs.Sound.{parent_live}
@@ -68,7 +68,7 @@ live_on {S} sub dispatch world (Some h) own known =
 
 module _ {S : Type 0} (sub : Ghosts S) (law : IsLawful sub) where
   by_call : (old new : WorldValue S) (dispatch : ℕ) (call : SubscriberCall) → Replaced (λ s t. sub.does s call t) old new dispatch → ChangesPlainData sub.spans sub.attaches sub.kept sub.is_whole old new dispatch call
-  by_call old new dispatch call r = shown sub.spans sub.attaches sub.kept sub.is_whole sub.does law.shows law.lanes law.keeps_attaches law.keeps_whole old new dispatch call r
+  by_call old new dispatch call r = shown sub.spans sub.attaches sub.kept sub.is_whole sub.does law.shows law.keeps_lanes law.keeps_attaches law.keeps_whole old new dispatch call r
 
   pub room_stays : (old new : WorldValue S) (dispatch : ℕ) → Replaced sub.same_but_room old new dispatch → IsUnchanged sub old new
   room_stays old new dispatch r = stays_step sub sub.same_but_room law.same_spans law.same_attaches law.same_kept law.same_whole old new dispatch r
@@ -85,7 +85,7 @@ module _ {S : Type 0} (sub : Ghosts S) (law : IsLawful sub) where
   pub told : (old new : WorldValue S) (dispatch : ℕ) (lane : Lane) (at : ℕ) (parent : Parent) (site : ℕ) (callsite : Callsite) (values : ValueSet) → Replaced (λ s t. sub.does s (Event lane at parent site callsite values) t) old new dispatch → IsUnchanged sub old new
   told old new dispatch lane at parent site callsite values r =
       let call : SubscriberCall = Event lane at parent site callsite values in
-      stays_step sub (λ s t. sub.does s call t) (λ s t e. law.shows s call t e) (λ s t e. law.keeps_attaches s call t e) (λ s t e. law.lanes s call t e) (λ s t e. law.keeps_whole s call t e) old new dispatch r
+      stays_step sub (λ s t. sub.does s call t) (λ s t e. law.shows s call t e) (λ s t e. law.keeps_attaches s call t e) (λ s t e. law.keeps_lanes s call t e) (λ s t e. law.keeps_whole s call t e) old new dispatch r
 
   pub told_if : (old new : WorldValue S) (lane : Lane) (at : ℕ) (parent : Parent) (site : ℕ) (values : ValueSet) (o : Option ℕ) (result : Result (Unit {0}) Memory) → OnOk result (TellsEventIf sub.does old new lane at parent site values o) → OnErr result (ReplacedIf sub.same_but_room old new o) → IsUnchanged sub old new
   told_if old new lane at parent site values None (Ok done) did left = stays_same sub old new did
@@ -192,7 +192,7 @@ module _ {S : Type 0} (sub : Ghosts S) (law : IsLawful sub) where
     | inr other ↦ stands_beside n n dispatch sites _ old new h.0 lanes (omega arith) did other stands
   ] where
     chain : (old new : WorldValue S) (h : ℕ × ℕ) (at : ℕ) → Replaced (λ s t. Chain sub.spans sub.does at (Some h.1) s t) old new h.0 → ChainChangesPlainData sub.spans sub.attaches sub.kept sub.is_whole old new h.0 h.1
-    chain old new h at r = chain_shown sub.spans sub.attaches sub.kept sub.is_whole sub.does law.allowed law.shows law.lanes law.keeps_attaches law.keeps_whole at old new h.0 h.1 r
+    chain old new h at r = chain_shown sub.spans sub.attaches sub.kept sub.is_whole sub.does law.allowed law.shows law.keeps_lanes law.keeps_attaches law.keeps_whole at old new h.0 h.1 r
 
   pub closed_global : (old new : WorldValue S) (at : ℕ) (held : HeldSpan) → ReplacedOn (λ id s t. Chain sub.spans sub.does at (Some id) s t) old new held → new.global ≡ old.global
   closed_global old new at None did = ap (λ (w : WorldValue S). w.global) did
@@ -202,7 +202,7 @@ module _ {S : Type 0} (sub : Ghosts S) (law : IsLawful sub) where
   released_spans dispatch old new at None own did = ap (λ (w : WorldValue S). spans_in sub.spans w dispatch) did
   released_spans dispatch old new at (Some h) own did =
       let r : Replaced (λ s t. Chain sub.spans sub.does at (Some h.1) s t) old new dispatch = subst (λ (d : ℕ). Replaced (λ s t. Chain sub.spans sub.does at (Some h.1) s t) old new d) own did in
-      (chain_shown sub.spans sub.attaches sub.kept sub.is_whole sub.does law.allowed law.shows law.lanes law.keeps_attaches law.keeps_whole at old new dispatch h.1 r).released
+      (chain_shown sub.spans sub.attaches sub.kept sub.is_whole sub.does law.allowed law.shows law.keeps_lanes law.keeps_attaches law.keeps_whole at old new dispatch h.1 r).released
 
   known_beside : (before old new : WorldValue S) (at : ℕ) (held : HeldSpan) → HadNoHandle sub before held → KeepsKnown sub.spans before old → KeepsOthers sub.spans old new held → ReplacedOn (λ id s t. Chain sub.spans sub.does at (Some id) s t) old new held → KeepsKnown sub.spans before new
   known_beside before old new at None apart keeps others did q known = subst (λ (w : WorldValue S). IsKnown sub.spans w q) (sym did) (keeps q known)
@@ -216,7 +216,7 @@ module _ {S : Type 0} (sub : Ghosts S) (law : IsLawful sub) where
 
   -- the lane of an entry or an exit has other contexts
   on_lane : (n m dispatch sites : ℕ) (call : SubscriberCall) (old new : WorldValue S) (before left : Lane) (others : List Lane) → ChangesPlainData sub.spans sub.attaches sub.kept sub.is_whole old new dispatch call → new.sites ≡ old.sites → new.global ≡ old.global
-      → left.id ≡ before.id → left.default ≡ before.default → KeepsAttached (kept_in sub.kept old dispatch) before left (kept_in sub.kept new dispatch) → (AreAtMost n (spans_in sub.spans old dispatch) → AreAtMost m (spans_after_call (spans_in sub.spans old dispatch) call))
+      → left.id ≡ before.id → left.default ≡ before.default → TracksAttached (kept_in sub.kept old dispatch) before left (kept_in sub.kept new dispatch) → (AreAtMost n (spans_in sub.spans old dispatch) → AreAtMost m (spans_after_call (spans_in sub.spans old dispatch) call))
       → StandsReady sub n dispatch sites old (before ∷ others) → StandsReady sub m dispatch sites new (left ∷ others)
   on_lane n m dispatch sites call old new before left others sh same global id default keeps few stands =
       let kept = kept_in sub.kept old dispatch in
@@ -275,7 +275,7 @@ module _ {S : Type 0} (sub : Ghosts S) (law : IsLawful sub) where
         );
       }
 
-  entered_spans : (dispatch : ℕ) (old new : WorldValue S) (before left : Lane) (at : ℕ) (held : HeldSpan) → IsOf held dispatch → ReplacedOn (λ id s t. sub.does s (Enter id at before left) t) old new held → IsEntered held before.id (spans_in sub.spans old dispatch) (spans_in sub.spans new dispatch)
+  entered_spans : (dispatch : ℕ) (old new : WorldValue S) (before left : Lane) (at : ℕ) (held : HeldSpan) → IsOf held dispatch → ReplacedOn (λ id s t. sub.does s (Enter id at before left) t) old new held → GainsEntry held before.id (spans_in sub.spans old dispatch) (spans_in sub.spans new dispatch)
   entered_spans dispatch old new before left at None own did = unchanged _ _ (ap (λ (w : WorldValue S). spans_in sub.spans w dispatch) did)
   entered_spans dispatch old new before left at (Some h) own did =
       let call : SubscriberCall = Enter h.1 at before left in

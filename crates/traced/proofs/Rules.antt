@@ -1,6 +1,6 @@
 -- What calls ask for, of a world that stands.
 use Rattle.std.proofs.Common.{◌≡◌, ℕ, ◌<◌, ◌^◌, List, ◌∷◌, length, Option, Some, None, sym, ap, subst, arith, slice_get, ◌==◌, IfSome}
-use Rattle.traced.proofs.Common.{option_map_or, Lane, Parent, Ghosts, HasFewHolds, HasFewHoldsAbove, AreFew, IsLiveParent, MayExit, AreAttached, WorldValue, IsInWorld, dispatch_on, Spans, entries_on, times_in, parent_on, any_if_counted, first_if_in, Has, KeepsPlainData, spans_in, HeldSpan, Handle, IsKnown, HasOn, IsOf, MayMakeIf, HasIf, as_parent, EntryGuard, IsThere, AreAtMost, StandsReady, ServesLane, IsHeld, CanMake, CanTell, CanAsk, CanClose, CanEnter, CanExit, IsLiveOn, IsOpen, IsInside}
+use Rattle.traced.proofs.Common.{option_map_or, Lane, Parent, Ghosts, HasFewHolds, ParentHasFewHolds, AreFew, IsLiveParent, MayExit, AreAttached, WorldValue, IsInWorld, dispatch_on, Spans, entries_on, times_in, parent_on, any_if_counted, first_if_in, Has, KeepsPlainData, spans_in, HeldSpan, Handle, IsKnown, HasOn, IsOf, MayMakeIf, HasIf, as_parent, EntryGuard, IsThere, AreAtMost, StandsReady, ServesLane, IsHeld, CanMake, CanTell, CanAsk, CanClose, CanEnter, CanExit, IsLiveOn, IsOpen, IsInside}
 use Rattle.trace_base.specs.declared.span.Parent.TheVariants as parent
 use Rattle.traced.proofs.Elsewhere.{stands_after}
 use Rattle.traced.proofs.Moves.{read_there, live_on}
@@ -36,7 +36,7 @@ make_at {S} sub n dispatch sites world lane others parent site early within live
         whole = stands.whole;
         live = has_spans sub world dispatch (λ v. IsLiveParent v.made parent) live;
         few = has_spans sub world dispatch AreFew (let f = few.spans in omega (arith, f, early));
-        few_holds = has_spans sub world dispatch (λ v. HasFewHoldsAbove v lane.id parent) (few_above n x (parent_on (entries_on lane.id x.lanes) parent) early few);
+        few_holds = has_spans sub world dispatch (λ v. ParentHasFewHolds v lane.id parent) (few_above n x (parent_on (entries_on lane.id x.lanes) parent) early few);
       });
     }
 

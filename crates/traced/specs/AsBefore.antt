@@ -52,16 +52,16 @@ IsLiveOn None x = Unit {0}
 IsLiveOn (Some held) x = 0 < (span_at x.made held.1).holds
 
 -- spans are as they were but for one entry more
-abbrev pub IsEntered : HeldSpan → ℕ → Spans → Spans → Type 0
-IsEntered None lane x y = AreAsBefore x y
-IsEntered (Some held) lane x y = AreAsBefore (with_span_entry x held.1 lane) y
+abbrev pub GainsEntry : HeldSpan → ℕ → Spans → Spans → Type 0
+GainsEntry None lane x y = AreAsBefore x y
+GainsEntry (Some held) lane x y = AreAsBefore (with_span_entry x held.1 lane) y
 
 -- a span was entered, of which there is this guard, and else all is as before
 pub record HasEntered {S : Type 0} (sub : Ghosts S) (dispatch : ℕ) (old new : WorldValue S) (guard : EntryGuard) : Type 0 where
   pub known : KeepsKnown sub.spans old new
   pub held : IsHeld sub dispatch new guard.span
   pub live : IsLiveOn guard.span.held (spans_in sub.spans old dispatch)
-  pub entered_once : IsEntered guard.span.held guard.lane (spans_in sub.spans old dispatch) (spans_in sub.spans new dispatch)
+  pub entered_once : GainsEntry guard.span.held guard.lane (spans_in sub.spans old dispatch) (spans_in sub.spans new dispatch)
 
 -- the span of a guard, if it is enabled, has an open entry on the guard's lane
 abbrev pub IsOpen : HeldSpan → ℕ → Spans → Type 0

@@ -8,14 +8,14 @@ use Rattle.trace_base.specs.Gate.{WorldValue}
 use Rattle.trace_base.specs.Calls.{Enter, Exit}
 use Rattle.span_handles.specs.Worlds.{Chain}
 use Rattle.span_handles.specs.Handles.{Handle, ReplacedOn}
-use Rattle.traced.specs.Making.{MakesIfAnswered}
+use Rattle.traced.specs.Making.{MakesIfGateAdmits}
 
 -- a span is made under a parent at a moment, if the gate lets its callsite through, and its handle is closed at another
 pub record MakesAndCloses {S : Type 0} (sub : Ghosts S) (lane : Lane) (parent : Parent) (site : ℕ) (values : ValueSet) (begins ends : ℕ) (between : Handle → WorldValue S → WorldValue S → Type 0) (old new : WorldValue S) : Type 0 where
   pub handle : Handle
   pub begun : WorldValue S
   pub ended : WorldValue S
-  pub makes : MakesIfAnswered sub old begun lane begins parent site values (Ok handle)
+  pub makes : MakesIfGateAdmits sub old begun lane begins parent site values (Ok handle)
   pub meanwhile : between handle begun ended
   pub closes : ReplacedOn (λ id s t. Chain sub.spans sub.does ends (Some id) s t) ended new handle.held
 

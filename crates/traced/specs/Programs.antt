@@ -7,5 +7,5 @@ pub use Rattle.trace_base.specs.lanes.Contexts.{IsFull}
 pub use Rattle.span_handles.specs.Handles.{Handle, as_parent}
 pub use Rattle.traced.specs.Standing.{IsHeld, IsUnused}
 pub use Rattle.traced.specs.Between.{MakesAndCloses, EntersAndExits}
-pub use Rattle.traced.specs.Gating.{TellsIfAnswered, TellsWhen}
+pub use Rattle.traced.specs.Gating.{TellsIfGateAdmits, TellsWhen}
 pub use Rattle.traced.specs.Keeping.{StandsAlone, StandsWith, RestoresWorld, RestoresAndDid}

@@ -23,14 +23,14 @@ pub record IsServed (global : Option ℕ) (kept : ℕ → ℕ → ℕ) (dispatch
   pub attached : AreAttached kept lane
 
 -- the lane's id is none of theirs
-abbrev pub HasOwnId : Lane → List Lane → Type 0
-HasOwnId lane [] = Unit {0}
-HasOwnId lane (other ∷ others) = (other.id ≡ lane.id → ⊥) × HasOwnId lane others
+abbrev pub HasDistinctId : Lane → List Lane → Type 0
+HasDistinctId lane [] = Unit {0}
+HasDistinctId lane (other ∷ others) = (other.id ≡ lane.id → ⊥) × HasDistinctId lane others
 
 -- the subscriber serves some lanes, all with ids of their own
 abbrev pub AreServed : Option ℕ → (ℕ → ℕ → ℕ) → ℕ → List Lane → Type 0
 AreServed global kept dispatch [] = Unit {0}
-AreServed global kept dispatch (lane ∷ lanes) = IsServed global kept dispatch lane × HasOwnId lane lanes × AreServed global kept dispatch lanes
+AreServed global kept dispatch (lane ∷ lanes) = IsServed global kept dispatch lane × HasDistinctId lane lanes × AreServed global kept dispatch lanes
 
 -- A subscriber is there and whole and serves these lanes; it has at most so many spans, and holds of each, and there are at
 -- least so many callsites.
@@ -88,7 +88,7 @@ pub record CanExit {S : Type 0} (sub : Ghosts S) (world : WorldValue S) (lane : 
 -- some lanes have this subscriber, and ids of their own
 abbrev pub AreAssigned : Option ℕ → ℕ → List Lane → Type 0
 AreAssigned global dispatch [] = Unit {0}
-AreAssigned global dispatch (lane ∷ lanes) = (dispatch_on lane.default global ≡ Some dispatch) × HasOwnId lane lanes × AreAssigned global dispatch lanes
+AreAssigned global dispatch (lane ∷ lanes) = (dispatch_on lane.default global ≡ Some dispatch) × HasDistinctId lane lanes × AreAssigned global dispatch lanes
 
 -- a stack that knows no span, and keeps nothing attached
 pub record IsUnused {S : Type 0} (sub : Ghosts S) (stack : S) : Type 0 where

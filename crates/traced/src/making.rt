@@ -1,7 +1,7 @@
 //! Spans under the current one, made where the gate lets their callsites through.
 ghost use Rattle.trace_base.specs.declared.span.Parent.TheVariants as parent;
 ghost use Rattle.traced.specs.Standing.{CanMake};
-ghost use Rattle.traced.specs.Making.{MakesIfAnswered};
+ghost use Rattle.traced.specs.Making.{MakesIfGateAdmits};
 
 use crate::laws::lawful;
 use otel_base::memory::Memory;
@@ -21,7 +21,7 @@ pub fn span<S: Subscriber>(
     values: &ValueSet,
 ) -> Result<Span, Memory>
     requires { CanMake S.Subscriber world.old lane.now parent.Current site }
-    ensures { MakesIfAnswered S.Subscriber world.old world.new lane.now at parent.Current site values.now result }
+    ensures { MakesIfGateAdmits S.Subscriber world.old world.new lane.now at parent.Current site values.now result }
 {
     lawful::<S>();
     if world.admits(lane, site) {

@@ -4,7 +4,7 @@ ghost use Rattle.trace_base.specs.declared.span.Parent.TheVariants as parent;
 ghost use Rattle.trace_base.specs.Gate.{dispatch_on};
 ghost use Rattle.span_handles.specs.Handles.{as_parent, IsOf};
 ghost use Rattle.traced.specs.Standing.{CanMake};
-ghost use Rattle.traced.specs.Making.{MakesIfAnswered};
+ghost use Rattle.traced.specs.Making.{MakesIfGateAdmits};
 
 use crate::laws::lawful;
 use otel_base::memory::Memory;
@@ -24,7 +24,7 @@ pub fn root<S: Subscriber>(
     values: &ValueSet,
 ) -> Result<Span, Memory>
     requires { CanMake S.Subscriber world.old lane.now parent.Root site }
-    ensures { MakesIfAnswered S.Subscriber world.old world.new lane.now at parent.Root site values.now result }
+    ensures { MakesIfGateAdmits S.Subscriber world.old world.new lane.now at parent.Root site values.now result }
 {
     lawful::<S>();
     if world.admits(lane, site) {
@@ -45,7 +45,7 @@ pub fn child_of<S: Subscriber>(
 ) -> Result<Span, Memory>
     requires may { CanMake S.Subscriber world.old lane.now (as_parent parent.now.held) site }
     requires of_lane { IfSome (dispatch_on lane.now.default world.old.global) (IsOf parent.now.held) }
-    ensures { MakesIfAnswered S.Subscriber world.old world.new lane.now at (as_parent parent.now.held) site
+    ensures { MakesIfGateAdmits S.Subscriber world.old world.new lane.now at (as_parent parent.now.held) site
         values.now result }
 {
     lawful::<S>();

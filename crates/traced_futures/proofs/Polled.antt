@@ -9,7 +9,7 @@ use Rattle.trace_base.specs.Calls.{Exit}
 use Rattle.span_handles.specs.Handles.{IsKnown, ReplacedOn}
 use Rattle.span_handles.specs.Entries.{EntryGuard, MeetsFullLane}
 use Rattle.span_futures.specs.declared.instrument.Instrumented.{Instrumented}
-use Rattle.span_futures.specs.Polls.{PollResult, CannotEnter, PollsInside}
+use Rattle.span_futures.specs.Polls.{PollResult, FailsToEnter, PollsInside}
 use Rattle.span_futures.proofs.Inside.{begun, ended, keeps_nothing}
 use Rattle.traced.specs.Laws.{IsLawful}
 use Rattle.traced.proofs.Elsewhere.{count_on}
@@ -22,7 +22,7 @@ no_error (Ok x) is ok = absurd (cc is)
 no_error (Err e) is ok = absurd (cc ok)
 
 module _ {T S A : Type 0} (sub : Ghosts S) (law : IsLawful sub) (future : Instrumented T) (old : WorldValue S) (before : Lane) (at : ℕ) (result : PollResult A) (next : Instrumented T) (new : WorldValue S) (left : Lane) where
-  of_refused : CannotEnter sub.same_but_room sub.activates future old before result next new left → Polls sub old new before left future.span
+  of_refused : FailsToEnter sub.same_but_room sub.activates future old before result next new left → Polls sub old new before left future.span
   of_refused r =
       let refused = refuses sub law old new before left future.span (Err r.error) r.nothing r.lane_same in
       record {
@@ -36,12 +36,12 @@ module _ {T S A : Type 0} (sub : Ghosts S) (law : IsLawful sub) (future : Instru
   of_inside known r =
       let handle = future.span in
       let guard : EntryGuard = record { span = handle; lane = before.id } in
-      let inside = begun sub.spans sub.attaches sub.kept sub.is_whole sub.does law.sound law.allowed law.shows law.lanes law.keeps_whole at handle.held old r.world before r.lane r.entered in
+      let inside = begun sub.spans sub.attaches sub.kept sub.is_whole sub.does law.sound law.allowed law.shows law.keeps_lanes law.keeps_whole at handle.held old r.world before r.lane r.entered in
       let did : ReplacedOn (λ id s t. sub.does s (Exit id at r.lane left) t) r.world new handle.held =
       subst (λ (w : WorldValue S). ReplacedOn (λ id s t. sub.does s (Exit id at r.lane left) t) w new handle.held) r.polled.0
       (subst (λ (l : Lane). ReplacedOn (λ id s t. sub.does s (Exit id at l left) t) r.left_world new handle.held) r.polled.1 r.exited) in
       let none : (handle.held ≡ None → left ≡ r.lane) = λ e. r.none e ∙ r.polled.1 in
-      let ends = ended sub.spans sub.attaches sub.kept sub.is_whole sub.does law.sound law.allowed law.shows law.lanes law.keeps_whole at handle.held old r.world r.world new before r.lane r.lane left known r.entered (keeps_nothing sub.spans sub.kept sub.is_whole r.world r.lane) did in
+      let ends = ended sub.spans sub.attaches sub.kept sub.is_whole sub.does law.sound law.allowed law.shows law.keeps_lanes law.keeps_whole at handle.held old r.world r.world new before r.lane r.lane left known r.entered (keeps_nothing sub.spans sub.kept sub.is_whole r.world r.lane) did in
       record {
         lane_id = lane_left sub law r.world new r.lane left at handle.held did none ∙ inside.lane_id;
         count = count_on _ r.world new handle.held did ∙ count_on _ old r.world handle.held r.entered.entered;

@@ -12,7 +12,7 @@ use Rattle.span_handles.specs.Handles.{Handle}
 use Rattle.span_futures.specs.declared.instrument.Instrumented.{Instrumented}
 use Rattle.traced.specs.Standing.{IsHeld}
 use Rattle.traced.specs.Keeping.{StandsAlone, StandsWith, RestoresWorld}
-use Rattle.traced.specs.Making.{MakesIfAnswered}
+use Rattle.traced.specs.Making.{MakesIfGateAdmits}
 use Rattle.traced.specs.Moving.{Closes}
 use Rattle.traced.proofs.AsksLemmas.{asking}
 use Rattle.traced.proofs.KeptLemmas.{same_ids, held_made, ready_made, ready_late, keeps_late, keeps_again, keeps_closed}
@@ -81,7 +81,7 @@ module _ {T S : Type 0} {sub : Ghosts S} {n sites : ℕ} where
   with_future keeps within = record { ready = ready_late keeps.keeps.ready within; held = keeps.held }
 
   -- a future that is put under a span
-  module _ {old begun : WorldValue S} {lane : Lane} {others : List Lane} {at site : ℕ} {parent : Parent} {values : ValueSet} {handle : Handle} {inner : T} {future : Instrumented T} (ready : StandsAlone sub n sites old (lane ∷ others)) (makes : MakesIfAnswered sub old begun lane at parent site values (Ok handle)) (is : future ≡ record { inner = inner; span = handle }) where
+  module _ {old begun : WorldValue S} {lane : Lane} {others : List Lane} {at site : ℕ} {parent : Parent} {values : ValueSet} {handle : Handle} {inner : T} {future : Instrumented T} (ready : StandsAlone sub n sites old (lane ∷ others)) (makes : MakesIfGateAdmits sub old begun lane at parent site values (Ok handle)) (is : future ≡ record { inner = inner; span = handle }) where
     pub with_instrumented : {m : ℕ} → n + 1 ≤ m → StandsWith sub m sites begun (lane ∷ others) future.span
     with_instrumented within = record { ready = ready_made ready makes within; held = subst (IsHeld sub 0 begun) (sym (one_span is)) (held_made ready makes) }
 

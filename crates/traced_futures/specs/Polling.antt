@@ -10,7 +10,7 @@ use Rattle.span_handles.specs.Handles.{Handle}
 pub use Rattle.span_futures.specs.declared.instrument.Instrumented.{Instrumented}
 pub use Rattle.span_futures.specs.declared.plain.Plain.{Plain}
 use Rattle.span_futures.specs.Lent.{HasAll, AreAllAttached}
-use Rattle.span_futures.specs.Polls.{PollResult, CannotEnter, PollsInside}
+use Rattle.span_futures.specs.Polls.{PollResult, FailsToEnter, PollsInside}
 use Rattle.traced.specs.Standing.{StandsReady, IsHeld}
 use Rattle.traced.specs.AsBefore.{IsAsBefore}
 use Rattle.traced.specs.Between.{MakesAndCloses}
@@ -30,7 +30,7 @@ ChangesNothing future old before at result next new later = (new ≡ old) × (la
 -- such a future was polled inside its span, or that couldn't be entered and the future wasn't polled
 abbrev pub PollsPlain : {T S A : Type 0} → Ghosts S → Instrumented T → WorldValue S → Lane → ℕ → PollResult A → Instrumented T → WorldValue S → Lane → Type 0
 PollsPlain sub future old before at result next new later =
-    CannotEnter sub.same_but_room sub.activates future old before result next new later
+    FailsToEnter sub.same_but_room sub.activates future old before result next new later
     ⊎ PollsInside sub.does sub.activates ChangesNothing future old before at result next new later
 
 -- whether a poll came to a value

@@ -2,7 +2,7 @@
 ghost use Rattle.std.specs.Prelude.{◌≡◌, [], Ok, true, false};
 ghost use Rattle.otel_base.specs.Ids.{is_valid};
 ghost use Rattle.otel_state.specs.declared.op.Op.TheVariants as ops;
-ghost use Rattle.otel_layer.specs.Asking.{AppliesOn, AsksDone, AsksParent, link_of};
+ghost use Rattle.otel_layer.specs.Asking.{AppliesOn, AsksDone, AsksParent, link_op};
 ghost use Rattle.traced.specs.Standing.{CanAsk};
 ghost use Rattle.traced.specs.Staying.{IsUnchanged};
 
@@ -40,7 +40,7 @@ pub fn add_link<S: OtelSubscriber>(
 ) -> Result<(), Memory>
     requires { CanAsk world.old span.now }
     ensures valid { is_valid cx ≡ true
-        → AsksDone S.touches world.old world.new at (link_of cx []) span.now.held result }
+        → AsksDone S.touches world.old world.new at (link_op cx []) span.now.held result }
     ensures invalid { is_valid cx ≡ false → (result ≡ Ok tt) × (world.new ≡ world.old) }
     ensures stays { IsUnchanged S.Subscriber world.old world.new }
 {

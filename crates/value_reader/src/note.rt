@@ -27,7 +27,7 @@ impl<T: Drop> Model for ValueNote<T> {
 
     ghost Value = { WriterValue T };
 
-    ghost view = { λ n. record { table = (arc_value n.origin.value.home.value.board).shared.table_id; values = n.origin.value.first.value ∷ n.reader.place.me.0.client.seen } };
+    ghost view = { λ n. record { table = (arc_value n.origin.value.factory.value.board).shared.table_id; values = n.origin.value.first.value ∷ n.reader.place.me.0.client.seen } };
 
     ghost invariant = { λ n. IsLast n.origin.value.first.value n.reader.place.me.0.client (arc_value n.last) };
 }
@@ -40,7 +40,7 @@ impl<T: Drop> ValueNote<T> {
         last: Arc<Numbered<T>, Global>,
     ) -> ValueNote<T>
         requires { IsLast origin.now.first.value (view reader.place) (arc_value last) }
-        ensures table { result.table ≡ (arc_value origin.now.home.value.board).shared.table_id }
+        ensures table { result.table ≡ (arc_value origin.now.factory.value.board).shared.table_id }
         ensures values { result.values ≡ origin.now.first.value ∷ (view reader.place).seen }
     {
         ValueNote {

@@ -17,7 +17,7 @@ use std::sync::atomic::Ordering;
 /// Where readers, their writer and its notes come from: whose they are, and the value that was first in place.
 #[derive(Drop)]
 pub struct Origin<T: Drop> {
-    pub home: Snapshot<OrderedFactory<T>>,
+    pub factory: Snapshot<OrderedFactory<T>>,
     pub first: Snapshot<T>,
 }
 
@@ -46,7 +46,7 @@ impl<T: Drop> Model for ValueReader<T> {
 
     ghost Value = { ReaderValue T };
 
-    ghost view = { λ r. record { table = (arc_value r.origin.value.home.value.board).shared.table_id; values = r.origin.value.first.value ∷ seen_by (option_map (λ s. s.place.me.0.client) r.reader); number = (arc_value r.last).number } };
+    ghost view = { λ r. record { table = (arc_value r.origin.value.factory.value.board).shared.table_id; values = r.origin.value.first.value ∷ seen_by (option_map (λ s. s.place.me.0.client) r.reader); number = (arc_value r.last).number } };
 
     ghost invariant = { λ r. slice_get (r.origin.value.first.value ∷ seen_by (option_map (λ s. s.place.me.0.client) r.reader)) (arc_value r.last).number ≡ Some (arc_value r.last).value };
 }
@@ -58,9 +58,9 @@ impl<T: Drop> ValueReader<T> {
         origin: &Origin<T>,
         first: Arc<Numbered<T>, Global>,
     ) -> ValueReader<T>
-        requires home { (arc_value factory.now.board).shared.table_id ≡ (arc_value origin.now.home.value.board).shared.table_id }
+        requires factory { (arc_value factory.now.board).shared.table_id ≡ (arc_value origin.now.factory.value.board).shared.table_id }
         requires first { IsFirst origin.now.first.value (arc_value first) }
-        ensures { IsNewReader (arc_value origin.now.home.value.board).shared.table_id origin.now.first.value result }
+        ensures { IsNewReader (arc_value origin.now.factory.value.board).shared.table_id origin.now.first.value result }
     {
         ValueReader {
             origin: Snapshot::of(origin),

@@ -1,5 +1,5 @@
 //! Workers at once: a turnstile holds the first call of one until the other's was answered.
-use crate::scripts::{calls_of, run};
+use crate::scripts::{call_count, run};
 use std::alloc::{AllocError, Global};
 use std::sync::atomic::{AtomicU64, Ordering};
 use std::test::{Fail, *};
@@ -8,7 +8,7 @@ use trace_stream::status::Status;
 use turnstile::{OpenTurnstile, Turnstile};
 
 // How often worker 0 looks at most whether worker 1's call was answered.
-const LIMIT: u64 = 10_000_000;
+const MAX_LOOKS: u64 = 10_000_000;
 
 // Holds the first call of worker 0 until that of worker 1 was answered.
 #[derive(Drop)]
@@ -20,7 +20,7 @@ struct Hold {
 
 impl Hold {
     fn await_answer(&self) {
-        for _ in 0..LIMIT {
+        for _ in 0..MAX_LOOKS {
             if self.answered.load(Ordering::SeqCst) == 1 {
                 return;
             }
@@ -61,13 +61,15 @@ fn two_workers_at_once(rt: HostRuntime) -> Result<(), Fail> {
     assert!(rt; ended.len() == 1);
     for one in ended.as_slice() {
         let history = one.history.as_slice();
-        assert!(rt; history.len() == 7 && calls_of(history, 1) == 1 && calls_of(history, 2) == 1);
+        assert!(rt;
+            history.len() == 7 && call_count(history, 1) == 1 && call_count(history, 2) == 1
+        );
     }
     Ok(())
 }
 
 // Lines of so many spans, and of workers that enter and exit them in turn, so many times.
-fn many(alloc: Global, spans: u64, workers: u64, rounds: u64) -> Result<String, AllocError> {
+fn many_lines(alloc: Global, spans: u64, workers: u64, rounds: u64) -> Result<String, AllocError> {
     let mut text = String::new(alloc);
     for _ in 0..spans {
         text.push_str("{\"at\":0,\"shared\":0}\n")?;
@@ -100,7 +102,7 @@ fn push_calls(alloc: Global, text: &mut String, spans: u64, rounds: u64) -> Resu
 // Each worker makes 1,001 calls. A span's history has the making and the end of each handle beside them.
 #[test]
 fn eight_workers_on_64_spans(rt: HostRuntime) -> Result<(), Fail> {
-    let lines = many(rt.alloc(), 64, 8, 500)?;
+    let lines = many_lines(rt.alloc(), 64, 8, 500)?;
     let (status, ended) = run(&rt, rt.alloc(), lines.as_str(), &OpenTurnstile)?;
     assert!(rt; status == Status::Ok && ended.len() == 64);
     let mut entries = 0usize;

@@ -57,7 +57,7 @@ pub fn answers(gate: &mut SharedGate, question: &Question, yes: bool, reload: u6
 }
 
 // Has a gate learn what its writer tells, and says whether that is of the text of this number.
-pub fn learns(writer: &mut GateWriter, gate: &mut SharedGate, reload: u64) -> bool
+pub fn learn_and_check(writer: &mut GateWriter, gate: &mut SharedGate, reload: u64) -> bool
     requires { gate.old.table ≡ writer.old.table }
     ensures same { writer.new ≡ writer.old }
     ensures table { gate.new.table ≡ gate.old.table }

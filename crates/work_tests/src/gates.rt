@@ -1,7 +1,7 @@
 //! Workers ask their gates, once for each event.
 ghost use Rattle.std.specs.Prelude.{◌≡◌, All, IfOk, length, vec_len};
 
-use crate::scripts::{calls_of, script};
+use crate::scripts::{call_count, script};
 use event_gate::{Admission, EventGate, Levels, TextFilter};
 use otel_base::memory::Memory;
 use otel_base::text::Text;
@@ -47,7 +47,7 @@ impl EventGate for CountingGate {
 }
 
 // So many counts.
-fn counts_of(alloc: Global, count: usize) -> Result<Vec<Arc<AtomicU64, Global>>, Memory>
+fn zero_counts(alloc: Global, count: usize) -> Result<Vec<Arc<AtomicU64, Global>>, Memory>
     ensures { IfOk result (λ counts. vec_len counts ≡ count) }
 {
     let mut counts = Vec::with_capacity(alloc, count)?;
@@ -98,7 +98,7 @@ pub fn run<R: Threads + Wait + Sync, T: Turnstile + Sync>(
     turns: &T,
 ) -> Result<GateRun, Memory> {
     let script = script(alloc, lines)?.ok_or(Memory)?;
-    let counts = counts_of(alloc, script.workers.as_slice().len())?;
+    let counts = zero_counts(alloc, script.workers.as_slice().len())?;
     let gates = gates_of(alloc, &script.filter, counts.as_slice())?;
     let ended = run_gated(rt, alloc, script, gates, turns)?;
     Ok(GateRun { ended, counts })
@@ -114,7 +114,7 @@ fn workers_ask_gates(rt: HostRuntime) -> Result<(), Fail> {
     assert!(rt; ran.ended.len() == 1);
     for one in ran.ended.as_slice() {
         let history = one.history.as_slice();
-        assert!(rt; calls_of(history, 1) == 2 && calls_of(history, 2) == 1);
+        assert!(rt; call_count(history, 1) == 2 && call_count(history, 2) == 1);
     }
     Ok(())
 }

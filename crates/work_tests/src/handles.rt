@@ -40,7 +40,7 @@ fn copies_number<R: Wait>(rt: &R, handle: &Handle<NumberLayer>, number: u64) -> 
 }
 
 // Whether one handle of a lock sees what the other puts in place and what that changes, and copies it then.
-fn is_exchanged<R: Wait>(
+fn exchange_and_check<R: Wait>(
     rt: &R,
     handle: &Handle<NumberLayer>,
     other: &Handle<NumberLayer>,
@@ -57,6 +57,6 @@ fn is_exchanged<R: Wait>(
 fn handle_reload(rt: HostRuntime) -> Result<(), Fail> {
     let handle = Handle::new(rt.alloc(), Layer::new(NumberLayer { number: 1 }))?;
     let other = handle.clone()?;
-    assert!(rt; is_exchanged(&rt, &handle, &other));
+    assert!(rt; exchange_and_check(&rt, &handle, &other));
     Ok(())
 }

@@ -3,7 +3,7 @@ ghost use Rattle.std.specs.Prelude.{◌≡◌, ◌<◌, ◌≤◌, All, option_t
 ghost use Rattle.std.specs.Thread.{IsSync};
 ghost use Rattle.shared_gate.specs.declared.writer.TheConstants.{MAX_GATES};
 
-use crate::gate_questions::{Question, answers, learns, make_question};
+use crate::gate_questions::{Question, answers, learn_and_check, make_question};
 use shared_gate::{GateNote, GateWriter, SharedGate};
 use std::alloc::Global;
 use std::sync::Wait;
@@ -81,7 +81,7 @@ fn ends_by_last(writer: &mut GateWriter, gate: &mut SharedGate, question: &Quest
     ensures { writer.new ≡ writer.old }
 {
     let last = END - 1;
-    learns(writer, gate, last) & answers(gate, question, is_through(last), last)
+    learn_and_check(writer, gate, last) & answers(gate, question, is_through(last), last)
 }
 
 // Asks each gate in a thread of its own, while texts are put in force for the next one and for all.
@@ -114,7 +114,7 @@ fn ask_all<R: Threads + Wait + Sync>(
 }
 
 // One writer and so many gates.
-fn are_asked<R: Threads + Wait + Sync>(
+fn ask_gates<R: Threads + Wait + Sync>(
     rt: &R,
     alloc: Global,
     readers: u64,
@@ -138,6 +138,6 @@ fn are_asked<R: Threads + Wait + Sync>(
 #[test]
 fn eight_gates_are_asked(rt: HostRuntime) -> Result<(), Fail> {
     let question = make_question(rt.alloc(), END)?;
-    assert!(rt; are_asked(&rt, rt.alloc(), 8, &question));
+    assert!(rt; ask_gates(&rt, rt.alloc(), 8, &question));
     Ok(())
 }

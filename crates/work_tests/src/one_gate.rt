@@ -1,7 +1,7 @@
 //! A gate and its writer in one thread.
 ghost use Rattle.std.specs.Prelude.{◌≡◌};
 
-use crate::gate_questions::{Question, answers, learns, make_question};
+use crate::gate_questions::{Question, answers, learn_and_check, make_question};
 use event_gate::GateError;
 use shared_gate::{GateWriter, SharedGate};
 use std::alloc::Global;
@@ -28,7 +28,7 @@ fn answers_by_its_texts<R: Wait>(
     is_right &= writer.reload(rt, "off,,a=b=c") == Err(GateError::Directive { piece: 3 });
     is_right &= answers(&mut gate, question, true, 1);
     is_right &= writer.reload(rt, "off") == Ok(2);
-    is_right &= learns(&mut writer, &mut gate, 2);
+    is_right &= learn_and_check(&mut writer, &mut gate, 2);
     is_right &= answers(&mut gate, question, false, 2);
     question.levels.reload = 2;
     is_right &= answers(&mut gate, question, true, 2);
@@ -37,7 +37,7 @@ fn answers_by_its_texts<R: Wait>(
 }
 
 // Asks one of two gates.
-fn first_answers<R: Wait>(rt: &R, alloc: Global, question: &mut Question) -> bool {
+fn one_gate_answers<R: Wait>(rt: &R, alloc: Global, question: &mut Question) -> bool {
     let Ok((writer, mut gates)) = SharedGate::make(alloc, "off", 2) else {
         return false;
     };
@@ -53,6 +53,6 @@ fn first_answers<R: Wait>(rt: &R, alloc: Global, question: &mut Question) -> boo
 #[test]
 fn gate_writer_reload(rt: HostRuntime) -> Result<(), Fail> {
     let mut question = make_question(rt.alloc(), 2)?;
-    assert!(rt; first_answers(&rt, rt.alloc(), &mut question));
+    assert!(rt; one_gate_answers(&rt, rt.alloc(), &mut question));
     Ok(())
 }

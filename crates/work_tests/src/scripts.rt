@@ -48,7 +48,7 @@ pub fn run<R: Threads + Wait + Sync, T: Turnstile + Sync>(
 }
 
 /// How many calls of a handle a history has.
-pub fn calls_of(history: &[Entry], caller: u64) -> u64 {
+pub fn call_count(history: &[Entry], caller: u64) -> u64 {
     let mut count = 0u64;
     for entry in history {
         if entry.caller == caller && is_call(entry) {

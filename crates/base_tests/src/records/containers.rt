@@ -10,14 +10,14 @@ use std::test::Fail;
 use trace_base::dispatcher::TryInitError;
 
 // Whether a text is given back as a string, and a copy of it is the same.
-fn is_kept(alloc: Global, made: &str) -> Result<bool, Memory> {
+fn text_is_given_back(alloc: Global, made: &str) -> Result<bool, Memory> {
     let kept = text(alloc, made)?;
     let same = kept.clone()? == kept;
     Ok(kept.into_string(alloc)?.as_str() == made && same)
 }
 
 // Whether a fixed word is given back as a string.
-fn is_fixed(alloc: Global) -> Result<bool, Memory> {
+fn word_is_given_back(alloc: Global) -> Result<bool, Memory> {
     let fixed = Text::from_word(Word::Level);
     Ok(fixed.into_string(alloc)?.as_str() == "level")
 }
@@ -25,9 +25,9 @@ fn is_fixed(alloc: Global) -> Result<bool, Memory> {
 #[test]
 fn gives_texts_back(rt: HostRuntime) {
     for made in ["", "span", "sixteen bytes ..", "seventeen bytes .."] {
-        assert_eq!(rt; is_kept(rt.alloc(), made), Ok(true));
+        assert_eq!(rt; text_is_given_back(rt.alloc(), made), Ok(true));
     }
-    assert_eq!(rt; is_fixed(rt.alloc()), Ok(true));
+    assert_eq!(rt; word_is_given_back(rt.alloc()), Ok(true));
 }
 
 // Whether a text is before a fixed word, and whether it is behind it.

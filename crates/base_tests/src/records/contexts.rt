@@ -7,14 +7,14 @@ use otel_base::stack::ContextStack;
 use std::test::Fail;
 
 /// A context with a span of these ids.
-pub fn under(trace: u128, span: u64) -> Context {
+pub fn context_with(trace: u128, span: u64) -> Context {
     let span = Some(SpanContext { trace, span });
     Context { span }
 }
 
 // A context with a span of the same number as its trace.
 fn context_of(span: u64) -> Context {
-    under(span as u128, span)
+    context_with(span as u128, span)
 }
 
 #[test]

@@ -1,7 +1,7 @@
 //! Recorders give ids by number and records in order, and a tracer that keeps nothing gives the parent's ids.
 ghost use Rattle.std.specs.Prelude.{◌≡◌, OnOk};
 
-use crate::records::contexts::under;
+use crate::records::contexts::context_with;
 use otel_base::context::{Context, SpanContext};
 use otel_base::list::Items;
 use otel_base::memory::Memory;
@@ -21,11 +21,11 @@ fn ids(trace: u128, span: u64) -> SpanContext {
 fn gives_ids_by_number(rt: HostRuntime) {
     let mut recorder = Recorder::new(rt.alloc());
     let told = [
-        recorder.start(&under(0, 0)),
-        recorder.start(&under(9, 7)),
-        recorder.start(&under(9, 0)),
-        recorder.start(&under(0, 7)),
-        recorder.start(&under(u128::MAX, u64::MAX)),
+        recorder.start(&context_with(0, 0)),
+        recorder.start(&context_with(9, 7)),
+        recorder.start(&context_with(9, 0)),
+        recorder.start(&context_with(0, 7)),
+        recorder.start(&context_with(u128::MAX, u64::MAX)),
     ];
     let wanted = [
         ids(1, 1),
@@ -73,7 +73,7 @@ fn take_start(recorder: &mut Recorder) -> Option<u64>
 }
 
 // What is taken before two records, then one of these, and after another one the rest.
-fn all_taken(alloc: Global, recorder: &mut Recorder) -> Result<[Option<u64>; 5], Memory> {
+fn starts_taken(alloc: Global, recorder: &mut Recorder) -> Result<[Option<u64>; 5], Memory> {
     let none = take_start(recorder);
     finish_both(alloc, recorder)?;
     recorder.reserve()?;
@@ -91,7 +91,7 @@ fn all_taken(alloc: Global, recorder: &mut Recorder) -> Result<[Option<u64>; 5],
 #[test]
 fn gives_the_oldest_first(rt: HostRuntime) {
     let mut recorder = Recorder::new(rt.alloc());
-    let told = all_taken(rt.alloc(), &mut recorder);
+    let told = starts_taken(rt.alloc(), &mut recorder);
     assert_eq!(rt; told, Ok([None, Some(5), Some(3), Some(8), None]));
     assert_eq!(rt; recorder.spans_started(), 0);
 }
@@ -99,8 +99,14 @@ fn gives_the_oldest_first(rt: HostRuntime) {
 #[test]
 fn keeps_nothing(rt: HostRuntime) {
     let mut tracer = NoopTracer::new();
-    let before = [tracer.start(&Context::empty()), tracer.start(&under(9, 7))];
+    let before = [
+        tracer.start(&Context::empty()),
+        tracer.start(&context_with(9, 7)),
+    ];
     assert_eq!(rt; finish_both(rt.alloc(), &mut tracer), Ok(()));
-    let after = [tracer.start(&Context::empty()), tracer.start(&under(9, 7))];
+    let after = [
+        tracer.start(&Context::empty()),
+        tracer.start(&context_with(9, 7)),
+    ];
     assert!(rt; before == [ids(0, 0), ids(9, 7)] && after == before);
 }

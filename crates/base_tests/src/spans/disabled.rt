@@ -35,7 +35,7 @@ fn makes_none(
 }
 
 // Whether the current span is a handle that is none there, also in place of a disabled one.
-fn currents(world: &mut World<Registry>, lane: &Lane, site: SiteId) -> bool
+fn current_is_none(world: &mut World<Registry>, lane: &Lane, site: SiteId) -> bool
     requires default { lane.now.default ≡ None }
     requires global { world.old.global ≡ None }
 {
@@ -45,7 +45,7 @@ fn currents(world: &mut World<Registry>, lane: &Lane, site: SiteId) -> bool
 }
 
 // Whether a child of a handle that is none is one.
-fn child(
+fn child_is_none(
     world: &mut World<Registry>,
     lane: &Lane,
     site: SiteId,
@@ -155,7 +155,7 @@ fn entry_answers(
 }
 
 // All that is asked of them, in a world without subscribers.
-fn all(alloc: Global, world: &mut World<Registry>, lane: &Lane, site: SiteId) -> [bool; 5]
+fn call_answers(alloc: Global, world: &mut World<Registry>, lane: &Lane, site: SiteId) -> [bool; 5]
     requires default { lane.now.default ≡ None }
     requires global { world.old.global ≡ None }
     requires site { site < length world.old.sites }
@@ -165,13 +165,13 @@ fn all(alloc: Global, world: &mut World<Registry>, lane: &Lane, site: SiteId) ->
     };
     let told = handle_answers(world, site) == [true; 9];
     let made = makes_none(world, lane, site, &values) == Ok(true);
-    let child = child(world, lane, site, &values) == Ok(true);
-    let currents = currents(world, lane, site);
+    let child = child_is_none(world, lane, site, &values) == Ok(true);
+    let currents = current_is_none(world, lane, site);
     [told, made, child, currents, closes_nothing(world, &values)]
 }
 
 // The same, and their entries.
-fn all_answers(
+fn call_and_entry_answers(
     alloc: Global,
     world: &mut World<Registry>,
 ) -> Result<([bool; 5], Result<[u64; 4], EnterError>), Memory>
@@ -179,14 +179,14 @@ fn all_answers(
 {
     let site = world.add_site(bare(alloc))?;
     let mut lane = lane(alloc);
-    let told = all(alloc, world, &lane, site);
+    let told = call_answers(alloc, world, &lane, site);
     Ok((told, entry_answers(world, &mut lane, site)))
 }
 
 #[test]
 fn calls_nothing_on_disabled_handles(rt: HostRuntime) {
     let mut world = World::new(rt.alloc());
-    let told = all_answers(rt.alloc(), &mut world);
+    let told = call_and_entry_answers(rt.alloc(), &mut world);
     world.discard();
     assert_eq!(rt; told, Ok(([true; 5], Ok([1, 7, 1, 1]))));
 }

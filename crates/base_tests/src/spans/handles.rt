@@ -4,7 +4,7 @@ ghost use Rattle.std.specs.Prelude.{◌≡◌, ◌<◌, length, [], IfOk, OnOk, 
 ghost use Rattle.trace_base.specs.declared.span.Parent.TheVariants as parent;
 ghost use Rattle.span_registry.specs.Registering.{no_spans};
 ghost use Rattle.span_handles.specs.Handles.{handle_of};
-ghost use Rattle.base_tests.specs.Single.{IsFirst, IsSingle, BecomesSpans, MayMakeSpan, spans_with_new, spans_of};
+ghost use Rattle.base_tests.specs.Single.{HasFirstSpan, IsSingle, ChangesSpansTo, MayMakeSpan, spans_with_new, spans_of};
 
 use crate::worlds::callsites::callsite;
 use crate::worlds::lanes::lane;
@@ -23,14 +23,14 @@ use trace_base::world::World;
 
 // What spans are made of.
 #[derive(Drop)]
-struct Making {
+struct SpanSource {
     site: SiteId,
     values: ValueSet,
     registry: Dispatch,
 }
 
 // A registry as the world's global subscriber, and a callsite with a field.
-fn prepare(alloc: Global, world: &mut World<Registry>) -> Result<Making, Memory>
+fn prepare(alloc: Global, world: &mut World<Registry>) -> Result<SpanSource, Memory>
     requires { world.old ≡ record { sites = []; subscribers = []; cached = []; global = None } }
     ensures made { IfOk result (λ making. (making.site ≡ 0) × (making.registry ≡ 0)) }
     ensures sites { OnOk result (length world.new.sites ≡ 1) }
@@ -43,7 +43,7 @@ fn prepare(alloc: Global, world: &mut World<Registry>) -> Result<Making, Memory>
             if try_init(world, registry).is_err() {
                 return Err(Memory);
             }
-            Ok(Making {
+            Ok(SpanSource {
                 site,
                 values: ValueSet {
                     pairs: Items::new(alloc),
@@ -66,13 +66,13 @@ fn number(id: Option<Id>) -> u64 {
 }
 
 // What a handle tells of itself, and that its records are taken.
-fn record_answers(
+fn first_handle_answers(
     world: &mut World<Registry>,
     lane: &Lane,
-    making: &Making,
+    making: &SpanSource,
     first: &Span,
 ) -> Result<[bool; 9], Memory>
-    requires { IsFirst world.old lane.now making.now.site making.now.registry first.now }
+    requires { HasFirstSpan world.old lane.now making.now.site making.now.registry first.now }
 {
     let field = Field {
         site: making.site,
@@ -98,23 +98,27 @@ fn record_answers(
 }
 
 // A root.
-fn root(world: &mut World<Registry>, lane: &Lane, making: &Making) -> Result<Span, Memory>
+fn root(world: &mut World<Registry>, lane: &Lane, making: &SpanSource) -> Result<Span, Memory>
     requires single { IsSingle world.old }
     requires site { making.now.site < length world.old.sites }
     requires may { MayMakeSpan world.old lane.now parent.Root }
     ensures made { OnOk result
-        (BecomesSpans world.old world.new (spans_with_new world.old lane.now.id parent.Root making.now.site)) }
+        (ChangesSpansTo world.old world.new (spans_with_new world.old lane.now.id parent.Root making.now.site)) }
     ensures is { IfOk result (λ span. span ≡ handle_of 0 (length (spans_of world.old).made) making.now.site) }
 {
     Span::new_root(world, lane, 0, making.site, &making.values)
 }
 
 // A first span, a root.
-fn first(alloc: Global, world: &mut World<Registry>, lane: &Lane) -> Result<(Making, Span), Memory>
+fn first(
+    alloc: Global,
+    world: &mut World<Registry>,
+    lane: &Lane,
+) -> Result<(SpanSource, Span), Memory>
     requires world { world.old ≡ record { sites = []; subscribers = []; cached = []; global = None } }
     requires lane { lane.now.id ≡ 1 }
     requires no_default { lane.now.default ≡ None }
-    ensures { IfOk result (λ it. IsFirst world.new lane.now it.0.site it.0.registry it.1) }
+    ensures { IfOk result (λ it. HasFirstSpan world.new lane.now it.0.site it.0.registry it.1) }
 {
     let making = prepare(alloc, world)?;
     let span = root(world, lane, &making)?;
@@ -127,7 +131,7 @@ fn first_span_answers(alloc: Global) -> Result<Result<[bool; 9], Memory>, Memory
     let lane = lane(alloc);
     let told = match first(alloc, &mut world, &lane) {
         Ok((making, first)) => {
-            let told = record_answers(&mut world, &lane, &making, &first);
+            let told = first_handle_answers(&mut world, &lane, &making, &first);
             first.discard();
             Ok(told)
         }

@@ -4,7 +4,7 @@ ghost use Rattle.trace_base.specs.Calls.{with_span_entry};
 ghost use Rattle.trace_base.specs.Conditions.{HasFewHolds, IsLive};
 ghost use Rattle.span_registry.specs.Registering.{no_spans};
 
-use crate::spans::registries::{Making, bare_making};
+use crate::spans::registries::{NewSpanArguments, bare_arguments};
 use crate::worlds::asked::{Notes, NotingLayer};
 use otel_base::memory::Memory;
 use span_registry::layer::registry;
@@ -47,7 +47,7 @@ fn enter(
 // What each call notes, and whether the last one closed the span.
 fn call_notes(
     stack: &mut Layered<NotingLayer, Layered<NotingLayer, Registry>>,
-    making: &mut Making,
+    making: &mut NewSpanArguments,
     log: &Cell<u64>,
 ) -> Result<[u64; 10], Memory>
     requires { stack.old.inner.inner.spans ≡ no_spans }
@@ -114,11 +114,14 @@ fn layer(number: u64, log: Rc<Cell<u64>>) -> NotingLayer {
         interest: Interest::Always,
         enables: true,
         hint: None,
-        notes: Some(Notes { layer: number, log }),
+        notes: Some(Notes {
+            layer_number: number,
+            log,
+        }),
     }
 }
 
-fn all_noted(alloc: Global, making: &mut Making) -> Result<[u64; 10], Memory> {
+fn two_layer_notes(alloc: Global, making: &mut NewSpanArguments) -> Result<[u64; 10], Memory> {
     let log = Rc::new(alloc, Cell::new(0u64))?;
     let inner = layer(1, log.clone()?);
     let outer = layer(2, log.clone()?);
@@ -130,7 +133,7 @@ fn all_noted(alloc: Global, making: &mut Making) -> Result<[u64; 10], Memory> {
 
 // The same by a callsite of a world.
 fn notes_by_site(alloc: Global, sites: &mut World<Registry>) -> Result<[u64; 10], Memory> {
-    all_noted(alloc, &mut bare_making(alloc, sites)?)
+    two_layer_notes(alloc, &mut bare_arguments(alloc, sites)?)
 }
 
 // A layer takes its memory before what it lies over does, and its hook comes after.

@@ -2,7 +2,7 @@
 ghost use Rattle.std.specs.Prelude.{◌≡◌, ◌∷◌, [], length, IfOk, OnOk, Some, None};
 ghost use Rattle.trace_base.specs.Spans.{entries_on, parent_on};
 ghost use Rattle.trace_base.specs.Calls.{with_new_span, with_span_entry};
-ghost use Rattle.trace_base.specs.Conditions.{AreFew, HasFewHolds, HasFewHoldsAbove, IsLive, IsLiveParent};
+ghost use Rattle.trace_base.specs.Conditions.{AreFew, HasFewHolds, ParentHasFewHolds, IsLive, IsLiveParent};
 ghost use Rattle.span_registry.specs.Registering.{no_spans};
 
 use crate::worlds::callsites::bare;
@@ -21,7 +21,7 @@ use trace_base::world::World;
 
 /// What a span is made of.
 #[derive(Drop)]
-pub struct Making {
+pub struct NewSpanArguments {
     /// The lane.
     pub lane: Lane,
     /// The callsite's number.
@@ -33,11 +33,14 @@ pub struct Making {
 }
 
 /// What a span without a name or values is made of.
-pub fn bare_making(alloc: Global, sites: &mut World<Registry>) -> Result<Making, Memory>
+pub fn bare_arguments(
+    alloc: Global,
+    sites: &mut World<Registry>,
+) -> Result<NewSpanArguments, Memory>
     ensures { IfOk result (λ making. making.lane.id ≡ 1) }
 {
     let site = sites.add_site(bare(alloc))?;
-    Ok(Making {
+    Ok(NewSpanArguments {
         lane: lane(alloc),
         site,
         callsite: bare(alloc),
@@ -48,10 +51,10 @@ pub fn bare_making(alloc: Global, sites: &mut World<Registry>) -> Result<Making,
 }
 
 // A span at a place on the lane.
-fn make(registry: &mut Registry, making: &Making, parent: Parent) -> Result<Id, Memory>
+fn make(registry: &mut Registry, making: &NewSpanArguments, parent: Parent) -> Result<Id, Memory>
     requires live { IsLiveParent registry.old.spans.made parent }
     requires few { AreFew registry.old.spans }
-    requires few_holds { HasFewHoldsAbove registry.old.spans making.now.lane.id parent }
+    requires few_holds { ParentHasFewHolds registry.old.spans making.now.lane.id parent }
     ensures id { IfOk result (λ id. id ≡ length registry.old.spans.made) }
     ensures spans { OnOk result
         (registry.new.spans ≡ with_new_span registry.old.spans
@@ -70,7 +73,7 @@ fn make(registry: &mut Registry, making: &Making, parent: Parent) -> Result<Id, 
 }
 
 // Three spans, each under the one before.
-fn three(registry: &mut Registry, making: &Making) -> Result<[Id; 3], Memory>
+fn three(registry: &mut Registry, making: &NewSpanArguments) -> Result<[Id; 3], Memory>
     requires { registry.old ≡ record { spans = no_spans; slots = 0 } }
     ensures ids { IfOk result (λ ids. ids ≡ 0 ∷ 1 ∷ 2 ∷ []) }
     ensures spans { OnOk result
@@ -89,7 +92,7 @@ fn three(registry: &mut Registry, making: &Making) -> Result<[Id; 3], Memory>
 
 // The handles of three spans closed, those of the parents first, and a span made after that: the holds of the topmost
 // once its handle is closed, how many closed with the last handle, in which order, the new number and the slots.
-fn chain(registry: &mut Registry, making: &Making) -> Result<[u64; 6], Memory>
+fn chain_numbers(registry: &mut Registry, making: &NewSpanArguments) -> Result<[u64; 6], Memory>
     requires { registry.old ≡ record { spans = no_spans; slots = 0 } }
 {
     let ids = three(registry, making)?;
@@ -123,7 +126,7 @@ fn number(id: Option<Id>) -> u64 {
 }
 
 // Three roots made, two of them closed, and one made again: its number and the slots.
-fn after_reuse(registry: &mut Registry, making: &Making) -> Result<[u64; 2], Memory>
+fn after_reuse(registry: &mut Registry, making: &NewSpanArguments) -> Result<[u64; 2], Memory>
     requires { registry.old ≡ record { spans = no_spans; slots = 0 } }
 {
     let first = make(registry, making, Parent::Root)?;
@@ -137,7 +140,7 @@ fn after_reuse(registry: &mut Registry, making: &Making) -> Result<[u64; 2], Mem
 
 // A thousand spans, each made and closed: the slots.
 #[tactic(auto, using(span_registry::proofs::Sound::made_own, span_registry::proofs::Sound::made_count))]
-fn many(registry: &mut Registry, making: &Making) -> Result<u64, Memory>
+fn slots_after_thousand(registry: &mut Registry, making: &NewSpanArguments) -> Result<u64, Memory>
     requires { registry.old ≡ record { spans = no_spans; slots = 0 } }
 {
     for at in 0..1000u64 {
@@ -161,7 +164,7 @@ fn enter(registry: &mut Registry, id: Id, lane: &mut Lane) -> Result<(), Memory>
 }
 
 // The holds of a span that is entered twice, after one exit, and after both.
-fn entry_holds(registry: &mut Registry, making: &mut Making) -> Result<[u64; 3], Memory>
+fn entry_holds(registry: &mut Registry, making: &mut NewSpanArguments) -> Result<[u64; 3], Memory>
     requires initial { registry.old ≡ record { spans = no_spans; slots = 0 } }
     requires lane { making.old.lane.id ≡ 1 }
 {
@@ -176,38 +179,41 @@ fn entry_holds(registry: &mut Registry, making: &mut Making) -> Result<[u64; 3],
 }
 
 // What both come to, each in a registry of its own.
-fn all_holds(
+fn chain_and_entry_holds(
     alloc: Global,
     sites: &mut World<Registry>,
 ) -> Result<(Result<[u64; 6], Memory>, Result<[u64; 3], Memory>), Memory> {
-    let mut making = bare_making(alloc, sites)?;
-    let chained = chain(&mut Registry::new(alloc), &making);
+    let mut making = bare_arguments(alloc, sites)?;
+    let chained = chain_numbers(&mut Registry::new(alloc), &making);
     Ok((chained, entry_holds(&mut Registry::new(alloc), &mut making)))
 }
 
 #[test]
 fn holds_by_children_and_first_entries(rt: HostRuntime) {
     let mut sites = World::new(rt.alloc());
-    let told = all_holds(rt.alloc(), &mut sites);
+    let told = chain_and_entry_holds(rt.alloc(), &mut sites);
     sites.discard();
     let wanted = (Ok([1, 2, 1, 0, 0, 3]), Ok([2, 2, 1]));
     assert_eq!(rt; told, Ok(wanted));
 }
 
 // How slots are used again, among few spans and many.
-fn slots(
+fn slots_after_reuse(
     alloc: Global,
     sites: &mut World<Registry>,
 ) -> Result<(Result<[u64; 2], Memory>, Result<u64, Memory>), Memory> {
-    let making = bare_making(alloc, sites)?;
+    let making = bare_arguments(alloc, sites)?;
     let reused = after_reuse(&mut Registry::new(alloc), &making);
-    Ok((reused, many(&mut Registry::new(alloc), &making)))
+    Ok((
+        reused,
+        slots_after_thousand(&mut Registry::new(alloc), &making),
+    ))
 }
 
 #[test]
 fn uses_slots_again(rt: HostRuntime) {
     let mut sites = World::new(rt.alloc());
-    let told = slots(rt.alloc(), &mut sites);
+    let told = slots_after_reuse(rt.alloc(), &mut sites);
     sites.discard();
     assert_eq!(rt; told, Ok((Ok([4, 3]), Ok(1))));
 }

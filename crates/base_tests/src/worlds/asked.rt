@@ -21,7 +21,7 @@ use trace_base::subscriber::Interest;
 #[derive(Drop)]
 pub struct Notes {
     /// The layer's number.
-    pub layer: u64,
+    pub layer_number: u64,
     /// What was noted.
     pub log: Rc<Cell<u64>>,
 }
@@ -43,7 +43,7 @@ impl NotingLayer {
     fn note(&self, hook: u64) {
         if let Some(notes) = &self.notes {
             let log = notes.log.get().wrapping_mul(100);
-            let entry = notes.layer.wrapping_mul(10).wrapping_add(hook);
+            let entry = notes.layer_number.wrapping_mul(10).wrapping_add(hook);
             notes.log.set(log.wrapping_add(entry));
         }
     }
@@ -96,9 +96,9 @@ impl Layer for NotingLayer {
 
     ghost sees = { λ s hook t d. unseeing_sees hook };
 
-    ghost lanes = { λ s hook t d. unseeing_lanes hook d.1 };
+    ghost keeps_lanes = { λ s hook t d. unseeing_lanes hook d.1 };
 
-    ghost kept_by_entries = { λ s lane number none. refl };
+    ghost none_kept_without_entries = { λ s lane number none. refl };
 
     ghost passive = { λ s id at before later t d neither. ap (λ (l : Lane). l.contexts.live) d.1 };
 

@@ -1,6 +1,6 @@
 -- Heads and brackets that are read one cut after the other.
 use Rattle.std.proofs.Common.{◌≡◌, ℕ, Bool, true, List, [], ◌∷◌, ◌++◌, Some, Option, Result, Ok, Err, refl, sym, ap, ◌∙◌, arith, subst, codes, IfSome}
-use Rattle.env_directives.proofs.Common.{nat_tests, TRACE, pieces_at, is_among, lacks, HasNoPattern, begins, unless_empty, target_at, AnswersRead, read_fields, read_fielded, read_bracket, read_directive, LeadsToNoPattern, SpanLeadsToNoPattern, ParseError, Shape, Level, Field, Pattern, Equals, Fields, Memory, Directive}
+use Rattle.env_directives.proofs.Common.{nat_tests, TRACE, pieces_at, is_among, lacks, HasRefusedPattern, begins_as_directive, unless_empty, directive_of_target, AnswersRead, read_fields, read_fielded, read_bracket, read_directive, LeadsToRefusedPattern, SpanLeadsToRefusedPattern, ParseError, Shape, Level, Field, Pattern, Equals, Fields, Memory, Directive}
 use Rattle.env_directives.proofs.cuts.CutsLemmas.{cut_joined, cut_front, cut_stop, cut_off}
 
 -- what a cut gives: the text is joined of its pieces, and these are a front without stops and a stop
@@ -25,7 +25,7 @@ module _ (patterns : Bool) (d : Directive) (text front rest : List ℕ) (stop : 
   unfolding read_bracket
   span_cut = rw (← is_front, ← is_stop, ← is_rest, brace) refl
 
-  pub span_leads : LeadsToNoPattern rest → SpanLeadsToNoPattern text
+  pub span_leads : LeadsToRefusedPattern rest → SpanLeadsToRefusedPattern text
   span_leads leads = record {
     span = front;
     more = rest;
@@ -36,8 +36,8 @@ module _ (patterns : Bool) (d : Directive) (text front rest : List ℕ) (stop : 
 
   -- what is answered to fields
   pub span_answers : (r : Result Directive ParseError) →
-      AnswersRead (λ d. d) patterns (LeadsToNoPattern rest) r (read_fielded (record d { in_span = unless_empty front }) (read_fields patterns [] rest)) →
-      AnswersRead (λ d. d) patterns (SpanLeadsToNoPattern text) r (read_bracket patterns d text)
+      AnswersRead (λ d. d) patterns (LeadsToRefusedPattern rest) r (read_fielded (record d { in_span = unless_empty front }) (read_fields patterns [] rest)) →
+      AnswersRead (λ d. d) patterns (SpanLeadsToRefusedPattern text) r (read_bracket patterns d text)
   span_answers (Ok read) h = span_cut ∙ h
   span_answers (Err Memory) h = tt
   span_answers (Err Pattern) h = (h.0, span_leads h.1)
@@ -48,17 +48,17 @@ module _ (patterns : Bool) (d : Directive) (text front rest : List ℕ) (stop : 
   span_answers (Err (Fields many)) h = span_cut ∙ h
 
 -- behind a head stands an opening bracket
-module _ (patterns : Bool) (text front rest : List ℕ) (stop : ℕ) (start : begins text ≡ true) (is_front : front ≡ (pieces_at (codes "=[,") text).front)
+module _ (patterns : Bool) (text front rest : List ℕ) (stop : ℕ) (start : begins_as_directive text ≡ true) (is_front : front ≡ (pieces_at (codes "=[,") text).front)
     (is_stop : Some stop ≡ (pieces_at (codes "=[,") text).stop) (is_rest : rest ≡ (pieces_at (codes "=[,") text).rest)
     (no_comma : stop ≡ 44 → ⊥) (no_level : stop ≡ 61 → ⊥) where
   bracket : stop ≡ 91
   bracket = let among : is_among (codes "=[,") stop ≡ true = piece_among (codes "=[,") text front rest stop is_front is_stop is_rest in grind (arith, nat_tests)
 
-  head_cut : read_directive patterns text ≡ read_bracket patterns (target_at front TRACE) rest
+  head_cut : read_directive patterns text ≡ read_bracket patterns (directive_of_target front TRACE) rest
   unfolding read_directive
   head_cut = rw (start, ← is_front, ← is_stop, ← is_rest, bracket) refl
 
-  head_leads : SpanLeadsToNoPattern rest → HasNoPattern text
+  head_leads : SpanLeadsToRefusedPattern rest → HasRefusedPattern text
   head_leads inner = record {
     start = start;
     head = front;
@@ -76,8 +76,8 @@ module _ (patterns : Bool) (text front rest : List ℕ) (stop : ℕ) (start : be
     value = inner.leads.value;
   }
 
-  pub bracket_answers : (r : Result Directive ParseError) → AnswersRead (λ d. d) patterns (SpanLeadsToNoPattern rest) r (read_bracket patterns (target_at front TRACE) rest) →
-      AnswersRead (λ d. d) patterns (HasNoPattern text) r (read_directive patterns text)
+  pub bracket_answers : (r : Result Directive ParseError) → AnswersRead (λ d. d) patterns (SpanLeadsToRefusedPattern rest) r (read_bracket patterns (directive_of_target front TRACE) rest) →
+      AnswersRead (λ d. d) patterns (HasRefusedPattern text) r (read_directive patterns text)
   bracket_answers (Ok d) h = head_cut ∙ h
   bracket_answers (Err Memory) h = tt
   bracket_answers (Err Pattern) h = (h.0, head_leads h.1)

@@ -1,6 +1,6 @@
 -- Fields that are read one cut after the other.
 use Rattle.std.proofs.Common.{◌≡◌, ℕ, ◌<◌, Bool, true, false, true≢false, List, [], ◌∷◌, ◌++◌, length, Some, None, Option, Result, Ok, Err, refl, sym, ap, ◌∙◌, arith, subst, append-nil, append_assoc, codes, ◌==◌, IfSome}
-use Rattle.env_directives.proofs.Common.{AllByRecursion, nat_tests, flat_map-append, pieces_at, is_among, lacks, each_with_comma, unless_empty, IsFieldText, FieldsRead, field_ends, more_fields, read_fields, LeadsToNoPattern, AnswersRead, field_of, IsNoPatternField, MayFail, Match, Shape, Level, Field, Pattern, Equals, Fields, Memory, ParseError}
+use Rattle.env_directives.proofs.Common.{AllByRecursion, nat_tests, flat_map-append, pieces_at, is_among, lacks, fields_with_commas, unless_empty, IsFieldText, FieldsRead, field_ends, more_fields, read_fields, LeadsToRefusedPattern, AnswersRead, field_of, IsNoPatternField, MayFail, Match, Shape, Level, Field, Pattern, Equals, Fields, Memory, ParseError}
 use Rattle.std.proofs.lemmas.List.{length-append}
 use Rattle.env_directives.proofs.cuts.CutsLemmas.{cut_joined, cut_front, cut_stop, cut_off}
 
@@ -72,7 +72,7 @@ module _ (patterns : Bool) (whole text front rest : List ℕ) (fields : List Mat
     text_shorter = rw joined (simp (length-append) (omega arith))
 
     -- a value is no pattern
-    pub text_left : (done : List (List ℕ)) → AllByRecursion IsFieldText done → whole ≡ each_with_comma done ++ text → IsNoPatternField front → LeadsToNoPattern whole
+    pub text_left : (done : List (List ℕ)) → AllByRecursion IsFieldText done → whole ≡ fields_with_commas done ++ text → IsNoPatternField front → LeadsToRefusedPattern whole
     text_left done parts so value = record {
       earlier = done;
       field = front;
@@ -81,7 +81,7 @@ module _ (patterns : Bool) (whole text front rest : List ℕ) (fields : List Mat
       parts = parts;
       part = part;
       stops = stops;
-      whole = so ∙ ap (λ (t : List ℕ). each_with_comma done ++ t) joined;
+      whole = so ∙ ap (λ (t : List ℕ). fields_with_commas done ++ t) joined;
       value = value;
     }
 
@@ -99,15 +99,15 @@ module _ (patterns : Bool) (whole text front rest : List ℕ) (fields : List Mat
         let went_on : at_cut patterns front (Some stop) rest ≡ more_fields field (read_fields patterns [] rest) = at_some front some ∙ rw (comma, is_field) refl in
         same ∙ ap (after_fields fields) (now_cut (Some stop) is_stop ∙ went_on) ∙ after_more fields field (read_fields patterns [] rest)
 
-    pub earlier_more : (stop ≡ 125 → ⊥) → (done : List (List ℕ)) × AllByRecursion IsFieldText done × (whole ≡ each_with_comma done ++ text) →
-        (done : List (List ℕ)) × AllByRecursion IsFieldText done × (whole ≡ each_with_comma done ++ rest)
-    earlier_more other (done, parts, so) = (done ++ front ∷ [], all_more done parts, so ∙ ap (λ (t : List ℕ). each_with_comma done ++ t) joined ∙ with_comma stop stops other)
+    pub earlier_more : (stop ≡ 125 → ⊥) → (done : List (List ℕ)) × AllByRecursion IsFieldText done × (whole ≡ fields_with_commas done ++ text) →
+        (done : List (List ℕ)) × AllByRecursion IsFieldText done × (whole ≡ fields_with_commas done ++ rest)
+    earlier_more other (done, parts, so) = (done ++ front ∷ [], all_more done parts, so ∙ ap (λ (t : List ℕ). fields_with_commas done ++ t) joined ∙ with_comma stop stops other)
       where
         all_more : (fs : List (List ℕ)) → AllByRecursion IsFieldText fs → AllByRecursion IsFieldText (fs ++ front ∷ [])
         all_more [] all = (part, tt)
         all_more (f ∷ fs) all = (all.0, all_more fs all.1)
 
-        with_comma : (s : ℕ) → is_among (codes ",}") s ≡ true → (s ≡ 125 → ⊥) → each_with_comma done ++ (front ++ s ∷ rest) ≡ each_with_comma (done ++ front ∷ []) ++ rest
+        with_comma : (s : ℕ) → is_among (codes ",}") s ≡ true → (s ≡ 125 → ⊥) → fields_with_commas done ++ (front ++ s ∷ rest) ≡ fields_with_commas (done ++ front ∷ []) ++ rest
         with_comma s among other =
             let is_comma : s ≡ 44 = grind (arith, nat_tests) in
             rw (flat_map-append (λ field. field ++ codes ",") done (front ∷ []), is_comma) (simp (append_assoc, append-nil) refl)

@@ -1,6 +1,6 @@
 -- What is read has a form, and what is refused has the fault that is told.
 use Rattle.std.proofs.Common.{◌≡◌, ℕ, Bool, true, false, List, [], ◌∷◌, ◌++◌, Some, None, Option, Result, Ok, Err, refl, sym, ap, ◌∙◌, arith, subst, append_assoc, append-nil, codes, ◌⊎◌, inl, inr, not, ◌&&◌, if◌then◌else◌, ◌==◌, IfSome, map}
-use Rattle.env_directives.proofs.Common.{AllByRecursion, nat_tests, LevelFilter, pieces_at, is_among, lacks, IsEnd, unless_empty, IsFieldText, IsLevelText, each_with_comma, level_behind, FieldsRead, at_level, read_last, read_behind, read_leveled, read_level, read_end, read_close, more_fields, field_ends, read_fields, field_of, ParseError, Shape, Level, Field, Pattern, Equals, Fields, Memory, Directive, Match}
+use Rattle.env_directives.proofs.Common.{AllByRecursion, nat_tests, LevelFilter, pieces_at, is_among, lacks, IsEnd, unless_empty, IsFieldText, IsLevelText, fields_with_commas, level_behind, FieldsRead, at_level, read_nothing_more, read_behind, read_leveled, read_level, read_level_if_any, read_close, more_fields, field_ends, read_fields, field_of, ParseError, Shape, Level, Field, Pattern, Equals, Fields, Memory, Directive, Match}
 use Rattle.std.proofs.lemmas.Bool.{eqb-true}
 use Rattle.env_directives.proofs.cuts.CutsLemmas.{cut_joined, cut_front, cut_stop, cut_off}
 
@@ -47,7 +47,7 @@ comma_among : (s : ℕ) → is_among (codes ",") s ≡ true → s ≡ 44
 comma_among s among = grind (arith, nat_tests)
 
 pub level_explained : (d : Directive) (text : List ℕ) → Explained (LevelRead d text) (LevelUnread text) ⊥ (read_level d text)
-unfolding read_level read_last
+unfolding read_level read_nothing_more
 level_explained d text = by_pieces (pieces_at (codes ",") text).front (pieces_at (codes ",") text).stop (pieces_at (codes ",") text).rest (cut_front (codes ",") text) (cut_stop (codes ",") text) (cut_joined (codes ",") text)
   where
     by_stop : (level : List ℕ) (found : LevelFilter) (stop : Option ℕ) (rest : List ℕ) → IsLevelText level → IfSome stop (λ s. is_among (codes ",") s ≡ true) → text ≡ level ++ cut_off stop rest →
@@ -79,8 +79,8 @@ EndRead d rest result = ((rest ≡ []) × (result ≡ d)) ⊎ ((text : List ℕ)
 abbrev pub EndUnread : List ℕ → Type 0
 EndUnread rest = (text : List ℕ) × (rest ≡ 61 ∷ text) × LevelUnread text
 
-pub end_explained : (d : Directive) (rest : List ℕ) → Explained (EndRead d rest) (EndUnread rest) ⊥ (read_end d rest)
-unfolding read_end
+pub end_explained : (d : Directive) (rest : List ℕ) → Explained (EndRead d rest) (EndUnread rest) ⊥ (read_level_if_any d rest)
+unfolding read_level_if_any
 end_explained d [] = inl (refl, refl)
 end_explained d (b ∷ rest) = go (b == 61) refl (level_explained d rest)
   where
@@ -104,11 +104,11 @@ unfolding read_close
 close_explained d [] = tt
 close_explained d (b ∷ rest) = go (b == 93) refl (end_explained d rest)
   where
-    go : (c : Bool) → (b == 93) ≡ c → Explained (EndRead d rest) (EndUnread rest) ⊥ (read_end d rest) →
-        Explained (CloseRead d (b ∷ rest)) (CloseUnread (b ∷ rest)) ⊥ (if c then read_end d rest else Err Shape)
+    go : (c : Bool) → (b == 93) ≡ c → Explained (EndRead d rest) (EndUnread rest) ⊥ (read_level_if_any d rest) →
+        Explained (CloseRead d (b ∷ rest)) (CloseUnread (b ∷ rest)) ⊥ (if c then read_level_if_any d rest else Err Shape)
     go true e h =
         let same : b ∷ rest ≡ 93 ∷ rest = ap (λ (x : ℕ). x ∷ rest) (eqb-true b 93 e) in
-        explained_map (EndRead d rest) (CloseRead d (b ∷ rest)) (EndUnread rest) (CloseUnread (b ∷ rest)) ⊥ ⊥ (read_end d rest) h
+        explained_map (EndRead d rest) (CloseRead d (b ∷ rest)) (EndUnread rest) (CloseUnread (b ∷ rest)) ⊥ ⊥ (read_level_if_any d rest) h
         (λ y read. (rest, same, read)) (λ unread. (rest, same, unread)) (λ none. none)
     go false e h = tt
 
@@ -118,7 +118,7 @@ pub record FieldsMade (patterns : Bool) (text : List ℕ) (read : List Match × 
   pub last : List ℕ
   pub parts : AllByRecursion IsFieldText earlier
   pub part : IsFieldText last
-  pub whole : text ≡ each_with_comma earlier ++ (last ++ 125 ∷ read.1)
+  pub whole : text ≡ fields_with_commas earlier ++ (last ++ 125 ∷ read.1)
   pub made : read.0 ≡ map (field_of patterns) (earlier ++ last ∷ [])
 
 -- or one that is empty
@@ -128,7 +128,7 @@ pub record FieldsEmpty (text : List ℕ) : Type 0 where
   pub more : List ℕ
   pub parts : AllByRecursion IsFieldText earlier
   pub stops : is_among (codes ",}") stop ≡ true
-  pub whole : text ≡ each_with_comma earlier ++ stop ∷ more
+  pub whole : text ≡ fields_with_commas earlier ++ stop ∷ more
 
 -- a field more in front
 fields_with : (field text : List ℕ) → IsFieldText field → (patterns : Bool) (r : FieldsRead) → Explained (FieldsMade patterns text) ⊥ (FieldsEmpty text) r →

@@ -1,6 +1,6 @@
 -- What is read of a directive behind its fields leaves their patterns as they are.
 use Rattle.std.proofs.Common.{◌≡◌, ℕ, Bool, true, false, List, [], ◌∷◌, ◌++◌, Some, None, Option, Ok, Err, refl, sym, subst, if◌then◌else◌, codes, ◌==◌, IfOk, IfSome, ℤ}
-use Rattle.env_directives.proofs.Common.{option_or, LevelFilter, level_filter_of, pieces_at, head_alone, level_behind, level_or_target, IsDirective, HasForm, AnswersRead, DirectiveRead, at_level, read_last, read_leveled, read_level, read_end, read_close, HavePatterns, IsPatternIfAny, plain_value, truth_of, u64_of, i64_of, Shape, Directive, Match, ValueMatch, U64, I64}
+use Rattle.env_directives.proofs.Common.{option_or, LevelFilter, level_filter_of, pieces_at, head_alone, level_behind, level_or_target, IsDirective, HasForm, AnswersRead, DirectiveRead, at_level, read_nothing_more, read_leveled, read_level, read_level_if_any, read_close, HavePatterns, IsPatternIfAny, plain_value, truth_of, u64_of, i64_of, Shape, Directive, Match, ValueMatch, U64, I64}
 use Rattle.std.specs.Option.{option_map}
 use Rattle.env_directives.specs.declared.env.field.ValueMatch.TheVariants.{Bool as Truth}
 
@@ -8,8 +8,8 @@ use Rattle.env_directives.specs.declared.env.field.ValueMatch.TheVariants.{Bool 
 abbrev Keeps : Directive → DirectiveRead → Type 0
 Keeps d read = IfOk read (λ (x : Directive). x.fields ≡ d.fields)
 
-keeps_last : (d : Directive) (rest : List ℕ) → Keeps d (read_last d rest)
-unfolding read_last
+keeps_last : (d : Directive) (rest : List ℕ) → Keeps d (read_nothing_more d rest)
+unfolding read_nothing_more
 keeps_last d [] = refl
 keeps_last d (b ∷ bs) = tt
 
@@ -22,8 +22,8 @@ keeps_level d text = by_level (level_behind (pieces_at (codes ",") text).front) 
     by_level (Some level) None rest = refl
     by_level (Some level) (Some stop) rest = keeps_last (at_level d level) rest
 
-keeps_end : (d : Directive) (rest : List ℕ) → Keeps d (read_end d rest)
-unfolding read_end
+keeps_end : (d : Directive) (rest : List ℕ) → Keeps d (read_level_if_any d rest)
+unfolding read_level_if_any
 keeps_end d [] = refl
 keeps_end d (b ∷ rest) = by_byte (b == 61)
   where
@@ -36,7 +36,7 @@ unfolding read_close
 keeps_close d [] = tt
 keeps_close d (b ∷ rest) = by_byte (b == 93)
   where
-    by_byte : (c : Bool) → Keeps d (if c then read_end d rest else Err Shape)
+    by_byte : (c : Bool) → Keeps d (if c then read_level_if_any d rest else Err Shape)
     by_byte true = keeps_end d rest
     by_byte false = tt
 
@@ -45,14 +45,14 @@ answered : (d : Directive) (patterns : Bool) (P : Type 0) (r read : DirectiveRea
 answered d patterns P (Ok x) read have keeps is = let same : x.fields ≡ d.fields = subst (Keeps d) is keeps in subst HavePatterns (sym same) have
 answered d patterns P (Err e) read have keeps is = tt
 
-pub last_patterned : (d : Directive) (rest : List ℕ) (r : DirectiveRead) → HavePatterns d.fields → AnswersRead (λ x. x) false ⊥ r (read_last d rest) → IfOk r (λ x. HavePatterns x.fields)
-last_patterned d rest r have is = answered d false ⊥ r (read_last d rest) have (keeps_last d rest) is
+pub last_patterned : (d : Directive) (rest : List ℕ) (r : DirectiveRead) → HavePatterns d.fields → AnswersRead (λ x. x) false ⊥ r (read_nothing_more d rest) → IfOk r (λ x. HavePatterns x.fields)
+last_patterned d rest r have is = answered d false ⊥ r (read_nothing_more d rest) have (keeps_last d rest) is
 
 pub level_patterned : (d : Directive) (text : List ℕ) (r : DirectiveRead) → HavePatterns d.fields → AnswersRead (λ x. x) false ⊥ r (read_level d text) → IfOk r (λ x. HavePatterns x.fields)
 level_patterned d text r have is = answered d false ⊥ r (read_level d text) have (keeps_level d text) is
 
-pub end_patterned : (d : Directive) (rest : List ℕ) (r : DirectiveRead) → HavePatterns d.fields → AnswersRead (λ x. x) false ⊥ r (read_end d rest) → IfOk r (λ x. HavePatterns x.fields)
-end_patterned d rest r have is = answered d false ⊥ r (read_end d rest) have (keeps_end d rest) is
+pub end_patterned : (d : Directive) (rest : List ℕ) (r : DirectiveRead) → HavePatterns d.fields → AnswersRead (λ x. x) false ⊥ r (read_level_if_any d rest) → IfOk r (λ x. HavePatterns x.fields)
+end_patterned d rest r have is = answered d false ⊥ r (read_level_if_any d rest) have (keeps_end d rest) is
 
 pub close_patterned : (d : Directive) (rest : List ℕ) (r : DirectiveRead) → HavePatterns d.fields → AnswersRead (λ x. x) false ⊥ r (read_close d rest) → IfOk r (λ x. HavePatterns x.fields)
 close_patterned d rest r have is = answered d false ⊥ r (read_close d rest) have (keeps_close d rest) is

@@ -1,11 +1,11 @@
 -- How the text that a directive prints begins.
 use Rattle.std.proofs.Common.{◌≡◌, ℕ, ◌<◌, ◌≤◌, Bool, true, false, true≢false, List, [], ◌∷◌, ◌++◌, length, get_or, take, drop, encode_utf8, refl, sym, ap, ◌∙◌, arith, append-nil, append_assoc, inl, inr, ◌&&◌}
 use Rattle.std.specs.Str.{IsUtf8, chars, encode_utf8_all}
-use Rattle.env_directives.proofs.Common.{scalars, scalar, take-append_seam, get_or-append_seam, cases_lt, take-append-le, chars-append, chars-encodes, inside_one, encode_ascii, begins, may_begin}
+use Rattle.env_directives.proofs.Common.{scalars, scalar, take-append_seam, get_or-append_seam, cases_lt, take-append-le, chars-append, chars-encodes, inside_one, encode_ascii, begins_as_directive, may_begin}
 use Rattle.std.proofs.lemmas.List.{length-append, take-append-drop}
 
 -- a text that begins with a bracket begins as a directive may
-pub bracket_begins : (rest : List ℕ) → begins (91 ∷ rest) ≡ true
+pub bracket_begins : (rest : List ℕ) → begins_as_directive (91 ∷ rest) ≡ true
 unfolding chars
 bracket_begins [] = refl
 bracket_begins (b ∷ bs) = refl
@@ -55,7 +55,7 @@ first_of text more some (c ∷ cs, (ok, spelled)) seam = elim (cases_lt (length 
         let one : length (encode_utf8 c) ≡ 1 = ap length (encode_ascii c ascii) in
         omega arith
 
-pub begins_by : (text more : List ℕ) (first : First text) → begins (text ++ more) ≡ may_begin first.char
+pub begins_by : (text more : List ℕ) (first : First text) → begins_as_directive (text ++ more) ≡ may_begin first.char
 begins_by text more first =
     let c = first.char in
     let ok : scalars (c ∷ []) ≡ true = rw first.is refl in

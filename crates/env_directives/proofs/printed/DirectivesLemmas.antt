@@ -1,6 +1,6 @@
 -- What a directive prints is a text of that directive.
 use Rattle.std.proofs.Common.{◌≡◌, ℕ, ◌<◌, Bool, true, false, List, [], ◌∷◌, ◌++◌, length, Some, None, Option, option_map, refl, sym, ap, ◌∙◌, arith, subst, append-nil, append_assoc, codes, map, not, lit<, ◌==◌, ◌||◌, is_some}
-use Rattle.env_directives.proofs.Common.{AllByRecursion, nat_tests, LevelFilter, level_filter_text, level_filter_of, filter_of_word, named_level_filter, ucd_derived, begins, unless_empty, target_at, Front, bare, spanned, fielded, DirectiveForm, alone, head_comma, leveled, leveled_comma, front_text, form_text, IsHead, IsSpanName, IsFieldText, IsOpened, IsDirectiveFront, IsForm, each_with_comma, directive_at, head_alone, level_or_target, level_behind, IsLevelText, directive_of_form, HasForm, directive_text, text_if_any, fields_text, HasNoMinusZero, field_of, Directive, Match}
+use Rattle.env_directives.proofs.Common.{AllByRecursion, nat_tests, LevelFilter, level_filter_text, level_filter_of, filter_of_word, named_level_filter, ucd_derived, begins_as_directive, unless_empty, directive_of_target, Front, bare, spanned, fielded, DirectiveForm, alone, head_comma, leveled, leveled_comma, front_text, form_text, IsHead, IsSpanName, IsFieldText, IsOpened, IsDirectiveFront, IsForm, fields_with_commas, directive_at, head_alone, level_or_target, level_behind, IsLevelText, directive_of_form, HasForm, directive_text, text_if_any, fields_text, HasNoMinusZero, field_of, Directive, Match}
 use Rattle.std.specs.Str.{IsUtf8, chars}
 use Rattle.trace_base.specs.declared.level.LevelFilter.TheVariants as filter
 use Rattle.env_directives.proofs.printed.BeginningsLemmas.{bracket_begins, IsSeam, first_of, begins_by}
@@ -25,7 +25,7 @@ level_lacks filter.DEBUG = refl
 level_lacks filter.TRACE = refl
 
 -- a level alone
-alone_again : (level : LevelFilter) → HasForm false (directive_text (target_at [] level)) (target_at [] level)
+alone_again : (level : LevelFilter) → HasForm false (directive_text (directive_of_target [] level)) (directive_of_target [] level)
 unfolding named_level_filter filter_of_word chars ucd_derived
 alone_again filter.OFF = record { start = refl; form = alone (bare (codes "off")); parts = refl; whole = refl; means = refl }
 alone_again filter.ERROR = record { start = refl; form = alone (bare (codes "error")); parts = refl; whole = refl; means = refl }
@@ -35,10 +35,10 @@ alone_again filter.DEBUG = record { start = refl; form = alone (bare (codes "deb
 alone_again filter.TRACE = record { start = refl; form = alone (bare (codes "trace")); parts = refl; whole = refl; means = refl }
 
 -- a text and another begin alike, if both go on from one head with a byte of ASCII
-start_again : (text head more other : List ℕ) → 0 < length head → IsUtf8 text → text ≡ head ++ more → IsSeam more → begins text ≡ true → begins (head ++ other) ≡ true
+start_again : (text head more other : List ℕ) → 0 < length head → IsUtf8 text → text ≡ head ++ more → IsSeam more → begins_as_directive text ≡ true → begins_as_directive (head ++ other) ≡ true
 start_again text head more other some utf8 whole seam start =
     let first = first_of head more some (subst IsUtf8 whole utf8) seam in
-    begins_by head other first ∙ sym (begins_by head more first) ∙ ap begins (sym whole) ∙ start
+    begins_by head other first ∙ sym (begins_by head more first) ∙ ap begins_as_directive (sym whole) ∙ start
 
 -- how a form goes on from its head
 abbrev front_head : Front → List ℕ
@@ -55,7 +55,7 @@ front_goes_on : (front : Front) → GoesOn (front_text front) (front_head front)
 front_goes_on (bare head) = record { more = []; seam = tt; whole = sym (append-nil head) }
 front_goes_on (spanned head span) = record { more = codes "[" ++ (span ++ codes "]"); seam = lit< tt; whole = refl }
 front_goes_on (fielded head span earlier last) =
-    record { more = codes "[" ++ (span ++ (codes "{" ++ (each_with_comma earlier ++ (last ++ codes "}]")))); seam = lit< tt; whole = refl }
+    record { more = codes "[" ++ (span ++ (codes "{" ++ (fields_with_commas earlier ++ (last ++ codes "}]")))); seam = lit< tt; whole = refl }
 
 goes_on_more : (text head rest : List ℕ) → GoesOn text head → IsSeam rest → GoesOn (text ++ rest) head
 goes_on_more text head rest on seam = record {
@@ -69,7 +69,7 @@ goes_on_more text head rest on seam = record {
     both (b ∷ bs) s = s
 
 -- the text of a front and a level
-leveled_again : (front : Front) (level : LevelFilter) (printed : List ℕ) → begins printed ≡ true → IsDirectiveFront front → printed ≡ front_text front ++ (codes "=" ++ level_filter_text level) →
+leveled_again : (front : Front) (level : LevelFilter) (printed : List ℕ) → begins_as_directive printed ≡ true → IsDirectiveFront front → printed ≡ front_text front ++ (codes "=" ++ level_filter_text level) →
     HasForm false printed (directive_at false front level)
 leveled_again front level printed start part whole = record {
   start = start;
@@ -86,15 +86,15 @@ assembled : (head span earlier last more : List ℕ) →
 assembled head span earlier last more = simp append_assoc refl
 
 -- a text that a front begins, whose text prints with a level
-module _ (text : List ℕ) (utf8 : IsUtf8 text) (start : begins text ≡ true) where
-  bare_again : (head : List ℕ) (level : LevelFilter) → IsHead head → GoesOn text head → HasForm false (directive_text (target_at head level)) (target_at head level)
+module _ (text : List ℕ) (utf8 : IsUtf8 text) (start : begins_as_directive text ≡ true) where
+  bare_again : (head : List ℕ) (level : LevelFilter) → IsHead head → GoesOn text head → HasForm false (directive_text (directive_of_target head level)) (directive_of_target head level)
   bare_again [] level part on = alone_again level
   bare_again (b ∷ bs) level part on =
-      let begun : begins ((b ∷ bs) ++ (codes "=" ++ level_filter_text level)) ≡ true =
+      let begun : begins_as_directive ((b ∷ bs) ++ (codes "=" ++ level_filter_text level)) ≡ true =
       start_again text (b ∷ bs) on.more (codes "=" ++ level_filter_text level) (omega arith) utf8 on.whole on.seam start in
-      leveled_again (bare (b ∷ bs)) level (directive_text (target_at (b ∷ bs) level)) begun part refl
+      leveled_again (bare (b ∷ bs)) level (directive_text (directive_of_target (b ∷ bs) level)) begun part refl
 
-  bracket_start : (head more : List ℕ) → GoesOn text head → begins (head ++ 91 ∷ more) ≡ true
+  bracket_start : (head more : List ℕ) → GoesOn text head → begins_as_directive (head ++ 91 ∷ more) ≡ true
   bracket_start [] more on = bracket_begins more
   bracket_start (b ∷ bs) more on = start_again text (b ∷ bs) on.more (91 ∷ more) (omega arith) utf8 on.whole on.seam start
 
@@ -107,8 +107,8 @@ module _ (text : List ℕ) (utf8 : IsUtf8 text) (start : begins text ≡ true) w
       HasForm false (directive_text (directive_at false (spanned head span) level)) (directive_at false (spanned head span) level)
   spanned_again head span level head_part span_part on =
       let so = spanned_text head span level in
-      let begun : begins (directive_text (directive_at false (spanned head span) level)) ≡ true =
-      ap begins (so ∙ append_assoc head (codes "[" ++ (span ++ codes "]")) (codes "=" ++ level_filter_text level)) ∙ bracket_start head ((span ++ codes "]") ++ (codes "=" ++ level_filter_text level)) on in
+      let begun : begins_as_directive (directive_text (directive_at false (spanned head span) level)) ≡ true =
+      ap begins_as_directive (so ∙ append_assoc head (codes "[" ++ (span ++ codes "]")) (codes "=" ++ level_filter_text level)) ∙ bracket_start head ((span ++ codes "]") ++ (codes "=" ++ level_filter_text level)) on in
       leveled_again (spanned head span) level (directive_text (directive_at false (spanned head span) level)) begun (head_part, span_part) so
 
   -- with fields, the fields are printed anew
@@ -133,13 +133,13 @@ module _ (text : List ℕ) (utf8 : IsUtf8 text) (start : begins text ≡ true) w
       if_any [] = refl
       if_any (b ∷ bs) = refl
 
-      by_fields : (fields : List Match) → (length fields == 0) ≡ false → fields_text fields ≡ codes "{" ++ (each_with_comma (map again earlier) ++ (again last ++ codes "}")) →
+      by_fields : (fields : List Match) → (length fields == 0) ≡ false → fields_text fields ≡ codes "{" ++ (fields_with_commas (map again earlier) ++ (again last ++ codes "}")) →
           directive_text (record { in_span = unless_empty span; fields = fields; target = unless_empty head; level = level })
           ≡ front_text (fielded head span (map again earlier) (again last)) ++ (codes "=" ++ level_filter_text level)
       by_fields fields none joined =
           let bracket : (is_some (unless_empty span) || not (length fields == 0)) ≡ true = has (unless_empty span) (length fields == 0) none in
           rw (bracket, equals (unless_empty head) true refl, if_any head, if_any span, joined)
-          (assembled head span (each_with_comma (map again earlier)) (again last) (codes "=" ++ level_filter_text level))
+          (assembled head span (fields_with_commas (map again earlier)) (again last) (codes "=" ++ level_filter_text level))
 
   fielded_again : (head span : List ℕ) (earlier : List (List ℕ)) (last : List ℕ) (level : LevelFilter) → IsOpened head span earlier → IsFieldText last →
       HasNoMinusZero (map (field_of false) (earlier ++ last ∷ [])) → GoesOn text head →
@@ -150,9 +150,9 @@ module _ (text : List ℕ) (utf8 : IsUtf8 text) (start : begins text ≡ true) w
       let so = fielded_text head span earlier last level in
       let front = fielded head span (map again earlier) (again last) in
       let printed = directive_text (directive_at false (fielded head span earlier last) level) in
-      let begun : begins printed ≡ true =
-      ap begins (so ∙ append_assoc head (codes "[" ++ (span ++ (codes "{" ++ (each_with_comma (map again earlier) ++ (again last ++ codes "}]"))))) (codes "=" ++ level_filter_text level))
-      ∙ bracket_start head ((span ++ (codes "{" ++ (each_with_comma (map again earlier) ++ (again last ++ codes "}]")))) ++ (codes "=" ++ level_filter_text level)) on in
+      let begun : begins_as_directive printed ≡ true =
+      ap begins_as_directive (so ∙ append_assoc head (codes "[" ++ (span ++ (codes "{" ++ (fields_with_commas (map again earlier) ++ (again last ++ codes "}]"))))) (codes "=" ++ level_filter_text level))
+      ∙ bracket_start head ((span ++ (codes "{" ++ (fields_with_commas (map again earlier) ++ (again last ++ codes "}]")))) ++ (codes "=" ++ level_filter_text level)) on in
       let same : directive_at false front level ≡ directive_at false (fielded head span earlier last) level =
       ap (λ (fs : List Match). record { in_span = unless_empty span; fields = fs; target = unless_empty head; level = level }) (ap (map (field_of false)) (sym (map_both earlier)) ∙ all.1) in
       subst (HasForm false printed) same (leveled_again front level printed begun ((parts.0, parts.1, anew.0), anew.1) so)

@@ -1,6 +1,6 @@
 -- What a field prints is read as that field.
 use Rattle.std.proofs.Common.{◌≡◌, ◌≢◌, ℕ, Bool, true, false, true≢false, List, [], ◌∷◌, ◌++◌, Some, None, Option, option_map, refl, sym, ap, ◌∙◌, pos, codes, subst, append-nil, append_assoc, map, flat_map, not, ◌&&◌}
-use Rattle.env_directives.proofs.Common.{AllByRecursion, pieces_at, is_among, lacks, IsFieldText, each_with_comma, value_text, match_text, fields_text, HasNoMinusZero, value_of, field_of, Match, I64}
+use Rattle.env_directives.proofs.Common.{AllByRecursion, pieces_at, is_among, lacks, IsFieldText, fields_with_commas, value_text, match_text, fields_text, HasNoMinusZero, value_of, field_of, Match, I64}
 use Rattle.env_directives.proofs.cuts.CutsLemmas.{cut_whole, cut_at, cut_joined, cut_front, cut_off}
 use Rattle.env_directives.proofs.printed.ValuesLemmas.{value_again}
 
@@ -70,11 +70,11 @@ fields_again (f ∷ fs) all no_zero =
 
 -- fields joined by commas
 joined_tail : (earlier : List (List ℕ)) (last : List ℕ) →
-    flat_map (λ m. codes "," ++ match_text m) (map (field_of false) (earlier ++ last ∷ [])) ≡ codes "," ++ (each_with_comma (map again earlier) ++ again last)
+    flat_map (λ m. codes "," ++ match_text m) (map (field_of false) (earlier ++ last ∷ [])) ≡ codes "," ++ (fields_with_commas (map again earlier) ++ again last)
 joined_tail [] last = append-nil (codes "," ++ again last)
 joined_tail (e ∷ es) last = ap (λ (t : List ℕ). (codes "," ++ again e) ++ t) (joined_tail es last) ∙ simp append_assoc refl
 
 pub fields_joined : (earlier : List (List ℕ)) (last : List ℕ) →
-    fields_text (map (field_of false) (earlier ++ last ∷ [])) ≡ codes "{" ++ (each_with_comma (map again earlier) ++ (again last ++ codes "}"))
+    fields_text (map (field_of false) (earlier ++ last ∷ [])) ≡ codes "{" ++ (fields_with_commas (map again earlier) ++ (again last ++ codes "}"))
 fields_joined [] last = ap (λ (t : List ℕ). codes "{" ++ (t ++ codes "}")) (append-nil (again last))
 fields_joined (e ∷ es) last = ap (λ (t : List ℕ). codes "{" ++ ((again e ++ t) ++ codes "}")) (joined_tail es last) ∙ simp append_assoc refl

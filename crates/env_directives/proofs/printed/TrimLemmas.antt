@@ -1,6 +1,6 @@
 -- What a directive prints has no white space at its ends.
 use Rattle.std.proofs.Common.{◌≡◌, ℕ, zero, suc, ◌+◌, ◌<◌, ◌≤◌, Bool, true, false, true≢false, List, [], ◌∷◌, ◌++◌, length, get_or, take, refl, sym, ap, ◌∙◌, arith, subst, append_assoc, inl, inr, ◌⊎◌, not, cond, lit<, codes, ◌==◌, ◌&&◌, ◌||◌, nat_lt}
-use Rattle.env_directives.proofs.Common.{is_whitespace, trim, trim_start, trim_end, skip_leading_whitespace, drop_trailing_whitespace, take-append_seam, get_or-append_seam, cases_lt, nat_tests, chars-append, encodes-chars, scalars-chars, IsUtf8-take, IsCharBoundary-before_ascii, scalars, scalar, LevelFilter, level_filter_text, ucd_derived, begins, may_begin, directive_text, text_if_any, bracket_text, equals_text, Directive}
+use Rattle.env_directives.proofs.Common.{is_whitespace, trim, trim_start, trim_end, skip_leading_whitespace, drop_trailing_whitespace, take-append_seam, get_or-append_seam, cases_lt, nat_tests, chars-append, encodes-chars, scalars-chars, IsUtf8-take, IsCharBoundary-before_ascii, scalars, scalar, LevelFilter, level_filter_text, ucd_derived, begins_as_directive, may_begin, directive_text, text_if_any, bracket_text, equals_text, Directive}
 use Rattle.std.specs.Str.{IsUtf8, chars, encode_utf8_all}
 use Rattle.std.proofs.lemmas.Bool.{eqb-true, ltb-true}
 use Rattle.std.proofs.lemmas.List.{length-append}
@@ -101,11 +101,11 @@ trim_utf8 text utf8 =
     (drop_trailing_whitespace (chars (trim_start text)), (scalars_drop (chars (trim_start text)) (scalars-chars (trim_start text) start), refl))
 
 -- a text that begins as a directive may begins with no white space
-start_kept : (text : List ℕ) → IsUtf8 text → begins text ≡ true → trim_start text ≡ text
+start_kept : (text : List ℕ) → IsUtf8 text → begins_as_directive text ≡ true → trim_start text ≡ text
 unfolding trim_start
 start_kept text utf8 start = go (chars text) refl start
   where
-    go : (cs : List ℕ) → chars text ≡ cs → begins text ≡ true → encode_utf8_all (skip_leading_whitespace (chars text)) ≡ text
+    go : (cs : List ℕ) → chars text ≡ cs → begins_as_directive text ≡ true → encode_utf8_all (skip_leading_whitespace (chars text)) ≡ text
     go [] e start = let none : false ≡ true = rw e at start in absurd (true≢false (sym none))
     go (c ∷ cs) e start =
         let first : may_begin c ≡ true = rw e at start in
@@ -148,7 +148,7 @@ word_kept front filter.INFO utf8 = end_kept (front ++ codes "info") (front ++ co
 word_kept front filter.DEBUG utf8 = end_kept (front ++ codes "debug") (front ++ codes "debu") 103 utf8 (sym (append_assoc front (codes "debu") (103 ∷ []))) (lit< tt) refl refl
 word_kept front filter.TRACE utf8 = end_kept (front ++ codes "trace") (front ++ codes "trac") 101 utf8 (sym (append_assoc front (codes "trac") (101 ∷ []))) (lit< tt) refl refl
 
-pub printed_trimmed : (d : Directive) → IsUtf8 (directive_text d) → begins (directive_text d) ≡ true → trim (directive_text d) ≡ directive_text d
+pub printed_trimmed : (d : Directive) → IsUtf8 (directive_text d) → begins_as_directive (directive_text d) ≡ true → trim (directive_text d) ≡ directive_text d
 printed_trimmed d utf8 start =
     let front = text_if_any d.target ++ (bracket_text d ++ equals_text d) in
     let whole : directive_text d ≡ front ++ level_filter_text d.level = joined (text_if_any d.target) (bracket_text d) (equals_text d) (level_filter_text d.level) in

@@ -1,7 +1,7 @@
 -- In a table the first directive without field names that covers a target is the one with the longest target.
 use Rattle.std.specs.declared.cmp.Ordering.{Ordering}
 use Rattle.std.specs.declared.cmp.Ordering.TheVariants.{Less, Equal, Greater}
-use Rattle.env_directives.proofs.Common.{ordering_then, AllByRecursion, starts_with, IsStrictlySortedBy, option_cmp, option_map_or, tied_itself, first_so, second_so, bytes_decides, nil_from_length, sorted_head, sorted_tail, StaticDirective, covers, cares_about_target, is_longer, with_longer_target, longest_from, longest_prefix, lets_through, admits_target, target_length, most_specific_first, text_cmp, DirectiveTable, with_item_in_order, empty_table, with_static, with_statics}
+use Rattle.env_directives.proofs.Common.{ordering_then, AllByRecursion, starts_with, IsStrictlySortedBy, option_cmp, option_map_or, tied_itself, first_so, second_so, bytes_decides, nil_from_length, sorted_head, sorted_tail, StaticDirective, covers, cares_about_target, is_longer, with_longer_target, longest_from, longest_covering, lets_through, admits_target, target_length, most_specific_first, text_cmp, DirectiveTable, with_item_in_order, empty_table, with_static, with_statics}
 use Rattle.std.specs.Ordering.{is_eq, is_gt, nat_cmp}
 use Rattle.std.specs.List.{find, filter}
 use Rattle.std.specs.Option.{option_map}
@@ -165,6 +165,6 @@ module _ (target : List ℕ) where
 
 -- the longest prefix that was added decides
 pub decides : (ds : List StaticDirective) (target : List ℕ) (level : Level)
-    → admits_target (with_statics ds empty_table).directives target level ≡ lets_through level (longest_prefix ds target)
+    → admits_target (with_statics ds empty_table).directives target level ≡ lets_through level (longest_covering ds target)
 unfolding IsStrictlySortedBy
 decides ds target level = ap (lets_through level) (found_in_all target ds empty_table tt)

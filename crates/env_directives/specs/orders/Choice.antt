@@ -37,5 +37,5 @@ longest_from best [] = best
 longest_from best (d ∷ ds) = longest_from (with_longer_target best d) ds
 
 -- of the directives that were added, that with the longest target among those without field names that cover a target
-abbrev pub longest_prefix : List StaticDirective → List ℕ → Option StaticDirective
-longest_prefix ds target = longest_from None (filter (λ d. cares_about_target d target) ds)
+abbrev pub longest_covering : List StaticDirective → List ℕ → Option StaticDirective
+longest_covering ds target = longest_from None (filter (λ d. cares_about_target d target) ds)

@@ -2,7 +2,7 @@
 -- with a refused value may also have another fault further right, and either may be told.
 use Rattle.std.specs.Prelude.{◌≡◌, ℕ, List, [], ◌∷◌, ◌++◌, Bool, true, None, codes}
 use Rattle.env_directives.specs.reading.Cuts.{is_among}
-use Rattle.env_directives.specs.reading.Forms.{begins, Front, front_text, IsDirectiveFront, IsLevelText, level_behind, text_up_to_fields, IsOpened, IsFieldText, HasForm}
+use Rattle.env_directives.specs.reading.Forms.{begins_as_directive, Front, front_text, IsDirectiveFront, IsLevelText, level_behind, text_up_to_fields, IsOpened, IsFieldText, HasForm}
 use Rattle.env_directives.specs.reading.Values.{IsNoPatternField}
 use Rattle.env_directives.specs.declared.directive.ParseError.{ParseError}
 use Rattle.env_directives.specs.declared.directive.ParseError.TheVariants.{Shape, Level, Field, Pattern, Equals, Fields, Memory}
@@ -14,8 +14,8 @@ IsEnd [] = Unit {0}
 IsEnd (b ∷ bs) = b ≡ 44
 
 -- behind a front and its `=` stands a text, up to the end or a comma, that is no level
-pub record HasNoLevel (text : List ℕ) : Type 0 where
-  pub start : begins text ≡ true
+pub record HasBadLevel (text : List ℕ) : Type 0 where
+  pub start : begins_as_directive text ≡ true
   pub front : Front
   pub level : List ℕ
   pub more : List ℕ
@@ -27,7 +27,7 @@ pub record HasNoLevel (text : List ℕ) : Type 0 where
 
 -- among the fields, where one should begin, it ends
 pub record HasEmptyField (text : List ℕ) : Type 0 where
-  pub start : begins text ≡ true
+  pub start : begins_as_directive text ≡ true
   pub head : List ℕ
   pub span : List ℕ
   pub earlier : List (List ℕ)
@@ -38,8 +38,8 @@ pub record HasEmptyField (text : List ℕ) : Type 0 where
   pub whole : text ≡ text_up_to_fields head span earlier (stop ∷ more)
 
 -- the value of some field is a text that is refused as a pattern
-pub record HasNoPattern (text : List ℕ) : Type 0 where
-  pub start : begins text ≡ true
+pub record HasRefusedPattern (text : List ℕ) : Type 0 where
+  pub start : begins_as_directive text ≡ true
   pub head : List ℕ
   pub span : List ℕ
   pub earlier : List (List ℕ)
@@ -54,10 +54,10 @@ pub record HasNoPattern (text : List ℕ) : Type 0 where
 
 -- what each fault says of a text; `Shape` is told where the text has no form and no other fault
 abbrev pub HasFault : Bool → List ℕ → ParseError → Type 0
-HasFault patterns text Shape = ((directive : Directive) → ¬ HasForm patterns text directive) × ¬ HasNoLevel text × ¬ HasEmptyField text
-HasFault patterns text Level = HasNoLevel text
+HasFault patterns text Shape = ((directive : Directive) → ¬ HasForm patterns text directive) × ¬ HasBadLevel text × ¬ HasEmptyField text
+HasFault patterns text Level = HasBadLevel text
 HasFault patterns text Field = HasEmptyField text
-HasFault patterns text Pattern = (patterns ≡ true) × HasNoPattern text
+HasFault patterns text Pattern = (patterns ≡ true) × HasRefusedPattern text
 HasFault patterns text Equals = ⊥
 HasFault patterns text (Fields many) = ⊥
 HasFault patterns text Memory = Unit {0}

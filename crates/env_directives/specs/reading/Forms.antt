@@ -18,8 +18,8 @@ abbrev pub may_begin : ℕ → Bool
 may_begin c = c == 91 || c == 45 || c == 58 || c == 95 || is_alphabetic c || in_group Number (general_category c)
 
 -- whether a text begins with such a character
-abbrev pub begins : List ℕ → Bool
-begins text = begins_chars (chars text)
+abbrev pub begins_as_directive : List ℕ → Bool
+begins_as_directive text = begins_chars (chars text)
   where
     begins_chars : List ℕ → Bool
     begins_chars [] = false
@@ -32,12 +32,12 @@ pub data Front : Type 0 where
   fielded : (head span : List ℕ) (earlier : List (List ℕ)) (last : List ℕ) → Front
 
 -- fields that a comma follows each
-abbrev pub each_with_comma : List (List ℕ) → List ℕ
-each_with_comma fields = flat_map (λ field. field ++ codes ",") fields
+abbrev pub fields_with_commas : List (List ℕ) → List ℕ
+fields_with_commas fields = flat_map (λ field. field ++ codes ",") fields
 
 -- `head[span{field,`, and so on for each of the fields, and then more
 abbrev pub text_up_to_fields : List ℕ → List ℕ → List (List ℕ) → List ℕ → List ℕ
-text_up_to_fields head span fields more = head ++ (codes "[" ++ (span ++ (codes "{" ++ (each_with_comma fields ++ more))))
+text_up_to_fields head span fields more = head ++ (codes "[" ++ (span ++ (codes "{" ++ (fields_with_commas fields ++ more))))
 
 -- what a front looks like
 abbrev pub front_text : Front → List ℕ
@@ -95,20 +95,20 @@ unless_empty [] = None
 unless_empty (b ∷ bs) = Some (b ∷ bs)
 
 -- the directive for the targets that begin with a head, for all if it is empty
-abbrev pub target_at : List ℕ → LevelFilter → Directive
-target_at head level = record { in_span = None; fields = []; target = unless_empty head; level = level }
+abbrev pub directive_of_target : List ℕ → LevelFilter → Directive
+directive_of_target head level = record { in_span = None; fields = []; target = unless_empty head; level = level }
 
 -- what a front asks for, at a level
 abbrev pub directive_at : Bool → Front → LevelFilter → Directive
-directive_at patterns (bare head) level = target_at head level
+directive_at patterns (bare head) level = directive_of_target head level
 directive_at patterns (spanned head span) level = record { in_span = Some span; fields = []; target = unless_empty head; level = level }
 directive_at patterns (fielded head span earlier last) level =
     record { in_span = unless_empty span; fields = map (field_of patterns) (earlier ++ last ∷ []); target = unless_empty head; level = level }
 
 -- a head alone is a level for all targets, if it reads as one, else a target, at TRACE
 abbrev pub level_or_target : List ℕ → Option LevelFilter → Directive
-level_or_target head (Some level) = target_at [] level
-level_or_target head None = target_at head TRACE
+level_or_target head (Some level) = directive_of_target [] level
+level_or_target head None = directive_of_target head TRACE
 
 abbrev pub head_alone : List ℕ → Directive
 head_alone head = level_or_target head (level_filter_of head)
@@ -133,7 +133,7 @@ directive_of_form patterns (leveled_comma front level) = option_map (directive_a
 
 -- A text has a form for a directive if it begins as one may, and looks like a form that means the directive.
 pub record HasForm (patterns : Bool) (text : List ℕ) (directive : Directive) : Type 0 where
-  pub start : begins text ≡ true
+  pub start : begins_as_directive text ≡ true
   pub form : DirectiveForm
   pub parts : IsForm form
   pub whole : text ≡ form_text form

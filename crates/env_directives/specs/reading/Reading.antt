@@ -4,7 +4,7 @@ use Rattle.std.specs.Prelude.{◌≡◌, ℕ, List, [], ◌∷◌, ◌++◌, ◌
 use Rattle.trace_base.specs.declared.level.LevelFilter.{LevelFilter}
 use Rattle.trace_base.specs.declared.level.LevelFilter.TheVariants.{TRACE}
 use Rattle.env_directives.specs.reading.Cuts.{pieces_at, is_among}
-use Rattle.env_directives.specs.reading.Forms.{begins, unless_empty, target_at, head_alone, level_behind, each_with_comma, IsSpanName, IsFieldText}
+use Rattle.env_directives.specs.reading.Forms.{begins_as_directive, unless_empty, directive_of_target, head_alone, level_behind, fields_with_commas, IsSpanName, IsFieldText}
 use Rattle.env_directives.specs.reading.Values.{field_of, IsNoPatternField}
 use Rattle.env_directives.specs.declared.directive.ParseError.{ParseError}
 use Rattle.env_directives.specs.declared.directive.ParseError.TheVariants.{Shape, Level, Field, Pattern, Memory}
@@ -19,14 +19,14 @@ abbrev pub at_level : Directive → LevelFilter → Directive
 at_level d level = record d { level = level }
 
 -- nothing may stand behind a last comma
-unfoldable pub read_last : Directive → List ℕ → DirectiveRead
-read_last d [] = Ok d
-read_last d (b ∷ bs) = Err Shape
+unfoldable pub read_nothing_more : Directive → List ℕ → DirectiveRead
+read_nothing_more d [] = Ok d
+read_nothing_more d (b ∷ bs) = Err Shape
 
 -- behind a level's text
 abbrev pub read_behind : Directive → Option ℕ → List ℕ → DirectiveRead
 read_behind d None rest = Ok d
-read_behind d (Some stop) rest = read_last d rest
+read_behind d (Some stop) rest = read_nothing_more d rest
 
 abbrev pub read_leveled : Directive → Option LevelFilter → Option ℕ → List ℕ → DirectiveRead
 read_leveled d None stop rest = Err Level
@@ -37,14 +37,14 @@ unfoldable pub read_level : Directive → List ℕ → DirectiveRead
 read_level d text = let pieces = pieces_at (codes ",") text in read_leveled d (level_behind pieces.front) pieces.stop pieces.rest
 
 -- behind a bracket
-unfoldable pub read_end : Directive → List ℕ → DirectiveRead
-read_end d [] = Ok d
-read_end d (b ∷ rest) = if b == 61 then read_level d rest else Err Shape
+unfoldable pub read_level_if_any : Directive → List ℕ → DirectiveRead
+read_level_if_any d [] = Ok d
+read_level_if_any d (b ∷ rest) = if b == 61 then read_level d rest else Err Shape
 
 -- behind a closing brace
 unfoldable pub read_close : Directive → List ℕ → DirectiveRead
 read_close d [] = Err Shape
-read_close d (b ∷ rest) = if b == 93 then read_end d rest else Err Shape
+read_close d (b ∷ rest) = if b == 93 then read_level_if_any d rest else Err Shape
 
 -- fields, and what stands behind their closing brace
 abbrev pub FieldsRead : Type 0
@@ -77,7 +77,7 @@ read_fielded d (Err e) = Err e
 abbrev pub read_span : Bool → Directive → List ℕ → Option ℕ → List ℕ → DirectiveRead
 read_span patterns d span None rest = Err Shape
 read_span patterns d span (Some stop) rest =
-    if stop == 93 then read_end (record d { in_span = Some span }) rest
+    if stop == 93 then read_level_if_any (record d { in_span = Some span }) rest
     else read_fielded (record d { in_span = unless_empty span }) (read_fields patterns [] rest)
 
 -- behind an opening bracket
@@ -88,18 +88,18 @@ read_bracket patterns d text = let pieces = pieces_at (codes "]{") text in read_
 abbrev pub read_head : Bool → List ℕ → Option ℕ → List ℕ → DirectiveRead
 read_head patterns head None rest = Ok (head_alone head)
 read_head patterns head (Some stop) rest =
-    if stop == 44 then read_last (head_alone head) rest else
-    if stop == 61 then read_level (target_at head TRACE) rest else
-    read_bracket patterns (target_at head TRACE) rest
+    if stop == 44 then read_nothing_more (head_alone head) rest else
+    if stop == 61 then read_level (directive_of_target head TRACE) rest else
+    read_bracket patterns (directive_of_target head TRACE) rest
 
 -- a text without white space at its ends
 unfoldable pub read_directive : Bool → List ℕ → DirectiveRead
 read_directive patterns text =
     let pieces = pieces_at (codes "=[,") text in
-    if begins text then read_head patterns pieces.front pieces.stop pieces.rest else Err Shape
+    if begins_as_directive text then read_head patterns pieces.front pieces.stop pieces.rest else Err Shape
 
 -- the fields of a text lead to one whose value is refused as a pattern
-pub record LeadsToNoPattern (text : List ℕ) : Type 0 where
+pub record LeadsToRefusedPattern (text : List ℕ) : Type 0 where
   pub earlier : List (List ℕ)
   pub field : List ℕ
   pub stop : ℕ
@@ -107,16 +107,16 @@ pub record LeadsToNoPattern (text : List ℕ) : Type 0 where
   pub parts : AllByRecursion IsFieldText earlier
   pub part : IsFieldText field
   pub stops : is_among (codes ",}") stop ≡ true
-  pub whole : text ≡ each_with_comma earlier ++ (field ++ stop ∷ more)
+  pub whole : text ≡ fields_with_commas earlier ++ (field ++ stop ∷ more)
   pub value : IsNoPatternField field
 
 -- the same, behind a span's name
-pub record SpanLeadsToNoPattern (text : List ℕ) : Type 0 where
+pub record SpanLeadsToRefusedPattern (text : List ℕ) : Type 0 where
   pub span : List ℕ
   pub more : List ℕ
   pub part : IsSpanName span
   pub whole : text ≡ span ++ (codes "{" ++ more)
-  pub leads : LeadsToNoPattern more
+  pub leads : LeadsToRefusedPattern more
 
 -- what is answered is what was read, but for want of memory, and for no pattern where patterns are wanted and P holds
 abbrev pub AnswersRead : {X Y : Type 0} → (X → Y) → Bool → Type 0 → Result X ParseError → Result Y ParseError → Type 0

@@ -38,13 +38,13 @@ names_of fields =
     if ends_with eqb fields (codes "}]") then Ok (nonempty (comma_pieces (without_closers fields))) else
     Err (Fields false)
 
-abbrev pub with_names : List ℕ → List ℕ → Result (List ℕ × List (List ℕ)) ParseError
-with_names target fields = and_then (names_of fields) (λ names. Ok (target, names))
+abbrev pub front_with_names : List ℕ → List ℕ → Result (List ℕ × List (List ℕ)) ParseError
+front_with_names target fields = and_then (names_of fields) (λ names. Ok (target, names))
 
 -- before the `=`: the target, which may be empty, and the names of fields
 abbrev pub front_of : List ℕ → Result (List ℕ × List (List ℕ)) ParseError
 front_of front = option_map_or
-    (λ parts. with_names parts.0 parts.1)
+    (λ parts. front_with_names parts.0 parts.1)
     (cut_once (codes "[{") front)
     (Ok (front, []))
 
@@ -52,14 +52,14 @@ front_of front = option_map_or
 abbrev pub level_behind_equals : List ℕ → Result LevelFilter ParseError
 level_behind_equals text = option_map_or (λ level. Ok level) (level_filter_of text) (Err Level)
 
-abbrev pub with_equals : List ℕ → List ℕ → Result StaticDirective ParseError
-with_equals front level =
+abbrev pub static_with_equals : List ℕ → List ℕ → Result StaticDirective ParseError
+static_with_equals front level =
     and_then (front_of front) (λ parts. and_then (level_behind_equals level) (λ level.
     Ok (record { target = Some parts.0; field_names = parts.1; level = level })))
 
 -- the directive that a text spells, or the fault of a text that spells none
 abbrev pub static_of : List ℕ → Result StaticDirective ParseError
 static_of text = option_map_or
-    (λ parts. if is_some (cut_once (codes "=") parts.1) then Err Equals else with_equals parts.0 parts.1)
+    (λ parts. if is_some (cut_once (codes "=") parts.1) then Err Equals else static_with_equals parts.0 parts.1)
     (cut_once (codes "=") text)
     (Ok (bare_of text))

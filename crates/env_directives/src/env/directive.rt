@@ -4,7 +4,7 @@ ghost use Rattle.std.specs.Fmt.{WritesOnOk};
 ghost use Rattle.std.proofs.Common.{rules};
 ghost use Rattle.std.specs.Cmp.Rules.{comparing};
 ghost use Rattle.env_directives.specs.orders.DirectiveOrder.{reach_cmp, parts_cmp};
-ghost use Rattle.env_directives.specs.reading.Forms.{target_at, IsDirective};
+ghost use Rattle.env_directives.specs.reading.Forms.{directive_of_target, IsDirective};
 ghost use Rattle.env_directives.specs.printed.Printed.{match_text, text_if_any, fields_text, has_bracket, bracket_text, equals_text, directive_text};
 ghost use Rattle.trace_base.specs.words.Level.{filter_of_level};
 ghost use Rattle.trace_base.specs.declared.level.LevelFilter.TheVariants.{OFF};
@@ -72,14 +72,14 @@ impl Directive {
 
     /// A directive for everything at a level; `From<Level>` of tracing-subscriber's type.
     pub fn from_level(alloc: Global, level: Level) -> Directive
-        ensures { result ≡ target_at [] (filter_of_level level) }
+        ensures { result ≡ directive_of_target [] (filter_of_level level) }
     {
         Directive::from_filter(alloc, LevelFilter::from_level(level))
     }
 
     /// A directive for everything at a level; `From<LevelFilter>` of tracing-subscriber's type.
     pub fn from_filter(alloc: Global, level: LevelFilter) -> Directive
-        ensures { result ≡ target_at [] level }
+        ensures { result ≡ directive_of_target [] level }
     {
         Directive {
             in_span: None,
@@ -91,7 +91,7 @@ impl Directive {
 
     /// A directive that lets nothing through; `Default` of tracing-subscriber's type.
     pub fn default(alloc: Global) -> Directive
-        ensures { result ≡ target_at [] OFF }
+        ensures { result ≡ directive_of_target [] OFF }
     {
         Directive::from_filter(alloc, LevelFilter::OFF)
     }
@@ -178,7 +178,7 @@ impl directive::Match for Directive {
     fn cares_about(&self, callsite: &Callsite) -> bool {
         callsite.kind == Kind::Span
             && begins_with(&self.target, callsite.target.as_str())
-            && self.has_span(callsite)
+            && self.matches_span_name(callsite)
             && declares(callsite, self.fields.as_slice())
     }
 
@@ -188,7 +188,7 @@ impl directive::Match for Directive {
 }
 
 impl Directive {
-    fn has_span(&self, callsite: &Callsite) -> bool
+    fn matches_span_name(&self, callsite: &Callsite) -> bool
         ensures { result ≡ option_map_or (λ name. bytes_eq callsite.now.name name) self.now.in_span true }
     {
         match &self.in_span {

@@ -1,7 +1,7 @@
 -- A layer over a subscriber is told hooks in which each span is made once and first.
 use Rattle.std.proofs.Common.{◌≡◌, ℕ, ◌+◌, ◌<◌, ◌≤◌, List, [], ◌∷◌, ◌++◌, length, append_assoc, Bool, true, false, Option, Some, None, refl, sym, ap, subst, ◌∙◌, arith, inl, inr, ◌==◌, ◌||◌, if◌then◌else◌, is_some, fold}
 use Rattle.std.specs.Option.{unwrap_or, option_map}
-use Rattle.env_filter.proofs.Common.{cases_eq, cond-false, length_push, Callsite, Value, Spans, Span, span_at, entries_on, is_in, times_in, current_of, parent_on, with_hold, without_hold, span_without_hold, with_hold_of_child, CallLanes, Hook, OnNewSpan, OnRecord, OnFollows, OnEvent, OnEnter, OnExit, OnClose, DoesBoth, Directive, FilterState, FilterWithRoom, plain_filter, Each, fresh_filter, after_hook, DoesFilter, Both, callsite_if_made, values_given_by, is_close_of, callsite_by_calls, all_values_given, is_ended, HasNoCalls, IsNext, AreInOrder, level_by_calls, levels_by_calls}
+use Rattle.env_filter.proofs.Common.{cases_eq, cond-false, length_push, Callsite, Value, Spans, Span, span_at, entries_on, is_in, times_in, current_of, parent_on, with_hold, without_hold, span_without_hold, with_hold_of_child, CallKeepsLanes, Hook, OnNewSpan, OnRecord, OnFollows, OnEvent, OnEnter, OnExit, OnClose, DoesBoth, Directive, FilterState, FilterWithRoom, plain_filter, Each, fresh_filter, after_hook, DoesFilter, BothOrNeither, callsite_if_made, values_given_by, is_close_of, callsite_by_calls, all_values_given, is_ended, HasNoCalls, MayComeNext, AreInOrder, level_by_calls, levels_by_calls}
 use Rattle.std.proofs.lemmas.Bool.{ne_eqb}
 use Rattle.std.proofs.lemmas.List.{length-set, append-nil}
 use Rattle.std.proofs.lemmas.List.Sums.{fold-append}
@@ -96,7 +96,7 @@ grows spans (CloneSpan id) = let e = length-set spans.made id (record (span_at s
 grows spans (TryClose id at) = let e = length-set spans.made id (span_without_hold (span_at spans.made id)) in omega (arith, e)
 
 module _ {A : Type 0} (step : A → Hook → A) where
-  with_hook : (spans : Spans) (call : SubscriberCall) (h : Hook) (a b : A) (past : List Hook) → ObservesCall Appends spans [] call (h ∷ []) → IsNext past h → IsBefore (length (spans_after_call spans call).made) h
+  with_hook : (spans : Spans) (call : SubscriberCall) (h : Hook) (a b : A) (past : List Hook) → ObservesCall Appends spans [] call (h ∷ []) → MayComeNext past h → IsBefore (length (spans_after_call spans call).made) h
       → b ≡ step a h → Each (IsBefore (length spans.made)) past → ToldOne step spans call a b past
   with_hook spans call h a b past told next before value below = record {
     first = h ∷ [];
@@ -175,7 +175,7 @@ module _ {S A : Type 0} (spans : S → Spans) (does : S → SubscriberCall → S
 -- a layer hears at each call the hook of that call
 pub over_hears : {S L A : Type 0} (spans : S → Spans) (inner : S → SubscriberCall → S → Type 0) (outer : L → Hook → L → Type 0) (same : L → L → Type 0) (attaches : L → Bool) (step : A → Hook → A) (value : L → A)
     → ((l : L) (h : Hook) (m : L) → outer l h m → value m ≡ step (value l) h) → ((l m : L) → same l m → value m ≡ value l)
-    → (s t : S) (l m : L) (call : SubscriberCall) (sa : Bool) (sk tk : ℕ → ℕ → ℕ) → ((c : SubscriberCall) → inner s c t → CallLanes sa sk c tk)
+    → (s t : S) (l m : L) (call : SubscriberCall) (sa : Bool) (sk tk : ℕ → ℕ → ℕ) → ((c : SubscriberCall) → inner s c t → CallKeepsLanes sa sk c tk)
     → DoesBoth spans inner outer same attaches s l call t m → ObservesCall (Steps step) (spans s) (value l) call (value m)
 over_hears {S} {L} {A} spans inner outer same attaches step value heard alike s t l m call sa sk tk lanes d =
     let told = both_told (Steps step) spans inner outer same attaches s t l m call sa sk tk (Some (value l)) (Some (value m)) None None lanes (λ h o. (value m, refl, heard l h m o)) (λ e. ap (λ (a : A). Some a) (alike l m e)) (λ c o. refl) d in
@@ -213,7 +213,7 @@ heard spans calls f g hooks alone of_calls order now =
 pub over_all_calls : {P S L A : Type 0} (top : P → L) (below : P → S) (spans : S → Spans) (inner : S → SubscriberCall → S → Type 0) (inner_same : S → S → Type 0) (outer : L → Hook → L → Type 0) (same : L → L → Type 0) (attaches : L → Bool)
     (inner_attaches : S → Bool) (inner_kept : S → ℕ → ℕ → ℕ) (step : A → Hook → A) (value : L → A) → ((l : L) (h : Hook) (m : L) → outer l h m → value m ≡ step (value l) h) → ((l m : L) → same l m → value m ≡ value l)
     → ((s : S) (c : SubscriberCall) (t : S) → inner s c t → Allowed (spans s) c) → ((s : S) (c : SubscriberCall) (t : S) → inner s c t → spans t ≡ spans_after_call (spans s) c)
-    → ((s : S) (c : SubscriberCall) (t : S) → inner s c t → CallLanes (inner_attaches s) (inner_kept s) c (inner_kept t))
+    → ((s : S) (c : SubscriberCall) (t : S) → inner s c t → CallKeepsLanes (inner_attaches s) (inner_kept s) c (inner_kept t))
     → (p : P) (calls : List SubscriberCall) (q : P)
     → CallsLead (λ (p : P) (c : SubscriberCall) (q : P). DoesBoth spans inner outer same attaches (below p) (top p) c (below q) (top q)) (λ (p q : P). inner_same (below p) (below q) × same (top p) (top q)) p calls q
     → ToldAll step (spans (below p)) calls (value (top p)) (value (top q)) []
@@ -229,13 +229,13 @@ over_all_calls {P} {S} {L} {A} top below spans inner inner_same outer same attac
 abbrev pub step_in_place : Option FilterState → Hook → Option FilterState
 step_in_place o h = option_map (λ (f : FilterState). after_hook f h) o
 
-pub does_in_place : (N : Type 0) (h : Hook) (o p : Option FilterWithRoom) → Both (λ l m. DoesFilter l h m) N o p → option_map plain_filter p ≡ step_in_place (option_map plain_filter o) h
+pub does_in_place : (N : Type 0) (h : Hook) (o p : Option FilterWithRoom) → BothOrNeither (λ l m. DoesFilter l h m) N o p → option_map plain_filter p ≡ step_in_place (option_map plain_filter o) h
 does_in_place N h None None d = refl
 does_in_place N h None (Some m) d = absurd d
 does_in_place N h (Some l) None d = absurd d
 does_in_place N h (Some l) (Some m) d = ap (λ (f : FilterState). Some f) d.now
 
-pub same_in_place : (N : Type 0) (o p : Option FilterWithRoom) → Both (λ (l m : FilterWithRoom). plain_filter m ≡ plain_filter l) N o p → option_map plain_filter p ≡ option_map plain_filter o
+pub same_in_place : (N : Type 0) (o p : Option FilterWithRoom) → BothOrNeither (λ (l m : FilterWithRoom). plain_filter m ≡ plain_filter l) N o p → option_map plain_filter p ≡ option_map plain_filter o
 same_in_place N None None d = refl
 same_in_place N None (Some m) d = absurd d
 same_in_place N (Some l) None d = absurd d

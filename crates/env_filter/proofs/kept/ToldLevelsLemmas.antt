@@ -1,6 +1,6 @@
 -- The levels kept are those that the calls tell.
 use Rattle.std.proofs.Common.{◌≡◌, ℕ, List, [], ◌∷◌, ◌++◌, length, take, drop, map, append_assoc, Bool, true, false, Option, Some, None, refl, sym, ap, subst, ◌∙◌, arith, inl, inr, ◌==◌, ◌||◌, ◌&&◌, if◌then◌else◌, is_some, fold}
-use Rattle.env_filter.proofs.Common.{list_all, cases_Bool, cases_eq, cond-true, cond-false, list_any-append, Callsite, Value, LevelFilter, OFF, Hook, OnNewSpan, OnRecord, OnFollows, OnEvent, OnEnter, OnExit, OnClose, Directive, more_verbose, Ask, Care, OpenLevel, MatchState, is_given, all_asks, found_in, match_state_by, new_match_state, cares_of, more_met, with_values, level_from, level_of_match, FilterState, fresh_filter, after_hook, span_level, callsite_if_made, values_given_by, is_close_of, callsite_by_calls, all_values_given, is_ended, greatest_from, is_met, level_by, level_if, level_by_calls, levels_after_call, levels_from, levels_by_calls, HasNoCalls, IsNext, AreInOrder}
+use Rattle.env_filter.proofs.Common.{list_all, cases_Bool, cases_eq, cond-true, cond-false, list_any-append, Callsite, Value, LevelFilter, OFF, Hook, OnNewSpan, OnRecord, OnFollows, OnEvent, OnEnter, OnExit, OnClose, Directive, more_verbose, Ask, Care, OpenLevel, MatchState, is_given, all_asks, found_in, match_state_by, new_match_state, cares_of, more_met, with_values, level_from, level_of_match, FilterState, fresh_filter, after_hook, span_level, callsite_if_made, values_given_by, is_close_of, callsite_by_calls, all_values_given, is_ended, greatest_from, is_met, level_by, level_if, level_by_calls, levels_after_call, levels_from, levels_by_calls, HasNoCalls, MayComeNext, AreInOrder}
 use Rattle.std.specs.List.{filter}
 use Rattle.std.specs.Option.{option_map}
 use Rattle.std.proofs.lemmas.Bool.{true≢false, eq-eqb, ne_eqb}
@@ -180,7 +180,7 @@ if_not {X} id q x y off = cond-false {A = X} (id == q) x y (ne_eqb id q (λ e. o
 if_same : {X : Type 0} (id : ℕ) (x y : X) → (if id == id then x else y) ≡ x
 if_same {X} id x y = cond-true {A = X} (id == id) x y (eq-eqb id id refl)
 
-stands_after : (ds : List Directive) (f : FilterState) (past : List Hook) (call : Hook) → Stands ds f past → IsNext past call → Stands ds (after_hook f call) (past ++ call ∷ [])
+stands_after : (ds : List Directive) (f : FilterState) (past : List Hook) (call : Hook) → Stands ds f past → MayComeNext past call → Stands ds (after_hook f call) (past ++ call ∷ [])
 stands_after ds f past (OnNewSpan id lane at parent current c values) s new = record {
   dynamics = s.dynamics;
   spans = put_kept ds f past (OnNewSpan id lane at parent current c values) id (new_match_state f.dynamics.directives c values.pairs) s

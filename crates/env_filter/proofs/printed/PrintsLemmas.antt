@@ -1,6 +1,6 @@
 -- What a filter prints is read, piece by piece, as the directives that it prints.
 use Rattle.std.proofs.Common.{◌≡◌, ℕ, ◌+◌, List, [], ◌∷◌, ◌++◌, length, map, flat_map, append_assoc, append-nil, Bool, true, false, true≢false, not, Option, Some, None, unwrap_or, codes, refl, sym, ap, subst, ◌∙◌, arith, ◌==◌, ◌||◌, if◌then◌else◌, eqb, is_some}
-use Rattle.env_filter.proofs.Common.{join_by, onto_first, trim, trim_start, trim_end, and_parts, nat_tests, LevelFilter, is_among, lacks, begins, IsDirective, directive_text, match_text, text_if_any, comma_pieces, comma_joined, static_text, StaticDirective, Directive, Each, ReadsPiece, ReadsAll, ReadsText, behind_commas, dynamics_text, bare_field, as_directive, printed_directives, IsReadBack}
+use Rattle.env_filter.proofs.Common.{join_by, onto_first, trim, trim_start, trim_end, and_parts, nat_tests, LevelFilter, is_among, lacks, begins_as_directive, IsDirective, directive_text, match_text, text_if_any, comma_pieces, comma_joined, static_text, StaticDirective, Directive, Each, ReadsPiece, ReadsAll, ReadsText, behind_commas, dynamics_text, bare_field, as_directive, printed_directives, IsReadBack}
 use Rattle.std.specs.Str.{chars}
 use Rattle.std.proofs.lemmas.List.Splits.{slice_split-cons_no}
 use Rattle.trace_base.specs.words.Level.{level_filter_text as level_text}
@@ -28,7 +28,7 @@ pieces_are d (e ∷ ds) all = cut_first (directive_text d) (dynamics_text (e ∷
 
 -- ---- each piece is read
 
-no_text : begins (trim []) ≡ true → ⊥
+no_text : begins_as_directive (trim []) ≡ true → ⊥
 unfolding trim_start trim_end chars
 no_text is = true≢false (sym is)
 

@@ -1,7 +1,7 @@
 -- Each directive that was read from a piece of a text is read back from what it prints.
 use Rattle.std.proofs.Common.{◌≡◌, ℕ, ◌+◌, ◌<◌, ◌^◌, List, [], ◌∷◌, ◌++◌, Bool, true, false, true≢false, not, codes, Option, Some, None, option_map, ℤ, pos, negsuc, suc, refl, sym, subst, ◌∙◌, arith, append-nil, append_assoc, map, lit<, ◌==◌, ◌||◌, if◌then◌else◌, nat_lt, is_some, IfSome}
 use Rattle.std.specs.Fmt.{decimal}
-use Rattle.env_filter.proofs.Common.{list_all, trim, encode, and_parts, IsUtf8-append, IsUtf8-from_ascii, LevelFilter, level_filter_text, pieces_at, is_among, lacks, unless_empty, target_at, Front, bare, spanned, fielded, DirectiveForm, alone, head_comma, leveled, leveled_comma, front_text, form_text, IsFieldText, IsDirectiveFront, IsForm, each_with_comma, directive_at, head_alone, level_or_target, level_behind, directive_of_form, IsDirective, comma_pieces, value_text, match_text, text_if_any, fields_text, has_bracket, bracket_text, equals_text, directive_text, HasNoMinusZero, Directive, Match, printed_trimmed, Each, ReadsPiece, ReadsAll, ReadsText, IsReadBack, HaveNoMinusZero, Ignored}
+use Rattle.env_filter.proofs.Common.{list_all, trim, encode, and_parts, IsUtf8-append, IsUtf8-from_ascii, LevelFilter, level_filter_text, pieces_at, is_among, lacks, unless_empty, directive_of_target, Front, bare, spanned, fielded, DirectiveForm, alone, head_comma, leveled, leveled_comma, front_text, form_text, IsFieldText, IsDirectiveFront, IsForm, fields_with_commas, directive_at, head_alone, level_or_target, level_behind, directive_of_form, IsDirective, comma_pieces, value_text, match_text, text_if_any, fields_text, has_bracket, bracket_text, equals_text, directive_text, HasNoMinusZero, Directive, Match, printed_trimmed, Each, ReadsPiece, ReadsAll, ReadsText, IsReadBack, HaveNoMinusZero, Ignored}
 use Rattle.std.specs.Str.{IsUtf8}
 use Rattle.std.specs.Str.Parse.{signed_digits_value, without_leading_sign}
 use Rattle.std.proofs.lemmas.Bool.{ltb-true}
@@ -179,15 +179,15 @@ unless : (text : List ℕ) → IsPiece text → IfSome (unless_empty text) IsPie
 unless [] piece = tt
 unless (b ∷ bs) piece = piece
 
-target_parts : (head : List ℕ) (level : LevelFilter) → IsPiece head → ArePieces (target_at head level)
+target_parts : (head : List ℕ) (level : LevelFilter) → IsPiece head → ArePieces (directive_of_target head level)
 target_parts head level piece = record { target = unless head piece; in_span = tt; fields = tt }
 
 -- between the braces stands one field
-one_field : (earlier : List (List ℕ)) (last more : List ℕ) → IsPiece (each_with_comma earlier ++ (last ++ 125 ∷ more)) → (earlier ≡ []) × IsPiece last
+one_field : (earlier : List (List ℕ)) (last more : List ℕ) → IsPiece (fields_with_commas earlier ++ (last ++ 125 ∷ more)) → (earlier ≡ []) × IsPiece last
 one_field [] last more piece = (refl, (cut_piece last 125 more (lit< tt) piece).0)
 one_field (e ∷ es) last more piece =
-    let whole : each_with_comma (e ∷ es) ++ (last ++ 125 ∷ more) ≡ e ++ 44 ∷ (each_with_comma es ++ (last ++ 125 ∷ more)) = simp append_assoc refl in
-    let parts = lacks_parts (codes ",") e (44 ∷ (each_with_comma es ++ (last ++ 125 ∷ more))) (subst (λ (t : List ℕ). lacks (codes ",") t ≡ true) whole piece.no_comma) in
+    let whole : fields_with_commas (e ∷ es) ++ (last ++ 125 ∷ more) ≡ e ++ 44 ∷ (fields_with_commas es ++ (last ++ 125 ∷ more)) = simp append_assoc refl in
+    let parts = lacks_parts (codes ",") e (44 ∷ (fields_with_commas es ++ (last ++ 125 ∷ more))) (subst (λ (t : List ℕ). lacks (codes ",") t ≡ true) whole piece.no_comma) in
     absurd (true≢false (sym parts.1))
 
 front_parts : (front : Front) (level : LevelFilter) → IsDirectiveFront front → IsPiece (front_text front) → HasNoMinusZero (directive_at false front level).fields → ArePieces (directive_at false front level)
@@ -196,8 +196,8 @@ front_parts (spanned head span) level parts piece no_zero =
     let at = cut_piece head 91 (span ++ codes "]") (lit< tt) piece in
     record { target = unless head at.0; in_span = (cut_piece span 93 [] (lit< tt) at.1).0; fields = tt }
 front_parts (fielded head span earlier last) level parts piece no_zero =
-    let at = cut_piece head 91 (span ++ (codes "{" ++ (each_with_comma earlier ++ (last ++ codes "}]")))) (lit< tt) piece in
-    let behind = cut_piece span 123 (each_with_comma earlier ++ (last ++ codes "}]")) (lit< tt) at.1 in
+    let at = cut_piece head 91 (span ++ (codes "{" ++ (fields_with_commas earlier ++ (last ++ codes "}]")))) (lit< tt) piece in
+    let behind = cut_piece span 123 (fields_with_commas earlier ++ (last ++ codes "}]")) (lit< tt) at.1 in
     let one = one_field earlier last (codes "]") behind.1 in
     let alone : HasNoMinusZero (map (field_of false) ([] ++ last ∷ [])) = subst (λ (es : List (List ℕ)). HasNoMinusZero (map (field_of false) (es ++ last ∷ []))) one.0 no_zero in
     record {

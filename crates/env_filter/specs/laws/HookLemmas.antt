@@ -9,8 +9,8 @@ use Rattle.trace_base.specs.declared.lane.Lane.{Lane}
 use Rattle.trace_base.specs.declared.level.LevelFilter.{LevelFilter}
 use Rattle.trace_base.specs.declared.level.LevelFilter.TheVariants.{OFF}
 use Rattle.trace_base.specs.words.Level.{greatest_verbosity}
-use Rattle.trace_base.specs.layers.Hooks.{Hook, OnNewSpan, OnRecord, OnFollows, OnEvent, OnEnter, OnExit, OnClose, Sees, HookLanes, one_if_entered, one_if_exited, one_if}
-use Rattle.trace_base.specs.lanes.Contexts.{attached_on, KeepsLane, KeepsAttached}
+use Rattle.trace_base.specs.layers.Hooks.{Hook, OnNewSpan, OnRecord, OnFollows, OnEvent, OnEnter, OnExit, OnClose, Sees, HookKeepsLanes, one_if_entered, one_if_exited, one_if}
+use Rattle.trace_base.specs.lanes.Contexts.{attached_count_on, KeepsLane, TracksAttached}
 use Rattle.trace_base.specs.Spans.{without_last}
 use Rattle.trace_base.proofs.EntryLemmas.{count_push, any_if_counted, count_without_last}
 use Rattle.env_directives.specs.declared.env.directive.Directive.{Directive}
@@ -40,26 +40,26 @@ pub same_does : (s t : FilterWithRoom) (hook : Hook) (u : FilterWithRoom) → (p
 same_does s t hook u h d = record { given = subst (λ (f : FilterState). AllowsHook f hook) h d.given; now = d.now ∙ ap (λ (f : FilterState). after_hook f hook) h }
 
 -- the tables stay
-keeps_statics : (f : FilterState) (hook : Hook) → (interest_in (after_hook f hook) ≡ interest_in f) × (◌≡◌ {A = Option LevelFilter} (Some (hint_in (after_hook f hook))) (Some (hint_in f)))
-keeps_statics f (OnNewSpan id lane at parent current callsite values) = (refl, refl)
-keeps_statics f (OnRecord id at callsite values) = (refl, refl)
-keeps_statics f (OnFollows id from at) = (refl, refl)
-keeps_statics f (OnEvent reached lane at callsite values) = (refl, refl)
-keeps_statics f (OnEnter id at before later) = (refl, refl)
-keeps_statics f (OnExit id at before later) = (refl, refl)
-keeps_statics f (OnClose id at) = (refl, refl)
+hook_keeps_gate : (f : FilterState) (hook : Hook) → (interest_in (after_hook f hook) ≡ interest_in f) × (◌≡◌ {A = Option LevelFilter} (Some (hint_in (after_hook f hook))) (Some (hint_in f)))
+hook_keeps_gate f (OnNewSpan id lane at parent current callsite values) = (refl, refl)
+hook_keeps_gate f (OnRecord id at callsite values) = (refl, refl)
+hook_keeps_gate f (OnFollows id from at) = (refl, refl)
+hook_keeps_gate f (OnEvent reached lane at callsite values) = (refl, refl)
+hook_keeps_gate f (OnEnter id at before later) = (refl, refl)
+hook_keeps_gate f (OnExit id at before later) = (refl, refl)
+hook_keeps_gate f (OnClose id at) = (refl, refl)
 
 pub keeps_gate : (s : FilterWithRoom) (hook : Hook) (t : FilterWithRoom) → DoesFilter s hook t → (interest_in (plain_filter t) ≡ interest_in (plain_filter s)) × (◌≡◌ {A = Option LevelFilter} (Some (hint_in (plain_filter t))) (Some (hint_in (plain_filter s))))
-keeps_gate s hook t d = (ap interest_in d.now ∙ (keeps_statics (plain_filter s) hook).0, ap (λ (f : FilterState). Some (hint_in f)) d.now ∙ (keeps_statics (plain_filter s) hook).1)
+keeps_gate s hook t d = (ap interest_in d.now ∙ (hook_keeps_gate (plain_filter s) hook).0, ap (λ (f : FilterState). Some (hint_in f)) d.now ∙ (hook_keeps_gate (plain_filter s) hook).1)
 
 -- nothing is attached
-no_keep : (before later : Lane) → later ≡ before → KeepsLane false before later × KeepsAttached (λ lane number. 0) before later (λ lane number. 0)
+no_keep : (before later : Lane) → later ≡ before → KeepsLane false before later × TracksAttached (λ lane number. 0) before later (λ lane number. 0)
 no_keep a b e = (
   record { id = ap (λ (l : Lane). l.id) e; name = ap (λ (l : Lane). l.name) e; default = ap (λ (l : Lane). l.default) e; as_it_is = λ no. e },
-  λ lane number. ap (λ (l : Lane). 0 + attached_on lane number l) (sym e),
+  λ lane number. ap (λ (l : Lane). 0 + attached_count_on lane number l) (sym e),
 )
 
-pub filter_lanes : (s : FilterWithRoom) (hook : Hook) (t : FilterWithRoom) → DoesFilter s hook t → HookLanes false (λ lane number. 0) hook (λ lane number. 0)
+pub filter_lanes : (s : FilterWithRoom) (hook : Hook) (t : FilterWithRoom) → DoesFilter s hook t → HookKeepsLanes false (λ lane number. 0) hook (λ lane number. 0)
 filter_lanes s (OnNewSpan id lane at parent current callsite values) t d = refl
 filter_lanes s (OnRecord id at callsite values) t d = refl
 filter_lanes s (OnFollows id from at) t d = refl

@@ -105,19 +105,19 @@ pub record HasNoCalls (q : ℕ) (past : List Hook) : Type 0 where
   pub nothing : all_values_given q past ≡ []
   pub not_ended : is_ended q past ≡ false
 
-abbrev pub IsNext : List Hook → Hook → Type 0
-IsNext past (OnNewSpan id lane at parent current callsite values) = HasNoCalls id past
-IsNext past (OnRecord id at callsite values) = Unit {0}
-IsNext past (OnFollows id from at) = Unit {0}
-IsNext past (OnEvent reached lane at callsite values) = Unit {0}
-IsNext past (OnEnter id at before later) = Unit {0}
-IsNext past (OnExit id at before later) = Unit {0}
-IsNext past (OnClose id at) = Unit {0}
+abbrev pub MayComeNext : List Hook → Hook → Type 0
+MayComeNext past (OnNewSpan id lane at parent current callsite values) = HasNoCalls id past
+MayComeNext past (OnRecord id at callsite values) = Unit {0}
+MayComeNext past (OnFollows id from at) = Unit {0}
+MayComeNext past (OnEvent reached lane at callsite values) = Unit {0}
+MayComeNext past (OnEnter id at before later) = Unit {0}
+MayComeNext past (OnExit id at before later) = Unit {0}
+MayComeNext past (OnClose id at) = Unit {0}
 
 -- each span is made once, before any other call of it
 abbrev pub AreInOrder : List Hook → List Hook → Type 0
 AreInOrder past [] = Unit {0}
-AreInOrder past (call ∷ calls) = IsNext past call × AreInOrder (past ++ call ∷ []) calls
+AreInOrder past (call ∷ calls) = MayComeNext past call × AreInOrder (past ++ call ∷ []) calls
 
 -- the calls since a filter had no span
 pub record AreHooksSince (f : FilterState) (calls : List Hook) : Type 0 where

@@ -3,13 +3,13 @@ use Rattle.std.specs.Prelude.{ℕ, if◌then◌else◌, Bool, List, [], ◌∷�
 use Rattle.std.specs.Option.{option_map, option_map_or}
 use Rattle.trace_base.specs.declared.level.LevelFilter.{LevelFilter}
 use Rattle.trace_base.specs.Spans.{without_last}
-use Rattle.env_filter.specs.spans.Keyed.{at_key}
+use Rattle.env_filter.specs.spans.Keyed.{value_at_key}
 use Rattle.env_filter.specs.spans.Levels.{OpenLevel, LaneLevels, is_of_span}
 use Rattle.env_filter.specs.spans.Watching.{MatchState, more_met, level_of_match}
 
 -- the matches of a span
 abbrev pub match_state_in : List (ℕ × MatchState) → ℕ → Option MatchState
-match_state_in spans id = at_key spans id
+match_state_in spans id = value_at_key spans id
 
 -- whether there are some, and the level that they come to
 abbrev pub has_match_state : List (ℕ × MatchState) → ℕ → Bool
@@ -20,10 +20,10 @@ level_in spans id = option_map level_of_match (match_state_in spans id)
 
 -- the levels of a lane, and its room for more
 abbrev pub levels_in : List (ℕ × LaneLevels) → ℕ → List OpenLevel
-levels_in lanes lane = option_map_or (λ (l : LaneLevels). l.opened) (at_key lanes lane) []
+levels_in lanes lane = option_map_or (λ (l : LaneLevels). l.opened) (value_at_key lanes lane) []
 
 abbrev pub room_in : List (ℕ × LaneLevels) → ℕ → ℕ
-room_in lanes lane = option_map_or (λ (l : LaneLevels). l.room) (at_key lanes lane) 0
+room_in lanes lane = option_map_or (λ (l : LaneLevels). l.room) (value_at_key lanes lane) 0
 
 -- matches with what was found
 abbrev pub with_met : List Bool → MatchState → MatchState

@@ -3,8 +3,8 @@ use Rattle.std.specs.Prelude.{ℕ, ◌==◌, if◌then◌else◌, List, Option, 
 use Rattle.std.specs.Map.{lookup}
 
 -- what stands at a number
-abbrev pub at_key : {V : Type 0} → List (ℕ × V) → ℕ → Option V
-at_key entries k = lookup (nat_eq k) entries
+abbrev pub value_at_key : {V : Type 0} → List (ℕ × V) → ℕ → Option V
+value_at_key entries k = lookup (nat_eq k) entries
 
 -- a function with another value at a number, and one that is made from its own there
 abbrev pub put : {V : Type 0} → (ℕ → V) → ℕ → V → ℕ → V

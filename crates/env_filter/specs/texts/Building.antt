@@ -1,7 +1,7 @@
 -- What a builder is set to, and which filter it makes of a text.
 use Rattle.std.specs.Prelude.{◌≡◌, ℕ, Bool, true, List, [], Option, None, Some, codes}
 use Rattle.trace_base.specs.declared.level.LevelFilter.TheVariants.{ERROR}
-use Rattle.env_directives.specs.reading.Forms.{target_at}
+use Rattle.env_directives.specs.reading.Forms.{directive_of_target}
 use Rattle.env_directives.specs.declared.directive.ParseError.{ParseError}
 use Rattle.env_directives.specs.declared.directive.ParseError.TheVariants.{Shape, Level, Field, Pattern, Equals, Fields, Memory}
 use Rattle.env_directives.specs.declared.env.directive.Directive.{Directive}
@@ -21,7 +21,7 @@ default_builder = record { patterns = true; default = None; variable = codes "RU
 
 -- errors alone, for filters that would have no directive
 abbrev pub errors_builder : BuilderValue
-errors_builder = record default_builder { default = Some (target_at [] ERROR) }
+errors_builder = record default_builder { default = Some (directive_of_target [] ERROR) }
 
 -- a builder that reads another variable
 abbrev pub with_variable : BuilderValue → List ℕ → BuilderValue

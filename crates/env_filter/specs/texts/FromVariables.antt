@@ -47,10 +47,10 @@ IsRefusedFrom told b Env = ⊥
 IsRefusedFrom told b Memory = Unit {0}
 
 -- the same where it has to be there
-abbrev pub IsRequiredFault : KnownVariables → BuilderValue → FromEnvError → Type 0
-IsRequiredFault told b (Parse fault) = (text : List ℕ) × IsReadUnder told b.variable (Some text) × (fault ≢ cause.Memory) × HasFilterFault b.patterns text fault
-IsRequiredFault told b Env = IsReadUnder told b.variable None
-IsRequiredFault told b Memory = Unit {0}
+abbrev pub IsFaultOfSetVariable : KnownVariables → BuilderValue → FromEnvError → Type 0
+IsFaultOfSetVariable told b (Parse fault) = (text : List ℕ) × IsReadUnder told b.variable (Some text) × (fault ≢ cause.Memory) × HasFilterFault b.patterns text fault
+IsFaultOfSetVariable told b Env = IsReadUnder told b.variable None
+IsFaultOfSetVariable told b Memory = Unit {0}
 
 -- a text's fault as one of its variable
 abbrev pub env_fault : ParseError → FromEnvError

@@ -2,7 +2,7 @@
 ghost use Rattle.std.specs.Prelude.{◌≡◌, [], Some, None, IfOk, IfErr, option_map, string_bytes, codes};
 ghost use Rattle.env_filter.specs.texts.Building.{default_builder, errors_builder, with_variable};
 ghost use Rattle.env_filter.specs.Filtering.{plain_filter, IsNewFilter};
-ghost use Rattle.env_filter.specs.texts.FromVariables.{IsFilterOfVariable, IsSomeFilterOfVariable, IsOfVariable, IsFilterOfSetVariable, IsRefusedFrom, IsRefusedIn, IsRequiredFault, IsParsed, env_fault_text};
+ghost use Rattle.env_filter.specs.texts.FromVariables.{IsFilterOfVariable, IsSomeFilterOfVariable, IsOfVariable, IsFilterOfSetVariable, IsRefusedFrom, IsRefusedIn, IsFaultOfSetVariable, IsParsed, env_fault_text};
 ghost use Rattle.env_filter.specs.declared.builder.env.FromEnvError.TheVariants as fault;
 
 use crate::builder::Builder;
@@ -20,9 +20,9 @@ impl Builder {
     /// The filter of the builder's variable, each piece of which has to be a directive; `Builder::from_env`. A variable
     /// that isn't set counts as empty.
     pub fn from_env<V: Vars>(&self, vars: &V) -> Result<EnvFilter, FromEnvError>
-        ensures ok { IfOk result (λ f. IsFilterOfVariable (V.told vars.now) self.now [] (plain_filter f)) }
+        ensures ok { IfOk result (λ f. IsFilterOfVariable (V.known_variables vars.now) self.now [] (plain_filter f)) }
         ensures new { IfOk result (λ f. IsNewFilter (plain_filter f)) }
-        ensures refused { IfErr result (IsRefusedFrom (V.told vars.now) self.now) }
+        ensures refused { IfErr result (IsRefusedFrom (V.known_variables vars.now) self.now) }
     {
         match vars.read(self.variable())? {
             Some(text) => parse_result(self.parse(text.as_str())),
@@ -33,7 +33,7 @@ impl Builder {
     /// The filter of those pieces of the builder's variable that are directives, and the others;
     /// `Builder::from_env_lossy`. A variable that isn't set counts as empty.
     pub fn from_env_lossy<V: Vars>(&self, vars: &V) -> Result<(EnvFilter, Vec<Ignored>), Memory>
-        ensures ok { IfOk result (λ r. IsFilterOfVariable (V.told vars.now) self.now r.1.items (plain_filter r.0)) }
+        ensures ok { IfOk result (λ r. IsFilterOfVariable (V.known_variables vars.now) self.now r.1.items (plain_filter r.0)) }
         ensures new { IfOk result (λ r. IsNewFilter (plain_filter r.0)) }
     {
         match vars.read(self.variable())? {
@@ -45,9 +45,9 @@ impl Builder {
     /// The filter of the builder's variable, which has to be set, and each piece of which has to be a directive;
     /// `Builder::try_from_env`.
     pub fn try_from_env<V: Vars>(&self, vars: &V) -> Result<EnvFilter, FromEnvError>
-        ensures ok { IfOk result (λ f. IsFilterOfSetVariable (V.told vars.now) self.now (plain_filter f)) }
+        ensures ok { IfOk result (λ f. IsFilterOfSetVariable (V.known_variables vars.now) self.now (plain_filter f)) }
         ensures new { IfOk result (λ f. IsNewFilter (plain_filter f)) }
-        ensures refused { IfErr result (IsRequiredFault (V.told vars.now) self.now) }
+        ensures refused { IfErr result (IsFaultOfSetVariable (V.known_variables vars.now) self.now) }
     {
         self.from_var(vars.read(self.variable())?)
     }
@@ -66,7 +66,7 @@ impl Builder {
 
     // The filter of those pieces of the builder's variable that are directives.
     fn some_from_env<V: Vars>(self, vars: &V) -> Result<EnvFilter, Memory>
-        ensures ok { IfOk result (λ f. IsSomeFilterOfVariable (V.told vars.now) self (plain_filter f)) }
+        ensures ok { IfOk result (λ f. IsSomeFilterOfVariable (V.known_variables vars.now) self (plain_filter f)) }
         ensures new { IfOk result (λ f. IsNewFilter (plain_filter f)) }
     {
         let read = self.from_env_lossy(vars);
@@ -80,7 +80,7 @@ impl EnvFilter {
     /// The filter of those pieces of `RUST_LOG` that are directives, and of errors alone where there is none;
     /// `EnvFilter::from_default_env`.
     pub fn from_default_env<V: Vars>(alloc: Global, vars: &V) -> Result<EnvFilter, Memory>
-        ensures ok { IfOk result (λ f. IsSomeFilterOfVariable (V.told vars.now) errors_builder (plain_filter f)) }
+        ensures ok { IfOk result (λ f. IsSomeFilterOfVariable (V.known_variables vars.now) errors_builder (plain_filter f)) }
         ensures new { IfOk result (λ f. IsNewFilter (plain_filter f)) }
     {
         errors_builder(alloc).some_from_env(vars)
@@ -89,7 +89,7 @@ impl EnvFilter {
     /// The same of the variable of a name; `EnvFilter::from_env`.
     pub fn from_env<V: Vars>(alloc: Global, name: &str, vars: &V) -> Result<EnvFilter, Memory>
         ensures ok { IfOk result
-            (λ f. IsSomeFilterOfVariable (V.told vars.now) (with_variable errors_builder name.now) (plain_filter f)) }
+            (λ f. IsSomeFilterOfVariable (V.known_variables vars.now) (with_variable errors_builder name.now) (plain_filter f)) }
         ensures new { IfOk result (λ f. IsNewFilter (plain_filter f)) }
     {
         let name = owned_name(alloc, name)?;
@@ -99,9 +99,9 @@ impl EnvFilter {
     /// The filter of `RUST_LOG`, which has to be set, and each piece of which has to be a directive;
     /// `EnvFilter::try_from_default_env`.
     pub fn try_from_default_env<V: Vars>(alloc: Global, vars: &V) -> Result<EnvFilter, FromEnvError>
-        ensures ok { IfOk result (λ f. IsFilterOfSetVariable (V.told vars.now) default_builder (plain_filter f)) }
+        ensures ok { IfOk result (λ f. IsFilterOfSetVariable (V.known_variables vars.now) default_builder (plain_filter f)) }
         ensures new { IfOk result (λ f. IsNewFilter (plain_filter f)) }
-        ensures refused { IfErr result (IsRequiredFault (V.told vars.now) default_builder) }
+        ensures refused { IfErr result (IsFaultOfSetVariable (V.known_variables vars.now) default_builder) }
     {
         EnvFilter::builder(alloc).try_from_env(vars)
     }
@@ -113,10 +113,10 @@ impl EnvFilter {
         vars: &V,
     ) -> Result<EnvFilter, FromEnvError>
         ensures ok { IfOk result
-            (λ f. IsFilterOfSetVariable (V.told vars.now) (with_variable default_builder name.now) (plain_filter f)) }
+            (λ f. IsFilterOfSetVariable (V.known_variables vars.now) (with_variable default_builder name.now) (plain_filter f)) }
         ensures new { IfOk result (λ f. IsNewFilter (plain_filter f)) }
         ensures refused { IfErr result
-            (IsRequiredFault (V.told vars.now) (with_variable default_builder name.now)) }
+            (IsFaultOfSetVariable (V.known_variables vars.now) (with_variable default_builder name.now)) }
     {
         let name = owned_name(alloc, name)?;
         EnvFilter::builder(alloc)

@@ -69,9 +69,9 @@ impl Layer for EnvFilter {
 
     ghost sees = { filter_sees };
 
-    ghost lanes = { filter_lanes };
+    ghost keeps_lanes = { filter_lanes };
 
-    ghost kept_by_entries = { λ s lane number none. refl };
+    ghost none_kept_without_entries = { λ s lane number none. refl };
 
     ghost passive = { λ s id at before later t d unknown. ap (λ (l : Lane). l.contexts.live) d.given };
 
@@ -99,7 +99,7 @@ impl Layer for EnvFilter {
         callsite: &Callsite,
         values: &ValueSet,
     ) -> Result<Ready, Memory> {
-        let matches = watch::watch(self.alloc, self.dynamics.as_slice(), callsite, values)?;
+        let matches = watch::new_matches(self.alloc, self.dynamics.as_slice(), callsite, values)?;
         self.spans.reserve(1)?;
         Ok(Ready {
             matches,

@@ -1,7 +1,7 @@
 //! The hooks of a layer that can be exchanged: those of the layer inside, or nothing.
 ghost use Rattle.std.specs.Prelude.{false, None};
 ghost use Rattle.trace_base.specs.layers.Unseeing.{no_known_spans, LeavesLanes};
-ghost use Rattle.env_filter.specs.Reloading.{layer_or, HoldsIfThere, Both, none_kept, sometimes, never_enabled, both_refl, both_trans, both_alike, both_keep, both_compose, both_see, both_lanes, both_passive, kept_through};
+ghost use Rattle.env_filter.specs.Reloading.{layer_or, HoldsIfThere, BothOrNeither, none_kept, sometimes, never_enabled, both_refl, both_trans, both_alike, both_keep, both_compose, both_see, both_lanes, both_passive, none_kept_through};
 
 use crate::reload::Layer;
 use otel_base::enter_error::EnterError;
@@ -33,11 +33,11 @@ impl<L: layer::Layer> layer::Layer for Layer<L> {
 
     ghost is_whole = { λ s. HoldsIfThere L.is_whole s.inner };
 
-    ghost same_but_room = { λ s t. Both L.same_but_room (Unit {0}) s.inner t.inner };
+    ghost same_but_room = { λ s t. BothOrNeither L.same_but_room (Unit {0}) s.inner t.inner };
 
-    ghost does = { λ s hook t. Both (λ l m. L.does l hook m) (LeavesLanes hook) s.inner t.inner };
+    ghost does = { λ s hook t. BothOrNeither (λ l m. L.does l hook m) (LeavesLanes hook) s.inner t.inner };
 
-    ghost ready = { λ s preparation r. Both (λ l q. L.ready l preparation q) (Unit {0}) s.inner r };
+    ghost ready = { λ s preparation r. BothOrNeither (λ l q. L.ready l preparation q) (Unit {0}) s.inner r };
 
     ghost same_refl = { λ s. both_refl L.same_but_room L.same_refl s.inner };
 
@@ -59,9 +59,9 @@ impl<L: layer::Layer> layer::Layer for Layer<L> {
 
     ghost sees = { λ s hook t d. both_see L.seen L.does (LeavesLanes hook) hook (λ l m. L.sees l hook m) s.inner t.inner d };
 
-    ghost lanes = { λ s hook t d. both_lanes L.attaches L.kept L.does hook (λ l m. L.lanes l hook m) s.inner t.inner d };
+    ghost keeps_lanes = { λ s hook t d. both_lanes L.attaches L.kept L.does hook (λ l m. L.keeps_lanes l hook m) s.inner t.inner d };
 
-    ghost kept_by_entries = { λ s lane number none. kept_through L.seen L.kept lane number (λ l. L.kept_by_entries l lane number) s.inner none };
+    ghost none_kept_without_entries = { λ s lane number none. none_kept_through L.seen L.kept lane number (λ l. L.none_kept_without_entries l lane number) s.inner none };
 
     ghost passive = { λ s id at before later t d unknown. both_passive L.seen L.does id at before later (λ l m. L.passive l id at before later m) s.inner t.inner d unknown };
 

@@ -1,6 +1,6 @@
 //! Calls on one handle.
 ghost use Rattle.std.specs.Prelude.{◌≡◌};
-ghost use Rattle.explain_stack.specs.Order.{SceneInOrder, IsHeld, KeepsScene};
+ghost use Rattle.explain_stack.specs.Order.{SceneInOrder, IsKnownWithSite, KeepsScene};
 ghost use Rattle.explain_stack.specs.Places.{InPlay};
 
 use crate::handles::{Handles, Slot};
@@ -43,7 +43,7 @@ fn act<S: Stack>(
     words: &str,
 ) -> (Slot, Result<String, Memory>)
     requires order { SceneInOrder S.spans S.kept S.is_whole scene.old }
-    requires held { IsHeld S.spans scene.old.site_count scene.old.world slot }
+    requires held { IsKnownWithSite S.spans scene.old.site_count scene.old.world slot }
     ensures keeps { KeepsScene S.spans S.kept S.is_whole scene.old scene.new }
     ensures slot { result.0 ≡ slot }
 {
@@ -65,7 +65,7 @@ fn enter<S: Stack>(
     at: u64,
 ) -> (Slot, Result<String, Memory>)
     requires order { SceneInOrder S.spans S.kept S.is_whole scene.old }
-    requires held { IsHeld S.spans scene.old.site_count scene.old.world slot }
+    requires held { IsKnownWithSite S.spans scene.old.site_count scene.old.world slot }
     ensures keeps { KeepsScene S.spans S.kept S.is_whole scene.old scene.new }
     ensures slot { result.0 ≡ slot }
 {
@@ -93,7 +93,7 @@ fn exit<S: Stack>(
     at: u64,
 ) -> (Slot, Result<String, Memory>)
     requires order { SceneInOrder S.spans S.kept S.is_whole scene.old }
-    requires held { IsHeld S.spans scene.old.site_count scene.old.world slot }
+    requires held { IsKnownWithSite S.spans scene.old.site_count scene.old.world slot }
     ensures keeps { KeepsScene S.spans S.kept S.is_whole scene.old scene.new }
     ensures slot { result.0 ≡ slot }
 {

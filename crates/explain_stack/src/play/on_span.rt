@@ -1,6 +1,6 @@
 //! Lines of calls on the span of one handle, which leave its entries.
 ghost use Rattle.std.specs.Prelude.{◌≡◌, ◌<◌};
-ghost use Rattle.explain_stack.specs.Order.{SceneInOrder, IsHeld, KeepsScene};
+ghost use Rattle.explain_stack.specs.Order.{SceneInOrder, IsKnownWithSite, KeepsScene};
 
 use crate::scene::Scene;
 use crate::stack::Stack;
@@ -21,7 +21,7 @@ pub fn tell<S: Stack>(
     words: &str,
 ) -> Result<String, Memory>
     requires order { SceneInOrder S.spans S.kept S.is_whole scene.old }
-    requires held { IsHeld S.spans scene.old.site_count scene.old.world span.now }
+    requires held { IsKnownWithSite S.spans scene.old.site_count scene.old.world span.now }
     ensures keeps { KeepsScene S.spans S.kept S.is_whole scene.old scene.new }
 {
     match call {
@@ -43,7 +43,7 @@ fn record<S: Stack>(
     words: &str,
 ) -> Result<(), Memory>
     requires order { SceneInOrder S.spans S.kept S.is_whole scene.old }
-    requires held { IsHeld S.spans scene.old.site_count scene.old.world span.now }
+    requires held { IsKnownWithSite S.spans scene.old.site_count scene.old.world span.now }
     ensures keeps { KeepsScene S.spans S.kept S.is_whole scene.old scene.new }
 {
     let values = words::values(alloc, words)?;
@@ -61,20 +61,20 @@ fn event<S: Stack>(
     words: &str,
 ) -> Result<(), Memory>
     requires order { SceneInOrder S.spans S.kept S.is_whole scene.old }
-    requires held { IsHeld S.spans scene.old.site_count scene.old.world span.now }
+    requires held { IsKnownWithSite S.spans scene.old.site_count scene.old.world span.now }
     ensures keeps { KeepsScene S.spans S.kept S.is_whole scene.old scene.new }
 {
     let (site, words) = words.split_once(' ').unwrap_or((words, ""));
     if let Some(site) = scene.site_at(words::number(site).unwrap_or(0)) {
-        if scene.admits(alloc, scene.lanes().0, site) {
-            return event_at(alloc, scene, span, at, site, words);
+        if scene.admits(alloc, scene.lane_ids().0, site) {
+            return event_admitted(alloc, scene, span, at, site, words);
         }
     }
     Ok(())
 }
 
 // An event of a callsite, which is taken.
-fn event_at<S: Stack>(
+fn event_admitted<S: Stack>(
     alloc: Global,
     scene: &mut Scene<S>,
     span: &Span,
@@ -83,7 +83,7 @@ fn event_at<S: Stack>(
     words: &str,
 ) -> Result<(), Memory>
     requires order { SceneInOrder S.spans S.kept S.is_whole scene.old }
-    requires held { IsHeld S.spans scene.old.site_count scene.old.world span.now }
+    requires held { IsKnownWithSite S.spans scene.old.site_count scene.old.world span.now }
     requires site { site < scene.old.site_count }
     ensures keeps { KeepsScene S.spans S.kept S.is_whole scene.old scene.new }
 {
@@ -103,25 +103,25 @@ fn ask<S: Stack>(
     words: &str,
 ) -> Result<String, Memory>
     requires order { SceneInOrder S.spans S.kept S.is_whole scene.old }
-    requires held { IsHeld S.spans scene.old.site_count scene.old.world span.now }
+    requires held { IsKnownWithSite S.spans scene.old.site_count scene.old.world span.now }
     ensures keeps { KeepsScene S.spans S.kept S.is_whole scene.old scene.new }
 {
     match call {
-        "context" => context(alloc, scene, span, at),
+        "context" => context_line(alloc, scene, span, at),
         "parent" => set_parent(alloc, scene, span, at, words),
         _ => told::refused_line(alloc),
     }
 }
 
 // The own context of a span, which starts it.
-fn context<S: Stack>(
+fn context_line<S: Stack>(
     alloc: Global,
     scene: &mut Scene<S>,
     span: &Span,
     at: u64,
 ) -> Result<String, Memory>
     requires order { SceneInOrder S.spans S.kept S.is_whole scene.old }
-    requires held { IsHeld S.spans scene.old.site_count scene.old.world span.now }
+    requires held { IsKnownWithSite S.spans scene.old.site_count scene.old.world span.now }
     ensures keeps { KeepsScene S.spans S.kept S.is_whole scene.old scene.new }
 {
     let own = scene.context(at, span).span_context();
@@ -138,7 +138,7 @@ fn set_parent<S: Stack>(
     words: &str,
 ) -> Result<String, Memory>
     requires order { SceneInOrder S.spans S.kept S.is_whole scene.old }
-    requires held { IsHeld S.spans scene.old.site_count scene.old.world span.now }
+    requires held { IsKnownWithSite S.spans scene.old.site_count scene.old.world span.now }
     ensures keeps { KeepsScene S.spans S.kept S.is_whole scene.old scene.new }
 {
     let context = Context {

@@ -39,7 +39,7 @@ pub fn around<S: Stack>(
         return told::refused_line(alloc);
     };
     match scene.is_around(at, slot.span()) {
-        Some(is_around) => told::answer(alloc, "around", is_around),
+        Some(is_around) => told::fact_line(alloc, "around", is_around),
         None => told::refused_line(alloc),
     }
 }

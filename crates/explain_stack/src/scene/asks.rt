@@ -77,14 +77,14 @@ impl<S: Stack> Scene<S> {
         requires site { site < self.old.site_count }
         ensures keeps { KeepsScene S.spans S.kept S.is_whole self.old self.new }
     {
-        if !self.has_room(span) {
+        if !self.can_hold(span) {
             return Ok(());
         }
         let parent = match span.id() {
             Some(id) => Parent::Of(id),
             None => Parent::Current,
         };
-        tell(
+        tell_event(
             &mut self.world,
             self.dispatch,
             &self.lane,
@@ -97,7 +97,7 @@ impl<S: Stack> Scene<S> {
 }
 
 // Tells an event under a parent.
-fn tell<S: Subscriber>(
+fn tell_event<S: Subscriber>(
     world: &mut World<S>,
     dispatch: Dispatch,
     lane: &Lane,

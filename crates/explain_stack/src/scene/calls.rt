@@ -5,7 +5,7 @@ ghost use Rattle.trace_base.specs.Calls.{Exit};
 ghost use Rattle.span_handles.specs.Handles.{IsKnown, Makes, ReplacedOn, ClosesOn, as_parent};
 ghost use Rattle.span_handles.specs.Knowing.{KeepsOthers};
 ghost use Rattle.span_handles.specs.Entries.{BeginsInside, KeepsLaneButRoom};
-ghost use Rattle.explain_stack.specs.Order.{SceneInOrder, IsHeld, KeepsScene};
+ghost use Rattle.explain_stack.specs.Order.{SceneInOrder, IsKnownWithSite, KeepsScene};
 ghost use Rattle.explain_stack.specs.Puts.{ClosesHeld};
 
 use crate::scene::Scene;
@@ -30,12 +30,12 @@ impl<S: Stack> Scene<S> {
         requires known { IsKnown S.spans self.old.world parent.now.held }
         requires site { site < self.old.site_count }
         ensures keeps { KeepsScene S.spans S.kept S.is_whole self.old self.new }
-        ensures made { IfOk result (λ made. IfSome made (IsHeld S.spans self.new.site_count self.new.world)) }
+        ensures made { IfOk result (λ made. IfSome made (IsKnownWithSite S.spans self.new.site_count self.new.world)) }
         ensures makes { IfOk result (λ made. IfSome made
             (Makes S.spans S.does self.old.world self.new.world self.old.lane at (as_parent parent.now.held) site
             values.now self.old.dispatch)) }
     {
-        if self.span_count >= 1000 || !self.has_room(parent) {
+        if self.span_count >= 1000 || !self.can_hold(parent) {
             return Ok(None);
         }
         let span = Span::child_of_with(
@@ -52,7 +52,7 @@ impl<S: Stack> Scene<S> {
     }
 
     /// A new child of the lane's current span, a root where there is none; none where no more are made.
-    pub fn make_current(
+    pub fn make_under_current(
         &mut self,
         at: u64,
         site: SiteId,
@@ -61,7 +61,7 @@ impl<S: Stack> Scene<S> {
         requires order { SceneInOrder S.spans S.kept S.is_whole self.old }
         requires site { site < self.old.site_count }
         ensures keeps { KeepsScene S.spans S.kept S.is_whole self.old self.new }
-        ensures made { IfOk result (λ made. IfSome made (IsHeld S.spans self.new.site_count self.new.world)) }
+        ensures made { IfOk result (λ made. IfSome made (IsKnownWithSite S.spans self.new.site_count self.new.world)) }
         ensures makes { IfOk result (λ made. IfSome made
             (Makes S.spans S.does self.old.world self.new.world self.old.lane at parent.Current site values.now
             self.old.dispatch)) }
@@ -84,7 +84,7 @@ impl<S: Stack> Scene<S> {
             (λ e. BeginsInside S.does at span.now.held self.old.world self.old.lane self.new.world self.new.lane)) }
         ensures refused { IfOk result (λ entry. entry ≡ None → KeepsLaneButRoom self.old.lane self.new.lane) }
     {
-        if !self.has_room(span) {
+        if !self.can_hold(span) {
             return Ok(None);
         }
         match span.open_entry(&mut self.world, &mut self.lane, at) {
@@ -106,7 +106,7 @@ impl<S: Stack> Scene<S> {
             → ReplacedOn (λ id s t. S.does s (Exit id at self.old.lane self.new.lane) t) self.old.world self.new.world
             span.now.held }
     {
-        if !self.is_open(span) {
+        if !self.has_open_entry(span) {
             return Some(entry);
         }
         span.close_entry(entry, &mut self.world, &mut self.lane, at);
@@ -129,7 +129,7 @@ impl<S: Stack> Scene<S> {
     /// Records values on a span.
     pub fn record(&mut self, at: u64, span: &Span, values: &ValueSet) -> Result<(), Memory>
         requires order { SceneInOrder S.spans S.kept S.is_whole self.old }
-        requires held { IsHeld S.spans self.old.site_count self.old.world span.now }
+        requires held { IsKnownWithSite S.spans self.old.site_count self.old.world span.now }
         ensures keeps { KeepsScene S.spans S.kept S.is_whole self.old self.new }
     {
         span.record_all(&mut self.world, at, values)?;
@@ -143,7 +143,7 @@ impl<S: Stack> Scene<S> {
         requires from { IsKnown S.spans self.old.world from.now.held }
         ensures keeps { KeepsScene S.spans S.kept S.is_whole self.old self.new }
     {
-        if self.has_room(span) && self.has_room(from) {
+        if self.can_hold(span) && self.can_hold(from) {
             span.follows_from(&mut self.world, at, from)?;
         }
         Ok(())

@@ -1,10 +1,10 @@
 //! Futures that are polled under the spans of handles, and full lanes.
 ghost use Rattle.std.specs.Prelude.{◌≡◌, ◌≤◌, ℕ, true, false, Some, IfSome};
 ghost use Rattle.trace_base.specs.declared.span.Parent.TheVariants as parent;
-ghost use Rattle.trace_base.specs.Conditions.{HasFewHolds, HasFewHoldsAbove};
-ghost use Rattle.trace_base.specs.lanes.Contexts.{attached_as};
+ghost use Rattle.trace_base.specs.Conditions.{HasFewHolds, ParentHasFewHolds};
+ghost use Rattle.trace_base.specs.lanes.Contexts.{attached_count};
 ghost use Rattle.trace_base.specs.Gate.{dispatch_on};
-ghost use Rattle.span_handles.specs.Handles.{IsKnown, HasOn, IsCurrent};
+ghost use Rattle.span_handles.specs.Handles.{IsKnown, HasOn, CopiesCurrent};
 ghost use Rattle.span_handles.specs.Knowing.{KeepsHandles, KeepsOthers, GainsOne, LosesOne};
 ghost use Rattle.span_handles.specs.Worlds.{Has};
 ghost use Rattle.explain_stack.specs.Looking.{probe_answer};
@@ -93,7 +93,7 @@ impl<S: Stack> Scene<S> {
             (record { inner = record { inner = future; dispatch = Some self.old.dispatch }; span = span })
             self.old.world self.old.lane at polled self.new.world self.new.lane) }
     {
-        if !self.has_room(&span) {
+        if !self.can_hold(&span) {
             return (span, None);
         }
         let (span, polled) = if is_served {
@@ -148,7 +148,7 @@ impl<S: Stack> Scene<S> {
         }
         let future = self.put_around();
         let is_around = future.span().same_span(span);
-        self.take_back(at, future);
+        self.close_future(at, future);
         Some(is_around)
     }
 
@@ -156,11 +156,11 @@ impl<S: Stack> Scene<S> {
     fn put_around(&mut self) -> Instrumented<SubscriberProbe>
         requires order { SceneInOrder S.spans S.kept S.is_whole self.old }
         requires served { dispatch_on self.old.lane.default self.old.world.global ≡ Some self.old.dispatch }
-        requires few { Has (λ s. HasFewHoldsAbove (S.spans s) self.old.lane.id parent.Current) self.old.world
+        requires few { Has (λ s. ParentHasFewHolds (S.spans s) self.old.lane.id parent.Current) self.old.world
             self.old.dispatch }
 
         ensures order { SceneInOrder S.spans S.kept S.is_whole self.new }
-        ensures current { IsCurrent S.spans S.does self.old.world self.new.world self.old.lane.id
+        ensures current { CopiesCurrent S.spans S.does self.old.world self.new.world self.old.lane.id
             (Some self.old.dispatch) result.span }
         ensures held { IsKnown S.spans self.new.world result.span.held }
         ensures keeps { KeepsHandles S.spans self.old.world self.new.world }
@@ -171,7 +171,7 @@ impl<S: Stack> Scene<S> {
     }
 
     // Closes the handle of a future.
-    fn take_back(&mut self, at: u64, future: Instrumented<SubscriberProbe>)
+    fn close_future(&mut self, at: u64, future: Instrumented<SubscriberProbe>)
         requires order { SceneInOrder S.spans S.kept S.is_whole self.old }
         requires known { IsKnown S.spans self.old.world future.span.held }
         ensures order { SceneInOrder S.spans S.kept S.is_whole self.new }
@@ -198,7 +198,7 @@ impl<S: Stack> Scene<S> {
 fn fill(lane: &mut Lane) -> Result<(), Memory>
     ensures id { lane.new.id ≡ lane.old.id }
     ensures default { lane.new.default ≡ lane.old.default }
-    ensures more { (number : ℕ) → attached_as number lane.old ≤ attached_as number lane.new }
+    ensures more { (number : ℕ) → attached_count number lane.old ≤ attached_count number lane.new }
 {
     for _ in 0..100_000 {
         match attach_empty(lane) {
@@ -215,7 +215,7 @@ fn fill(lane: &mut Lane) -> Result<(), Memory>
 fn attach_empty(lane: &mut Lane) -> Result<(), EnterError>
     ensures id { lane.new.id ≡ lane.old.id }
     ensures default { lane.new.default ≡ lane.old.default }
-    ensures more { (number : ℕ) → attached_as number lane.old ≤ attached_as number lane.new }
+    ensures more { (number : ℕ) → attached_count number lane.old ≤ attached_count number lane.new }
 {
     lane.contexts.attach(OtelContext::empty())?.discard();
     Ok(())

@@ -16,24 +16,24 @@ use std::alloc::Global;
 #[derive(Drop)]
 pub struct Tally {
     pub(crate) recorder: Recorder,
-    pub(crate) is_told: bool,
+    pub(crate) tells_counts: bool,
     pub(crate) reserved: u64,
     pub(crate) finished: u64,
 }
 
 impl Tally {
     /// One that was asked for nothing.
-    pub fn new(alloc: Global, is_told: bool) -> Tally
+    pub fn new(alloc: Global, tells_counts: bool) -> Tally
         ensures { result ≡ record {
           recorder = record { started = 0; spare = 0; finished = [] };
-          is_told = is_told;
+          tells_counts = tells_counts;
           reserved = 0;
           finished = 0;
         } }
     {
         Tally {
             recorder: Recorder::new(alloc),
-            is_told,
+            tells_counts,
             reserved: 0,
             finished: 0,
         }
@@ -47,7 +47,7 @@ impl Tally {
     }
 
     fn tell_counts(&self, alloc: Global, told: &mut String) -> Result<(), Memory> {
-        if self.is_told {
+        if self.tells_counts {
             let (reserved, finished) = self.counts();
             let line = format!(in alloc; "  reserved {reserved}, finished {finished}\n")?;
             told::add(told, line)?;

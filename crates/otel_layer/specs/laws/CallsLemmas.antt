@@ -17,13 +17,13 @@ use Rattle.otel_state.specs.States.{SpanData, after_op}
 use Rattle.otel_layer.specs.Table.{data_at, with_op, start_context, unstarted_count}
 use Rattle.otel_layer.specs.Core.{Core, seen_in, kept_in, seen_by, IsWholeCore}
 use Rattle.otel_layer.specs.Steps.{StartsIf, StartsSpan}
-use Rattle.otel_layer.specs.Parts.{PartCall, Applies, GivesContext, IsOutside, AppliesTo, context_at, Touches, GivesContextIn, AnswersCallIf, IsUnanswered, TouchesFirst, StaysLayer, StaysStack}
-use Rattle.otel_layer.specs.laws.HookLemmas.{KeepsBudget, update_keys, update_waiting_same, whole_kin, starts_kin}
+use Rattle.otel_layer.specs.Parts.{PartCall, Applies, GivesContext, IsOutside, AppliesTo, own_context_if_known, Touches, GivesContextIn, AnswersCallIf, IsUnanswered, TouchesFirst, StaysLayer, StaysStack}
+use Rattle.otel_layer.specs.laws.HookLemmas.{KeepsBudget, update_keys, update_unstarted_same, whole_budget, starts_budget}
 use Rattle.otel_layer.specs.laws.KnownSpansLemmas.{Quiet, starts_quiet}
 
 -- ---- what is told
 
-shows_tell : {T : Type 0} (does : T → TracerCall → T → Type 0) (under : Option Context) (c d : Core T) (id at : ℕ) (answer : Option Context) → StartsIf does under id at c d → answer ≡ context_at (data_at id d.spans)
+shows_tell : {T : Type 0} (does : T → TracerCall → T → Type 0) (under : Option Context) (c d : Core T) (id at : ℕ) (answer : Option Context) → StartsIf does under id at c d → answer ≡ own_context_if_known (data_at id d.spans)
     → GivesContextIn under c.spans id at answer d.spans
 shows_tell does None c d id at answer starts is = (ap (λ x. x.spans) starts, is)
 shows_tell does (Some under) c d id at answer starts is = (starts.0, ap (λ x. x.spans) starts.2, is)
@@ -34,24 +34,24 @@ touches_tell does c (GivesContext id at answer) d h = (d.spans, refl, shows_tell
 
 -- ---- what stays of a layer
 
-outside_own : (op : Op) → IsOutside op → (span_data : SpanData) (at : ℕ) → (after_op span_data at op).own ≡ span_data.own
-outside_own (ops.AddEvent event) h span_data at = refl
-outside_own (ops.Link link) h span_data at = refl
-outside_own (ops.SetAttribute pair) h span_data at = refl
-outside_own (ops.SetStatus status) h span_data at = refl
-outside_own (ops.SetParent context) h span_data at = refl
-outside_own (ops.Update update) h span_data at = absurd h
-outside_own (ops.Event is_error update event) h span_data at = absurd h
-outside_own ops.Counted h span_data at = absurd h
-outside_own (ops.Start own) h span_data at = absurd h
-outside_own ops.Enter h span_data at = absurd h
-outside_own ops.Exit h span_data at = absurd h
+outside_keeps_own : (op : Op) → IsOutside op → (span_data : SpanData) (at : ℕ) → (after_op span_data at op).own ≡ span_data.own
+outside_keeps_own (ops.AddEvent event) h span_data at = refl
+outside_keeps_own (ops.Link link) h span_data at = refl
+outside_keeps_own (ops.SetAttribute pair) h span_data at = refl
+outside_keeps_own (ops.SetStatus status) h span_data at = refl
+outside_keeps_own (ops.SetParent context) h span_data at = refl
+outside_keeps_own (ops.Update update) h span_data at = absurd h
+outside_keeps_own (ops.Event is_error update event) h span_data at = absurd h
+outside_keeps_own ops.Counted h span_data at = absurd h
+outside_keeps_own (ops.Start own) h span_data at = absurd h
+outside_keeps_own ops.Enter h span_data at = absurd h
+outside_keeps_own ops.Exit h span_data at = absurd h
 
 applied_keeps : (o : Option SpanData) (spans now : List (ℕ × SpanData)) (id at : ℕ) (op : Op) (answer : Option (Result OpReply Memory)) → AppliesTo o spans id at op answer now → IsOutside op → (keys_of now ≡ keys_of spans) × (unstarted_count now ≡ unstarted_count spans)
 applied_keeps None spans now id at op answer h out = (ap (λ (xs : List (ℕ × SpanData)). keys_of xs) h.1, ap unstarted_count h.1)
 applied_keeps (Some span_data) spans now id at op None h out = absurd h
 applied_keeps (Some span_data) spans now id at op (Some (Ok r)) h out =
-    (ap (λ (xs : List (ℕ × SpanData)). keys_of xs) h.1 ∙ update_keys id (λ t. after_op t at op) spans, ap unstarted_count h.1 ∙ update_waiting_same id (λ t. after_op t at op) spans (λ t. outside_own op out t at))
+    (ap (λ (xs : List (ℕ × SpanData)). keys_of xs) h.1 ∙ update_keys id (λ t. after_op t at op) spans, ap unstarted_count h.1 ∙ update_unstarted_same id (λ t. after_op t at op) spans (λ t. outside_keeps_own op out t at))
 applied_keeps (Some span_data) spans now id at op (Some (Err memory)) h out = (ap (λ (xs : List (ℕ × SpanData)). keys_of xs) h.1, ap unstarted_count h.1)
 
 quiet_seen : {T : Type 0} (c d : Core T) → Quiet c d → seen_in d ≡ seen_in c
@@ -75,14 +75,14 @@ module _ {T : Type 0} (does : T → TracerCall → T → Type 0) (spare started 
         },
         record { keys = same.0; tokens = ap (λ x. x.tokens) h.2; settings = ap (λ x. x.settings) h.2 },
       )
-  touched c (GivesContext id at answer) d h = (starts_kin does spare started counts id at c d h.0, starts_quiet does id at c d h.0)
+  touched c (GivesContext id at answer) d h = (starts_budget does spare started counts id at c d h.0, starts_quiet does id at c d h.0)
 
   -- the clause of a law of the layer's trait, over the layer's value
   pub core_stays : (c : Core T) (call : PartCall) (d : Core T) → Touches does c call d
       → (seen_in d ≡ seen_in c) × (kept_in d ≡ kept_in c) × (d.settings.activation ≡ c.settings.activation) × (IsWholeCore spare started c → IsWholeCore spare started d)
   core_stays c call d h =
       let t = touched c call d h in
-      (quiet_seen c d t.1, quiet_kept c d t.1, ap (λ s. s.activation) t.1.settings, whole_kin does spare started counts c d t.0)
+      (quiet_seen c d t.1, quiet_kept c d t.1, ap (λ s. s.activation) t.1.settings, whole_budget does spare started counts c d t.0)
 
 pub layer_can_start : {T : Type 0} (spare started : T → ℕ) (c : Core T) → IsWholeCore spare started c → started c.tracer < 2 ^ 63
 layer_can_start spare started c w = (let b = w.budget in let f = w.few in omega (arith, b, f))

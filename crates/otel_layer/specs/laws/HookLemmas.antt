@@ -18,9 +18,9 @@ use Rattle.otel_state.specs.States.{SpanData, after_op, first_start, record_of}
 use Rattle.otel_state.specs.declared.settings.LayerSettings.{LayerSettings}
 use Rattle.otel_state.specs.fields.SpanFields.{span_update}
 use Rattle.trace_base.specs.declared.field.ValueSet.{ValueSet}
-use Rattle.otel_layer.specs.Table.{is_id, data_at, knows_span, update, with_op, one_if_unstarted, unstarted_count, context_unless_started, start_context, ids_at}
+use Rattle.otel_layer.specs.Table.{is_id, data_at, knows_span, update, with_op, one_if_unstarted, unstarted_count, context_unless_started, start_context, ids_if_known}
 use Rattle.otel_layer.specs.Core.{Core, IsWholeCore}
-use Rattle.otel_layer.specs.Steps.{Reserves, SameCore, StartsIf, StartsSpan, StartsIfSome, parent_source, lane_context, context_from, MakesSpan, new_span_data, with_link, EventEffect, all_events, EntersSpan, ExitsSpan, ClosesSpan, Step, DoesHook}
+use Rattle.otel_layer.specs.Steps.{Reserves, SameCore, StartsIf, StartsSpan, StartsIfSome, parent_source, lane_context, context_from, MakesSpan, new_span_data, with_link, EventEffect, all_events_effect, EntersSpan, ExitsSpan, ClosesSpan, Step, DoesHook}
 
 -- one span changed
 pub update_keys : (id : ℕ) (f : SpanData → SpanData) (spans : List (ℕ × SpanData)) → keys_of (update id f spans) ≡ keys_of spans
@@ -31,17 +31,17 @@ update_keys id f (e ∷ es) =
       | inr apart ↦ ap (λ (xs : List (ℕ × SpanData)). keys_of xs) (cond-false {A = List (ℕ × SpanData)} (e.0 == id) ((e.0, f e.1) ∷ es) (e ∷ update id f es) apart) ∙ ap (λ ks. e.0 ∷ ks) (update_keys id f es)
     ]
 
-pub update_waiting_same : (id : ℕ) (f : SpanData → SpanData) (spans : List (ℕ × SpanData)) → ((span_data : SpanData) → (f span_data).own ≡ span_data.own) → unstarted_count (update id f spans) ≡ unstarted_count spans
-update_waiting_same id f [] keeps = refl
-update_waiting_same id f (e ∷ es) keeps =
+pub update_unstarted_same : (id : ℕ) (f : SpanData → SpanData) (spans : List (ℕ × SpanData)) → ((span_data : SpanData) → (f span_data).own ≡ span_data.own) → unstarted_count (update id f spans) ≡ unstarted_count spans
+update_unstarted_same id f [] keeps = refl
+update_unstarted_same id f (e ∷ es) keeps =
     elim (cases_Bool (e.0 == id)) [
       | inl here ↦ ap unstarted_count (cond-true {A = List (ℕ × SpanData)} (e.0 == id) ((e.0, f e.1) ∷ es) (e ∷ update id f es) here) ∙ ap (λ o. one_if_unstarted o + unstarted_count es) (keeps e.1)
-      | inr apart ↦ ap unstarted_count (cond-false {A = List (ℕ × SpanData)} (e.0 == id) ((e.0, f e.1) ∷ es) (e ∷ update id f es) apart) ∙ ap (λ n. one_if_unstarted e.1.own + n) (update_waiting_same id f es keeps)
+      | inr apart ↦ ap unstarted_count (cond-false {A = List (ℕ × SpanData)} (e.0 == id) ((e.0, f e.1) ∷ es) (e ∷ update id f es) apart) ∙ ap (λ n. one_if_unstarted e.1.own + n) (update_unstarted_same id f es keeps)
     ]
 
-pub update_waiting : (id : ℕ) (f : SpanData → SpanData) (spans : List (ℕ × SpanData)) (span_data : SpanData) → data_at id spans ≡ Some span_data → unstarted_count (update id f spans) + one_if_unstarted span_data.own ≡ unstarted_count spans + one_if_unstarted (f span_data).own
-update_waiting id f [] span_data is = absurd (cc)
-update_waiting id f (e ∷ es) span_data is =
+pub update_unstarted : (id : ℕ) (f : SpanData → SpanData) (spans : List (ℕ × SpanData)) (span_data : SpanData) → data_at id spans ≡ Some span_data → unstarted_count (update id f spans) + one_if_unstarted span_data.own ≡ unstarted_count spans + one_if_unstarted (f span_data).own
+update_unstarted id f [] span_data is = absurd (cc)
+update_unstarted id f (e ∷ es) span_data is =
     elim (cases_Bool (e.0 == id)) [
       | inl here ↦ (
           let found = ap (λ o. unwrap_or o span_data) (sym (cond-true {A = Option SpanData} (e.0 == id) (Some e.1) (data_at id es) here) ∙ is) in
@@ -50,18 +50,18 @@ update_waiting id f (e ∷ es) span_data is =
           let y = ap (λ (t : SpanData). one_if_unstarted (f t).own) found in
           omega (arith, now, x, y))
       | inr apart ↦ (
-          let rest = update_waiting id f es span_data (sym (cond-false {A = Option SpanData} (e.0 == id) (Some e.1) (data_at id es) apart) ∙ is) in
+          let rest = update_unstarted id f es span_data (sym (cond-false {A = Option SpanData} (e.0 == id) (Some e.1) (data_at id es) apart) ∙ is) in
           let now = ap unstarted_count (cond-false {A = List (ℕ × SpanData)} (e.0 == id) ((e.0, f e.1) ∷ es) (e ∷ update id f es) apart) in
           omega (arith, now, rest))
     ]
 
-pub removed_waiting : (id : ℕ) (spans : List (ℕ × SpanData)) → unstarted_count (remove_entry (is_id id) spans) ≤ unstarted_count spans
-removed_waiting id [] = omega arith
-removed_waiting id (e ∷ es) =
+pub removed_unstarted : (id : ℕ) (spans : List (ℕ × SpanData)) → unstarted_count (remove_entry (is_id id) spans) ≤ unstarted_count spans
+removed_unstarted id [] = omega arith
+removed_unstarted id (e ∷ es) =
     elim (cases_Bool (e.0 == id)) [
       | inl here ↦ (let now = ap unstarted_count (cond-true {A = List (ℕ × SpanData)} (e.0 == id) es (e ∷ remove_entry (is_id id) es) here) in omega (arith, now))
       | inr apart ↦ (
-          let rest = removed_waiting id es in
+          let rest = removed_unstarted id es in
           let now = ap unstarted_count (cond-false {A = List (ℕ × SpanData)} (e.0 == id) es (e ∷ remove_entry (is_id id) es) apart) in
           omega (arith, now, rest))
     ]
@@ -81,7 +81,7 @@ removed_length id (e ∷ es) span_data is =
 abbrev pub StartsNoSpan : EventEffect → Type 0
 StartsNoSpan events = (settings : LayerSettings) (lane at : ℕ) (callsite : Callsite) (values : ValueSet) (span_data : SpanData) → (events settings lane at callsite values span_data).own ≡ span_data.own
 
-pub all_keep_own : StartsNoSpan all_events
+pub all_keep_own : StartsNoSpan all_events_effect
 all_keep_own settings lane at callsite values span_data = refl
 
 pub or_right_true : (a b : Bool) → b ≡ true → (a || b) ≡ true
@@ -133,8 +133,8 @@ pub record KeepsBudget {T : Type 0} (spare started : T → ℕ) (c d : Core T) :
   pub spares : spare c.tracer ≤ spare d.tracer
   pub budget : started d.tracer + unstarted_count d.spans ≤ started c.tracer + unstarted_count c.spans
 
-kin_same : {T : Type 0} (spare started : T → ℕ) (c d : Core T) → d ≡ c → KeepsBudget spare started c d
-kin_same spare started c d e = record {
+budget_same : {T : Type 0} (spare started : T → ℕ) (c d : Core T) → d ≡ c → KeepsBudget spare started c d
+budget_same spare started c d e = record {
   keys = ap (λ x. keys_of x.spans) e;
   settings = ap (λ x. x.settings) e;
   reserved = ap (λ x. x.reserved) e;
@@ -143,8 +143,8 @@ kin_same spare started c d e = record {
   budget = (let h = ap (λ x. started x.tracer + unstarted_count x.spans) e in omega (arith, h));
 }
 
-kin_trans : {T : Type 0} (spare started : T → ℕ) (c d e : Core T) → KeepsBudget spare started c d → KeepsBudget spare started d e → KeepsBudget spare started c e
-kin_trans spare started c d e a b = record {
+budget_trans : {T : Type 0} (spare started : T → ℕ) (c d e : Core T) → KeepsBudget spare started c d → KeepsBudget spare started d e → KeepsBudget spare started c e
+budget_trans spare started c d e a b = record {
   keys = b.keys ∙ a.keys;
   settings = b.settings ∙ a.settings;
   reserved = b.reserved ∙ a.reserved;
@@ -153,32 +153,32 @@ kin_trans spare started c d e a b = record {
   budget = (let x = a.budget in let y = b.budget in omega (arith, x, y));
 }
 
-op_kin : {T : Type 0} (spare started : T → ℕ) (c d : Core T) (id at : ℕ) (op : Op) → ((span_data : SpanData) → (after_op span_data at op).own ≡ span_data.own)
+op_budget : {T : Type 0} (spare started : T → ℕ) (c d : Core T) (id at : ℕ) (op : Op) → ((span_data : SpanData) → (after_op span_data at op).own ≡ span_data.own)
     → d.spans ≡ with_op id at op c.spans → d.tracer ≡ c.tracer → d.settings ≡ c.settings → d.reserved ≡ c.reserved → d.span_count ≡ c.span_count → KeepsBudget spare started c d
-op_kin spare started c d id at op keeps spans tracer settings reserved span_count = record {
+op_budget spare started c d id at op keeps spans tracer settings reserved span_count = record {
   keys = ap (λ (xs : List (ℕ × SpanData)). keys_of xs) spans ∙ update_keys id (λ t. after_op t at op) c.spans;
   settings = settings;
   reserved = reserved;
   span_count = span_count;
   spares = (let h = ap spare tracer in omega (arith, h));
-  budget = (let h = ap started tracer in let w = ap unstarted_count spans ∙ update_waiting_same id (λ t. after_op t at op) c.spans keeps in omega (arith, h, w));
+  budget = (let h = ap started tracer in let w = ap unstarted_count spans ∙ update_unstarted_same id (λ t. after_op t at op) c.spans keeps in omega (arith, h, w));
 }
 
-waits_none : (own : Option SpanContext) (context under : Context) → context_unless_started own context ≡ Some under → own ≡ None
-waits_none None context under h = refl
-waits_none (Some own) context under h = absurd (cc)
+unstarted_own : (own : Option SpanContext) (context under : Context) → context_unless_started own context ≡ Some under → own ≡ None
+unstarted_own None context under h = refl
+unstarted_own (Some own) context under h = absurd (cc)
 
-waits_some : (o : Option SpanData) (under : Context) → start_context o ≡ Some under → (span_data : SpanData) × (o ≡ Some span_data) × (span_data.own ≡ None)
-waits_some None under h = absurd (cc)
-waits_some (Some span_data) under h = (span_data, refl, waits_none span_data.own span_data.parent under h)
+unstarted_data : (o : Option SpanData) (under : Context) → start_context o ≡ Some under → (span_data : SpanData) × (o ≡ Some span_data) × (span_data.own ≡ None)
+unstarted_data None under h = absurd (cc)
+unstarted_data (Some span_data) under h = (span_data, refl, unstarted_own span_data.own span_data.parent under h)
 
 module _ {T : Type 0} (does : T → TracerCall → T → Type 0) (spare started : T → ℕ) (counts : (s : T) (call : TracerCall) (t : T) → does s call t → CountsSpares (spare s) call (spare t) × CountsStarts (started s) call (started t)) where
-  starts_if_kin : (under : Option Context) (id at : ℕ) (c d : Core T) → start_context (data_at id c.spans) ≡ under → StartsIf does under id at c d → KeepsBudget spare started c d
-  starts_if_kin None id at c d is h = kin_same spare started c d h
-  starts_if_kin (Some under) id at c d is h =
-      let w = waits_some (data_at id c.spans) under is in
+  starts_if_budget : (under : Option Context) (id at : ℕ) (c d : Core T) → start_context (data_at id c.spans) ≡ under → StartsIf does under id at c d → KeepsBudget spare started c d
+  starts_if_budget None id at c d is h = budget_same spare started c d h
+  starts_if_budget (Some under) id at c d is h =
+      let w = unstarted_data (data_at id c.spans) under is in
       let n = counts c.tracer (Start (ids_of under) h.0) d.tracer h.1 in
-      let less = update_waiting id (λ t. after_op t at (ops.Start h.0)) c.spans w.0 w.1 in
+      let less = update_unstarted id (λ t. after_op t at (ops.Start h.0)) c.spans w.0 w.1 in
       let none = ap one_if_unstarted w.2 in
       let some = ap (λ (o : Option SpanContext). one_if_unstarted (first_start o (Some h.0))) w.2 in
       record {
@@ -190,15 +190,15 @@ module _ {T : Type 0} (does : T → TracerCall → T → Type 0) (spare started 
         budget = (let now = ap (λ x. unstarted_count x.spans) h.2 in let m = n.1 in omega (arith, less, none, some, now, m));
       }
 
-  pub starts_kin : (id at : ℕ) (c d : Core T) → StartsSpan does id at c d → KeepsBudget spare started c d
-  starts_kin id at c d h = starts_if_kin (start_context (data_at id c.spans)) id at c d refl h
+  pub starts_budget : (id at : ℕ) (c d : Core T) → StartsSpan does id at c d → KeepsBudget spare started c d
+  starts_budget id at c d h = starts_if_budget (start_context (data_at id c.spans)) id at c d refl h
 
-  pub any_kin : (o : Option ℕ) (at : ℕ) (c d : Core T) → StartsIfSome does o at c d → KeepsBudget spare started c d
-  any_kin None at c d h = kin_same spare started c d h
-  any_kin (Some id) at c d h = starts_kin id at c d h
+  pub any_budget : (o : Option ℕ) (at : ℕ) (c d : Core T) → StartsIfSome does o at c d → KeepsBudget spare started c d
+  any_budget None at c d h = budget_same spare started c d h
+  any_budget (Some id) at c d h = starts_budget id at c d h
 
-  pub whole_kin : (c d : Core T) → KeepsBudget spare started c d → IsWholeCore spare started c → IsWholeCore spare started d
-  whole_kin c d k w =
+  pub whole_budget : (c d : Core T) → KeepsBudget spare started c d → IsWholeCore spare started c → IsWholeCore spare started d
+  whole_budget c d k w =
       let a = w.spares in
       let b = k.spares in
       let r = k.reserved in
@@ -210,43 +210,43 @@ module _ {T : Type 0} (does : T → TracerCall → T → Type 0) (spare started 
       let m = k.span_count in
       record { spares = omega (arith, a, b, r); rooms = omega (arith, l, rooms, r); budget = omega (arith, budget, less, m); few = omega (arith, few, m) }
 
-  link_kin : (o : Option SpanContext) (id at : ℕ) (c d : Core T) → d ≡ record c { spans = with_link id at o c.spans } → KeepsBudget spare started c d
-  link_kin None id at c d e = kin_same spare started c d e
-  link_kin (Some context) id at c d e =
-      op_kin spare started c d id at (ops.Link (record { context = context; attributes = [] })) (λ t. refl) (ap (λ x. x.spans) e) (ap (λ x. x.tracer) e) (ap (λ x. x.settings) e) (ap (λ x. x.reserved) e) (ap (λ x. x.span_count) e)
+  link_budget : (o : Option SpanContext) (id at : ℕ) (c d : Core T) → d ≡ record c { spans = with_link id at o c.spans } → KeepsBudget spare started c d
+  link_budget None id at c d e = budget_same spare started c d e
+  link_budget (Some context) id at c d e =
+      op_budget spare started c d id at (ops.Link (record { context = context; attributes = [] })) (λ t. refl) (ap (λ x. x.spans) e) (ap (λ x. x.tracer) e) (ap (λ x. x.settings) e) (ap (λ x. x.reserved) e) (ap (λ x. x.span_count) e)
 
-  one_op_kin : (c d : Core T) (id at : ℕ) (op : Op) → ((span_data : SpanData) → (after_op span_data at op).own ≡ span_data.own) → d ≡ record c { spans = with_op id at op c.spans } → KeepsBudget spare started c d
-  one_op_kin c d id at op keeps e =
-      op_kin spare started c d id at op keeps (ap (λ x. x.spans) e) (ap (λ x. x.tracer) e) (ap (λ x. x.settings) e) (ap (λ x. x.reserved) e) (ap (λ x. x.span_count) e)
+  one_op_budget : (c d : Core T) (id at : ℕ) (op : Op) → ((span_data : SpanData) → (after_op span_data at op).own ≡ span_data.own) → d ≡ record c { spans = with_op id at op c.spans } → KeepsBudget spare started c d
+  one_op_budget c d id at op keeps e =
+      op_budget spare started c d id at op keeps (ap (λ x. x.spans) e) (ap (λ x. x.tracer) e) (ap (λ x. x.settings) e) (ap (λ x. x.reserved) e) (ap (λ x. x.span_count) e)
 
-  event_kin : (c d : Core T) (id : ℕ) (f : SpanData → SpanData) → ((span_data : SpanData) → (f span_data).own ≡ span_data.own) → d ≡ record c { spans = update id f c.spans } → KeepsBudget spare started c d
-  event_kin c d id f keeps e = record {
+  event_budget : (c d : Core T) (id : ℕ) (f : SpanData → SpanData) → ((span_data : SpanData) → (f span_data).own ≡ span_data.own) → d ≡ record c { spans = update id f c.spans } → KeepsBudget spare started c d
+  event_budget c d id f keeps e = record {
     keys = ap (λ x. keys_of x.spans) e ∙ update_keys id f c.spans;
     settings = ap (λ x. x.settings) e;
     reserved = ap (λ x. x.reserved) e;
     span_count = ap (λ x. x.span_count) e;
     spares = (let h = ap (λ x. spare x.tracer) e in omega (arith, h));
-    budget = (let h = ap (λ x. started x.tracer) e in let w = ap (λ x. unstarted_count x.spans) e ∙ update_waiting_same id f c.spans keeps in omega (arith, h, w));
+    budget = (let h = ap (λ x. started x.tracer) e in let w = ap (λ x. unstarted_count x.spans) e ∙ update_unstarted_same id f c.spans keeps in omega (arith, h, w));
   }
 
-  pub enters_kin : (c d : Core T) (id at : ℕ) (before later : Lane) → EntersSpan does c id at before later d → KeepsBudget spare started c d
-  enters_kin c d id at before later h =
-      kin_trans spare started c h.between d (any_kin (if c.settings.activation then Some id else None) at c h.between h.starts)
-      (op_kin spare started h.between d id at ops.Enter (λ t. refl) (ap (λ x. x.spans) h.rest) (ap (λ x. x.tracer) h.rest) (ap (λ x. x.settings) h.rest) (ap (λ x. x.reserved) h.rest) (ap (λ x. x.span_count) h.rest))
+  pub enters_budget : (c d : Core T) (id at : ℕ) (before later : Lane) → EntersSpan does c id at before later d → KeepsBudget spare started c d
+  enters_budget c d id at before later h =
+      budget_trans spare started c h.between d (any_budget (if c.settings.activation then Some id else None) at c h.between h.starts)
+      (op_budget spare started h.between d id at ops.Enter (λ t. refl) (ap (λ x. x.spans) h.rest) (ap (λ x. x.tracer) h.rest) (ap (λ x. x.settings) h.rest) (ap (λ x. x.reserved) h.rest) (ap (λ x. x.span_count) h.rest))
 
-  pub exits_kin : (c d : Core T) (id at : ℕ) (before later : Lane) → ExitsSpan c id at before later d → KeepsBudget spare started c d
-  exits_kin c d id at before later h =
-      op_kin spare started c d id at ops.Exit (λ t. refl) (ap (λ x. x.spans) h.rest) (ap (λ x. x.tracer) h.rest) (ap (λ x. x.settings) h.rest) (ap (λ x. x.reserved) h.rest) (ap (λ x. x.span_count) h.rest)
+  pub exits_budget : (c d : Core T) (id at : ℕ) (before later : Lane) → ExitsSpan c id at before later d → KeepsBudget spare started c d
+  exits_budget c d id at before later h =
+      op_budget spare started c d id at ops.Exit (λ t. refl) (ap (λ x. x.spans) h.rest) (ap (λ x. x.tracer) h.rest) (ap (λ x. x.settings) h.rest) (ap (λ x. x.reserved) h.rest) (ap (λ x. x.span_count) h.rest)
 
   -- what is whole stays whole
-  waiting_push : (spans : List (ℕ × SpanData)) (e : ℕ × SpanData) → unstarted_count (spans ++ e ∷ []) ≡ unstarted_count spans + one_if_unstarted e.1.own
-  waiting_push [] e = omega arith
-  waiting_push (x ∷ spans) e = (let rest = waiting_push spans e in omega (arith, rest))
+  unstarted_push : (spans : List (ℕ × SpanData)) (e : ℕ × SpanData) → unstarted_count (spans ++ e ∷ []) ≡ unstarted_count spans + one_if_unstarted e.1.own
+  unstarted_push [] e = omega arith
+  unstarted_push (x ∷ spans) e = (let rest = unstarted_push spans e in omega (arith, rest))
 
   makes_whole : (c d : Core T) (id : ℕ) (lane : Lane) (at : ℕ) (parent : Parent) (current : Option ℕ) (callsite : Callsite) (values : ValueSet) → MakesSpan does c id lane at parent current callsite values d → IsWholeCore spare started c → IsWholeCore spare started d
   makes_whole c d id lane at parent current callsite values h w =
-      let k = any_kin (parent_source c.settings.activation parent current) at c h.between h.starts in
-      let v = whole_kin c h.between k w in
+      let k = any_budget (parent_source c.settings.activation parent current) at c h.between h.starts in
+      let v = whole_budget c h.between k w in
       let b = h.between in
       let new : ℕ × SpanData = (id, new_span_data callsite lane values (context_from b.spans (lane_context lane parent) (parent_source c.settings.activation parent current)) at c.settings c.counting) in
       let spans = ap (λ x. x.spans) h.rest in
@@ -256,19 +256,19 @@ module _ {T : Type 0} (does : T → TracerCall → T → Type 0) (spare started 
       let m = ap (λ x. x.span_count) h.rest in
       let len = ap (λ (xs : List (ℕ × SpanData)). length xs) spans ∙ length-append b.spans (new ∷ []) in
       let lenb = sym (length-keys_of b.spans) ∙ ap (λ (xs : List ℕ). length xs) k.keys ∙ length-keys_of c.spans in
-      let one = ap unstarted_count spans ∙ waiting_push b.spans new in
+      let one = ap unstarted_count spans ∙ unstarted_push b.spans new in
       let spares = v.spares in
       let budget = v.budget in
       let room = h.spare in
       let few = h.few in
       let kr = k.reserved in
       let km = k.span_count in
-      whole_kin h.added d (any_kin (if c.settings.eager then Some id else None) at h.added d h.begins)
+      whole_budget h.added d (any_budget (if c.settings.eager then Some id else None) at h.added d h.begins)
       (record { spares = omega (arith, spares, tracer, r); rooms = omega (arith, len, lenb, room, r, kr); budget = omega (arith, budget, begins, one, m); few = omega (arith, few, m, km) })
 
   closes_whole : (c d : Core T) (id at : ℕ) → ClosesSpan does c id at d → IsWholeCore spare started c → IsWholeCore spare started d
   closes_whole c d id at h w =
-      let v = whole_kin c h.between (starts_kin id at c h.between h.starts) w in
+      let v = whole_budget c h.between (starts_budget id at c h.between h.starts) w in
       let b = h.between in
       let n = counts b.tracer (Finish (record_of h.span_data at)) d.tracer h.finishes in
       let spans = ap (λ x. x.spans) h.rest in
@@ -277,7 +277,7 @@ module _ {T : Type 0} (does : T → TracerCall → T → Type 0) (spare started 
       let len = ap (λ (xs : List (ℕ × SpanData)). length xs) spans in
       let less = removed_length id b.spans h.span_data h.is in
       let wait = ap unstarted_count spans in
-      let fewer = removed_waiting id b.spans in
+      let fewer = removed_unstarted id b.spans in
       let spares = v.spares in
       let rooms = v.rooms in
       let budget = v.budget in
@@ -317,24 +317,24 @@ module _ {T : Type 0} (does : T → TracerCall → T → Type 0) (spare started 
   module _ (events : EventEffect) (keeps : StartsNoSpan events) where
     pub step_whole : (c : Core T) (hook : Hook) (d : Core T) → Step does events c hook d → IsWholeCore spare started c → IsWholeCore spare started d
     step_whole c (OnNewSpan id lane at parent current callsite values) d h w = makes_whole c d id lane at parent current callsite values h w
-    step_whole c (OnRecord id at callsite values) d h w = whole_kin c d (one_op_kin c d id at (ops.Update (span_update callsite values c.settings)) (λ t. refl) h) w
-    step_whole c (OnFollows id from at) d h w = whole_kin c d (kin_trans spare started c h.between d (starts_kin from at c h.between h.starts) (link_kin (ids_at (data_at from h.between.spans)) id at h.between d h.rest)) w
-    step_whole c (OnEvent None lane at callsite values) d h w = whole_kin c d (kin_same spare started c d h) w
-    step_whole c (OnEvent (Some id) lane at callsite values) d h w = whole_kin c d (event_kin c d id (events c.settings lane.id at callsite values) (keeps c.settings lane.id at callsite values) h) w
+    step_whole c (OnRecord id at callsite values) d h w = whole_budget c d (one_op_budget c d id at (ops.Update (span_update callsite values c.settings)) (λ t. refl) h) w
+    step_whole c (OnFollows id from at) d h w = whole_budget c d (budget_trans spare started c h.between d (starts_budget from at c h.between h.starts) (link_budget (ids_if_known (data_at from h.between.spans)) id at h.between d h.rest)) w
+    step_whole c (OnEvent None lane at callsite values) d h w = whole_budget c d (budget_same spare started c d h) w
+    step_whole c (OnEvent (Some id) lane at callsite values) d h w = whole_budget c d (event_budget c d id (events c.settings lane.id at callsite values) (keeps c.settings lane.id at callsite values) h) w
     step_whole c (OnEnter id at before later) d h w =
         elim (cases_Bool (knows_span id c.spans)) [
-          | inl known ↦ whole_kin c d (enters_kin c d id at before later (h.is_known known)) w
-          | inr unknown ↦ whole_kin c d (kin_same spare started c d (h.isnt unknown).0) w
+          | inl known ↦ whole_budget c d (enters_budget c d id at before later (h.is_known known)) w
+          | inr unknown ↦ whole_budget c d (budget_same spare started c d (h.isnt unknown).0) w
         ]
     step_whole c (OnExit id at before later) d h w =
         elim (cases_Bool (knows_span id c.spans)) [
-          | inl known ↦ whole_kin c d (exits_kin c d id at before later (h.is_known known)) w
-          | inr unknown ↦ whole_kin c d (kin_same spare started c d (h.isnt unknown).0) w
+          | inl known ↦ whole_budget c d (exits_budget c d id at before later (h.is_known known)) w
+          | inr unknown ↦ whole_budget c d (budget_same spare started c d (h.isnt unknown).0) w
         ]
     step_whole c (OnClose id at) d h w =
         elim (cases_Bool (knows_span id c.spans)) [
           | inl known ↦ closes_whole c d id at (h.is_known known) w
-          | inr unknown ↦ whole_kin c d (kin_same spare started c d (h.isnt unknown)) w
+          | inr unknown ↦ whole_budget c d (budget_same spare started c d (h.isnt unknown)) w
         ]
 
     pub does_whole : (c : Core T) (hook : Hook) (d : Core T) → DoesHook does events c hook d → IsWholeCore spare started c → IsWholeCore spare started d

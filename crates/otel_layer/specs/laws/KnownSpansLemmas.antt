@@ -21,8 +21,8 @@ use Rattle.otel_state.specs.declared.op.Op.TheVariants as ops
 use Rattle.otel_layer.specs.declared.layer.tokens.Token.{Token}
 use Rattle.otel_state.specs.States.{SpanData, after_op}
 use Rattle.otel_state.specs.fields.SpanFields.{span_update}
-use Rattle.otel_layer.specs.Table.{is_id, data_at, knows_span, update, with_op, start_context, ids_at}
-use Rattle.otel_layer.specs.Core.{Core, is_token, entries_by, seen_by, seen_in}
+use Rattle.otel_layer.specs.Table.{is_id, data_at, knows_span, update, with_op, start_context, ids_if_known}
+use Rattle.otel_layer.specs.Core.{Core, is_token, open_entry_count, seen_by, seen_in}
 use Rattle.otel_layer.specs.Steps.{StartsIf, StartsSpan, StartsIfSome, parent_source, lane_context, context_from, new_span_data, with_link, FollowsSpan, EventEffect, EntersSpan, ExitsSpan, Step, DoesHook}
 use Rattle.otel_layer.specs.laws.CountsLemmas.{last_passes, last_counted}
 use Rattle.otel_layer.specs.laws.HookLemmas.{update_keys, removed_knows, removed_other}
@@ -51,9 +51,9 @@ starts_quiet does id at c d h =
     let under = start_context (data_at id c.spans) in
     record { keys = starts_if_keys does under id at c d h; tokens = starts_if_tokens does under id at c d h; settings = starts_if_settings does under id at c d h }
 
-pub any_quiet : {T : Type 0} (does : T → TracerCall → T → Type 0) (o : Option ℕ) (at : ℕ) (c d : Core T) → StartsIfSome does o at c d → Quiet c d
-any_quiet does None at c d h = record { keys = ap (λ x. keys_of x.spans) h; tokens = ap (λ x. x.tokens) h; settings = ap (λ x. x.settings) h }
-any_quiet does (Some id) at c d h = starts_quiet does id at c d h
+pub starts_if_some_quiet : {T : Type 0} (does : T → TracerCall → T → Type 0) (o : Option ℕ) (at : ℕ) (c d : Core T) → StartsIfSome does o at c d → Quiet c d
+starts_if_some_quiet does None at c d h = record { keys = ap (λ x. keys_of x.spans) h; tokens = ap (λ x. x.tokens) h; settings = ap (λ x. x.settings) h }
+starts_if_some_quiet does (Some id) at c d h = starts_quiet does id at c d h
 
 pub op_quiet : {T : Type 0} (c d : Core T) (id at : ℕ) (op : Op) → d ≡ record c { spans = with_op id at op c.spans } → Quiet c d
 op_quiet c d id at op e = record { keys = ap (λ x. keys_of x.spans) e ∙ update_keys id (λ t. after_op t at op) c.spans; tokens = ap (λ x. x.tokens) e; settings = ap (λ x. x.settings) e }
@@ -72,14 +72,14 @@ pub follows_quiet : {T : Type 0} (does : T → TracerCall → T → Type 0) (c d
 follows_quiet does c d id from at h =
     let b = h.between in
     quiet_trans c b d (starts_quiet does from at c b h.starts)
-    (record { keys = ap (λ x. keys_of x.spans) h.rest ∙ link_keys (ids_at (data_at from b.spans)) id at b.spans; tokens = ap (λ x. x.tokens) h.rest; settings = ap (λ x. x.settings) h.rest })
+    (record { keys = ap (λ x. keys_of x.spans) h.rest ∙ link_keys (ids_if_known (data_at from b.spans)) id at b.spans; tokens = ap (λ x. x.tokens) h.rest; settings = ap (λ x. x.settings) h.rest })
 
 pub same_quiet : {T : Type 0} (c d : Core T) → d ≡ c → Quiet c d
 same_quiet c d h = record { keys = ap (λ x. keys_of x.spans) h; tokens = ap (λ x. x.tokens) h; settings = ap (λ x. x.settings) h }
 
 -- what is seen where the same spans are known
-moved_sees : (ids now : List ℕ) (tokens left : List Token) (hook : Hook) → now ≡ ids → ((lane id : ℕ) → list_any (is_id id) ids ≡ true → entries_by left lane id + one_if_exited hook lane id ≡ entries_by tokens lane id + one_if_entered hook lane id)
-    → ((lane id : ℕ) → list_any (is_id id) ids ≡ false → entries_by left lane id ≡ entries_by tokens lane id) → Sees (seen_by ids tokens) hook (seen_by now left)
+moved_sees : (ids now : List ℕ) (tokens left : List Token) (hook : Hook) → now ≡ ids → ((lane id : ℕ) → list_any (is_id id) ids ≡ true → open_entry_count left lane id + one_if_exited hook lane id ≡ open_entry_count tokens lane id + one_if_entered hook lane id)
+    → ((lane id : ℕ) → list_any (is_id id) ids ≡ false → open_entry_count left lane id ≡ open_entry_count tokens lane id) → Sees (seen_by ids tokens) hook (seen_by now left)
 moved_sees ids now tokens left hook same known unknown = record {
   gains = λ id knows not. absurd (true≢false (sym knows ∙ ap (λ (xs : List ℕ). list_any (is_id id) xs) same ∙ not));
   loses = λ id knew not. absurd (true≢false (sym knew ∙ sym (ap (λ (xs : List ℕ). list_any (is_id id) xs) same) ∙ not));
@@ -91,12 +91,12 @@ quiet_sees : {T : Type 0} (c d : Core T) (hook : Hook) → Quiet c d → ((lane 
 quiet_sees c d hook q none =
     moved_sees (keys_of c.spans) (keys_of d.spans) c.tokens d.tokens hook q.keys
     (λ lane id knew. (
-    let e = ap (λ (ts : List Token). entries_by ts lane id) q.tokens in
+    let e = ap (λ (ts : List Token). open_entry_count ts lane id) q.tokens in
     let n = none lane id in
     let x = n.0 in
     let y = n.1 in
     omega (arith, e, x, y)))
-    (λ lane id not. ap (λ (ts : List Token). entries_by ts lane id) q.tokens)
+    (λ lane id not. ap (λ (ts : List Token). open_entry_count ts lane id) q.tokens)
 
 makes_sees : (ids now : List ℕ) (tokens left : List Token) (id : ℕ) (lane : Lane) (at : ℕ) (parent : Parent) (current : Option ℕ) (callsite : Callsite) (values : _) → now ≡ ids ++ id ∷ [] → left ≡ tokens
     → Sees (seen_by ids tokens) (OnNewSpan id lane at parent current callsite values) (seen_by now left)
@@ -106,27 +106,27 @@ makes_sees ids now tokens left id lane at parent current callsite values more sa
     | inr new_one ↦ elim (or_cases (id == other) false new_one) [ inl is ↦ is | inr none ↦ absurd (true≢false (sym none)) ]
   ];
   loses = λ other knew not. absurd (true≢false (sym knew ∙ (or_parts (list_any (is_id other) ids) (list_any (is_id other) (id ∷ [])) (sym (list_any-append (is_id other) ids (id ∷ [])) ∙ sym (ap (λ (xs : List ℕ). list_any (is_id other) xs) more) ∙ not)).0));
-  known = λ l other knew. (let e = ap (λ (ts : List Token). entries_by ts l other) same in omega (arith, e));
-  unknown = λ l other not. ap (λ (ts : List Token). entries_by ts l other) same;
+  known = λ l other knew. (let e = ap (λ (ts : List Token). open_entry_count ts l other) same in omega (arith, e));
+  unknown = λ l other not. ap (λ (ts : List Token). open_entry_count ts l other) same;
 }
 
 closes_sees : (spans now : List (ℕ × SpanData)) (tokens left : List Token) (id at : ℕ) → now ≡ remove_entry (is_id id) spans → left ≡ tokens → Sees (seen_by (keys_of spans) tokens) (OnClose id at) (seen_by (keys_of now) left)
 closes_sees spans now tokens left id at less same = record {
   gains = λ other knows not. absurd (true≢false (sym (removed_knows id other spans (sym (ap (λ (xs : List (ℕ × SpanData)). knows_span other xs) less) ∙ knows)) ∙ not));
   loses = λ other knew not. eq-eqb id other (removed_other id other spans knew (sym (ap (λ (xs : List (ℕ × SpanData)). knows_span other xs) less) ∙ not));
-  known = λ l other knew. (let e = ap (λ (ts : List Token). entries_by ts l other) same in omega (arith, e));
-  unknown = λ l other not. ap (λ (ts : List Token). entries_by ts l other) same;
+  known = λ l other knew. (let e = ap (λ (ts : List Token). open_entry_count ts l other) same in omega (arith, e));
+  unknown = λ l other not. ap (λ (ts : List Token). open_entry_count ts l other) same;
 }
 
 -- entries, where the span is known
 enters_entries : (tokens left : List Token) (id : ℕ) (before : Lane) (attached : Option ℕ) → left ≡ tokens ++ record { lane = before.id; id = id; attached = attached } ∷ [] → (lane other : ℕ)
-    → entries_by left lane other ≡ entries_by tokens lane other + one_if (before.id == lane && id == other)
+    → open_entry_count left lane other ≡ open_entry_count tokens lane other + one_if (before.id == lane && id == other)
 enters_entries tokens left id before attached more lane other =
     let token : Token = record { lane = before.id; id = id; attached = attached } in
-    ap (λ (ts : List Token). entries_by ts lane other) more ∙ count_push (is_token lane other) tokens token
+    ap (λ (ts : List Token). open_entry_count ts lane other) more ∙ count_push (is_token lane other) tokens token
 
 exits_entries : (tokens : List Token) (token : Token) (id : ℕ) (before : Lane) → last_passing (is_token before.id id) tokens ≡ Some token → (lane other : ℕ)
-    → entries_by (without_last (is_token before.id id) tokens) lane other + one_if (before.id == lane && id == other) ≡ entries_by tokens lane other
+    → open_entry_count (without_last (is_token before.id id) tokens) lane other + one_if (before.id == lane && id == other) ≡ open_entry_count tokens lane other
 exits_entries tokens token id before last lane other =
     let parts = and_parts (token.lane == before.id) (token.id == id) (last_passes (is_token before.id id) tokens token last) in
     let one = ap (λ (l : ℕ). one_if (l == lane && token.id == other)) (eqb-true token.lane before.id parts.0) ∙ ap (λ (i : ℕ). one_if (before.id == lane && i == other)) (eqb-true token.id id parts.1) in
@@ -142,7 +142,7 @@ enters_sees : {T : Type 0} (does : T → TracerCall → T → Type 0) (c d : Cor
     → Sees (seen_in c) (OnEnter id at before later) (seen_in d)
 enters_sees does c d id at before later known h =
     let b = h.between in
-    let q = any_quiet does (if c.settings.activation then Some id else None) at c b h.starts in
+    let q = starts_if_some_quiet does (if c.settings.activation then Some id else None) at c b h.starts in
     let keys = ap (λ x. keys_of x.spans) h.rest ∙ update_keys id (λ t. after_op t at ops.Enter) b.spans ∙ q.keys in
     let tokens = ap (λ x. x.tokens) h.rest ∙ ap (λ (ts : List Token). ts ++ record { lane = before.id; id = id; attached = h.attached } ∷ []) q.tokens in
     let moves = enters_entries c.tokens d.tokens id before h.attached tokens in
@@ -157,7 +157,7 @@ exits_sees : {T : Type 0} (c d : Core T) (id at : ℕ) (before later : Lane) →
 exits_sees c d id at before later known h =
     let keys = ap (λ x. keys_of x.spans) h.rest ∙ update_keys id (λ t. after_op t at ops.Exit) c.spans in
     let moves = exits_entries c.tokens h.token id before h.last in
-    let now = λ (lane other : ℕ). ap (λ x. entries_by x.tokens lane other) h.rest in
+    let now = λ (lane other : ℕ). ap (λ x. open_entry_count x.tokens lane other) h.rest in
     moved_sees (keys_of c.spans) (keys_of d.spans) c.tokens d.tokens (OnExit id at before later) keys (λ lane other knew. (let e = moves lane other in let n = now lane other in omega (arith, e, n)))
     (λ lane other not. (
     let e = moves lane other in
@@ -175,25 +175,25 @@ nothing_sees_enter : {T : Type 0} (c d : Core T) (id at : ℕ) (before later : L
 nothing_sees_enter c d id at before later not h =
     moved_sees (keys_of c.spans) (keys_of d.spans) c.tokens d.tokens (OnEnter id at before later) (ap (λ x. keys_of x.spans) h)
     (λ lane other knew. (
-    let e = ap (λ x. entries_by x.tokens lane other) h in
+    let e = ap (λ x. open_entry_count x.tokens lane other) h in
     let none = unknown_enters (keys_of c.spans) c.tokens id at before later lane other not knew in
     omega (arith, e, none)))
-    (λ lane other n. ap (λ x. entries_by x.tokens lane other) h)
+    (λ lane other n. ap (λ x. open_entry_count x.tokens lane other) h)
 
 nothing_sees_exit : {T : Type 0} (c d : Core T) (id at : ℕ) (before later : Lane) → knows_span id c.spans ≡ false → d ≡ c → Sees (seen_in c) (OnExit id at before later) (seen_in d)
 nothing_sees_exit c d id at before later not h =
     moved_sees (keys_of c.spans) (keys_of d.spans) c.tokens d.tokens (OnExit id at before later) (ap (λ x. keys_of x.spans) h)
     (λ lane other knew. (
-    let e = ap (λ x. entries_by x.tokens lane other) h in
+    let e = ap (λ x. open_entry_count x.tokens lane other) h in
     let none = unknown_enters (keys_of c.spans) c.tokens id at before later lane other not knew in
     omega (arith, e, none)))
-    (λ lane other n. ap (λ x. entries_by x.tokens lane other) h)
+    (λ lane other n. ap (λ x. open_entry_count x.tokens lane other) h)
 
 step_sees : {T : Type 0} (does : T → TracerCall → T → Type 0) (events : EventEffect) (c : Core T) (hook : Hook) (d : Core T) → Step does events c hook d → Sees (seen_in c) hook (seen_in d)
 step_sees does events c (OnNewSpan id lane at parent current callsite values) d h =
     let b = h.between in
-    let q = any_quiet does (parent_source c.settings.activation parent current) at c b h.starts in
-    let r = any_quiet does (if c.settings.eager then Some id else None) at h.added d h.begins in
+    let q = starts_if_some_quiet does (parent_source c.settings.activation parent current) at c b h.starts in
+    let r = starts_if_some_quiet does (if c.settings.eager then Some id else None) at h.added d h.begins in
     let new : ℕ × SpanData = (id, new_span_data callsite lane values (context_from b.spans (lane_context lane parent) (parent_source c.settings.activation parent current)) at c.settings c.counting) in
     makes_sees (keys_of c.spans) (keys_of d.spans) c.tokens d.tokens id lane at parent current callsite values
     (r.keys ∙ ap (λ x. keys_of x.spans) h.rest ∙ map-append (λ (e : ℕ × SpanData). e.0) b.spans (new ∷ []) ∙ ap (λ (ks : List ℕ). ks ++ id ∷ []) q.keys) (r.tokens ∙ ap (λ x. x.tokens) h.rest ∙ q.tokens)

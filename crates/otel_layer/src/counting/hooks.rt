@@ -3,12 +3,12 @@ ghost use Rattle.std.specs.Prelude.{◌≡◌, ◌==◌, true, None};
 ghost use Rattle.std.proofs.Common.{refl, ap, ◌∙◌};
 ghost use Rattle.trace_base.specs.declared.subscriber.Interest.TheVariants as interests;
 ghost use Rattle.otel_layer.specs.Core.{seen_in, kept_in, IsWholeCore};
-ghost use Rattle.otel_layer.specs.Counting.{events_by, events_keep_own, counted_does};
+ghost use Rattle.otel_layer.specs.Counting.{events_effect, events_keep_own, counted_does};
 ghost use Rattle.otel_layer.specs.Steps.{SameCore, DoesHook};
 ghost use Rattle.otel_layer.specs.Ready.{IsReadyOtel};
 ghost use Rattle.otel_layer.specs.laws.HookLemmas.{does_whole, same_whole_core};
 ghost use Rattle.otel_layer.specs.laws.KnownSpansLemmas.{does_sees};
-ghost use Rattle.otel_layer.specs.laws.LaneLemmas.{does_lanes, does_passive, does_settings, kept_by_tokens};
+ghost use Rattle.otel_layer.specs.laws.LaneLemmas.{does_lanes, does_passive, does_settings, none_kept_by_tokens};
 ghost use Rattle.otel_layer.specs.laws.RoomLemmas.{same_core_refl, same_core_trans};
 
 use crate::counting::FilteredOpenTelemetryLayer;
@@ -45,7 +45,7 @@ impl<T: Tracer, F: Filter> Layer for FilteredOpenTelemetryLayer<T, F> {
 
     ghost same_but_room = { λ s t. SameCore T.does s.inner.core t.inner.core × (t.filter ≡ s.filter) };
 
-    ghost does = { λ s hook t. DoesHook T.does (events_by F.enables s.filter) s.inner.core hook t.inner.core × (t.filter ≡ s.filter) };
+    ghost does = { λ s hook t. DoesHook T.does (events_effect F.enables s.filter) s.inner.core hook t.inner.core × (t.filter ≡ s.filter) };
 
     ghost ready = { λ s preparation r. IsReadyOtel s.inner preparation r };
 
@@ -65,21 +65,21 @@ impl<T: Tracer, F: Filter> Layer for FilteredOpenTelemetryLayer<T, F> {
 
     ghost same_whole = { λ s t h w. same_whole_core T.does T.spare T.started T.counts s.inner.core t.inner.core h.0 w };
 
-    ghost same_does = { λ s t hook u h d. counted_does T.does (events_by F.enables) s.inner.core t.inner.core hook u.inner.core s.filter t.filter u.filter h d };
+    ghost same_does = { λ s t hook u h d. counted_does T.does (events_effect F.enables) s.inner.core t.inner.core hook u.inner.core s.filter t.filter u.filter h d };
 
-    ghost sees = { λ s hook t d. does_sees T.does (events_by F.enables s.filter) s.inner.core hook t.inner.core d.0 };
+    ghost sees = { λ s hook t d. does_sees T.does (events_effect F.enables s.filter) s.inner.core hook t.inner.core d.0 };
 
-    ghost lanes = { λ s hook t d. does_lanes T.does (events_by F.enables s.filter) s.inner.core hook t.inner.core d.0 };
+    ghost keeps_lanes = { λ s hook t d. does_lanes T.does (events_effect F.enables s.filter) s.inner.core hook t.inner.core d.0 };
 
-    ghost kept_by_entries = { λ s lane number none. kept_by_tokens s.inner.core.settings.activation s.inner.core.tokens lane number none };
+    ghost none_kept_without_entries = { λ s lane number none. none_kept_by_tokens s.inner.core.settings.activation s.inner.core.tokens lane number none };
 
-    ghost passive = { λ s id at before later t d unknown. does_passive T.does (events_by F.enables s.filter) s.inner.core id at before later t.inner.core d.0 unknown };
+    ghost passive = { λ s id at before later t d unknown. does_passive T.does (events_effect F.enables s.filter) s.inner.core id at before later t.inner.core d.0 unknown };
 
-    ghost keeps_attaches = { λ s hook t d. ap (λ x. x.activation) (does_settings T.does (events_by F.enables s.filter) s.inner.core hook t.inner.core d.0) };
+    ghost keeps_attaches = { λ s hook t d. ap (λ x. x.activation) (does_settings T.does (events_effect F.enables s.filter) s.inner.core hook t.inner.core d.0) };
 
     ghost keeps_gate = { λ s hook t d. (refl, refl) };
 
-    ghost keeps_whole = { λ s hook t d w. does_whole T.does T.spare T.started T.counts (events_by F.enables s.filter) (events_keep_own F.enables s.filter) s.inner.core hook t.inner.core d.0 w };
+    ghost keeps_whole = { λ s hook t d w. does_whole T.does T.spare T.started T.counts (events_effect F.enables s.filter) (events_keep_own F.enables s.filter) s.inner.core hook t.inner.core d.0 w };
 
     fn register_callsite(&self, _callsite: &Callsite) -> Interest {
         Interest::Always

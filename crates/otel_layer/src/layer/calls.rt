@@ -6,8 +6,8 @@ ghost use Rattle.otel_state.specs.Stack.{last_passing};
 ghost use Rattle.otel_layer.specs.declared.layer.tokens.Token.{Token};
 ghost use Rattle.otel_layer.specs.Table.{data_at, knows_span, update, with_op, RoomFor, RoomForLink};
 ghost use Rattle.otel_layer.specs.Counting.{after_counted};
-ghost use Rattle.otel_layer.specs.Core.{on_spans, with_tracer, entries_by, kept_in, is_token, IsWholeCore};
-ghost use Rattle.otel_layer.specs.Parts.{context_at};
+ghost use Rattle.otel_layer.specs.Core.{on_spans, with_tracer, open_entry_count, kept_in, is_token, IsWholeCore};
+ghost use Rattle.otel_layer.specs.Parts.{own_context_if_known};
 ghost use Rattle.otel_layer.specs.Starts.{StartsEarly, FinishesState};
 ghost use Rattle.otel_layer.specs.Steps.{StartsSpan, StartsIfSome, parent_source, lane_context, context_from, with_added_span, MakesSpan};
 ghost use Rattle.otel_layer.specs.Steps.{with_link, FollowsSpan, with_token, without_token, DetachesOwnContext, with_finish};
@@ -35,7 +35,7 @@ impl<T: Tracer> OpenTelemetryLayer<T> {
         requires { T.started self.old.core.tracer < 2 ^ 63 }
 
         ensures starts { StartsSpan T.does id at self.old.core self.new.core }
-        ensures context { result ≡ context_at (data_at id self.new.core.spans) }
+        ensures context { result ≡ own_context_if_known (data_at id self.new.core.spans) }
         ensures rooms { self.new.rooms ≡ self.old.rooms }
         ensures room { self.new.room ≡ self.old.room }
         ensures span_count { self.new.core.span_count ≡ self.old.core.span_count }
@@ -204,7 +204,7 @@ impl<T: Tracer> OpenTelemetryLayer<T> {
 
     // Takes off the last entry of a span on a lane, and detaches what it attached.
     fn take_entry_off(&mut self, id: Id, lane: &mut Lane)
-        requires open { 0 < entries_by self.old.core.tokens lane.old.id id }
+        requires open { 0 < open_entry_count self.old.core.tokens lane.old.id id }
         requires still { AreAttached (kept_in self.old.core) lane.old }
         ensures { (token : Token) × (last_passing (is_token lane.old.id id) self.old.core.tokens ≡ Some token)
             × DetachesOwnContext (if self.old.core.settings.activation then token.attached else None) lane.old lane.new

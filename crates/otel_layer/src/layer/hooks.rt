@@ -3,11 +3,11 @@ ghost use Rattle.std.specs.Prelude.{◌≡◌, true, None};
 ghost use Rattle.std.proofs.Common.{refl, ap};
 ghost use Rattle.trace_base.specs.declared.subscriber.Interest.TheVariants as interests;
 ghost use Rattle.otel_layer.specs.Core.{seen_in, kept_in, IsWholeCore};
-ghost use Rattle.otel_layer.specs.Steps.{SameCore, DoesHook, all_events};
+ghost use Rattle.otel_layer.specs.Steps.{SameCore, DoesHook, all_events_effect};
 ghost use Rattle.otel_layer.specs.Ready.{IsReadyOtel};
 ghost use Rattle.otel_layer.specs.laws.HookLemmas.{does_whole, same_whole_core, all_keep_own};
 ghost use Rattle.otel_layer.specs.laws.KnownSpansLemmas.{does_sees};
-ghost use Rattle.otel_layer.specs.laws.LaneLemmas.{does_lanes, does_passive, does_settings, kept_by_tokens};
+ghost use Rattle.otel_layer.specs.laws.LaneLemmas.{does_lanes, does_passive, does_settings, none_kept_by_tokens};
 ghost use Rattle.otel_layer.specs.laws.RoomLemmas.{same_core_refl, same_core_trans, same_core_does};
 
 use crate::layer::OpenTelemetryLayer;
@@ -43,7 +43,7 @@ impl<T: Tracer> Layer for OpenTelemetryLayer<T> {
 
     ghost same_but_room = { λ s t. SameCore T.does s.core t.core };
 
-    ghost does = { λ s hook t. DoesHook T.does all_events s.core hook t.core };
+    ghost does = { λ s hook t. DoesHook T.does all_events_effect s.core hook t.core };
 
     ghost ready = { λ s preparation r. IsReadyOtel s preparation r };
 
@@ -63,21 +63,21 @@ impl<T: Tracer> Layer for OpenTelemetryLayer<T> {
 
     ghost same_whole = { λ s t h w. same_whole_core T.does T.spare T.started T.counts s.core t.core h w };
 
-    ghost same_does = { λ s t hook u h d. same_core_does T.does all_events s.core t.core hook u.core h d };
+    ghost same_does = { λ s t hook u h d. same_core_does T.does all_events_effect s.core t.core hook u.core h d };
 
-    ghost sees = { λ s hook t d. does_sees T.does all_events s.core hook t.core d };
+    ghost sees = { λ s hook t d. does_sees T.does all_events_effect s.core hook t.core d };
 
-    ghost lanes = { λ s hook t d. does_lanes T.does all_events s.core hook t.core d };
+    ghost keeps_lanes = { λ s hook t d. does_lanes T.does all_events_effect s.core hook t.core d };
 
-    ghost kept_by_entries = { λ s lane number none. kept_by_tokens s.core.settings.activation s.core.tokens lane number none };
+    ghost none_kept_without_entries = { λ s lane number none. none_kept_by_tokens s.core.settings.activation s.core.tokens lane number none };
 
-    ghost passive = { λ s id at before later t d unknown. does_passive T.does all_events s.core id at before later t.core d unknown };
+    ghost passive = { λ s id at before later t d unknown. does_passive T.does all_events_effect s.core id at before later t.core d unknown };
 
-    ghost keeps_attaches = { λ s hook t d. ap (λ x. x.activation) (does_settings T.does all_events s.core hook t.core d) };
+    ghost keeps_attaches = { λ s hook t d. ap (λ x. x.activation) (does_settings T.does all_events_effect s.core hook t.core d) };
 
     ghost keeps_gate = { λ s hook t d. (refl, refl) };
 
-    ghost keeps_whole = { λ s hook t d w. does_whole T.does T.spare T.started T.counts all_events all_keep_own s.core hook t.core d w };
+    ghost keeps_whole = { λ s hook t d w. does_whole T.does T.spare T.started T.counts all_events_effect all_keep_own s.core hook t.core d w };
 
     fn register_callsite(&self, _callsite: &Callsite) -> Interest {
         Interest::Always
@@ -159,7 +159,7 @@ impl<T: Tracer> Layer for OpenTelemetryLayer<T> {
         callsite: &Callsite,
         values: &ValueSet,
     ) -> Result<Ready, Memory> {
-        self.prepare_op(reached, callsite, values)
+        self.prepare_event_op(reached, callsite, values)
     }
 
     fn on_event(

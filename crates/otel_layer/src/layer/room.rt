@@ -93,7 +93,7 @@ impl<T: Tracer> OpenTelemetryLayer<T> {
     }
 
     // What an event needs.
-    pub(crate) fn prepare_op(
+    pub(crate) fn prepare_event_op(
         &mut self,
         reached: Option<Id>,
         callsite: &Callsite,

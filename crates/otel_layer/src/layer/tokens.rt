@@ -2,10 +2,10 @@
 ghost use Rattle.std.specs.Prelude.{◌≡◌, ℕ, ◌<◌, ◌≤◌, true, false, length, Some, None, IfSome, if◌then◌else◌};
 ghost use Rattle.std.specs.List.{list_any};
 ghost use Rattle.otel_base.specs.Stack.{IsReadyToAttach};
-ghost use Rattle.trace_base.specs.lanes.Contexts.{attached_as};
+ghost use Rattle.trace_base.specs.lanes.Contexts.{attached_count};
 ghost use Rattle.trace_base.specs.Spans.{without_last};
 ghost use Rattle.otel_state.specs.Stack.{last_passing, IsLastPlace};
-ghost use Rattle.otel_layer.specs.Core.{entries_by, is_token};
+ghost use Rattle.otel_layer.specs.Core.{open_entry_count, is_token};
 ghost use Rattle.otel_layer.specs.Steps.{AttachesContext, DetachesContext, DetachesOwnContext};
 
 use otel_base::context::Context;
@@ -35,7 +35,7 @@ impl Discard for Token {
 
 // Takes out the last entry of a span on a lane.
 pub(crate) fn take_last(tokens: &mut Vec<Token>, lane: u64, id: Id) -> Token
-    requires { 0 < entries_by tokens.old.items lane id }
+    requires { 0 < open_entry_count tokens.old.items lane id }
     ensures last { last_passing (is_token lane id) tokens.old.items ≡ Some result }
     ensures others { tokens.new.items ≡ without_last (is_token lane id) tokens.old.items }
 {
@@ -45,7 +45,7 @@ pub(crate) fn take_last(tokens: &mut Vec<Token>, lane: u64, id: Id) -> Token
 
 // Where the last entry of a span on a lane stands.
 fn last_place(tokens: &[Token], lane: u64, id: Id) -> usize
-    requires { 0 < entries_by tokens.now lane id }
+    requires { 0 < open_entry_count tokens.now lane id }
     ensures { IsLastPlace (is_token lane id) tokens.now result }
 {
     let mut at = tokens.len();
@@ -71,7 +71,7 @@ pub(crate) fn attach(context: Context, lane: &mut Lane) -> Attached
 
 // Detaches what an entry attached, with activation.
 pub(crate) fn detach_if_active(activation: bool, attached: Option<Attached>, lane: &mut Lane)
-    requires { activation ≡ true → IfSome attached (λ n. 0 < attached_as n lane.old) }
+    requires { activation ≡ true → IfSome attached (λ n. 0 < attached_count n lane.old) }
     ensures lane { DetachesOwnContext (if activation then attached else None) lane.old lane.new }
     ensures id { lane.new.id ≡ lane.old.id }
 {
@@ -88,7 +88,7 @@ pub(crate) fn detach_if_active(activation: bool, attached: Option<Attached>, lan
 }
 
 fn detach(attached: Attached, lane: &mut Lane)
-    requires { 0 < attached_as attached lane.old }
+    requires { 0 < attached_count attached lane.old }
     ensures lane { DetachesContext attached lane.old lane.new }
     ensures id { lane.new.id ≡ lane.old.id }
 {

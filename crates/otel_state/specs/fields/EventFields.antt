@@ -14,13 +14,13 @@ use Rattle.otel_state.specs.declared.fields.event.Event.{Event}
 use Rattle.otel_state.specs.declared.op.Op.{Op}
 use Rattle.otel_state.specs.declared.op.Op.TheVariants as ops
 use Rattle.otel_state.specs.declared.settings.LayerSettings.{LayerSettings}
-use Rattle.otel_state.specs.fields.Fields.{by_name, text_attribute, integer_attribute, if_wanted, location_attributes, level_attribute, target_attribute, plain_text, debug_text, as_exception, as_field}
+use Rattle.otel_state.specs.fields.Fields.{by_name, text_attribute, integer_attribute, if_wanted, location_attributes, level_attributes, target_attributes, plain_text, debug_text, exception_attributes, error_attributes}
 
 -- each event tells its level and its target first; the name is empty while there is none
 abbrev pub begun_event : Callsite → Event
 begun_event c = record {
   name = [];
-  attributes = level_attribute c ++ target_attribute c;
+  attributes = level_attributes c ++ target_attributes c;
   status = None;
   on_span = [];
 }
@@ -62,8 +62,8 @@ bool_text false = codes "false"
 -- an error under any name, which may be an exception of the event and of the span
 abbrev pub with_error_value : LayerSettings → Event → (name message : List ℕ) → List (List ℕ) → Event
 with_error_value settings e name message chain = record e {
-  attributes = e.attributes ++ if_wanted settings.error_fields_to_exceptions (as_exception message chain) ++ as_field name message chain;
-  on_span = e.on_span ++ if_wanted settings.error_records_to_exceptions (as_exception message chain);
+  attributes = e.attributes ++ if_wanted settings.error_fields_to_exceptions (exception_attributes message chain) ++ error_attributes name message chain;
+  on_span = e.on_span ++ if_wanted settings.error_records_to_exceptions (exception_attributes message chain);
 }
 
 -- what a value tells under a name
@@ -89,5 +89,5 @@ op_of_event e c settings at =
     (record { name = name_or e.name c.name; time = at; attributes = e.attributes ++ if_wanted settings.location (location_attributes c) })
 
 -- what an event of a callsite with some fields does at a moment
-abbrev pub event_of : Callsite → ValueSet → LayerSettings → ℕ → Op
-event_of c values settings at = op_of_event (fold (by_name (with_field settings) c) (begun_event c) values.pairs) c settings at
+abbrev pub event_op : Callsite → ValueSet → LayerSettings → ℕ → Op
+event_op c values settings at = op_of_event (fold (by_name (with_field settings) c) (begun_event c) values.pairs) c settings at

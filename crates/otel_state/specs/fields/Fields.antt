@@ -27,22 +27,22 @@ abbrev pub if_wanted : Bool → List KeyValue → List KeyValue
 if_wanted is_on attributes = if is_on then attributes else []
 
 -- the attribute of a text, or of a number, if it is known
-abbrev pub known_text : List ℕ → Option (List ℕ) → List KeyValue
-known_text key text = option_to_list (option_map (text_attribute key) text)
+abbrev pub text_attribute_if_known : List ℕ → Option (List ℕ) → List KeyValue
+text_attribute_if_known key text = option_to_list (option_map (text_attribute key) text)
 
-abbrev pub known_number : List ℕ → Option ℕ → List KeyValue
-known_number key n = option_to_list (option_map (λ m. integer_attribute key (pos m)) n)
+abbrev pub integer_attribute_if_known : List ℕ → Option ℕ → List KeyValue
+integer_attribute_if_known key n = option_to_list (option_map (λ m. integer_attribute key (pos m)) n)
 
 -- the file, the module and the line of a callsite
 abbrev pub location_attributes : Callsite → List KeyValue
-location_attributes c = known_text (codes "code.file.path") c.file ++ known_text (codes "code.module.name") c.module_path ++ known_number (codes "code.line.number") c.line
+location_attributes c = text_attribute_if_known (codes "code.file.path") c.file ++ text_attribute_if_known (codes "code.module.name") c.module_path ++ integer_attribute_if_known (codes "code.line.number") c.line
 
 -- the level of a callsite in upper case, and its target
-abbrev pub level_attribute : Callsite → List KeyValue
-level_attribute c = text_attribute (codes "level") (level_text c.level) ∷ []
+abbrev pub level_attributes : Callsite → List KeyValue
+level_attributes c = text_attribute (codes "level") (level_text c.level) ∷ []
 
-abbrev pub target_attribute : Callsite → List KeyValue
-target_attribute c = text_attribute (codes "target") c.target ∷ []
+abbrev pub target_attributes : Callsite → List KeyValue
+target_attributes c = text_attribute (codes "target") c.target ∷ []
 
 -- ---- texts of values
 
@@ -63,9 +63,9 @@ debug_text value = plain_text value
 -- ---- errors
 
 -- an error as an exception: its message, and the messages of its sources
-abbrev pub as_exception : List ℕ → List (List ℕ) → List KeyValue
-as_exception message chain = text_attribute (codes "exception.message") message ∷ record { key = codes "exception.stacktrace"; value = otel.List chain } ∷ []
+abbrev pub exception_attributes : List ℕ → List (List ℕ) → List KeyValue
+exception_attributes message chain = text_attribute (codes "exception.message") message ∷ record { key = codes "exception.stacktrace"; value = otel.List chain } ∷ []
 
 -- an error under its own name, and its sources under that name and `.chain`
-abbrev pub as_field : List ℕ → List ℕ → List (List ℕ) → List KeyValue
-as_field name message chain = text_attribute name message ∷ record { key = name ++ codes ".chain"; value = otel.List chain } ∷ []
+abbrev pub error_attributes : List ℕ → List ℕ → List (List ℕ) → List KeyValue
+error_attributes name message chain = text_attribute name message ∷ record { key = name ++ codes ".chain"; value = otel.List chain } ∷ []

@@ -15,7 +15,7 @@ use Rattle.otel_state.specs.declared.fields.span.Special.{Special}
 use Rattle.otel_state.specs.declared.fields.span.Special.TheVariants as special
 use Rattle.otel_state.specs.declared.settings.LayerSettings.{LayerSettings}
 use Rattle.otel_state.specs.declared.update.Update.{Update}
-use Rattle.otel_state.specs.fields.Fields.{by_name, text_attribute, integer_attribute, if_wanted, plain_text, as_exception, as_field}
+use Rattle.otel_state.specs.fields.Fields.{by_name, text_attribute, integer_attribute, if_wanted, plain_text, exception_attributes, error_attributes}
 
 -- the names that don't stand for an attribute
 abbrev pub special_of : List ℕ → Option Special
@@ -70,7 +70,7 @@ abbrev pub with_value : LayerSettings → Update → List ℕ → Value → Upda
 with_value settings update name (given.Bool b) = with_attributes update (record { key = name; value = otel.Bool b } ∷ [])
 with_value settings update name (given.I64 n) = with_attributes update (integer_attribute name n ∷ [])
 with_value settings update name (given.Error message chain) =
-    record update { attributes = update.attributes ++ if_wanted settings.error_fields_to_exceptions (as_exception message chain) ++ as_field name message chain }
+    record update { attributes = update.attributes ++ if_wanted settings.error_fields_to_exceptions (exception_attributes message chain) ++ error_attributes name message chain }
 with_value settings update name value = with_any_text update name (plain_text value)
 
 -- what a list of fields writes

@@ -1,7 +1,7 @@
 //! What the fields of an event tell.
 ghost use Rattle.std.specs.Prelude.{◌≡◌, ◌++◌, ◌∷◌, [], OnOk, IfOk};
 ghost use Rattle.otel_state.specs.fields.Fields.{by_name};
-ghost use Rattle.otel_state.specs.fields.EventFields.{begun_event, with_attribute, with_error, with_field_text, with_texts, with_printed, with_field, with_error_value, name_or, op_of_event, event_of};
+ghost use Rattle.otel_state.specs.fields.EventFields.{begun_event, with_attribute, with_error, with_field_text, with_texts, with_printed, with_field, with_error_value, name_or, op_of_event, event_op};
 
 use crate::fields::first::{add_level, add_target};
 use crate::fields::{
@@ -40,7 +40,7 @@ pub fn event_op(
     settings: &LayerSettings,
     at: Moment,
 ) -> Result<Op, Memory>
-    ensures { IfOk result (λ op. op ≡ event_of callsite.now values.now settings.now at) }
+    ensures { IfOk result (λ op. op ≡ event_op callsite.now values.now settings.now at) }
 {
     let mut event = begin(alloc, callsite, settings)?;
     let pairs = values.pairs.as_slice();

@@ -1,6 +1,6 @@
 //! The attributes that a span has from its making.
 ghost use Rattle.std.specs.Prelude.{◌≡◌, ◌++◌, OnOk, IfOk};
-ghost use Rattle.otel_state.specs.fields.Fields.{if_wanted, level_attribute, target_attribute};
+ghost use Rattle.otel_state.specs.fields.Fields.{if_wanted, level_attributes, target_attributes};
 ghost use Rattle.otel_state.specs.fields.FirstAttributes.{first_attributes, lane_attributes};
 
 use crate::fields::{add_known_text, add_location, add_text};
@@ -27,7 +27,10 @@ pub fn first_attributes(
 ) -> Result<Items<KeyValue>, Memory>
     ensures { IfOk result (λ attributes. attributes ≡ first_attributes callsite.now lane.now settings.now) }
 {
-    let mut attributes = Items::with_capacity(alloc, most(settings).saturating_add(more))?;
+    let mut attributes = Items::with_capacity(
+        alloc,
+        max_attributes(settings).saturating_add(more),
+    )?;
     add_location(alloc, &mut attributes, settings.location, callsite)?;
     add_lane(alloc, &mut attributes, settings.threads, lane)?;
     add_level(alloc, &mut attributes, settings.level, callsite)?;
@@ -36,7 +39,7 @@ pub fn first_attributes(
 }
 
 // How many they are at most, with the times of a close.
-fn most(settings: &LayerSettings) -> usize {
+fn max_attributes(settings: &LayerSettings) -> usize {
     let location = if settings.location { 3 } else { 0 };
     let lane = if settings.threads { 2 } else { 0 };
     let times = if settings.inactivity { 2 } else { 0 };
@@ -68,7 +71,7 @@ pub(crate) fn add_level(
     is_wanted: bool,
     callsite: &Callsite,
 ) -> Result<(), Memory>
-    ensures { OnOk result (attributes.new ≡ attributes.old ++ if_wanted is_wanted (level_attribute callsite.now)) }
+    ensures { OnOk result (attributes.new ≡ attributes.old ++ if_wanted is_wanted (level_attributes callsite.now)) }
 {
     if is_wanted {
         let level = Text::from_word(callsite.level.word());
@@ -84,7 +87,7 @@ pub(crate) fn add_target(
     is_wanted: bool,
     callsite: &Callsite,
 ) -> Result<(), Memory>
-    ensures { OnOk result (attributes.new ≡ attributes.old ++ if_wanted is_wanted (target_attribute callsite.now)) }
+    ensures { OnOk result (attributes.new ≡ attributes.old ++ if_wanted is_wanted (target_attributes callsite.now)) }
 {
     if is_wanted {
         add_text(

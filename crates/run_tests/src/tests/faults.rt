@@ -1,5 +1,7 @@
 //! Reads and writes that fail, one after another, and inputs that are too long.
-use crate::tests::{ANSWERS, FIRST, SETTINGS, front_and_status, run_command, run_script, script};
+use crate::tests::{
+    ANSWERS, FIRST_REQUESTS, SETTINGS, front_and_status, run_command, run_script, script,
+};
 use std::random::RandomSource;
 use std::sync::Wait;
 use std::test::Fail;
@@ -9,7 +11,7 @@ use trace_stream::status::Status;
 use trace_stream::turns::Turn;
 
 // The line of a span that threads share, and that of a worker.
-const SHARED: &str = "{\"at\":0,\"shared\":0}\n{\"worker\":[]}\n";
+const THREAD_LINES: &str = "{\"at\":0,\"shared\":0}\n{\"worker\":[]}\n";
 
 // How many bytes the first lines have.
 fn size_of_lines(text: &str, lines: usize) -> usize {
@@ -28,7 +30,7 @@ fn ends_as<H: Threads + Wait + Sync + RandomSource + AllocGlobal>(
     size: usize,
     status: Status,
 ) -> Result<bool, Fail> {
-    let input = script(rt, FIRST)?;
+    let input = script(rt, FIRST_REQUESTS)?;
     let got = run_script(rt, input.as_bytes(), reads, writes)?;
     let wanted = front_and_status(rt, ANSWERS, size, status)?;
     Ok(got.as_str() == wanted.as_str())
@@ -56,7 +58,7 @@ fn answered_size(input: &[u8], size: usize) -> usize {
 fn wrong_read<H: Threads + Wait + Sync + RandomSource + AllocGlobal>(
     rt: &H,
 ) -> Result<Option<usize>, Fail> {
-    let input = script(rt, FIRST)?;
+    let input = script(rt, FIRST_REQUESTS)?;
     let reads = input.len().saturating_add(1);
     let mut turns = vec![in rt.alloc(); Turn::Moves { most: 1 }; reads]?;
     for at in 0..reads {
@@ -95,7 +97,7 @@ fn tells_each_fault(rt: HostRuntime) -> Result<(), Fail> {
 #[test]
 fn breaks_off(rt: HostRuntime) -> Result<(), Fail> {
     let settings = SETTINGS.len() + 1;
-    let most = settings.saturating_add(size_of_lines(FIRST, 2));
+    let most = settings.saturating_add(size_of_lines(FIRST_REQUESTS, 2));
     let whole = [Turn::Moves { most }, Turn::Fails];
     let most = settings + 20;
     let cut = [Turn::Moves { most }, Turn::Fails];
@@ -124,7 +126,7 @@ fn broken_run<H: Threads + Wait + Sync + RandomSource + AllocGlobal>(
 #[test]
 fn writes_nothing_of_a_broken_input(rt: HostRuntime) -> Result<(), Fail> {
     let refused = "{\"line\":2,\"refused\":\"BadLine\"}\n= 2\n";
-    for (word, rest) in [("tree", FIRST), ("threads", SHARED)] {
+    for (word, rest) in [("tree", FIRST_REQUESTS), ("threads", THREAD_LINES)] {
         assert_eq!(rt; broken_run(&rt, word, rest)?.as_str(), "= 3\n");
         assert_eq!(rt; broken_run(&rt, word, "7\n8\n")?.as_str(), refused);
     }
@@ -132,7 +134,7 @@ fn writes_nothing_of_a_broken_input(rt: HostRuntime) -> Result<(), Fail> {
 }
 
 // Whether a text that is filled up with blanks to so many bytes is answered so by the command of a word.
-fn fills_input<H: Threads + Wait + Sync + RandomSource + AllocGlobal>(
+fn answers_filled_input<H: Threads + Wait + Sync + RandomSource + AllocGlobal>(
     rt: &H,
     word: &str,
     text: &str,
@@ -148,14 +150,14 @@ fn fills_input<H: Threads + Wait + Sync + RandomSource + AllocGlobal>(
 #[test]
 fn tells_a_long_input(rt: HostRuntime) -> Result<(), Fail> {
     let refused = "{\"line\":1,\"refused\":\"BadLine\"}\n= 2\n";
-    assert!(rt; fills_input(&rt, "run", "7\n", MAX_INPUT + 2, refused)?);
+    assert!(rt; answers_filled_input(&rt, "run", "7\n", MAX_INPUT + 2, refused)?);
     let longest = "{\"done\":true,\"open\":0,\"records\":0}\n= 0\n";
-    assert!(rt; fills_input(&rt, "run", SETTINGS, MAX_INPUT, longest)?);
+    assert!(rt; answers_filled_input(&rt, "run", SETTINGS, MAX_INPUT, longest)?);
     let made = script(&rt, "{\"at\":0,\"do\":\"new\",\"lane\":0,\"site\":0}\n")?;
     let over = "{\"enabled\":true,\"handle\":0,\"reply\":2}\n= 6\n";
-    assert!(rt; fills_input(&rt, "run", made.as_str(), MAX_INPUT + 1, over)?);
-    let shared = script(&rt, SHARED)?;
-    assert!(rt; fills_input(&rt, "threads", shared.as_str(), MAX_INPUT + 1, "= 6\n")?);
+    assert!(rt; answers_filled_input(&rt, "run", made.as_str(), MAX_INPUT + 1, over)?);
+    let shared = script(&rt, THREAD_LINES)?;
+    assert!(rt; answers_filled_input(&rt, "threads", shared.as_str(), MAX_INPUT + 1, "= 6\n")?);
     Ok(())
 }
 

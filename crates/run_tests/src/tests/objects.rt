@@ -9,10 +9,10 @@ use std::test::Fail;
 use trace_lines::{read_attributes, record_line, record_object};
 
 // What stands around the lane, if that is told.
-const FRONT: &str =
+const BEFORE_LANE: &str =
     r#"{"attributes":[["b",true],["n",-7],["t","\""],["l",["u",""]]],"end":40,"events":[{"attributes":[["b",true],["n",-7],["t","\""],["l",["u",""]]],"name":"e","time":12}],"kind":"server","#;
 
-const REST: &str =
+const BEHIND_LANE: &str =
     r#""links":[{"attributes":[],"span":"000000000000000a","trace":"00000000000000010000000000000002"}],"name":"s","parent":"00000000000000ff","record":3,"span":"0000000000000005","start":9,"status":{"error":"late"},"trace":"00000000000000000000000000000004"}"#;
 
 fn text<R: AllocGlobal>(rt: &R, text: &str) -> Result<Text, Fail> {
@@ -58,11 +58,11 @@ fn the_object_of_a_record_is_that_of_its_line(rt: HostRuntime) -> Result<(), Fai
     let alloc = rt.alloc();
     let record = whole_record(&rt)?;
     let on_lane = record_object(alloc, 3, Some(1), &record)?.to_string(alloc)?;
-    let wanted = format!(in alloc; "{FRONT}\"lane\":1,{REST}")?;
+    let wanted = format!(in alloc; "{BEFORE_LANE}\"lane\":1,{BEHIND_LANE}")?;
     assert_eq!(rt; on_lane.as_str(), wanted.as_str());
     let alone = record_object(alloc, 3, None, &record)?.to_string(alloc)?;
     let line = record_line(alloc, 3, &record)?;
-    let wanted = format!(in alloc; "{FRONT}{REST}\n")?;
+    let wanted = format!(in alloc; "{BEFORE_LANE}{BEHIND_LANE}\n")?;
     assert_eq!(rt; line.as_str(), wanted.as_str());
     assert!(rt; line.strip_suffix("\n") == Some(alone.as_str()));
     Ok(())

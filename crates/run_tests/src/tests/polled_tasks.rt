@@ -2,7 +2,7 @@
 ghost use Rattle.std.specs.Prelude.{◌≡◌, [], length, IfOk};
 ghost use Rattle.trace_lines.specs.Generated.{generated_settings};
 ghost use Rattle.trace_tasks.specs.Begun.{AllHaveCallsites};
-ghost use Rattle.trace_tasks.specs.Flat.{all_polls, tasks_at_first, yield_count};
+ghost use Rattle.trace_tasks.specs.Flat.{poll_count, tasks_at_first, yield_count};
 ghost use Rattle.trace_tasks.specs.Spelled.{TasksAreDeclared, StepsAreDeclared};
 
 use futures::task::Context;
@@ -57,7 +57,7 @@ fn script(alloc: Global) -> Result<TaskScript, Memory>
     ensures tested { IfOk result (λ script. TasksAreDeclared generated_settings.callsites script.tasks) }
     ensures sited { IfOk result (λ script. AllHaveCallsites 3 script.tasks) }
     ensures count { IfOk result (λ script. length script.tasks ≡ 2) }
-    ensures polls { IfOk result (λ script. all_polls (tasks_at_first 0 script.tasks) ≡ 3) }
+    ensures polls { IfOk result (λ script. poll_count (tasks_at_first 0 script.tasks) ≡ 3) }
 {
     let settings = generated_settings(alloc)?;
     let mut tasks = Items::new(alloc);

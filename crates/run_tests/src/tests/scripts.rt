@@ -1,7 +1,7 @@
 //! Tables of scripts, and whether each goes as is written there: `#` leads its title, `P` stands for the settings line, `<` leads
 //! an input line, and `>` an output line.
-use crate::tests::steps::{STEPS, step_texts};
-use crate::tests::whole_runs::{WHOLE_RUNS, at_once};
+use crate::tests::steps::{STEP_SCRIPTS, step_texts};
+use crate::tests::whole_runs::{WHOLE_RUNS, whole_run_text};
 use crate::tests::{SETTINGS, add_line};
 use std::process::Abort;
 use std::test::Fail;
@@ -51,7 +51,7 @@ fn output_with_line<R: AllocGlobal>(
 ) -> Result<Option<String>, Fail> {
     match line {
         "~" => Ok(Some(step_texts(rt, script)?)),
-        "^" => Ok(Some(at_once(rt, script)?)),
+        "^" => Ok(Some(whole_run_text(rt, script)?)),
         _ => Ok(None),
     }
 }
@@ -71,7 +71,7 @@ fn first_difference<R: AllocGlobal>(rt: &R, scripts: &str) -> Result<Option<Stri
 
 #[test]
 fn steps_behind_refused_requests(rt: HostRuntime) -> Result<(), Fail> {
-    let difference = first_difference(&rt, STEPS)?;
+    let difference = first_difference(&rt, STEP_SCRIPTS)?;
     assert!(rt; difference.is_none(), "{difference:?}");
     Ok(())
 }

@@ -7,7 +7,7 @@ use trace_stream::answers::{RunStage, answer, open};
 use trace_stream::written::Written;
 
 /// Scripts, each ended by `~`. The request `?` asks how many spans are open.
-pub const STEPS: &str = r#"
+pub const STEP_SCRIPTS: &str = r#"
 # a child on the other lane, which holds its parent, and a guard, which holds its handle
 P
 < {"at":0,"do":"new","lane":0,"parent":"root","site":0}
@@ -101,7 +101,7 @@ P
 "#;
 
 // Writes how many spans are open.
-fn add_open<R: AllocGlobal>(
+fn add_open_count<R: AllocGlobal>(
     rt: &R,
     pipeline: &Pipeline,
     written: &mut Written,
@@ -122,7 +122,7 @@ fn step_all<R: AllocGlobal>(
     for line in requests.lines() {
         number = number.saturating_add(1);
         if line == "?" {
-            add_open(rt, pipeline, written)?;
+            add_open_count(rt, pipeline, written)?;
         } else {
             let line = line.as_bytes();
             answer(rt.alloc(), Signal::Traces, pipeline, written, number, line)?;

@@ -112,7 +112,7 @@ fn outcome_or_error_text<R: AllocGlobal>(
 }
 
 /// What is told of a script that is run at once.
-pub fn at_once<R: AllocGlobal>(rt: &R, script: &str) -> Result<String, Fail> {
+pub fn whole_run_text<R: AllocGlobal>(rt: &R, script: &str) -> Result<String, Fail> {
     let (settings, lines) = script.split_once('\n').ok_or("a settings line")?;
     let requests = requests(rt, lines)?;
     let settings = read_settings(rt.alloc(), settings.as_bytes())?;

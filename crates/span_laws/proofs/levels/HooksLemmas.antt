@@ -1,6 +1,6 @@
 -- What a filter hears of an effect: the making of the next span, or of spans that are open.
 use Rattle.std.proofs.Common.{◌≡◌, ℕ, ◌<◌, ◌==◌, ◌||◌, List, [], ◌∷◌, ◌++◌, Bool, true, not, Option, Some, None, map, slice_set, refl, ap, arith}
-use Rattle.span_laws.proofs.Common.{AllByRecursion, or_right, nat_tests, Callsite, ValueSet, Hook, is_in, Each, IsNext, AreInOrder, IsBefore, Fields, Scope, MadeSpan, FilterHook, HookNew, HookRecord, HookEnter, HookExit, HookClose, slot_at, hooks_of_values, hook_of, hooks_of_span, is_open, closed_of, slot_open}
+use Rattle.span_laws.proofs.Common.{AllByRecursion, or_right, nat_tests, Callsite, ValueSet, Hook, is_in, Each, MayComeNext, AreInOrder, IsBefore, Fields, Scope, MadeSpan, FilterHook, HookNew, HookRecord, HookEnter, HookExit, HookClose, slot_at, hooks_of_values, hook_of, hooks_of_span, is_open, closed_of, slot_open}
 use Rattle.std.proofs.lemmas.Bool.{eq-eqb}
 use Rattle.span_laws.proofs.spans.OccurrencesLemmas.{is_in_counted, occurs_filter}
 
@@ -68,7 +68,7 @@ IsEndIn closed (HookEnter s lane) = Unit {0}
 IsEndIn closed (HookExit s lane) = Unit {0}
 
 module _ (hs : List (Option Scope)) (closes : List ℕ) where
-  heard_next : (past : List Hook) (heard : FilterHook) → IsHeard hs closes heard → IsNext past (hook_of heard)
+  heard_next : (past : List Hook) (heard : FilterHook) → IsHeard hs closes heard → MayComeNext past (hook_of heard)
   heard_next past (HookNew s callsite values) is = absurd is
   heard_next past (HookRecord s callsite values) is = tt
   heard_next past (HookEnter s lane) is = tt

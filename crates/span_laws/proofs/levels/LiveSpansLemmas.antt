@@ -1,12 +1,12 @@
 -- The layer of a stack keeps one state of each span that is live.
 use Rattle.std.proofs.Common.{◌≡◌, ◌≢◌, ℕ, ◌+◌, ◌<◌, List, [], ◌∷◌, ◌++◌, length, Bool, true, false, count_by, set, Option, Some, None, refl, sym, ap, subst, ◌∙◌, arith, inl, inr, ◌==◌, nat_lt, is_some, fold, IfSome, Result, Ok, Err}
-use Rattle.span_laws.proofs.Common.{list_any, cases_eq, cases_lt, cases_Bool, cond-true, cond-false, get_or_past, get_or_push, get_or_append_left, length_push, map-append, Context, SpanContext, Callsite, ValueSet, Lane, one_if, Span, Spans, no_span, span_at, entries_on, is_in, times_in, current_of, parent_on, with_hold, span_without_hold, without_hold, with_hold_of_child, parent_to_release, count_cons, count_push, counted_if_any, any_if_counted, made_if_held, length_held, less_holds, holds_set, holds_other, LayerSettings, Op, event_of, span_update, SpanData, after_op, Recording, with_applied, with_start_under, with_start, with_starts, with_span_under, with_new_recorded, with_follow, with_event, source_of, with_entry, with_exit, without_closed, with_close, Enters, Exits, ChangesNothing, RecordsCall, RecordsChain, RecordsPart, IfKnown, parent_source, with_link, data_at, knows_span, start_context, ids_at, is_id, FilterState, enables_in}
+use Rattle.span_laws.proofs.Common.{list_any, cases_eq, cases_lt, cases_Bool, cond-true, cond-false, get_or_past, get_or_push, get_or_append_left, length_push, map-append, Context, SpanContext, Callsite, ValueSet, Lane, one_if, Span, Spans, no_span, span_at, entries_on, is_in, times_in, current_of, parent_on, with_hold, span_without_hold, without_hold, with_hold_of_child, parent_to_release, count_cons, count_push, counted_if_any, any_if_counted, made_if_held, length_held, less_holds, holds_set, holds_other, LayerSettings, Op, event_op, span_update, SpanData, after_op, Recording, with_applied, with_start_under, with_start, with_start_if_some, with_span_under, with_new_span, with_follow, with_event, id_if_on, with_entry, with_exit, with_span_finished, with_close, Enters, Exits, ChangesNothing, RecordsCall, RecordsChain, RecordsPart, IfKnown, parent_source, with_link, data_at, knows_span, start_context, ids_if_known, is_id, FilterState, enables_in}
 use Rattle.std.specs.Map.{keys_of, remove_entry}
 use Rattle.std.proofs.lemmas.Bool.{eqb-true, eq-eqb, ne_eqb, lt-ltb, le-ltb, true≢false}
 use Rattle.std.proofs.lemmas.Map.Made.{is_some-lookup}
 use Rattle.trace_base.specs.declared.span.Parent.{Parent}
 use Rattle.trace_base.specs.Calls.{SubscriberCall, NewSpan, Records, Follows, Event, Enter, Exit, CloneSpan, TryClose, spans_after_call, with_span_entry, with_span_exit}
-use Rattle.trace_base.specs.Conditions.{IsLive, MayExit, HasOwnHold, Allowed}
+use Rattle.trace_base.specs.Conditions.{IsLive, MayExit, HasUnboundHold, Allowed}
 use Rattle.trace_base.specs.Sound.{IsSound}
 use Rattle.trace_base.proofs.Sound.{parent_live}
 use Rattle.trace_base.specs.Gate.{WorldValue}
@@ -16,7 +16,7 @@ use Rattle.otel_base.specs.declared.memory.Memory.{Memory}
 use Rattle.otel_state.specs.declared.op.OpReply.{OpReply}
 use Rattle.otel_state.specs.declared.op.Op.TheVariants as ops
 use Rattle.otel_layer.specs.laws.HookLemmas.{update_keys}
-use Rattle.otel_layer.specs.Parts.{PartCall, Applies, GivesContext, AppliesTo, context_at}
+use Rattle.otel_layer.specs.Parts.{PartCall, Applies, GivesContext, AppliesTo, own_context_if_known}
 use Rattle.span_stack.specs.Counting.{with_counted, with_event_by, RecordsCallBy}
 use Rattle.span_stack.specs.Reading.{new_recording}
 use Rattle.span_laws.specs.Live.{is_live, state_count, KeepsLive, IsAnsweredLive}
@@ -108,29 +108,29 @@ under_keys (Some under) id at r = update_keys id _ r.spans
 start_keys : (id at : ℕ) (r : Recording) → keys (with_start id at r) ≡ keys r
 start_keys id at r = under_keys (start_context (data_at id r.spans)) id at r
 
-starts_keys : (o : Option ℕ) (at : ℕ) (r : Recording) → keys (with_starts o at r) ≡ keys r
+starts_keys : (o : Option ℕ) (at : ℕ) (r : Recording) → keys (with_start_if_some o at r) ≡ keys r
 starts_keys None at r = refl
 starts_keys (Some id) at r = start_keys id at r
 
-made_keys : (id : ℕ) (lane : Lane) (at : ℕ) (parent : Parent) (current : Option ℕ) (callsite : Callsite) (values : ValueSet) (r : Recording) → keys (with_new_recorded id lane at parent current callsite values r) ≡ keys r ++ id ∷ []
+made_keys : (id : ℕ) (lane : Lane) (at : ℕ) (parent : Parent) (current : Option ℕ) (callsite : Callsite) (values : ValueSet) (r : Recording) → keys (with_new_span id lane at parent current callsite values r) ≡ keys r ++ id ∷ []
 made_keys id lane at parent current callsite values r =
     let source = parent_source r.settings.activation parent current in
-    starts_keys (source_of r.settings.eager id) at (with_span_under source id lane at parent callsite values r.settings r.counting (with_starts source at r))
-    ∙ map-append (λ (e : ℕ × SpanData). e.0) (with_starts source at r).spans _ ∙ ap (λ (ks : List ℕ). ks ++ id ∷ []) (starts_keys source at r)
+    starts_keys (id_if_on r.settings.eager id) at (with_span_under source id lane at parent callsite values r.settings r.counting (with_start_if_some source at r))
+    ∙ map-append (λ (e : ℕ × SpanData). e.0) (with_start_if_some source at r).spans _ ∙ ap (λ (ks : List ℕ). ks ++ id ∷ []) (starts_keys source at r)
 
 link_keys : (id at : ℕ) (o : Option SpanContext) (spans : List (ℕ × SpanData)) → keys_of (with_link id at o spans) ≡ keys_of spans
 link_keys id at None spans = refl
 link_keys id at (Some context) spans = update_keys id _ spans
 
 follow_keys : (id from at : ℕ) (r : Recording) → keys (with_follow id from at r) ≡ keys r
-follow_keys id from at r = (let s = with_start from at r in link_keys id at (ids_at (data_at from s.spans)) s.spans ∙ start_keys from at r)
+follow_keys id from at r = (let s = with_start from at r in link_keys id at (ids_if_known (data_at from s.spans)) s.spans ∙ start_keys from at r)
 
 pub event_keys : (o : Option ℕ) (at : ℕ) (callsite : Callsite) (values : ValueSet) (r : Recording) → keys (with_event o at callsite values r) ≡ keys r
 event_keys None at callsite values r = refl
-event_keys (Some id) at callsite values r = op_keys id at (event_of callsite values r.settings at) r
+event_keys (Some id) at callsite values r = op_keys id at (event_op callsite values r.settings at) r
 
 entry_keys : (id lane at : ℕ) (attached : Option ℕ) (r : Recording) → keys (with_entry id lane at attached r) ≡ keys r
-entry_keys id lane at attached r = (let source = source_of r.settings.activation id in update_keys id _ (with_starts source at r).spans ∙ starts_keys source at r)
+entry_keys id lane at attached r = (let source = id_if_on r.settings.activation id in update_keys id _ (with_start_if_some source at r).spans ∙ starts_keys source at r)
 
 exit_keys : (id lane at : ℕ) (r : Recording) → keys (with_exit id lane at r) ≡ keys r
 exit_keys id lane at r = update_keys id _ r.spans
@@ -174,7 +174,7 @@ told_live x r keeps id =
       | inr none ↦ (let z = once_none n (omega (arith, none)) in told_uncounted id r.spans (omega (arith, one, z)) ∙ sym (le-ltb 0 n none))
     ]
 
-closed_count : (o : Option SpanData) (id at q : ℕ) (r : Recording) → is_some o ≡ true → 0 < count_by (is_id id) (keys r) → state_count (without_closed o id at r) q + one_if (id == q) ≡ state_count r q
+closed_count : (o : Option SpanData) (id at q : ℕ) (r : Recording) → is_some o ≡ true → 0 < count_by (is_id id) (keys r) → state_count (with_span_finished o id at r) q + one_if (id == q) ≡ state_count r q
 closed_count None id at q r there some = absurd (true≢false (sym there))
 closed_count (Some told) id at q r there some = count_removed id q r.spans some
 
@@ -197,7 +197,7 @@ if_known true A B r t h a b = a (h.is_known refl)
 if_known false A B r t h a b = b (h.isnt refl)
 
 new_kept : (x : Spans) (r : Recording) (lane : Lane) (at : ℕ) (parent : Parent) (site : ℕ) (callsite : Callsite) (values : ValueSet) → IsSound x → Allowed x (NewSpan lane at parent site callsite values) → KeepsLive x r
-    → KeepsLive (spans_after_call x (NewSpan lane at parent site callsite values)) (with_new_recorded (length x.made) lane at parent (current_of (entries_on lane.id x.lanes)) callsite values r)
+    → KeepsLive (spans_after_call x (NewSpan lane at parent site callsite values)) (with_new_span (length x.made) lane at parent (current_of (entries_on lane.id x.lanes)) callsite values r)
 new_kept x r lane at parent site callsite values sound allowed keeps q =
     let o = parent_on (entries_on lane.id x.lanes) parent in
     let new : Span = record { holds = 1; parent = o; site = site } in
@@ -231,7 +231,7 @@ close_kept x r id at last keeps q =
           omega (arith, less, was, h, off))
     ]
 
-release_kept : (x : Spans) (r : Recording) (id : ℕ) → HasOwnHold x id → (span_at x.made id).holds ≢ 1 → KeepsLive x r → KeepsLive (record x { made = without_hold x.made id }) r
+release_kept : (x : Spans) (r : Recording) (id : ℕ) → HasUnboundHold x id → (span_at x.made id).holds ≢ 1 → KeepsLive x r → KeepsLive (record x { made = without_hold x.made id }) r
 release_kept x r id own several keeps = kept x (record x { made = without_hold x.made id }) r r (alive_released x.made id (omega (arith, own, several))) refl keeps
 
 pub call_kept : (x : Spans) (r : Recording) (call : SubscriberCall) (t : Recording) → IsSound x → Allowed x call → RecordsCall x r call t → KeepsLive x r → KeepsLive (spans_after_call x call) t
@@ -292,7 +292,7 @@ applied_answer (Some told) spans now id at op None h = absurd h
 applied_answer (Some told) spans now id at op (Some (Ok r)) h = refl
 applied_answer (Some told) spans now id at op (Some (Err memory)) h = refl
 
-context_some : (o : Option SpanData) → is_some (context_at o) ≡ is_some o
+context_some : (o : Option SpanData) → is_some (own_context_if_known o) ≡ is_some o
 context_some None = refl
 context_some (Some told) = refl
 
@@ -304,7 +304,7 @@ part_answer x r (GivesContext id at answer) t h keeps =
 -- ---- where events may be counted
 
 counted_keys : (taken : Bool) (id at : ℕ) (callsite : Callsite) (values : ValueSet) (r : Recording) → keys (with_counted taken id at callsite values r) ≡ keys r
-counted_keys true id at callsite values r = op_keys id at (event_of callsite values r.settings at) (with_applied id at ops.Counted r) ∙ op_keys id at ops.Counted r
+counted_keys true id at callsite values r = op_keys id at (event_op callsite values r.settings at) (with_applied id at ops.Counted r) ∙ op_keys id at ops.Counted r
 counted_keys false id at callsite values r = op_keys id at ops.Counted r
 
 event_by_keys : (counting_filter : Option FilterState) (o : Option ℕ) (lane at : ℕ) (callsite : Callsite) (values : ValueSet) (r : Recording) → keys (with_event_by counting_filter o lane at callsite values r) ≡ keys r

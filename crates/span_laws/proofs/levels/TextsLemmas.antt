@@ -1,7 +1,7 @@
 -- A text in force is read piece by piece as the grammar of forms has it.
 use Rattle.std.proofs.Common.{◌≡◌, ℕ, ◌+◌, List, [], ◌∷◌, ◌++◌, false, Ok, Err, refl, sym, ap, subst, ◌∙◌, ◌↔◌}
 use Rattle.std.specs.Str.{trim}
-use Rattle.env_directives.specs.reading.Faults.{HasEmptyField, HasFault, HasNoLevel}
+use Rattle.env_directives.specs.reading.Faults.{HasEmptyField, HasFault, HasBadLevel}
 use Rattle.env_directives.specs.reading.Forms.{IsDirective}
 use Rattle.env_directives.specs.reading.Reading.{DirectiveRead, read_directive}
 use Rattle.env_directives.specs.reading.Separators.{comma_pieces}
@@ -19,10 +19,10 @@ faulty : (text : List ℕ) (cause : ParseError) → ◌≡◌ {A = DirectiveRead
 faulty text fault.Shape is = (fault_is false text (Err fault.Shape) is, refl)
 faulty text fault.Level is = (fault_is false text (Err fault.Level) is, refl)
 faulty text fault.Field is = (fault_is false text (Err fault.Field) is, refl)
-faulty text fault.Pattern is = absurd (subst (Explained (IsDirective false text) (HasNoLevel text) (HasEmptyField text)) is (reading_explained false text))
+faulty text fault.Pattern is = absurd (subst (Explained (IsDirective false text) (HasBadLevel text) (HasEmptyField text)) is (reading_explained false text))
 faulty text fault.Equals is = (fault_is false text (Err fault.Equals) is, refl)
 faulty text (fault.Fields many) is = (fault_is false text (Err (fault.Fields many)) is, refl)
-faulty text fault.Memory is = absurd (subst (Explained (IsDirective false text) (HasNoLevel text) (HasEmptyField text)) is (reading_explained false text))
+faulty text fault.Memory is = absurd (subst (Explained (IsDirective false text) (HasBadLevel text) (HasEmptyField text)) is (reading_explained false text))
 
 -- each piece is read as something
 piece_read : (n : ℕ) (piece : List ℕ) → (ds : List Directive) × (is : List Ignored) × ReadsPiece false n piece ds is
@@ -30,7 +30,7 @@ piece_read n [] = ([], [], tt)
 piece_read n (b ∷ bs) = by_read (read_directive false (trim (b ∷ bs))) refl
   where
     by_read : (r : DirectiveRead) → read_directive false (trim (b ∷ bs)) ≡ r → (ds : List Directive) × (is : List Ignored) × ReadsPiece false n (b ∷ bs) ds is
-    by_read (Ok d) is = (d ∷ [], [], subst (Explained (IsDirective false (trim (b ∷ bs))) (HasNoLevel (trim (b ∷ bs))) (HasEmptyField (trim (b ∷ bs)))) is (reading_explained false (trim (b ∷ bs))))
+    by_read (Ok d) is = (d ∷ [], [], subst (Explained (IsDirective false (trim (b ∷ bs))) (HasBadLevel (trim (b ∷ bs))) (HasEmptyField (trim (b ∷ bs)))) is (reading_explained false (trim (b ∷ bs))))
     by_read (Err cause) is =
         let has = faulty (trim (b ∷ bs)) cause is in
         ([], record { piece = n; text = b ∷ bs; fault = cause } ∷ [], record { numbered = refl; text = refl; fault = has.0; no_memory = has.1 })

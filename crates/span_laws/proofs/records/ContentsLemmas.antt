@@ -1,7 +1,7 @@
 -- What a span's record tells, by its ops in the history.
 use Rattle.std.proofs.Common.{◌≡◌, ℕ, List, [], ◌∷◌, ◌++◌, Bool, refl, sym, ap, subst, ◌∙◌, append_assoc, IsTrue, is_some}
 use Rattle.std.proofs.lemmas.List.{append-nil}
-use Rattle.span_laws.proofs.Common.{SpanContext, Record, attributes_of, counted_of, closing_count, closing_times, TimedOp, TellsTimes, was_entered, SpanData, with_all, busy_of, last_exit, idle_of, Setup, all_ops, TellsSpan, TellsAttributes}
+use Rattle.span_laws.proofs.Common.{SpanContext, Record, attributes_of, counted_of, closing_count_attributes, closing_times_attributes, TimedOp, TellsTimes, was_entered, SpanData, with_all, busy_of, last_exit, idle_of, Setup, all_ops, TellsStartAndEnd, TellsAttributes}
 use Rattle.otel_base.specs.declared.value.KeyValue.{KeyValue}
 use Rattle.otel_state.proofs.AddingUp.{tells_times}
 use Rattle.span_laws.proofs.records.StoriesLemmas.{IsEnding}
@@ -14,7 +14,7 @@ module _ (setup : Setup) (first : SpanData) (done : SpanContext → List TimedOp
   abbrev all : List TimedOp
   all = all_ops rec.making rec.began.update (done r.context)
 
-  pub span_told : TellsSpan first.made_at (last_exit (done r.context)) at r
+  pub span_told : TellsStartAndEnd first.made_at (last_exit (done r.context)) at r
   span_told = record {
     start = ap (λ (r : Record). r.start) rec.ends.is ∙ sym (ap (λ (t : SpanData). t.made_at) rec.began.is);
     end = ap (λ (r : Record). r.end) rec.ends.is;
@@ -35,15 +35,15 @@ module _ (setup : Setup) (first : SpanData) (done : SpanContext → List TimedOp
   attributes_told =
       let busy = busy_of rec.making.made_at all in
       let idle = idle_of (last_exit all) rec.making.made_at busy in
-      let count = closing_count (is_some setup.counting) (counted_of (done r.context)) in
-      let closing = closing_times setup.layer.inactivity busy idle in
+      let count = closing_count_attributes (is_some setup.counting) (counted_of (done r.context)) in
+      let closing = closing_times_attributes setup.layer.inactivity busy idle in
       record {
         busy = busy;
         idle = idle;
         told =
             ap (λ (r : Record). r.attributes) rec.ends.is
-            ∙ ap (λ (counting : Bool). rec.making.first ++ attributes_of all ++ closing_count counting (counted_of all) ++ closing_times rec.making.inactivity busy idle) rec.began.counting_is
-            ∙ ap (λ (tracked : Bool). rec.making.first ++ attributes_of all ++ count ++ closing_times tracked busy idle) rec.began.tracked
+            ∙ ap (λ (counting : Bool). rec.making.first ++ attributes_of all ++ closing_count_attributes counting (counted_of all) ++ closing_times_attributes rec.making.inactivity busy idle) rec.began.counting_is
+            ∙ ap (λ (tracked : Bool). rec.making.first ++ attributes_of all ++ count ++ closing_times_attributes tracked busy idle) rec.began.tracked
             ∙ regroup rec.making.first rec.began.update.attributes (attributes_of (done r.context)) count closing
             ∙ ap (λ (xs : List KeyValue). xs ++ attributes_of (done r.context) ++ count ++ closing) (sym first_attributes_are);
       }

@@ -1,6 +1,6 @@
 -- What stands of each legal history: its tables, the stories of its open spans, and the records of its closed ones.
 use Rattle.std.proofs.Common.{◌≡◌, ℕ, ◌+◌, ◌<◌, ◌≤◌, ◌==◌, ◌&&◌, ◌||◌, List, [], ◌∷◌, ◌++◌, length, Bool, true, false, cond, filter, flat_map, map, fold, not, nat_lt, Option, Some, None, option_map, refl, sym, ap, subst, ◌∙◌, arith, append_assoc, if◌then◌else◌}
-use Rattle.span_laws.proofs.Common.{AllByRecursion, length_push, fold_push, fold-append, flat_map-append, cond-true, cond-false, nat_tests, SpanContext, Record, TimedOp, deed, SpanData, Recording, with_start, data_at, is_in, Setup, Scope, MadeSpan, SpanOp, Effect, History, Tables, with_item, no_tables, after_effect, tables, no_made_span, with_span_made, recording_after, open_part, records_of, slot_at, holds, is_open, records_push, is_drop, IsHistory, none, more, occurrences, EachRecord, records_of_history, start_in, ops_in, ops_from, ops_of, closed_at, with_started, starts_of, starts_at_making, starting_order, place_in, any_counted, pick}
+use Rattle.span_laws.proofs.Common.{AllByRecursion, length_push, fold_push, fold-append, flat_map-append, cond-true, cond-false, nat_tests, SpanContext, Record, TimedOp, deed, SpanData, Recording, with_start, data_at, is_in, Setup, Scope, MadeSpan, SpanOp, Effect, History, Tables, with_item, no_tables, after_effect, tables, no_made_span, with_span_made, recording_after, open_part, records_of, slot_at, holds_span, is_open, records_push, is_drop, IsHistory, none, more, occurrences, EachRecord, records_of_history, start_in, ops_in, ops_from, ops_of, closed_at, with_started, starts_of, span_starting_at_making, starting_order, place_in, any_counted, pick}
 use Rattle.std.specs.Option.{option_to_list}
 use Rattle.std.proofs.lemmas.List.{append-nil}
 use Rattle.std.proofs.lemmas.Bool.{ne_eqb, true≢false}
@@ -19,11 +19,11 @@ use Rattle.span_laws.proofs.steps.EntriesLemmas.{guards_of, guards_shut, turns_w
 
 -- ---- a history with one effect more
 
-pub started_push : (h : History) (e : Effect) → starting_order (h ++ e ∷ []) ≡ fold with_started (fold with_started (fold with_started (starting_order h) e.starts) (option_to_list e.begins)) e.closes
+pub started_push : (h : History) (e : Effect) → starting_order (h ++ e ∷ []) ≡ fold with_started (fold with_started (fold with_started (starting_order h) e.starts) (option_to_list e.new_span_start)) e.closes
 started_push h e =
     ap (fold with_started []) (flat_map-append starts_of h (e ∷ [])) ∙ fold-append with_started [] (flat_map starts_of h) (starts_of e ++ [])
-    ∙ ap (fold with_started (starting_order h)) (append-nil (starts_of e)) ∙ fold-append with_started (starting_order h) (e.starts ++ option_to_list e.begins) e.closes
-    ∙ ap (λ (o : List ℕ). fold with_started o e.closes) (fold-append with_started (starting_order h) e.starts (option_to_list e.begins))
+    ∙ ap (fold with_started (starting_order h)) (append-nil (starts_of e)) ∙ fold-append with_started (starting_order h) (e.starts ++ option_to_list e.new_span_start) e.closes
+    ∙ ap (λ (o : List ℕ). fold with_started o e.closes) (fold-append with_started (starting_order h) e.starts (option_to_list e.new_span_start))
 
 pub ops_parts : (own : SpanContext) (s : ℕ) (order : List ℕ) (h rest : History) → ops_from own s order (h ++ rest) ≡ ops_from own s order h ++ ops_from own s (fold with_started order (flat_map starts_of h)) rest
 ops_parts own s order [] rest = refl
@@ -65,11 +65,11 @@ unstarted_all hs (d ∷ ds) reached = (reached.0.unstarted, unstarted_all hs ds 
 
 pub open_made : (hs : List (Option Scope)) (ms : List MadeSpan) (cs : List ℕ) → IsSound hs ms cs → (s : ℕ) → is_open hs s ≡ true → s < length ms
 open_made hs ms cs sound s is =
-    let counted = any_counted (holds s) hs in
-    let found = pick (holds s) hs None (grind (arith, nat_tests, counted, is)) in
+    let counted = any_counted (holds_span s) hs in
+    let found = pick (holds_span s) hs None (grind (arith, nat_tests, counted, is)) in
     by_slot found.0 (slot_at hs found.0) refl found.2
   where
-    by_slot : (n : ℕ) (o : Option Scope) → slot_at hs n ≡ o → holds s o ≡ true → s < length ms
+    by_slot : (n : ℕ) (o : Option Scope) → slot_at hs n ≡ o → holds_span s o ≡ true → s < length ms
     by_slot n None there inside = absurd (true≢false (sym inside))
     by_slot n (Some scope) there inside =
         let once = (sound.lines n scope there).once s in
@@ -203,7 +203,7 @@ module _ (setup : Setup) (h : History) (now : IsWhole setup h (tables setup h)) 
 
   -- where spans start early the one that was just made starts
   abbrev early : List ℕ
-  early = option_to_list e.begins
+  early = option_to_list e.new_span_start
 
   new_open : (m : MadeSpan) → e.new_span ≡ Some m → is_open hs (length t.spans) ≡ true
   new_open m is =
@@ -215,7 +215,7 @@ module _ (setup : Setup) (h : History) (now : IsWhole setup h (tables setup h)) 
   early_open : AllByRecursion (λ s. is_open hs s ≡ true) early
   early_open = subst (λ (o : Option ℕ). AllByRecursion (λ s. is_open hs s ≡ true) (option_to_list o)) (sym step.early) (by_made setup.layer.eager e.new_span refl)
     where
-      by_made : (eager : Bool) (o : Option MadeSpan) → e.new_span ≡ o → AllByRecursion (λ s. is_open hs s ≡ true) (option_to_list (starts_at_making eager (length t.spans) o))
+      by_made : (eager : Bool) (o : Option MadeSpan) → e.new_span ≡ o → AllByRecursion (λ s. is_open hs s ≡ true) (option_to_list (span_starting_at_making eager (length t.spans) o))
       by_made eager None is = tt
       by_made false (Some m) is = tt
       by_made true (Some m) is = (new_open m is, tt)
@@ -229,7 +229,7 @@ module _ (setup : Setup) (h : History) (now : IsWhole setup h (tables setup h)) 
   begun_early : AreStories setup (first_of ms) order early_done (guards_of t.guards) e.at (is_open hs) (length ms) (table.with_starts_of (length t.spans) e t.recording)
   begun_early =
       let before : Recording = with_span_made (length t.spans) e.new_span (fold (λ r s. with_start s e.at r) t.recording e.starts) in
-      subst (AreStories setup (first_of ms) order early_done (guards_of t.guards) e.at (is_open hs) (length ms)) (starts_fold e.begins e.at before)
+      subst (AreStories setup (first_of ms) order early_done (guards_of t.guards) e.at (is_open hs) (length ms)) (starts_fold e.new_span_start e.at before)
       (starts_stories setup (first_of ms) e.at timed.most (guards_of t.guards) (is_open hs) (length ms) order_before begun_done before early made early_open)
 
   abbrev done : ℕ → SpanContext → List TimedOp

@@ -1,6 +1,6 @@
 -- What a request sees of a span's own context is that of the span's record.
 use Rattle.std.proofs.Common.{◌≡◌, ℕ, ◌<◌, ◌&&◌, List, [], ◌∷◌, ◌++◌, Bool, true, false, fold, flat_map, filter, map, not, ◌==◌, Option, Some, None, Ok, refl, sym, ap, ap₂, subst, ◌∙◌, arith, append_assoc, if◌then◌else◌, is_some, filter_map, slice_get}
-use Rattle.span_laws.proofs.Common.{AllByRecursion, cons_option, fold-append, flat_map-append, Context, SpanContext, Record, ids_of, recorder_ids, TimedOp, deed, before_start, is_start, last_or, own_of, SpanData, own_is, parent_is, with_start, parent_source, own_context_or, data_at, current_of, is_in, RequestParent, Request, here_at, effect_of, is_open, parent_under, Setup, Effect, History, MadeSpan, Scope, Tables, after_effect, made_span_at, no_tables, tables, is_drop, IsHistory, occurrences, HasContextOf, SeesContextOf, context_of_lane, context_span, parent_context, EachRecord, all_ops, ops_from, ops_in, ops_of, records_of_history, start_in, place_in, starting_order, starts_of, with_started}
+use Rattle.span_laws.proofs.Common.{AllByRecursion, cons_option, fold-append, flat_map-append, Context, SpanContext, Record, ids_of, recorder_ids, TimedOp, deed, before_start, is_start, last_or, ids_of_start, SpanData, own_is, parent_is, with_start, parent_source, own_context_or, data_at, current_of, is_in, RequestParent, Request, here_at, effect_of, is_open, parent_under, Setup, Effect, History, MadeSpan, Scope, Tables, after_effect, made_span_at, no_tables, tables, is_drop, IsHistory, occurrences, HasContextOf, SeesContextOf, context_of_lane, context_span, parent_context, EachRecord, all_ops, ops_from, ops_in, ops_of, records_of_history, start_in, place_in, starting_order, starts_of, with_started}
 use Rattle.std.specs.Option.{option_to_list}
 use Rattle.otel_base.specs.Stack.{empty_context}
 use Rattle.otel_state.specs.declared.op.Op.TheVariants as ops
@@ -60,15 +60,15 @@ module _ (one other : SpanContext) (s : ℕ) where
   effect_alike : (order : List ℕ) (e : Effect) → Alike (ops_in one s order e) (ops_in other s order e)
   effect_alike order e =
       let before = fold with_started order e.starts in
-      let begun = fold with_started before (option_to_list e.begins) in
+      let begun = fold with_started before (option_to_list e.new_span_start) in
       let done = map (λ d. stamp e.at d.op) (filter (λ d. d.span == s) e.ops) in
       let first = start_in one e.at s order e.starts in
       let first_too = start_in other e.at s order e.starts in
-      let early = start_in one e.at s before (option_to_list e.begins) in
-      let early_too = start_in other e.at s before (option_to_list e.begins) in
+      let early = start_in one e.at s before (option_to_list e.new_span_start) in
+      let early_too = start_in other e.at s before (option_to_list e.new_span_start) in
       alike_append (first ++ early ++ done) (first_too ++ early_too ++ done) (start_in one e.at s begun e.closes) (start_in other e.at s begun e.closes)
       (alike_append (first ++ early) (first_too ++ early_too) done done
-      (alike_append first first_too early early_too (start_alike e.at order e.starts) (start_alike e.at before (option_to_list e.begins))) (alike_all done))
+      (alike_append first first_too early early_too (start_alike e.at order e.starts) (start_alike e.at before (option_to_list e.new_span_start))) (alike_all done))
       (start_alike e.at begun e.closes)
 
   ops_alike : (order : List ℕ) (h : History) → Alike (ops_from one s order h) (ops_from other s order h)
@@ -76,11 +76,11 @@ module _ (one other : SpanContext) (s : ℕ) where
   ops_alike order (e ∷ h) = alike_append (ops_in one s order e) (ops_in other s order e) _ _ (effect_alike order e) (ops_alike (fold with_started order (starts_of e)) h)
 
 -- what stands behind a start doesn't count
-cut : (xs ys : List TimedOp) → is_some (own_of xs) ≡ true → before_start (xs ++ ys) ≡ before_start xs
+cut : (xs ys : List TimedOp) → is_some (ids_of_start xs) ≡ true → before_start (xs ++ ys) ≡ before_start xs
 cut [] ys has = absurd (cc has)
 cut (x ∷ xs) ys has = by_start (cut xs ys) (deed x.op).own has
   where
-    by_start : (is_some (own_of xs) ≡ true → before_start (xs ++ ys) ≡ before_start xs) → (given : Option SpanContext)
+    by_start : (is_some (ids_of_start xs) ≡ true → before_start (xs ++ ys) ≡ before_start xs) → (given : Option SpanContext)
         → is_some (slice_get (cons_option given (filter_map (λ o. (deed o.op).own) xs)) 0) ≡ true
         → (if is_some given then [] else x ∷ before_start (xs ++ ys)) ≡ (if is_some given then [] else x ∷ before_start xs)
     by_start same None has = ap (λ (rest : List TimedOp). x ∷ rest) (same has)
@@ -116,10 +116,10 @@ module _ (setup : Setup) (fore rest : History) (e : Effect) (legal : IsHistory s
 
   same_place : place_in (starting_order h) p ≡ place_in order p
   same_place =
-      let others = option_to_list e.begins ++ e.closes ++ flat_map starts_of rest in
+      let others = option_to_list e.new_span_start ++ e.closes ++ flat_map starts_of rest in
       ap (λ (o : List ℕ). place_in o p)
       (ap (fold with_started []) (flat_map-append starts_of fore (e ∷ rest)) ∙ fold-append with_started [] (flat_map starts_of fore) (flat_map starts_of (e ∷ rest))
-      ∙ ap (fold with_started (starting_order fore)) (regroup e.starts (option_to_list e.begins) e.closes (flat_map starts_of rest)) ∙ fold-append with_started (starting_order fore) e.starts others)
+      ∙ ap (fold with_started (starting_order fore)) (regroup e.starts (option_to_list e.new_span_start) e.closes (flat_map starts_of rest)) ∙ fold-append with_started (starting_order fore) e.starts others)
       ∙ places_stay order others p placed
     where
       regroup : (a b c d : List ℕ) → ((a ++ b) ++ c) ++ d ≡ a ++ (b ++ c ++ d)
@@ -138,13 +138,13 @@ module _ (setup : Setup) (fore rest : History) (e : Effect) (legal : IsHistory s
     so_far = begun_by e.at (starting_order fore) e.starts (done_in fore) p own
 
     abbrev early : List TimedOp
-    early = start_in own e.at p order (option_to_list e.begins)
+    early = start_in own e.at p order (option_to_list e.new_span_start)
 
     abbrev done : List TimedOp
     done = map (λ d. stamp e.at d.op) (filter (λ d. d.span == p) e.ops)
 
     abbrev at_close : List TimedOp
-    at_close = start_in own e.at p (fold with_started order (option_to_list e.begins)) e.closes
+    at_close = start_in own e.at p (fold with_started order (option_to_list e.new_span_start)) e.closes
 
     abbrev behind : List TimedOp
     behind = ops_from own p (fold with_started (starting_order fore) (starts_of e)) rest
@@ -158,9 +158,9 @@ module _ (setup : Setup) (fore rest : History) (e : Effect) (legal : IsHistory s
     later_is : story.later ≡ so_far
     later_is = story.rest own (subst (λ (o : Option SpanContext). IsOwn o own) (sym is) refl)
 
-    has_start : is_some (own_of so_far) ≡ true
+    has_start : is_some (ids_of_start so_far) ≡ true
     has_start =
-        ap (λ (xs : List TimedOp). is_some (own_of xs)) (sym later_is)
+        ap (λ (xs : List TimedOp). is_some (ids_of_start xs)) (sym later_is)
         ∙ sym (ap (λ (o : Option SpanContext). is_some o) (own_is story.told story.making (all_ops story.making story.began.update story.later) story.stands))
         ∙ ap (λ (o : Option SpanContext). is_some o) is
 

@@ -1,6 +1,6 @@
 -- What is recorded of the open spans, as an effect starts spans, makes one, does ops and closes spans.
 use Rattle.std.proofs.Common.{◌≡◌, ℕ, ◌+◌, ◌<◌, ◌≤◌, ◌==◌, ◌&&◌, ◌||◌, List, [], ◌∷◌, ◌++◌, length, Bool, true, false, cond, not, fold, Option, Some, None, refl, sym, ap, subst, ◌∙◌, arith, inl, inr, append_assoc, if◌then◌else◌, is_some}
-use Rattle.span_laws.proofs.Common.{AllByRecursion, length_push, cases_Bool, cases_eq, cond-true, cond-false, nat_tests, Context, SpanContext, Record, ids_of, recorder_ids, Op, GREATEST, content, TimedOp, deed, parent_context_of, SpanData, record_of, MomentsRise, open_by, data_at, start_context, context_unless_started, Recording, with_start_under, with_start, with_starts, with_applied, without_closed, with_close, data_after, told_at_op, told_at_removed, is_in, Setup, MadeSpan, SpanOp, Effect, with_span_made, occurrences, EachRecord, all_ops, start_in, with_started, place_in}
+use Rattle.span_laws.proofs.Common.{AllByRecursion, length_push, cases_Bool, cases_eq, cond-true, cond-false, nat_tests, Context, SpanContext, Record, ids_of, recorder_ids, Op, GREATEST, content, TimedOp, deed, parent_context_of, SpanData, record_of, MomentsRise, open_after_ops, data_at, start_context, context_unless_started, Recording, with_start_under, with_start, with_start_if_some, with_applied, with_span_finished, with_close, data_after, told_at_op, told_at_removed, is_in, Setup, MadeSpan, SpanOp, Effect, with_span_made, occurrences, EachRecord, all_ops, start_in, with_started, place_in}
 use Rattle.std.proofs.lemmas.List.{append-nil}
 use Rattle.std.proofs.lemmas.Bool.{eq-eqb, ne_eqb, true≢false}
 use Rattle.otel_state.specs.declared.op.Op.TheVariants as ops
@@ -50,7 +50,7 @@ same_record setup first done same place there at r alike is c =
       began = c.began;
       ends = record {
         in_order = subst (MomentsRise c.making.made_at) all c.ends.in_order;
-        shut = sym (ap (open_by 0) all) ∙ c.ends.shut;
+        shut = sym (ap (open_after_ops 0) all) ∙ c.ends.shut;
         is = c.ends.is ∙ ap (λ (xs : List TimedOp). content c.making xs at) all;
         started = subst (λ (p : ℕ). 0 < p) is c.ends.started;
         own = c.ends.own ∙ ap (λ (xs : List TimedOp). recorder_ids place (ids_of (parent_context_of c.making.parent xs))) all ∙ ap (λ (p : ℕ). recorder_ids p (ids_of (parent_context_of c.making.parent (all_ops c.making c.began.update (same r.context))))) is;
@@ -211,7 +211,7 @@ module _ (setup : Setup) (first : ℕ → SpanData) (now : ℕ) (most : now ≤ 
         → (f : IsStory setup (data_at id (with_start id now r).spans) (first id) (place_in (with_started order id) id) (begun_by now order (id ∷ []) done id) (opened id) now) → opened id ≡ 0 → One order done is_known r id
     close_by order done is_known r id j f none =
         let s : Recording = with_start id now r in
-        let is : with_close id now r ≡ without_closed (Some f.told) id now s = ap (λ (o : Option SpanData). without_closed o id now s) f.is in
+        let is : with_close id now r ≡ with_span_finished (Some f.told) id now s = ap (λ (o : Option SpanData). with_span_finished o id now s) f.is in
         let some : 0 < place_in (with_started order id) id = (let there = present 1 (with_started order id) id (in_started order id) in omega (arith, there)) in (
           record_of f.told now,
           subst (λ (t : Recording). AreStories setup first (with_started order id) (begun_by now order (id ∷ []) done) opened now (λ s. is_known s && not (id == s)) n t) (sym is) (record {
@@ -287,7 +287,7 @@ starts_finished : (at : ℕ) (r : Recording) (ids : List ℕ) → (fold (λ r s.
 starts_finished at r [] = refl
 starts_finished at r (id ∷ ids) = starts_finished at (with_start id at r) ids ∙ start_finished (start_context (data_at id r.spans)) id at r
 
-begins_finished : (o : Option ℕ) (at : ℕ) (r : Recording) → (with_starts o at r).finished ≡ r.finished
+begins_finished : (o : Option ℕ) (at : ℕ) (r : Recording) → (with_start_if_some o at r).finished ≡ r.finished
 begins_finished None at r = refl
 begins_finished (Some id) at r = start_finished (start_context (data_at id r.spans)) id at r
 
@@ -306,4 +306,4 @@ before_closes n e r = table.with_ops_of n e r
 pub before_finished : (n : ℕ) (e : Effect) (r : Recording) → (before_closes n e r).finished ≡ r.finished
 before_finished n e r =
     let started = fold (λ r s. with_start s e.at r) r e.starts in
-    ops_finished e.at (table.with_starts_of n e r) e.ops ∙ begins_finished e.begins e.at (with_span_made n e.new_span started) ∙ made_finished n e.new_span started ∙ starts_finished e.at r e.starts
+    ops_finished e.at (table.with_starts_of n e r) e.ops ∙ begins_finished e.new_span_start e.at (with_span_made n e.new_span started) ∙ made_finished n e.new_span started ∙ starts_finished e.at r e.starts

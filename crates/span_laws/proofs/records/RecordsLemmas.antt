@@ -1,6 +1,6 @@
 -- What the records of a history tell.
 use Rattle.std.proofs.Common.{◌≡◌, ℕ, length, true, false, Some, Ok, arith, IsTrue}
-use Rattle.span_laws.proofs.Common.{nat_tests, Record, attributes_of, counted_of, TellsTimes, was_entered, last_exit, is_in, Request, effect_of, Setup, Effect, ScopeGuard, History, Tables, made_span_at, records_of, slot_at, tables, is_drop, IsHistory, EachRecord, closed_at, ops_of, records_of_history, place_in, starting_order, TellsAttributes, TellsSpan, slot_open}
+use Rattle.span_laws.proofs.Common.{nat_tests, Record, attributes_of, counted_of, TellsTimes, was_entered, last_exit, is_in, Request, effect_of, Setup, Effect, ScopeGuard, History, Tables, made_span_at, records_of, slot_at, tables, is_drop, IsHistory, EachRecord, closed_at, ops_of, records_of_history, place_in, starting_order, TellsAttributes, TellsStartAndEnd, slot_open}
 use Rattle.span_laws.proofs.records.HistoriesLemmas.{IsClosed, done_in, effect_each, fits, whole}
 use Rattle.span_laws.proofs.spans.MakingsLemmas.{first_of}
 use Rattle.span_laws.proofs.spans.OccurrencesLemmas.{is_in_counted}
@@ -25,8 +25,8 @@ module _ (setup : Setup) (h : History) (legal : IsHistory setup h) where
   read_off : (P : ℕ → Record → Type 0) → ((s : ℕ) (r : Record) → IsClosed setup t.spans h s r → P s r) → EachRecord P t.closed (records_of_history setup h)
   read_off P read = each_map (IsClosed setup t.spans h) P t.closed (records_of_history setup h) (λ s r some c. read s r c) (whole setup h legal).each
 
-  pub spans : EachRecord (λ s r. TellsSpan (made_span_at t.spans s).made_with.made_at (last_exit (ops_of r.context h s)) (closed_at h s) r) t.closed (records_of_history setup h)
-  spans = read_off (λ s r. TellsSpan (made_span_at t.spans s).made_with.made_at (last_exit (ops_of r.context h s)) (closed_at h s) r)
+  pub spans : EachRecord (λ s r. TellsStartAndEnd (made_span_at t.spans s).made_with.made_at (last_exit (ops_of r.context h s)) (closed_at h s) r) t.closed (records_of_history setup h)
+  spans = read_off (λ s r. TellsStartAndEnd (made_span_at t.spans s).made_with.made_at (last_exit (ops_of r.context h s)) (closed_at h s) r)
       (λ s r c. span_told setup (first_of t.spans s) (done_in h s) (place_in (starting_order h) s) (closed_at h s) r c)
 
   pub add_up : IsTrue setup.layer.inactivity → EachRecord (λ s r. TellsTimes (was_entered (ops_of r.context h s)) (last_exit (ops_of r.context h s)) r) t.closed (records_of_history setup h)

@@ -1,6 +1,6 @@
 -- What an open span has come to: its making and its ops so far.
 use Rattle.std.proofs.Common.{◌≡◌, ℕ, ◌+◌, ◌-◌, ◌<◌, ◌≤◌, List, [], ◌∷◌, ◌++◌, Bool, true, false, fold, Option, Some, None, refl, sym, ap, subst, ◌∙◌, arith, if◌then◌else◌, min}
-use Rattle.span_laws.proofs.Common.{fold_push, Context, SpanContext, Record, ids_of, ids_or_zeros, recorder_ids, Op, GREATEST, Making, content, Deed, TimedOp, deed, parent_context_of, SpanData, after_op, first_start, unless_started, Represents, record_of, MomentsRise, open_by, appended, entries_is, parent_is, content_is, data_after, Setup, IsMadeWith, IsRecord, all_ops}
+use Rattle.span_laws.proofs.Common.{fold_push, Context, SpanContext, Record, ids_of, ids_or_zeros, recorder_ids, Op, GREATEST, Making, content, Deed, TimedOp, deed, parent_context_of, SpanData, after_op, first_start, unless_started, Represents, record_of, MomentsRise, open_after_ops, appended, entries_is, parent_is, content_is, data_after, Setup, IsMadeWith, IsRecord, all_ops}
 use Rattle.otel_state.specs.declared.op.Op.TheVariants as ops
 
 -- the moment of the last op, else of the making
@@ -127,7 +127,7 @@ module _ (setup : Setup) (first : SpanData) where
           began = story.began;
           ends = record {
             in_order = subst (MomentsRise story.making.made_at) all_is story.in_order;
-            shut = (let entries = entries_is story.told story.making all story.stands in let within = story.within in let same = ap (open_by 0) all_is in omega (arith, entries, within, none, same));
+            shut = (let entries = entries_is story.told story.making all story.stands in let within = story.within in let same = ap (open_after_ops 0) all_is in omega (arith, entries, within, none, same));
             is = content_is story.making all story.told now story.stands story.in_order ∙ ap (λ (xs : List TimedOp). content story.making xs now) all_is;
             started = some;
             own = context ∙ has.0 ∙ ap (λ (c : Context). recorder_ids place (ids_of c)) (parent_is story.told story.making all story.stands ∙ ap (parent_context_of story.making.parent) all_is);

@@ -1,6 +1,6 @@
 -- What closes is one chain.
 use Rattle.std.proofs.Common.{◌≡◌, ℕ, ◌==◌, ◌||◌, List, [], ◌∷◌, ◌++◌, Bool, true, false, filter, not, slice_set, Option, Some, None, option_map, Ok, refl, sym, ap, subst, ◌∙◌, arith, inl, inr}
-use Rattle.span_laws.proofs.Common.{cases_Bool, or_right, cond-true, cond-false, nat_tests, is_in, Request, effect_of, holds, is_open, closed_of, Setup, Scope, MadeSpan, ScopeGuard, Effect, History, with_item, spend, slot_at, made_span_at, tables, BeginsWith, is_drop, IsHistory, any_counted, pick, slot_open, some_is}
+use Rattle.span_laws.proofs.Common.{cases_Bool, or_right, cond-true, cond-false, nat_tests, is_in, Request, effect_of, holds_span, is_open, closed_of, Setup, Scope, MadeSpan, ScopeGuard, Effect, History, with_item, spend, slot_at, made_span_at, tables, BeginsWith, is_drop, IsHistory, any_counted, pick, slot_open, some_is}
 use Rattle.std.proofs.lemmas.Bool.{eq-eqb, eqb-true, true≢false}
 use Rattle.span_laws.proofs.spans.ClosesLemmas.{AreMine, IsSound, named, step_stands}
 use Rattle.span_laws.proofs.records.HistoriesLemmas.{fits, whole}
@@ -25,11 +25,11 @@ module _ (hs : List (Option Scope)) (ms : List MadeSpan) (cs : List ℕ) (sound 
   -- what is above an open span is open
   pub open_above : (x y : ℕ) (up : Scope) → (made_span_at ms x).scope ≡ x ∷ up → is_in y up ≡ true → is_open hs x ≡ true → is_open hs y ≡ true
   open_above x y up is above held =
-      let counted = any_counted (holds x) hs in
-      let found = pick (holds x) hs None (grind (arith, nat_tests, counted, held)) in
+      let counted = any_counted (holds_span x) hs in
+      let found = pick (holds_span x) hs None (grind (arith, nat_tests, counted, held)) in
       by_slot found.0 (slot_at hs found.0) refl found.2
     where
-      by_slot : (n : ℕ) (o : Option Scope) → slot_at hs n ≡ o → holds x o ≡ true → is_open hs y ≡ true
+      by_slot : (n : ℕ) (o : Option Scope) → slot_at hs n ≡ o → holds_span x o ≡ true → is_open hs y ≡ true
       by_slot n None there inside = absurd (true≢false (sym inside))
       by_slot n (Some scope) there inside = slot_open hs n y scope there (in_line ms scope x y up (sound.lines n scope there).mine inside is above)
 

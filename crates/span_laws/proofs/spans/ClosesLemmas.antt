@@ -1,6 +1,6 @@
 -- Each span closes once, when no handle holds it any more.
 use Rattle.std.proofs.Common.{◌≡◌, ℕ, ◌<◌, ◌≤◌, ◌&&◌, ◌||◌, ◌==◌, Bool, List, [], ◌∷◌, ◌++◌, length, true, cond, not, nat_lt, Option, Some, None, option_map, slice_set, refl, sym, ap, subst, ◌∙◌, arith, inl, inr, is_some}
-use Rattle.span_laws.proofs.Common.{length_push, get_or_push, cases_eq, cases_lt, nat_tests, is_in, current_of, counted_if_any, current_in, Setup, Scope, MadeSpan, ScopeGuard, Effect, Tables, with_item, spend, slot_at, no_made_span, made_span_at, scope_of, no_tables, after_effect, holds, is_open, closed_of, current_scope, occurrences, any_counted, slot_open, named_push, named_set, some_is}
+use Rattle.span_laws.proofs.Common.{length_push, get_or_push, cases_eq, cases_lt, nat_tests, is_in, current_of, counted_if_any, current_in, Setup, Scope, MadeSpan, ScopeGuard, Effect, Tables, with_item, spend, slot_at, no_made_span, made_span_at, scope_of, no_tables, after_effect, holds_span, is_open, closed_of, current_scope, occurrences, any_counted, slot_open, named_push, named_set, some_is}
 use Rattle.std.proofs.lemmas.List.{append-nil}
 use Rattle.std.proofs.lemmas.Bool.{eq-eqb, lt-ltb}
 use Rattle.span_laws.proofs.steps.GuardsLemmas.{IsGuarded}
@@ -37,8 +37,8 @@ module _ (hs : List (Option Scope)) (ms : List MadeSpan) (cs : List ℕ) (sound 
   more_names scope known = record {
     lines = named_push (IsLine ms) hs (Some scope) sound.lines (λ k is. subst (IsLine ms) (some_is scope k is) (known_line scope known));
     ended = λ s.
-        let before = any_counted (holds s) hs in
-        let later = any_counted (holds s) (hs ++ Some scope ∷ []) in
+        let before = any_counted (holds_span s) hs in
+        let later = any_counted (holds_span s) (hs ++ Some scope ∷ []) in
         let more_held = held_push hs (Some scope) s in
         let its = is_in_counted s scope in
         let closed_before = sound.ended s in
@@ -83,8 +83,8 @@ module _ (hs : List (Option Scope)) (ms : List MadeSpan) (cs : List ℕ) (sound 
     lines = named_push (IsLine (ms ++ m ∷ [])) hs (Some m.scope) (λ k l there. line_stays m l (sound.lines k l there)) (λ l e. subst (IsLine (ms ++ m ∷ [])) (some_is m.scope l e) (new_line m up known is));
     ended = λ s.
         let count = length_push ms m in
-        let before = any_counted (holds s) hs in
-        let later = any_counted (holds s) (hs ++ Some m.scope ∷ []) in
+        let before = any_counted (holds_span s) hs in
+        let later = any_counted (holds_span s) (hs ++ Some m.scope ∷ []) in
         let more_held = held_push hs (Some m.scope) s in
         let its = is_in_counted s m.scope in
         let all = ap (λ (l : Scope). occurrences s l) is ∙ occurs_cons s (length ms) up in
@@ -102,8 +102,8 @@ module _ (hs : List (Option Scope)) (ms : List MadeSpan) (cs : List ℕ) (sound 
   fewer_names handle scope closes there same = record {
     lines = λ k l here. sound.lines k l (named_set hs handle k l here);
     ended = λ s.
-        let before = any_counted (holds s) hs in
-        let later = any_counted (holds s) (slice_set hs handle None) in
+        let before = any_counted (holds_span s) hs in
+        let later = any_counted (holds_span s) (slice_set hs handle None) in
         let fewer = held_set hs handle scope s there in
         let its = is_in_counted s scope in
         let once = (sound.lines handle scope there).once s in

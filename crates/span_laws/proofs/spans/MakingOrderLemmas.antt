@@ -1,6 +1,6 @@
 -- Where spans start early, the order of starts is that of making.
 use Rattle.std.proofs.Common.{◌≡◌, ℕ, zero, suc, ◌+◌, ◌<◌, ◌≤◌, ◌==◌, ◌||◌, List, [], ◌∷◌, ◌++◌, length, Bool, true, false, fold, Option, Some, None, refl, sym, ap, ◌∙◌, arith, inl, inr}
-use Rattle.span_laws.proofs.Common.{AllByRecursion, range_with_len, cases_eq, cond-true, cond-false, length_push, fold_push, is_in, Setup, MadeSpan, History, Tables, with_item, no_tables, after_effect, tables, range_more, is_drop, IsHistory, none, more, with_started, starts_at_making, starting_order, place_from, place_in}
+use Rattle.span_laws.proofs.Common.{AllByRecursion, range_with_len, cases_eq, cond-true, cond-false, length_push, fold_push, is_in, Setup, MadeSpan, History, Tables, with_item, no_tables, after_effect, tables, range_more, is_drop, IsHistory, none, more, with_started, span_starting_at_making, starting_order, place_from, place_in}
 use Rattle.std.specs.Option.{option_to_list}
 use Rattle.std.proofs.lemmas.Bool.{eq-eqb, ne_eqb}
 use Rattle.span_laws.proofs.records.HistoriesLemmas.{closing_made, fits, started_push, starts_made, whole}
@@ -42,7 +42,7 @@ already n (id ∷ ids) below =
     let less : id < n = below.0 in
     ap (λ (o : List ℕ). fold with_started o ids) (cond-true {A = List ℕ} (is_in id (range_with_len 0 n)) (range_with_len 0 n) (range_with_len 0 n ++ id ∷ []) (in_range 0 n id (omega arith) (omega (arith, less)))) ∙ already n ids below.1
 
-begins : (ms : List MadeSpan) (o : Option MadeSpan) → fold with_started (range_with_len 0 (length ms)) (option_to_list (starts_at_making true (length ms) o)) ≡ range_with_len 0 (length (with_item ms o))
+begins : (ms : List MadeSpan) (o : Option MadeSpan) → fold with_started (range_with_len 0 (length ms)) (option_to_list (span_starting_at_making true (length ms) o)) ≡ range_with_len 0 (length (with_item ms o))
 begins ms None = refl
 begins ms (Some m) =
     let n = length ms in
@@ -59,9 +59,9 @@ order_of_making setup _ (more h request e before is) eager =
     let step = step_of setup t (fits setup h now) request e is in
     let m = length (with_item t.spans e.new_span) in
     started_push h e
-    ∙ ap (λ (o : List ℕ). fold with_started (fold with_started (fold with_started o e.starts) (option_to_list e.begins)) e.closes) (order_of_making setup h before eager)
-    ∙ ap (λ (o : List ℕ). fold with_started (fold with_started o (option_to_list e.begins)) e.closes) (already n e.starts (starts_made setup h now request.at (is_drop request.call) e step.0 step.1))
-    ∙ ap (λ (o : Option ℕ). fold with_started (fold with_started (range_with_len 0 n) (option_to_list o)) e.closes) (step.1.early ∙ ap (λ (b : Bool). starts_at_making b n e.new_span) eager)
+    ∙ ap (λ (o : List ℕ). fold with_started (fold with_started (fold with_started o e.starts) (option_to_list e.new_span_start)) e.closes) (order_of_making setup h before eager)
+    ∙ ap (λ (o : List ℕ). fold with_started (fold with_started o (option_to_list e.new_span_start)) e.closes) (already n e.starts (starts_made setup h now request.at (is_drop request.call) e step.0 step.1))
+    ∙ ap (λ (o : Option ℕ). fold with_started (fold with_started (range_with_len 0 n) (option_to_list o)) e.closes) (step.1.early ∙ ap (λ (b : Bool). span_starting_at_making b n e.new_span) eager)
     ∙ ap (λ (o : List ℕ). fold with_started o e.closes) (begins t.spans e.new_span)
     ∙ already m e.closes (closing_made setup h now request.at (is_drop request.call) e step.0 step.1)
     ∙ ap (λ (u : Tables). range_with_len 0 (length u.spans)) (sym (fold_push after_effect (no_tables setup) h e))

@@ -1,6 +1,6 @@
 -- How often a span stands in a list, and how many slots hold it.
 use Rattle.std.proofs.Common.{◌≡◌, ℕ, zero, suc, ◌+◌, ◌==◌, List, [], ◌∷◌, ◌++◌, length, Bool, true, false, cond, nat_lt, filter, count_by, get_or, slice_set, Option, Some, None, refl, sym, ap, ◌∙◌, arith, inl, inr}
-use Rattle.span_laws.proofs.Common.{sum_by-cons, sum_by-append, sum_by-set, sum_by_push, cases_eq, cases_Bool, nat_tests, is_in, Scope, slot_at, holds, occurrences, named_within, any_counted}
+use Rattle.span_laws.proofs.Common.{sum_by-cons, sum_by-append, sum_by-set, sum_by_push, cases_eq, cases_Bool, nat_tests, is_in, Scope, slot_at, holds_span, occurrences, named_within, any_counted}
 use Rattle.std.proofs.lemmas.List.{get_or-set_other}
 
 pub occurs_cons : (s x : ℕ) (xs : List ℕ) → occurrences s (x ∷ xs) ≡ cond (x == s) 1 0 + occurrences s xs
@@ -36,15 +36,15 @@ occurs_filter p s (x ∷ xs) =
 
 -- how many unspent handles hold a span
 abbrev pub held : List (Option Scope) → ℕ → ℕ
-held hs s = count_by (holds s) hs
+held hs s = count_by (holds_span s) hs
 
-pub held_push : (hs : List (Option Scope)) (o : Option Scope) (s : ℕ) → held (hs ++ o ∷ []) s ≡ held hs s + cond (holds s o) 1 0
-held_push hs o s = sum_by_push (λ x. cond (holds s x) 1 0) hs o
+pub held_push : (hs : List (Option Scope)) (o : Option Scope) (s : ℕ) → held (hs ++ o ∷ []) s ≡ held hs s + cond (holds_span s o) 1 0
+held_push hs o s = sum_by_push (λ x. cond (holds_span s x) 1 0) hs o
 
-pub held_set : (hs : List (Option Scope)) (handle : ℕ) (scope : Scope) (t : ℕ) → slot_at hs handle ≡ Some scope → held (slice_set hs handle None) t + cond (holds t (Some scope)) 1 0 ≡ held hs t
+pub held_set : (hs : List (Option Scope)) (handle : ℕ) (scope : Scope) (t : ℕ) → slot_at hs handle ≡ Some scope → held (slice_set hs handle None) t + cond (holds_span t (Some scope)) 1 0 ≡ held hs t
 held_set hs handle scope t there =
-    let change = sum_by-set (λ slot. cond (holds t slot) 1 0) hs handle None None (named_within hs handle scope there) in
-    let mine = ap (λ slot. cond {A = ℕ} (holds t slot) 1 0) there in
+    let change = sum_by-set (λ slot. cond (holds_span t slot) 1 0) hs handle None None (named_within hs handle scope there) in
+    let mine = ap (λ slot. cond {A = ℕ} (holds_span t slot) 1 0) there in
     omega (arith, change, mine)
 
 -- a name that isn't spent stays with one more

@@ -1,6 +1,6 @@
 -- A span is made exactly by a request for one that is admitted, and as that says.
 use Rattle.std.proofs.Common.{◌≡◌, ℕ, [], ◌∷◌, length, Bool, true, false, cond, Option, Some, None, Ok, Err, refl, sym, ap, subst, ◌∙◌, is_some, slice_get, ◌==◌, if◌then◌else◌, not}
-use Rattle.span_laws.proofs.Common.{option_map_or, LayerSettings, first_attributes, span_update, Recording, with_starts, parent_source, context_from, Callsite, ValueSet, current_of, Call, RequestParent, Request, TextRead, text_read, Resolved, refuse_if, Here, here_at, ◌>>=◌, need, effect_of, effect_of_call, is_bad_moment, attach_effect, detach_effect, enter_effect, exit_effect, is_full, is_shared, meets_full, entry_call, admits_on, reload_by, follow_effect, context_around, disabled_effect, drop_effect, exchange_effect, is_borrowed, lane_in, new_span_data_at, span_effect, parent_under, scope_at, scope_or_current, Fields, all_values, Setup, event_site, span_site, Effect, History, MadeSpan, Scope, Tables, slot_at, tables, IsHistory, IsMadeBy, asks_admitted, context_of_lane, is_making, parent_context}
+use Rattle.span_laws.proofs.Common.{option_map_or, LayerSettings, first_attributes, span_update, Recording, with_start_if_some, parent_source, context_from, Callsite, ValueSet, current_of, Call, RequestParent, Request, TextRead, text_read, Resolved, refuse_if, Here, here_at, ◌>>=◌, need, effect_of, effect_of_call, is_bad_moment, attach_effect, detach_effect, enter_effect, exit_effect, is_full, is_shared, meets_full, entry_call, admits_on, reload_by, follow_effect, context_around, disabled_effect, drop_effect, exchange_effect, is_borrowed, lane_in, new_span_data_at, span_effect, parent_under, parent_scope, scope_or_current, Fields, all_values, Setup, event_site, span_site, Effect, History, MadeSpan, Scope, Tables, slot_at, tables, IsHistory, IsMadeBy, asks_admitted, context_of_lane, is_making, parent_context}
 use Rattle.std.specs.Option.{option_to_list}
 use Rattle.span_script.specs.declared.request.Call.TheVariants as call
 use Rattle.span_script.specs.declared.request.RequestParent.TheVariants as request_parent
@@ -11,7 +11,7 @@ use Rattle.span_laws.proofs.steps.StepsLemmas.{IsFit, allowed, found, starts_kee
 
 -- the context that a new span is put under
 context_is : (activation : Bool) (current : Option ℕ) (t : Tables) (at id : ℕ) (under : RequestParent) (up : Scope) (setup : Setup) → setup.layer.activation ≡ activation → current_of (t.entries id) ≡ current
-    → context_from (with_starts (parent_source activation (parent_under under up) current) at t.recording).spans (context_around (t.contexts id) (parent_under under up)) (parent_source activation (parent_under under up) current)
+    → context_from (with_start_if_some (parent_source activation (parent_under under up) current) at t.recording).spans (context_around (t.contexts id) (parent_under under up)) (parent_source activation (parent_under under up) current)
     ≡ parent_context setup t at id under up
 context_is activation current t at id request_parent.Root up setup active now = refl
 context_is activation current t at id (request_parent.Under handle) [] setup active now = refl
@@ -32,7 +32,7 @@ module _ (setup : Setup) (t : Tables) (fit : IsFit setup t) where
   Makes at place what_for (Some m) = (asks_admitted setup t (here at place).lane what_for ≡ true) × IsMadeBy setup t at place what_for m
 
   module _ (at place site : ℕ) (under : RequestParent) (fields : Fields) (callsite : Callsite) (up : Scope) (values : ValueSet) (there : span_site setup.sites site ≡ Some callsite)
-      (placed : scope_at t (here at place).lane under ≡ Some up) (read : all_values callsite fields ≡ Some values) where
+      (placed : parent_scope t (here at place).lane under ≡ Some up) (read : all_values callsite fields ≡ Some values) where
     abbrev id : ℕ
     id = (here at place).lane
 
@@ -40,7 +40,7 @@ module _ (setup : Setup) (t : Tables) (fit : IsFit setup t) where
     source = parent_source setup.layer.activation (parent_under under up) (current_of (t.entries id))
 
     abbrev r : Recording
-    r = with_starts source at t.recording
+    r = with_start_if_some source at t.recording
 
     settings : r.settings ≡ setup.layer
     settings = (starts_keep source at t.recording).0 ∙ fit.settings_are
@@ -87,7 +87,7 @@ module _ (setup : Setup) (t : Tables) (fit : IsFit setup t) where
   by_call : (at place : ℕ) (what_for : Call) (e : Effect) → effect_of_call setup t at place what_for ≡ Ok e → Makes at place what_for e.new_span
   by_call at place (call.New site under fields) e is =
       let callsite = found setup t fit what.Site (span_site setup.sites site) _ e is in
-      let up = found setup t fit what.Handle (scope_at t (here at place).lane under) _ e callsite.2 in
+      let up = found setup t fit what.Handle (parent_scope t (here at place).lane under) _ e callsite.2 in
       let values = found setup t fit what.Field (all_values callsite.0 fields) _ e up.2 in
       subst (λ (x : Effect). Makes at place (call.New site under fields) x.new_span) (the_effect setup t fit _ e values.2)
       (by_gate at place site under fields callsite.0 up.0 values.0 callsite.1 up.1 values.1 (admits_on setup t (here at place).lane callsite.0) refl)
@@ -116,7 +116,7 @@ module _ (setup : Setup) (t : Tables) (fit : IsFit setup t) where
       opens_none at place handle true (call.Entered handle) e free.1 refl
   by_call at place (call.Event site under fields) e is =
       let there = found setup t fit what.Site (event_site setup.sites site) _ e is in
-      let reached = found setup t fit what.Handle (scope_at t (here at place).lane under) _ e there.2 in
+      let reached = found setup t fit what.Handle (parent_scope t (here at place).lane under) _ e there.2 in
       let values = found setup t fit what.Field (all_values there.0 fields) _ e reached.2 in
       nothing at place (call.Event site under fields) _ e values.2 refl refl
   by_call at place (call.Record handle fields) e is =
@@ -188,7 +188,7 @@ pub starts_before : (setup : Setup) (t : Tables) (fit : IsFit setup t) (request 
 starts_before setup t fit request e m is made by =
     let named_call = ap (effect_of_call setup t request.at request.lane_place) (sym by.asked) ∙ call_of setup t fit request e is in
     let callsite = found setup t fit what.Site (span_site setup.sites m.site) _ e named_call in
-    let up = found setup t fit what.Handle (scope_at t (here_at setup t request.at request.lane_place).lane by.under) _ e callsite.2 in
+    let up = found setup t fit what.Handle (parent_scope t (here_at setup t request.at request.lane_place).lane by.under) _ e callsite.2 in
     let values = found setup t fit what.Field (all_values callsite.0 by.fields) _ e up.2 in
     let same : up.0 ≡ by.up = cc (sym up.1 ∙ by.parent) in
     by_gate callsite.0 up.0 values.0 (admits_on setup t (here_at setup t request.at request.lane_place).lane callsite.0) (the_effect setup t fit _ e values.2)

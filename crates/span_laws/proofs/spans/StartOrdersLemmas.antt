@@ -81,7 +81,7 @@ module _ (setup : Setup) (first : ℕ → SpanData) (now : ℕ) (most : now ≤ 
 abbrev pub order_in : Tables → Effect → List ℕ
 order_in t e = starts_from e.at t.recording e.starts ++ closes_from e.at (with_ops_of (length t.spans) e t.recording) e.closes
 
-pub effect_order : (setup : Setup) (h : History) (request : Request) (e : Effect) → IsHistory setup h → effect_of setup (tables setup h) request ≡ Ok e → e.begins ≡ None
+pub effect_order : (setup : Setup) (h : History) (request : Request) (e : Effect) → IsHistory setup h → effect_of setup (tables setup h) request ≡ Ok e → e.new_span_start ≡ None
     → starting_order (h ++ e ∷ []) ≡ starting_order h ++ order_in (tables setup h) e
 effect_order setup h request e legal is none =
     let t : Tables = tables setup h in
@@ -90,7 +90,7 @@ effect_order setup h request e legal is none =
     let before = fold with_started (starting_order h) e.starts in
     let closing = closes_from e.at (with_ops_of (length t.spans) e t.recording) e.closes in
     started_push h e
-    ∙ closes_order setup _ e.at step.0.most _ _ (fold with_started before (option_to_list e.begins)) _ _ (with_ops_of (length t.spans) e t.recording) e.closes (did setup h now request.at (is_drop request.call) e step.0 step.1)
+    ∙ closes_order setup _ e.at step.0.most _ _ (fold with_started before (option_to_list e.new_span_start)) _ _ (with_ops_of (length t.spans) e t.recording) e.closes (did setup h now request.at (is_drop request.call) e step.0 step.1)
     (closing_once setup h now request.at (is_drop request.call) e step.0 step.1) (shut setup h now request.at (is_drop request.call) e step.0 step.1)
     ∙ ap (λ (o : List ℕ). o ++ closing) (
     ap (λ (b : Option ℕ). fold with_started before (option_to_list b)) none

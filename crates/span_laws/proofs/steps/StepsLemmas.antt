@@ -1,11 +1,11 @@
 -- What the effect of each request does to handles, guards, spans and entries, whatever its kind.
 use Rattle.std.proofs.Common.{◌≡◌, ℕ, ◌≤◌, ◌==◌, ◌||◌, List, [], ◌∷◌, ◌++◌, length, not, Bool, true, false, cond, Option, Some, None, option_map, slice_set, slice_get, Ok, Err, refl, sym, ap, subst, ◌∙◌, arith, is_some}
-use Rattle.span_laws.proofs.Common.{AllByRecursion, nat_tests, Context, ids_of, is_valid, Op, LayerSettings, GREATEST, Making, deed, event_of, first_attributes, span_update, Recording, with_start_under, with_starts, parent_source, new_span_data, data_at, start_context, Callsite, ValueSet, Lane, is_in, current_of, Request, RequestParent, Call, Setup, span_site, event_site, Here, here_at, Resolved, refuse_if, ◌>>=◌, need, op_on, ops_effect, is_bad_moment, effect_of, effect_of_call, context_effect, context_of_scope, attach_effect, detach_effect, activated_span, enter_effect, meets_full, entry_call, exit_effect, is_shared, is_full, callsite_of, update_ops, hooks_of_values, admits_on, reload_by, follow_effect, event_time, is_open, holds, closed_of, is_borrowed, scope_at, parent_under, lane_in, new_span_data_at, span_effect, disabled_effect, clone_effect, drop_effect, current_scope, scope_or_current, exchange_effect, Scope, MadeSpan, SpanOp, ScopeGuard, FilterHook, Effect, Tables, with_item, either_after, slot_at, span_of_scope, Fields, all_values, values_of, TextRead, text_read, is_drop, occurrences, IsMadeWith, starts_at_making, any_counted, slot_open}
+use Rattle.span_laws.proofs.Common.{AllByRecursion, nat_tests, Context, ids_of, is_valid, Op, LayerSettings, GREATEST, Making, deed, event_op, first_attributes, span_update, Recording, with_start_under, with_start_if_some, parent_source, new_span_data, data_at, start_context, Callsite, ValueSet, Lane, is_in, current_of, Request, RequestParent, Call, Setup, span_site, event_site, Here, here_at, Resolved, refuse_if, ◌>>=◌, need, op_on, ops_effect, is_bad_moment, effect_of, effect_of_call, context_effect, context_of_scope, attach_effect, detach_effect, activated_span, enter_effect, meets_full, entry_call, exit_effect, is_shared, is_full, callsite_of, update_ops, hooks_of_values, admits_on, reload_by, follow_effect, event_time, is_open, holds_span, closed_of, is_borrowed, parent_scope, parent_under, lane_in, new_span_data_at, span_effect, disabled_effect, clone_effect, drop_effect, current_scope, scope_or_current, exchange_effect, Scope, MadeSpan, SpanOp, ScopeGuard, FilterHook, Effect, Tables, with_item, either_after, slot_at, span_of_scope, Fields, all_values, values_of, TextRead, text_read, is_drop, occurrences, IsMadeWith, span_starting_at_making, any_counted, slot_open}
 use Rattle.std.specs.Option.{option_to_list}
 use Rattle.std.proofs.lemmas.Bool.{eq-eqb, eqb-true}
 use Rattle.otel_metrics.specs.declared.measure.Measure.{Measure}
 use Rattle.otel_state.specs.declared.op.Op.TheVariants as ops
-use Rattle.otel_layer.specs.Asking.{link_of, event_at}
+use Rattle.otel_layer.specs.Asking.{link_op, add_event_op}
 use Rattle.span_script.specs.declared.request.RequestParent.TheVariants as request_parent
 use Rattle.span_script.specs.declared.request.Call.TheVariants as call
 use Rattle.span_script.specs.declared.reply.Reply.{Reply}
@@ -74,7 +74,7 @@ pub record IsStep (setup : Setup) (t : Tables) (at : ℕ) (is_drop : Bool) (e : 
   pub enters : Enters setup.ids t.handles t.guards e.lane e.new_guard e.new_attach e.spent_guard e.entry e.exit
   pub spends : Spends (with_item t.handles (option_map Some e.new_handle)) (either_after t.guards e.new_guard e.new_attach e.spent_guard) e.spent_handle e.closes
   pub begins : Begins setup e.at e.new_span
-  pub early : e.begins ≡ starts_at_making setup.layer.eager (length t.spans) e.new_span
+  pub early : e.new_span_start ≡ span_starting_at_making setup.layer.eager (length t.spans) e.new_span
   pub starts : AllByRecursion (λ s. is_open t.handles s ≡ true) e.starts
   pub reached : AllByRecursion (IsReached t.handles) e.ops
   pub turns : Turns e.entry e.exit e.ops
@@ -90,7 +90,7 @@ exchange_closes hs k scope there s =
     let push = held_push hs (Some scope) s in
     let set = held_set slots k scope s (slot_push hs (Some scope) k scope there) in
     let before = held_set hs k scope s there in
-    let after = any_counted (holds s) (slice_set slots k None) in
+    let after = any_counted (holds_span s) (slice_set slots k None) in
     let its = is_in_counted s scope in
     let of_scope = occurs_filter (λ t. not (is_open (slice_set slots k None) t)) s scope in
     grind (arith, nat_tests, push, set, before, after, its, of_scope)
@@ -104,7 +104,7 @@ pub record IsFit (setup : Setup) (t : Tables) : Type 0 where
   pub counting_is : t.recording.counting ≡ is_some setup.counting
 
 -- settings stay with starts
-pub starts_keep : (o : Option ℕ) (at : ℕ) (r : Recording) → ((with_starts o at r).settings ≡ r.settings) × ((with_starts o at r).counting ≡ r.counting)
+pub starts_keep : (o : Option ℕ) (at : ℕ) (r : Recording) → ((with_start_if_some o at r).settings ≡ r.settings) × ((with_start_if_some o at r).counting ≡ r.counting)
 starts_keep None at r = (refl, refl)
 starts_keep (Some id) at r = by_context (start_context (data_at id r.spans))
   where
@@ -179,7 +179,7 @@ module _ (setup : Setup) (t : Tables) (fit : IsFit setup t) where
         names = new_span (record { site = site; scope = length t.spans ∷ up; made_with = new_span_data_at (here at place) callsite values (parent_under under up) }) up known refl;
         enters = no_entry;
         spends = no_spending;
-        begins = told_begins setup (with_starts source at t.recording).settings callsite (lane_in (here at place)) values _ at (with_starts source at t.recording).counting (keep.0 ∙ fit.settings_are) (keep.1 ∙ fit.counting_is);
+        begins = told_begins setup (with_start_if_some source at t.recording).settings callsite (lane_in (here at place)) values _ at (with_start_if_some source at t.recording).counting (keep.0 ∙ fit.settings_are) (keep.1 ∙ fit.counting_is);
         early = refl;
         starts = source_open setup.layer.activation under up (here at place).lane known;
         reached = tt;
@@ -289,7 +289,7 @@ module _ (setup : Setup) (t : Tables) (fit : IsFit setup t) where
   follower : (at place : ℕ) (scope from : Scope) → IsKnown t.handles scope → IsKnown t.handles from → Step at false (follow_effect (here at place) scope from)
   follower at place [] from known other = told at place reply.Done [] tt tt
   follower at place (s ∷ up) [] known other = told at place reply.Done [] tt tt
-  follower at place (s ∷ up) (f ∷ above) known other = (let op = link_of (ids_of (context_of_scope t.recording at (f ∷ above))) [] in record {
+  follower at place (s ∷ up) (f ∷ above) known other = (let op = link_op (ids_of (context_of_scope t.recording at (f ∷ above))) [] in record {
     moment = refl;
     names = no_name;
     enters = no_entry;
@@ -340,7 +340,7 @@ module _ (setup : Setup) (t : Tables) (fit : IsFit setup t) where
   the_effect a e is = cc is
 
   -- where a span is put is known
-  known_place : (lane : ℕ) (under : RequestParent) (up : Scope) → scope_at t lane under ≡ Some up → IsKnown t.handles up
+  known_place : (lane : ℕ) (under : RequestParent) (up : Scope) → parent_scope t lane under ≡ Some up → IsKnown t.handles up
   known_place lane request_parent.Root up is = subst (IsKnown t.handles) (the_scope [] up is) no_scope
     where
       the_scope : (a b : Scope) → ◌≡◌ {A = Option Scope} (Some a) (Some b) → a ≡ b
@@ -360,7 +360,7 @@ module _ (setup : Setup) (t : Tables) (fit : IsFit setup t) where
   by_call : (at place : ℕ) (what_for : Call) (e : Effect) → effect_of_call setup t at place what_for ≡ Ok e → Step at (is_drop what_for) e
   by_call at place (call.New site under fields) e is =
       let callsite = found what.Site (span_site setup.sites site) _ e is in
-      let up = found what.Handle (scope_at t (here at place).lane under) _ e callsite.2 in
+      let up = found what.Handle (parent_scope t (here at place).lane under) _ e callsite.2 in
       let values = found what.Field (all_values callsite.0 fields) _ e up.2 in
       subst (Step at false) (the_effect _ e values.2)
       (if_both at (admits_on setup t (here at place).lane callsite.0) _ _
@@ -390,9 +390,9 @@ module _ (setup : Setup) (t : Tables) (fit : IsFit setup t) where
       opened at place handle true e free.1
   by_call at place (call.Event site under fields) e is =
       let there = found what.Site (event_site setup.sites site) _ e is in
-      let reached = found what.Handle (scope_at t (here at place).lane under) _ e there.2 in
+      let reached = found what.Handle (parent_scope t (here at place).lane under) _ e there.2 in
       let values = found what.Field (all_values there.0 fields) _ e reached.2 in
-      let op = event_of there.0 values.0 setup.layer at in
+      let op = event_op there.0 values.0 setup.layer at in
       let enabled = admits_on setup t (here at place).lane there.0 in
       let known = known_place (here at place).lane under reached.0 reached.1 in
       subst (Step at false) (the_effect _ e values.2)
@@ -433,7 +433,7 @@ module _ (setup : Setup) (t : Tables) (fit : IsFit setup t) where
   by_call at place (call.AddLink handle context attributes) e is =
       let there = found what.Handle (slot_at t.handles handle) _ e is in
       let given = found what.Context (slice_get t.named_contexts context) _ e there.2 in
-      let op = link_of (ids_of given.0) attributes in
+      let op = link_op (ids_of given.0) attributes in
       let valid = is_valid (ids_of given.0) in
       let known = of_handle handle there.0 there.1 in
       subst (Step at false) (the_effect _ e given.2) (told at place reply.Done _ (each_told _ valid _ (on_reached there.0 op known refl)) (each_told _ valid _ (op_keeps_entries there.0 op refl refl)))
@@ -445,7 +445,7 @@ module _ (setup : Setup) (t : Tables) (fit : IsFit setup t) where
       subst (Step at false) (the_effect _ e there.2) (one_told at place _ there.0 (ops.SetStatus status) (of_handle handle there.0 there.1) refl refl refl)
   by_call at place (call.AddEvent handle name attributes time) e is =
       let there = found what.Handle (slot_at t.handles handle) _ e is in
-      subst (Step at false) (the_effect _ e there.2) (one_told at place _ there.0 (event_at name (event_time at time) attributes) (of_handle handle there.0 there.1) refl refl refl)
+      subst (Step at false) (the_effect _ e there.2) (one_told at place _ there.0 (add_event_op name (event_time at time) attributes) (of_handle handle there.0 there.1) refl refl refl)
   by_call at place (call.Enabled site) e is =
       let there = found what.Site (slice_get setup.sites site) _ e is in
       subst (Step at false) (the_effect _ e there.2) (told at place (reply.Enabled _) [] tt tt)

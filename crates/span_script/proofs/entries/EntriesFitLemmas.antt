@@ -1,6 +1,6 @@
 -- What is kept fits after an entry and after an exit.
 use Rattle.std.proofs.Common.{◌≡◌, ℕ, ◌+◌, ◌<◌, List, [], ◌∷◌, ◌++◌, length, cond, count_by, set, Option, Some, None, refl, sym, ap, subst, ◌∙◌, arith, inl, inr, ◌==◌, ◌&&◌}
-use Rattle.span_script.proofs.Common.{cases_eq, cases_Bool, cases_lt, cond-true, cond-false, and_from, length_push, get_or_past, get_or_push, get_or_append_left, sum_by-set, get_or-le-sum_by, Span, Entries, Spans, span_at, entries_on, with_entries, is_in, times_in, open_child_count, without_last, with_hold, span_without_hold, without_hold, with_span_entry, with_span_exit, HasOwnHold, IsLive, MayExit, count_push, any_if_counted, made_if_held, with_same, with_other, keeps_children, less_more, less_holds, times_without, first_if_in, slot_at, with_lane_entries, OpenGuard, names_span, guards_span, Balanced}
+use Rattle.span_script.proofs.Common.{cases_eq, cases_Bool, cases_lt, cond-true, cond-false, and_from, length_push, get_or_past, get_or_push, get_or_append_left, sum_by-set, get_or-le-sum_by, Span, Entries, Spans, span_at, entries_on, with_entries, is_in, times_in, open_child_count, without_last, with_hold, span_without_hold, without_hold, with_span_entry, with_span_exit, HasUnboundHold, IsLive, MayExit, count_push, any_if_counted, made_if_held, with_same, with_other, keeps_children, less_more, less_holds, times_without, first_if_in, slot_at, with_lane_entries, OpenGuard, names_span, guards_span, Balanced}
 use Rattle.std.proofs.lemmas.Bool.{eq-eqb, eqb-true, ne_eqb}
 use Rattle.std.proofs.lemmas.List.{get_or-set_same, get_or-set_other}
 use Rattle.trace_base.proofs.HoldMoveLemmas.{entry_moves, exit_moves}
@@ -49,7 +49,7 @@ pub fits_live : (spans : Spans) (hs : List (Option ℕ)) (gs : List (Option Open
 fits_live spans hs gs es fits n s is = let c = named_counts hs n s is in let h = fits.holds s in omega (arith, c, h)
 
 -- a handle's hold is its span's own
-pub fits_own : (spans : Spans) (hs : List (Option ℕ)) (gs : List (Option OpenGuard)) (es : ℕ → List ℕ) → Balanced spans hs gs es → (n s : ℕ) → slot_at hs n ≡ Some s → HasOwnHold spans s
+pub fits_own : (spans : Spans) (hs : List (Option ℕ)) (gs : List (Option OpenGuard)) (es : ℕ → List ℕ) → Balanced spans hs gs es → (n s : ℕ) → slot_at hs n ≡ Some s → HasUnboundHold spans s
 fits_own spans hs gs es fits n s is = let c = named_counts hs n s is in let h = fits.holds s in omega (arith, c, h)
 
 -- one entry more

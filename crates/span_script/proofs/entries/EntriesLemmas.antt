@@ -1,6 +1,6 @@
 -- Entries and exits, served.
 use Rattle.std.proofs.Common.{◌≡◌, ℕ, ◌+◌, ◌<◌, List, [], ◌∷◌, ◌++◌, length, Bool, true, false, fold, get_or, set, slice_set, Option, Some, None, option_map, map, refl, sym, ap, subst, ◌∙◌, arith, inl, inr, cond, Ok, Err, Result, IfOk, IfErr, ◌==◌, ◌≢◌, ◌&&◌, nat_lt, count_by, if◌then◌else◌, not}
-use Rattle.span_script.proofs.Common.{cases_eq, cases_Bool, cond-true, cond-false, length-map, length_push, map_push, Lane, WorldValue, Span, Spans, span_at, with_hold, without_hold, without_last, is_in, times_in, entries_on, SubscriberCall, Enter, Exit, with_span_entry, with_span_exit, OneEach, count_cons, read_subscriber, spans_in, Handle, HeldSpan, ReplacedOn, Guard, AttachGuard, id_at, Token, empty_context, LayerSettings, SpanData, is_token, data_at, own_context_or, Recording, no_recording, with_start, with_starts, with_applied, source_of, RecordsCall, Enters, Exits, Scope, MadeSpan, ScopeGuard, FilterHook, HookEnter, HookExit, Effect, Tables, after_effect, recording_after, slot_at, span_of_scope, with_entry_on, with_exit_on, with_attached, with_detached, open_part, quiet_effect, EntryOf, Attached, here_at, Resolved, refuse_if, ◌>>=◌, need, effect_of_call, activated_span, entry_context, meets_full, entry_call, enter_effect, is_shared, exit_effect, after_filter_hook, hooks_of_span, borrows, is_borrowed, names_handle, is_named_by_guard, is_shared_by, Reply, Refusal, Balanced, named_span, open_guard_by, Views, IsScope, ContextSlots, PipelineState, state_of, LaneValue, lane_value, lane_at, StandsFor, RecordingFits, AllContextsFit, SpansFit, PipelineInvariant, IsServed, IsRefusal, held_of, guard_of, lane_place_of, held_by, Parts, ServesResolved, holds_other, FilterState, CallsLaw, aside_in}
+use Rattle.span_script.proofs.Common.{cases_eq, cases_Bool, cond-true, cond-false, length-map, length_push, map_push, Lane, WorldValue, Span, Spans, span_at, with_hold, without_hold, without_last, is_in, times_in, entries_on, SubscriberCall, Enter, Exit, with_span_entry, with_span_exit, OneEach, count_cons, read_subscriber, spans_in, Handle, HeldSpan, ReplacedOn, Guard, AttachGuard, id_at, Token, empty_context, LayerSettings, SpanData, is_token, data_at, own_context_or, Recording, no_recording, with_start, with_start_if_some, with_applied, id_if_on, RecordsCall, Enters, Exits, Scope, MadeSpan, ScopeGuard, FilterHook, HookEnter, HookExit, Effect, Tables, after_effect, recording_after, slot_at, span_of_scope, with_entry_on, with_exit_on, with_attached, with_detached, open_part, quiet_effect, EntryOf, Attached, here_at, Resolved, refuse_if, ◌>>=◌, need, effect_of_call, activated_span, entry_context, meets_full, entry_call, enter_effect, is_shared, exit_effect, after_filter_hook, hooks_of_span, borrows, is_borrowed, names_handle, is_named_by_guard, is_shared_by, Reply, Refusal, Balanced, span_of_handle, open_guard_by, Views, IsScope, ContextSlots, PipelineState, state_of, LaneValue, lane_value, lane_at, StandsFor, RecordingFits, AllContextsFit, SpansFit, PipelineInvariant, IsServed, IsRefusal, held_of, guard_of, lane_place_of, held_by, Parts, ServesResolved, holds_other, FilterState, CallsLaw, aside_in}
 use Rattle.std.proofs.lemmas.Bool.{eq-eqb, ne_eqb}
 use Rattle.std.proofs.lemmas.List.{length-set}
 use Rattle.trace_base.proofs.Sound.{one_with}
@@ -72,7 +72,7 @@ pub fits_entered : (k next : PipelineState) (t : Tables) (at place handle : ℕ)
 fits_entered k next t at place handle owns line fits there step setup dispatch handles sites guards named attaches moment =
     let g : ScopeGuard = record { handle = handle; place = place; owns = owns; scope = line } in
     let id = id_at k.setup.ids place in
-    let live : (s : ℕ) (up : Scope) → line ≡ s ∷ up → 0 < (span_at k.spans.made s).holds = λ s up e. fits_live k.spans (map named_span t.handles) (map (open_guard_by k.setup.ids) t.guards) t.entries fits.balanced handle s (named_slot t.handles handle line there ∙ ap span_of_scope e) in
+    let live : (s : ℕ) (up : Scope) → line ≡ s ∷ up → 0 < (span_at k.spans.made s).holds = λ s up e. fits_live k.spans (map span_of_handle t.handles) (map (open_guard_by k.setup.ids) t.guards) t.entries fits.balanced handle s (named_slot t.handles handle line there ∙ ap span_of_scope e) in
     fits_step k t fits next (enter_effect (here_at k.setup t at place) handle owns line) (record {
       setup_is = setup;
       dispatch_is = dispatch;
@@ -82,7 +82,7 @@ fits_entered k next t at place handle owns line fits there step setup dispatch h
       attaches_are = ap (map (option_map lane_place_of)) attaches ∙ map_push (option_map lane_place_of) k.contexts.attaches None;
       named_are = named;
       moment_is = moment;
-      balanced = subst (λ (x : Spans). Balanced x (map named_span t.handles) (map (open_guard_by k.setup.ids) (t.guards ++ Some g ∷ [])) (with_entry_on t.entries id (span_of_scope line))) (sym step) (balanced_enter k.setup.ids k.spans t.handles t.guards t.entries fits.balanced handle place owns line there);
+      balanced = subst (λ (x : Spans). Balanced x (map span_of_handle t.handles) (map (open_guard_by k.setup.ids) (t.guards ++ Some g ∷ [])) (with_entry_on t.entries id (span_of_scope line))) (sym step) (balanced_enter k.setup.ids k.spans t.handles t.guards t.entries fits.balanced handle place owns line there);
       made_fit = subst (λ (x : Spans). SpansFit x.made t.spans) (sym step) (made_entered k.spans t.spans line id fits.made live);
       new_made = tt;
       new_site = tt;
@@ -90,7 +90,7 @@ fits_entered k next t at place handle owns line fits there step setup dispatch h
       still = still_more t.guards t.handles g fits.still there;
       few = fits.few;
       few_holds = λ s. (let m = entered_most k.spans line id s in let f = fits.few_holds s in let e = ap (λ (x : Spans). (span_at x.made s).holds) step in let l = length_push t.guards (Some g) in omega (arith, m, f, e, l));
-      one = subst (λ (x : Spans). OneEach x.lanes) (sym step) (one_entered k.spans line id fits.one_lane);
+      one = subst (λ (x : Spans). OneEach x.lanes) (sym step) (one_entered k.spans line id fits.one_row);
     })
 
 -- an exit
@@ -108,8 +108,8 @@ fits_exited k next t at guard g fits there step setup dispatch handles sites gua
       attaches_are = ap (λ (c : ContextSlots). map (option_map lane_place_of) c.attaches) contexts;
       named_are = ap (λ (c : ContextSlots). c.contexts) contexts;
       moment_is = moment;
-      balanced = subst (λ (l : ℕ). Balanced next.spans (map named_span t.handles) (map (open_guard_by k.setup.ids) (slice_set t.guards guard None)) (with_exit_on t.entries l (span_of_scope g.scope))) (sym on)
-          (subst (λ (x : Spans). Balanced x (map named_span t.handles) (map (open_guard_by k.setup.ids) (slice_set t.guards guard None)) (with_exit_on t.entries id (span_of_scope g.scope))) (sym step) (balanced_exit k.setup.ids k.spans t.handles t.guards t.entries fits.balanced guard g there g.scope refl));
+      balanced = subst (λ (l : ℕ). Balanced next.spans (map span_of_handle t.handles) (map (open_guard_by k.setup.ids) (slice_set t.guards guard None)) (with_exit_on t.entries l (span_of_scope g.scope))) (sym on)
+          (subst (λ (x : Spans). Balanced x (map span_of_handle t.handles) (map (open_guard_by k.setup.ids) (slice_set t.guards guard None)) (with_exit_on t.entries id (span_of_scope g.scope))) (sym step) (balanced_exit k.setup.ids k.spans t.handles t.guards t.entries fits.balanced guard g there g.scope refl));
       made_fit = subst (λ (x : Spans). SpansFit x.made t.spans) (sym step) (made_exited k.spans t.spans g.scope id fits.made);
       new_made = tt;
       new_site = tt;
@@ -117,7 +117,7 @@ fits_exited k next t at guard g fits there step setup dispatch handles sites gua
       still = λ n x is. fits.still n x (named_set t.guards guard n x is);
       few = fits.few;
       few_holds = λ s. (let m = exited_less k.spans g.scope id s in let f = fits.few_holds s in let e = ap (λ (x : Spans). (span_at x.made s).holds) step in let l = length-set t.guards guard None in omega (arith, m, f, e, l));
-      one = subst (λ (x : Spans). OneEach x.lanes) (sym step) (one_exited k.spans g.scope id fits.one_lane);
+      one = subst (λ (x : Spans). OneEach x.lanes) (sym step) (one_exited k.spans g.scope id fits.one_row);
     })
 
 no_active : (activation : Bool) → activated_span activation [] ≡ None
@@ -138,7 +138,7 @@ entered_live spans (s ∷ up) lane q live some = elim (cases_Bool (is_in s (entr
 
 -- what the effect attaches is what the layer attached
 attach_is : (b : Bool) (s at : ℕ) (up : Scope) (r x : Recording) → open_part r ≡ x
-    → (if b then Some (record { owner = EntryOf s; context = own_context_or empty_context (data_at s (with_starts (source_of b s) at r).spans) }) else None) ≡ entry_context x at (activated_span b (s ∷ up))
+    → (if b then Some (record { owner = EntryOf s; context = own_context_or empty_context (data_at s (with_start_if_some (id_if_on b s) at r).spans) }) else None) ≡ entry_context x at (activated_span b (s ∷ up))
 attach_is true s at up r x is = ap (λ (xs : List (ℕ × SpanData)). Some (record { owner = EntryOf s; context = own_context_or empty_context (data_at s xs) })) (start_open s at r x is)
 attach_is false s at up r x is = refl
 
@@ -157,13 +157,13 @@ module _ {S : Type 0} (spans : S → Spans) (views : Views S) (attaches : S → 
   exited_spans at place before later (s ∷ up) id shown = shown.0.spans_after ∙ ap (λ (l : ℕ). with_span_exit (spans_in spans parts.world parts.dispatch) s l) id
 
   -- what was recorded: the span is known, so the layer was told
-  entry_told : (at : ℕ) (before later : Lane) (s : ℕ) → data_at s (read_subscriber views.recorded no_recording parts.world parts.dispatch).spans ≢ None → RecordsCall (spans_in spans parts.world parts.dispatch) (read_subscriber views.recorded no_recording parts.world parts.dispatch) (Enter s at before later) (read_subscriber views.recorded no_recording new parts.dispatch)
-      → Enters (read_subscriber views.recorded no_recording parts.world parts.dispatch) s at before later (read_subscriber views.recorded no_recording new parts.dispatch)
-  entry_told at before later s known told = told.is_known (knows_it s (read_subscriber views.recorded no_recording parts.world parts.dispatch).spans known)
+  entry_told : (at : ℕ) (before later : Lane) (s : ℕ) → data_at s (read_subscriber views.recording no_recording parts.world parts.dispatch).spans ≢ None → RecordsCall (spans_in spans parts.world parts.dispatch) (read_subscriber views.recording no_recording parts.world parts.dispatch) (Enter s at before later) (read_subscriber views.recording no_recording new parts.dispatch)
+      → Enters (read_subscriber views.recording no_recording parts.world parts.dispatch) s at before later (read_subscriber views.recording no_recording new parts.dispatch)
+  entry_told at before later s known told = told.is_known (knows_it s (read_subscriber views.recording no_recording parts.world parts.dispatch).spans known)
 
-  exit_told : (at : ℕ) (before later : Lane) (s : ℕ) → data_at s (read_subscriber views.recorded no_recording parts.world parts.dispatch).spans ≢ None → RecordsCall (spans_in spans parts.world parts.dispatch) (read_subscriber views.recorded no_recording parts.world parts.dispatch) (Exit s at before later) (read_subscriber views.recorded no_recording new parts.dispatch)
-      → Exits (read_subscriber views.recorded no_recording parts.world parts.dispatch) s at before later (read_subscriber views.recorded no_recording new parts.dispatch)
-  exit_told at before later s known told = told.is_known (knows_it s (read_subscriber views.recorded no_recording parts.world parts.dispatch).spans known)
+  exit_told : (at : ℕ) (before later : Lane) (s : ℕ) → data_at s (read_subscriber views.recording no_recording parts.world parts.dispatch).spans ≢ None → RecordsCall (spans_in spans parts.world parts.dispatch) (read_subscriber views.recording no_recording parts.world parts.dispatch) (Exit s at before later) (read_subscriber views.recording no_recording new parts.dispatch)
+      → Exits (read_subscriber views.recording no_recording parts.world parts.dispatch) s at before later (read_subscriber views.recording no_recording new parts.dispatch)
+  exit_told at before later s known told = told.is_known (knows_it s (read_subscriber views.recording no_recording parts.world parts.dispatch).spans known)
 
   -- over what the code has
   module _ (does : S → SubscriberCall → S → Type 0) (law : CallsLaw spans views attaches kept is_whole does)
@@ -178,10 +178,10 @@ module _ {S : Type 0} (spans : S → Spans) (views : Views S) (attaches : S → 
     id_is = id_seen parts.lanes place before within here
 
     abbrev r : Recording
-    r = read_subscriber views.recorded no_recording parts.world parts.dispatch
+    r = read_subscriber views.recording no_recording parts.world parts.dispatch
 
     abbrev r' : Recording
-    r' = read_subscriber views.recorded no_recording new parts.dispatch
+    r' = read_subscriber views.recording no_recording new parts.dispatch
 
     setup_after : new.sites ≡ parts.world.sites → later.id ≡ before.id → later.name ≡ before.name → r'.settings ≡ r.settings → (state_of spans views (record parts { world = new; lanes = set parts.lanes place later; moment = at })).setup ≡ now.setup
     setup_after sites id name settings = rw (sites, ids_same parts.lanes place before later within here id, names_same parts.lanes place before later within here name, settings) refl
@@ -200,21 +200,21 @@ module _ {S : Type 0} (spans : S → Spans) (views : Views S) (attaches : S → 
 
     -- what the filter hears of an entry and of an exit
     entry_heard : (line : Scope) → ShownOn spans views attaches kept is_whole parts.world new parts.dispatch line (λ id. Enter id at before later)
-        → read_subscriber views.filtered None new parts.dispatch ≡ option_map (λ f. fold after_filter_hook f (hooks_of_span line (λ s. HookEnter s place_id))) (read_subscriber views.filtered None parts.world parts.dispatch)
-    entry_heard [] same = ap (λ (w : WorldValue S). read_subscriber views.filtered None w parts.dispatch) same ∙ heard_none (read_subscriber views.filtered None parts.world parts.dispatch)
-    entry_heard (s ∷ up) shown = shown.3 ∙ ap (λ (l : ℕ). option_map (λ (f : FilterState). after_filter_hook f (HookEnter s l)) (read_subscriber views.filtered None parts.world parts.dispatch)) id_is
+        → read_subscriber views.filter None new parts.dispatch ≡ option_map (λ f. fold after_filter_hook f (hooks_of_span line (λ s. HookEnter s place_id))) (read_subscriber views.filter None parts.world parts.dispatch)
+    entry_heard [] same = ap (λ (w : WorldValue S). read_subscriber views.filter None w parts.dispatch) same ∙ heard_none (read_subscriber views.filter None parts.world parts.dispatch)
+    entry_heard (s ∷ up) shown = shown.3 ∙ ap (λ (l : ℕ). option_map (λ (f : FilterState). after_filter_hook f (HookEnter s l)) (read_subscriber views.filter None parts.world parts.dispatch)) id_is
 
     exit_heard : (line : Scope) → ShownOn spans views attaches kept is_whole parts.world new parts.dispatch line (λ id. Exit id at before later)
-        → read_subscriber views.filtered None new parts.dispatch ≡ option_map (λ f. fold after_filter_hook f (hooks_of_span line (λ s. HookExit s place_id))) (read_subscriber views.filtered None parts.world parts.dispatch)
-    exit_heard [] same = ap (λ (w : WorldValue S). read_subscriber views.filtered None w parts.dispatch) same ∙ heard_none (read_subscriber views.filtered None parts.world parts.dispatch)
-    exit_heard (s ∷ up) shown = shown.3 ∙ ap (λ (l : ℕ). option_map (λ (f : FilterState). after_filter_hook f (HookExit s l)) (read_subscriber views.filtered None parts.world parts.dispatch)) id_is
+        → read_subscriber views.filter None new parts.dispatch ≡ option_map (λ f. fold after_filter_hook f (hooks_of_span line (λ s. HookExit s place_id))) (read_subscriber views.filter None parts.world parts.dispatch)
+    exit_heard [] same = ap (λ (w : WorldValue S). read_subscriber views.filter None w parts.dispatch) same ∙ heard_none (read_subscriber views.filter None parts.world parts.dispatch)
+    exit_heard (s ∷ up) shown = shown.3 ∙ ap (λ (l : ℕ). option_map (λ (f : FilterState). after_filter_hook f (HookExit s l)) (read_subscriber views.filter None parts.world parts.dispatch)) id_is
 
     -- an exit, by the scope of its guard
     exited_record : (gs' : List (Option Guard)) (t : Tables) (guard : ℕ) (line : Scope) → RecordingFits now t → ((s : ℕ) (up : Scope) → line ≡ s ∷ up → 0 < (span_at now.spans.made s).holds) → lanes_of → later.id ≡ before.id → (line ≡ [] → later ≡ before)
         → ShownOn spans views attaches kept is_whole parts.world new parts.dispatch line (λ id. Exit id at before later)
         → (toks : List Token) × (r' ≡ record (recording_after (length t.spans) (exit_effect (here_at now.setup t at place) guard line) r) { tokens = toks }) × AllFit (then_with gs' parts.contexts) (after_effect t (exit_effect (here_at now.setup t at place) guard line)).contexts
     exited_record gs' t guard [] fit live differ same none shown =
-        let is = ap (λ (w : WorldValue S). read_subscriber views.recorded no_recording w parts.dispatch) shown in (
+        let is = ap (λ (w : WorldValue S). read_subscriber views.recording no_recording w parts.dispatch) shown in (
           r.tokens,
           is,
           subst (λ (c : Recording). AllContextsFit c.settings.activation ls' c.tokens parts.contexts.attaches (after_effect t (exit_effect (here_at now.setup t at place) guard [])).contexts) (sym is)
@@ -236,7 +236,7 @@ module _ {S : Type 0} (spans : S → Spans) (views : Views S) (attaches : S → 
         → cs'.attaches ≡ parts.contexts.attaches ++ None ∷ [] → ShownOn spans views attaches kept is_whole parts.world new parts.dispatch line (λ id. Enter id at before later)
         → (toks : List Token) × (r' ≡ record (recording_after (length t.spans) (enter_effect (here_at now.setup t at place) handle owns line) r) { tokens = toks }) × AllFit (then_with gs' cs') (after_effect t (enter_effect (here_at now.setup t at place) handle owns line)).contexts
     entered_record gs' cs' t handle owns [] fit live differ same none skip shown =
-        let is = ap (λ (w : WorldValue S). read_subscriber views.recorded no_recording w parts.dispatch) shown in
+        let is = ap (λ (w : WorldValue S). read_subscriber views.recording no_recording w parts.dispatch) shown in
         let nothing : (b : Bool) → recording_after (length t.spans) (record (quiet_effect at place_id (reply.Guard 0)) { starts = option_to_list (activated_span b []) }) r ≡ r = λ b. ap (λ (o : Option ℕ). recording_after (length t.spans) (record (quiet_effect at place_id (reply.Guard 0)) { starts = option_to_list o }) r) (no_active b) in (
           r.tokens,
           is ∙ ap (λ (x : Recording). record x { tokens = r.tokens }) (sym (nothing r.settings.activation)),
@@ -251,10 +251,10 @@ module _ {S : Type 0} (spans : S → Spans) (views : Views S) (attaches : S → 
         let b = r.settings.activation in
         let token : Token = record { lane = before.id; id = s; attached = x.attached } in
         let toks = r.tokens ++ token ∷ [] in
-        let own = own_context_or empty_context (data_at s (with_starts (source_of b s) at r).spans) in
+        let own = own_context_or empty_context (data_at s (with_start_if_some (id_if_on b s) at r).spans) in
         let rec_is : r' ≡ record (recording_after (length t.spans) (enter_effect (here_at now.setup t at place) handle owns (s ∷ up)) r) { tokens = toks } =
-        x.is ∙ ap (λ (y : Recording). record (with_applied s at ops.Enter y) { tokens = y.tokens ++ token ∷ [] }) (sym (starts_fold (source_of b s) at r))
-        ∙ ap (λ (ts : List Token). record (with_applied s at ops.Enter (fold (λ r s. with_start s at r) r (option_to_list (source_of b s)))) { tokens = ts ++ token ∷ [] }) (ap (λ (y : Recording). y.tokens) (starts_fold (source_of b s) at r) ∙ entry_tokens (source_of b s) at r) in
+        x.is ∙ ap (λ (y : Recording). record (with_applied s at ops.Enter y) { tokens = y.tokens ++ token ∷ [] }) (sym (starts_fold (id_if_on b s) at r))
+        ∙ ap (λ (ts : List Token). record (with_applied s at ops.Enter (fold (λ r s. with_start s at r) r (option_to_list (id_if_on b s)))) { tokens = ts ++ token ∷ [] }) (ap (λ (y : Recording). y.tokens) (starts_fold (id_if_on b s) at r) ∙ entry_tokens (id_if_on b s) at r) in
         let settings : r'.settings ≡ r.settings = ap (λ (c : Recording). c.settings) rec_is ∙ recorded_settings (length t.spans) (enter_effect (here_at now.setup t at place) handle owns (s ∷ up)) r in
         let tokens : r'.tokens ≡ toks = ap (λ (c : Recording). c.tokens) rec_is in (
           toks,
@@ -288,7 +288,7 @@ module _ {S : Type 0} (spans : S → Spans) (views : Views S) (attaches : S → 
           let sites = call_sites spans views attaches kept is_whole parts new x.scope (λ id. Exit id at before later) shown in
           let lane_is : place_id ≡ id_at now.setup.ids x.place = ap (id_at now.setup.ids) (sym mine) in
           let e : Effect = exit_effect (here_at now.setup t at place) guard x.scope in
-          let live : (s : ℕ) (up : Scope) → x.scope ≡ s ∷ up → 0 < (span_at now.spans.made s).holds = λ s up e. fits_live now.spans (map named_span t.handles) (map (open_guard_by now.setup.ids) t.guards) t.entries fits.balanced x.handle s (named_slot t.handles x.handle x.scope (fits.still guard x open_one.there) ∙ ap span_of_scope e) in
+          let live : (s : ℕ) (up : Scope) → x.scope ≡ s ∷ up → 0 < (span_at now.spans.made s).holds = λ s up e. fits_live now.spans (map span_of_handle t.handles) (map (open_guard_by now.setup.ids) t.guards) t.entries fits.balanced x.handle s (named_slot t.handles x.handle x.scope (fits.still guard x open_one.there) ∙ ap span_of_scope e) in
           let rec_is = exited_record gs' t guard x.scope stands.recording live inv.lanes.differ moved.0 none_at shown in
           let settings = ap (λ (c : Recording). c.settings) rec_is.1 ∙ recorded_settings (length t.spans) e r in
           let setup = setup_after sites moved.0 moved.1 settings in
@@ -300,7 +300,7 @@ module _ {S : Type 0} (spans : S → Spans) (views : Views S) (attaches : S → 
           refl setup rec_is.0 rec_is.1 (fits_exited now exited_then t at guard x fits open_one.there step setup refl refl refl one refl refl place lane_is)
           (λ s some. known_still now exited_then t e rec_is.0 rec_is.1 stands.recording s refl (let a = exited_less now.spans x.scope (id_at now.setup.ids x.place) s in let b = ap (λ (y : Spans). (span_at y.made s).holds) step in omega (arith, a, b, some)))
           rec_is.2
-          (record { quiet = refl; before = read_subscriber views.filtered None parts.world parts.dispatch; later = read_subscriber views.filtered None new parts.dispatch; shown_before = refl; shown_later = refl; told = exit_heard x.scope shown; known = on_known x.scope (λ s. HookExit s place_id) (length t.spans) (λ s up e. ((subst (IsScope t.spans) e (fits.scopes x.handle x.scope (fits.still guard x open_one.there))).0, refl)); cached = call_cached spans views attaches kept is_whole parts new x.scope (λ id. Exit id at before later) shown; aside = record { before = aside_in views parts.world parts.dispatch; later = aside_in views new parts.dispatch; shown_before = refl; shown_later = refl; waits_before = refl; waits_later = refl; adds = call_aside spans views attaches kept is_whole parts new x.scope (λ id. Exit id at before later) (λ s. refl) shown } })
+          (record { quiet = refl; before = read_subscriber views.filter None parts.world parts.dispatch; later = read_subscriber views.filter None new parts.dispatch; shown_before = refl; shown_later = refl; told = exit_heard x.scope shown; known = on_known x.scope (λ s. HookExit s place_id) (length t.spans) (λ s up e. ((subst (IsScope t.spans) e (fits.scopes x.handle x.scope (fits.still guard x open_one.there))).0, refl)); cached = call_cached spans views attaches kept is_whole parts new x.scope (λ id. Exit id at before later) shown; aside = record { before = aside_in views parts.world parts.dispatch; later = aside_in views new parts.dispatch; shown_before = refl; shown_later = refl; waits_before = refl; waits_later = refl; adds = call_aside spans views attaches kept is_whole parts new x.scope (λ id. Exit id at before later) (λ s. refl) shown } })
 
       pub keeps_exited : PipelineInvariant spans views kept is_whole exited_then_parts
       keeps_exited =
@@ -332,7 +332,7 @@ module _ {S : Type 0} (spans : S → Spans) (views : Views S) (attaches : S → 
           let sites = call_sites spans views attaches kept is_whole parts new line.at (λ id. Enter id at before later) shown in
           let guards_are : gs' ≡ parts.guards ++ Some (guard_of parts.dispatch (record { handle = handle; place = place; owns = owns; scope = line.at })) ∷ [] = one ∙ ap (λ (h : HeldSpan). parts.guards ++ Some (record { handle = handle; place = place; owns = owns; entry = h }) ∷ []) (is ∙ line.is) in
           let e : Effect = enter_effect (here_at now.setup t at place) handle owns line.at in
-          let live : (s : ℕ) (up : Scope) → line.at ≡ s ∷ up → 0 < (span_at now.spans.made s).holds = λ s up e. fits_live now.spans (map named_span t.handles) (map (open_guard_by now.setup.ids) t.guards) t.entries fits.balanced handle s (named_slot t.handles handle line.at line.there ∙ ap span_of_scope e) in
+          let live : (s : ℕ) (up : Scope) → line.at ≡ s ∷ up → 0 < (span_at now.spans.made s).holds = λ s up e. fits_live now.spans (map span_of_handle t.handles) (map (open_guard_by now.setup.ids) t.guards) t.entries fits.balanced handle s (named_slot t.handles handle line.at line.there ∙ ap span_of_scope e) in
           let rec_is = entered_record gs' cs' t handle owns line.at stands.recording live inv.lanes.differ moved.0 none_at skip shown in
           let settings = ap (λ (c : Recording). c.settings) rec_is.1 ∙ recorded_settings (length t.spans) e r in
           let setup = setup_after sites moved.0 moved.1 settings in
@@ -344,7 +344,7 @@ module _ {S : Type 0} (spans : S → Spans) (views : Views S) (attaches : S → 
           setup rec_is.0 rec_is.1 (fits_entered now entered_then t at place handle owns line.at fits line.there step setup refl refl refl guards_are named_same skip refl)
           (λ s some. known_still now entered_then t e rec_is.0 rec_is.1 stands.recording s refl (entered_live now.spans line.at place_id s live (subst (λ (y : Spans). 0 < (span_at y.made s).holds) step some)))
           rec_is.2
-          (record { quiet = refl; before = read_subscriber views.filtered None parts.world parts.dispatch; later = read_subscriber views.filtered None new parts.dispatch; shown_before = refl; shown_later = refl; told = entry_heard line.at shown; known = on_known line.at (λ s. HookEnter s place_id) (length t.spans) (λ s up e. ((subst (IsScope t.spans) e (fits.scopes handle line.at line.there)).0, refl)); cached = call_cached spans views attaches kept is_whole parts new line.at (λ id. Enter id at before later) shown; aside = record { before = aside_in views parts.world parts.dispatch; later = aside_in views new parts.dispatch; shown_before = refl; shown_later = refl; waits_before = refl; waits_later = refl; adds = call_aside spans views attaches kept is_whole parts new line.at (λ id. Enter id at before later) (λ s. refl) shown } })
+          (record { quiet = refl; before = read_subscriber views.filter None parts.world parts.dispatch; later = read_subscriber views.filter None new parts.dispatch; shown_before = refl; shown_later = refl; told = entry_heard line.at shown; known = on_known line.at (λ s. HookEnter s place_id) (length t.spans) (λ s up e. ((subst (IsScope t.spans) e (fits.scopes handle line.at line.there)).0, refl)); cached = call_cached spans views attaches kept is_whole parts new line.at (λ id. Enter id at before later) shown; aside = record { before = aside_in views parts.world parts.dispatch; later = aside_in views new parts.dispatch; shown_before = refl; shown_later = refl; waits_before = refl; waits_later = refl; adds = call_aside spans views attaches kept is_whole parts new line.at (λ id. Enter id at before later) (λ s. refl) shown } })
 
       pub keeps_entered : PipelineInvariant spans views kept is_whole entered_then_parts
       keeps_entered =

@@ -1,6 +1,6 @@
 -- An entry on a lane with as many contexts as may be.
 use Rattle.std.proofs.Common.{◌≡◌, ℕ, ◌<◌, List, [], ◌∷◌, length, get_or, Bool, true, false, Option, Some, None, Err, map, refl, sym, ap, subst, ◌∙◌, arith, inl, inr, slice_get, Ok, ◌&&◌, ◌||◌, ◌≢◌}
-use Rattle.span_script.proofs.Common.{cases_Bool, cond-true, length-map, MAX_CONTEXTS, Context, EnterError, SpanData, data_at, knows_span, Recording, no_recording, Lane, Spans, Handle, HeldSpan, MeetsFullLane, Refusal, id_at, named_span, open_guard_by, Scope, Attached, Tables, slot_at, here_at, Resolved, refuse_if, ◌>>=◌, need, meets_full, enter_effect, entry_call, refused_entry, Views, PipelineState, state_of, LaneValue, lane_value, lane_at, StandsFor, PipelineInvariant, is_for_memory, held_by, held_of, Parts, FilterWithRoom, layer_or}
+use Rattle.span_script.proofs.Common.{cases_Bool, cond-true, length-map, MAX_CONTEXTS, Context, EnterError, SpanData, data_at, knows_span, Recording, no_recording, Lane, Spans, Handle, HeldSpan, MeetsFullLane, Refusal, id_at, span_of_handle, open_guard_by, Scope, Attached, Tables, slot_at, here_at, Resolved, refuse_if, ◌>>=◌, need, meets_full, enter_effect, entry_call, entry_refusal, Views, PipelineState, state_of, LaneValue, lane_value, lane_at, StandsFor, PipelineInvariant, is_for_memory, held_by, held_of, Parts, FilterWithRoom, layer_or}
 use Rattle.std.proofs.lemmas.Bool.{eq-eqb, eqb-true, true≢false}
 use Rattle.otel_base.specs.declared.enter_error.EnterError.TheVariants as errors
 use Rattle.span_script.specs.declared.reply.Refusal.TheVariants as refusal
@@ -15,7 +15,7 @@ use Rattle.span_script.proofs.runs.TakeLemmas.{seen_there}
 
 -- an entry of a span that the layer knows attaches where the layer activates
 abbrev pub Activates : {S : Type 0} → Views S → (S → ℕ → Bool) → Type 0
-Activates {S} views activates = (s : S) (id : ℕ) → data_at id (views.recorded s).spans ≢ None → activates s id ≡ (views.recorded s).settings.activation
+Activates {S} views activates = (s : S) (id : ℕ) → data_at id (views.recording s).spans ≢ None → activates s id ≡ (views.recording s).settings.activation
 
 pub layer_activates : (activation : Bool) (id : ℕ) (spans : List (ℕ × SpanData)) → data_at id spans ≢ None → ((activation && knows_span id spans) || false) ≡ activation
 layer_activates true id spans known = ap (λ b. b || false) (knows_it id spans known)
@@ -54,8 +54,8 @@ module _ {S : Type 0} (spans : S → Spans) (views : Views S) (activates : S →
   -- the subscriber attaches for an open span where the setup activates
   acts_here : (t : Tables) → StandsFor now t → (s : ℕ) (up : Scope) → slot_at t.handles handle ≡ Some (s ∷ up) → (x : S) → slice_get parts.world.subscribers parts.dispatch ≡ Some x → activates x s ≡ now.setup.layer.activation
   acts_here t stands s up there x is =
-      let live = fits_live now.spans (map named_span t.handles) (map (open_guard_by now.setup.ids) t.guards) t.entries stands.fits.balanced handle s (named_slot t.handles handle (s ∷ up) there) in
-      let same = seen_there views.recorded no_recording parts.world parts.dispatch x is in
+      let live = fits_live now.spans (map span_of_handle t.handles) (map (open_guard_by now.setup.ids) t.guards) t.entries stands.fits.balanced handle s (named_slot t.handles handle (s ∷ up) there) in
+      let same = seen_there views.recording no_recording parts.world parts.dispatch x is in
       acts x s (λ none. stands.recording.known s live (ap (λ (r : Recording). data_at s r.spans) same ∙ none)) ∙ ap (λ (r : Recording). r.settings.activation) (sym same)
 
   meets_of : (t : Tables) → StandsFor now t → (line : Scope) → slot_at t.handles handle ≡ Some line → MeetsFullLane activates parts.world before (held_of parts.dispatch line) → meets_full now.setup.layer.activation line (t.contexts place_id) ≡ true
@@ -81,7 +81,7 @@ module _ {S : Type 0} (spans : S → Spans) (views : Views S) (activates : S →
   pub meets_full_of : (t : Tables) → StandsFor now t → (line : Scope) → slot_at t.handles handle ≡ Some line → h.held ≡ held_of parts.dispatch line → MeetsFullLane activates parts.world before h.held → meets_full now.setup.layer.activation line (t.contexts place_id) ≡ true
   meets_full_of t stands line there is meets = meets_of t stands line there (subst (λ (x : HeldSpan). MeetsFullLane activates parts.world before x) is meets)
 
-  pub refuses_entry : (owns : Bool) (error : EnterError) (given : Refusal) → given ≡ refused_entry place error → (error ≡ errors.Full → MeetsFullLane activates parts.world before h.held) → is_for_memory given ≡ false → (t : Tables) → StandsFor now t → entry_call (here_at now.setup t at place) handle owns ≡ Err given
+  pub refuses_entry : (owns : Bool) (error : EnterError) (given : Refusal) → given ≡ entry_refusal place error → (error ≡ errors.Full → MeetsFullLane activates parts.world before h.held) → is_for_memory given ≡ false → (t : Tables) → StandsFor now t → entry_call (here_at now.setup t at place) handle owns ≡ Err given
   refuses_entry owns errors.Memory given is full other t stands = absurd (true≢false (sym (ap is_for_memory is) ∙ other))
   refuses_entry owns errors.Full given is full other t stands =
       let line = find (held_of parts.dispatch) (map held_by parts.handles) t.handles handle h.held stands.fits.handle_slots (held_slot parts.handles handle h found) in

@@ -1,7 +1,7 @@
 -- Ops on spans that leave all else as it is, served; and events.
-use Rattle.span_script.proofs.Common.{length-map, Measure, Token, Recording, no_recording, with_start, with_applied, Lane, Callsite, Kind, ValueSet, Parent, WorldValue, FilterState, IsNewFilter, enables_in, Spans, span_at, entries_on, parent_on, SubscriberCall, read_subscriber, spans_in, kept_in, Has, Reply, RequestParent, id_at, if_event, event_site, Scope, SpanOp, FilterHook, Effect, Tables, span_of_scope, recording_after, quiet_effect, Fields, all_values, text_filter, here_at, Resolved, ◌>>=◌, need, ops_on, effect_of_call, if_enabled, event_ops, event_effect, after_filter_hook, scope_at, parent_for, HasWhatItNames, TellsEventOfRequest, TellsEventOrNothing, LetsThrough, Views, shown_of, PipelineState, state_of, lane_value, held_by, StandsFor, LanesFit, PipelineInvariant, IsServed, Parts, with_counted, with_event_by, AddsMeasures, CallsLaw, aside_in}
+use Rattle.span_script.proofs.Common.{length-map, Measure, Token, Recording, no_recording, with_start, with_applied, Lane, Callsite, Kind, ValueSet, Parent, WorldValue, FilterState, IsNewFilter, enables_in, Spans, span_at, entries_on, parent_on, SubscriberCall, read_subscriber, spans_in, kept_in, Has, Reply, RequestParent, id_at, if_event, event_site, Scope, SpanOp, FilterHook, Effect, Tables, span_of_scope, recording_after, quiet_effect, Fields, all_values, text_filter, here_at, Resolved, ◌>>=◌, need, ops_on, effect_of_call, if_enabled, event_ops, event_effect, after_filter_hook, parent_scope, parent_for, HasWhatItNames, TellsEventOfRequest, TellsEventOrNothing, IsGateAnswer, Views, shown_of, PipelineState, state_of, lane_value, held_by, StandsFor, LanesFit, PipelineInvariant, IsServed, Parts, with_counted, with_event_by, AddsMeasures, CallsLaw, aside_in}
 use Rattle.std.proofs.Common.{◌≡◌, ℕ, ◌<◌, List, [], ◌∷◌, length, Bool, true, false, fold, get_or, Option, Some, None, Ok, option_map, map, refl, sym, ap, subst, ◌∙◌, arith, slice_get, option_and_then, IfSome}
-use Rattle.otel_state.specs.fields.EventFields.{event_of}
+use Rattle.otel_state.specs.fields.EventFields.{event_op}
 use Rattle.otel_state.specs.declared.op.Op.TheVariants as ops
 use Rattle.otel_metrics.specs.Measures.{measures}
 use Rattle.env_directives.specs.orders.Choice.{admits}
@@ -61,10 +61,10 @@ Decides = (f : FilterState) (lane : ℕ) (c : Callsite) → IsNewFilter f → c.
 -- an event is some ops of the own span of the scope that it reaches
 told_is : Decides → (ids : List ℕ) (counting : Option (List ℕ)) (counting_filter : Option FilterState) → option_map (shown_of 0 ids) counting_filter ≡ option_map (shown_of 0 ids) (option_map text_filter counting) → IfSome (option_map text_filter counting) IsNewFilter
     → (scope : Scope) (id place : ℕ) → id ≡ id_at ids place → place < length ids → (at : ℕ) (callsite : Callsite) → callsite.kind ≡ kinds.Event → (values : ValueSet) (r : Recording)
-    → with_event_by counting_filter (span_of_scope scope) id at callsite values r ≡ done_by at (ops_on scope (event_ops counting callsite (event_of callsite values r.settings at))) r
+    → with_event_by counting_filter (span_of_scope scope) id at callsite values r ≡ done_by at (ops_on scope (event_ops counting callsite (event_op callsite values r.settings at))) r
 told_is decides ids counting counting_filter shown new scope id place mine within at callsite event values r = by_counting counting counting_filter shown new scope
   where
-    by_flag : (b : Bool) (s : ℕ) → with_counted b s at callsite values r ≡ done_by at (ops_on (s ∷ []) (ops.Counted ∷ if_enabled b (event_of callsite values r.settings at ∷ []))) r
+    by_flag : (b : Bool) (s : ℕ) → with_counted b s at callsite values r ≡ done_by at (ops_on (s ∷ []) (ops.Counted ∷ if_enabled b (event_op callsite values r.settings at ∷ []))) r
     by_flag true s = refl
     by_flag false s = refl
 
@@ -73,7 +73,7 @@ told_is decides ids counting counting_filter shown new scope id place mine withi
         ap (λ (l : ℕ). enables_in f l callsite) mine ∙ enables_alike 0 ids f g place callsite (agree_by 0 ids f g (let e : shown_of 0 ids f ≡ shown_of 0 ids g = cc same in e)) within ∙ decides g (id_at ids place) callsite fresh event
 
     by_counting : (text : Option (List ℕ)) (o : Option FilterState) → option_map (shown_of 0 ids) o ≡ option_map (shown_of 0 ids) (option_map text_filter text) → IfSome (option_map text_filter text) IsNewFilter → (reached : Scope)
-        → with_event_by o (span_of_scope reached) id at callsite values r ≡ done_by at (ops_on reached (event_ops text callsite (event_of callsite values r.settings at))) r
+        → with_event_by o (span_of_scope reached) id at callsite values r ≡ done_by at (ops_on reached (event_ops text callsite (event_op callsite values r.settings at))) r
     by_counting None None same fresh [] = refl
     by_counting None None same fresh (s ∷ up) = refl
     by_counting None (Some f) same fresh reached = absurd (cc same)
@@ -87,8 +87,8 @@ module _ {S : Type 0} (spans : S → Spans) (views : Views S) (attaches : S → 
     pub spans_same : spans_in spans new parts.dispatch ≡ spans_in spans parts.world parts.dispatch
     pub kept_same : kept_in kept new parts.dispatch ≡ kept_in kept parts.world parts.dispatch
     pub sites_same : new.sites ≡ parts.world.sites
-    pub recorded_is : read_subscriber views.recorded no_recording new parts.dispatch ≡ done_by at o (started_by at ss (read_subscriber views.recorded no_recording parts.world parts.dispatch))
-    pub filter_is : read_subscriber views.filtered None new parts.dispatch ≡ option_map (λ f. fold after_filter_hook f heard) (read_subscriber views.filtered None parts.world parts.dispatch)
+    pub recorded_is : read_subscriber views.recording no_recording new parts.dispatch ≡ done_by at o (started_by at ss (read_subscriber views.recording no_recording parts.world parts.dispatch))
+    pub filter_is : read_subscriber views.filter None new parts.dispatch ≡ option_map (λ f. fold after_filter_hook f heard) (read_subscriber views.filter None parts.world parts.dispatch)
     pub cached_same : new.cached ≡ parts.world.cached
     pub aside_is : AddsMeasures (aside_in views parts.world parts.dispatch) (aside_in views new parts.dispatch) added
     pub count : length new.subscribers ≡ length parts.world.subscribers
@@ -104,8 +104,8 @@ module _ {S : Type 0} (spans : S → Spans) (views : Views S) (attaches : S → 
     spans_same = ap (λ (w : WorldValue S). spans_in spans w parts.dispatch) same;
     kept_same = ap (λ (w : WorldValue S). kept_in kept w parts.dispatch) same;
     sites_same = ap (λ (w : WorldValue S). w.sites) same;
-    recorded_is = ap (λ (w : WorldValue S). read_subscriber views.recorded no_recording w parts.dispatch) same;
-    filter_is = ap (λ (w : WorldValue S). read_subscriber views.filtered None w parts.dispatch) same ∙ heard_none (read_subscriber views.filtered None parts.world parts.dispatch);
+    recorded_is = ap (λ (w : WorldValue S). read_subscriber views.recording no_recording w parts.dispatch) same;
+    filter_is = ap (λ (w : WorldValue S). read_subscriber views.filter None w parts.dispatch) same ∙ heard_none (read_subscriber views.filter None parts.world parts.dispatch);
     cached_same = ap (λ (w : WorldValue S). w.cached) same;
     aside_is = adds_same views parts.world new parts.dispatch same;
     count = ap (λ (w : WorldValue S). length w.subscribers) same;
@@ -116,7 +116,7 @@ module _ {S : Type 0} (spans : S → Spans) (views : Views S) (attaches : S → 
   now = state_of spans views parts
 
   abbrev r : Recording
-  r = read_subscriber views.recorded no_recording parts.world parts.dispatch
+  r = read_subscriber views.recording no_recording parts.world parts.dispatch
 
   module _ (at place : ℕ) where
     abbrev then_parts : Parts S
@@ -139,14 +139,14 @@ module _ {S : Type 0} (spans : S → Spans) (views : Views S) (attaches : S → 
         let step = did.spans_same in
         let e : Effect = measures_then ss o heard added answer in
         let tokens = recorded_tokens (length t.spans) e r in
-        let rec_is : read_subscriber views.recorded no_recording new parts.dispatch ≡ record (recording_after (length t.spans) e r) { tokens = r.tokens } = did.recorded_is ∙ ap (λ (ts : List Token). record (recording_after (length t.spans) e r) { tokens = ts }) tokens in
+        let rec_is : read_subscriber views.recording no_recording new parts.dispatch ≡ record (recording_after (length t.spans) e r) { tokens = r.tokens } = did.recorded_is ∙ ap (λ (ts : List Token). record (recording_after (length t.spans) e r) { tokens = ts }) tokens in
         let settings = ap (λ (x : Recording). x.settings) rec_is ∙ recorded_settings (length t.spans) e r in
-        let setup : then.setup ≡ now.setup = ap (λ x. record now.setup { sites = x; layer = (read_subscriber views.recorded no_recording new parts.dispatch).settings }) did.sites_same ∙ ap (λ x. record now.setup { layer = x }) settings in
+        let setup : then.setup ≡ now.setup = ap (λ x. record now.setup { sites = x; layer = (read_subscriber views.recording no_recording new parts.dispatch).settings }) did.sites_same ∙ ap (λ x. record now.setup { layer = x }) settings in
         serve now then t e resolved answer stands is refl setup r.tokens rec_is
         (fits_step now t fits then e (quiet_step now then t e fits setup refl refl refl refl refl refl refl step))
         (λ s some. known_still now then t e r.tokens rec_is stands.recording s refl (subst (λ (x : Spans). 0 < (span_at x.made s).holds) step some))
         (all_same now then t.contexts setup refl refl (ap (λ (x : Recording). x.tokens) rec_is) stands.recording.attached)
-        (record { quiet = refl; before = read_subscriber views.filtered None parts.world parts.dispatch; later = read_subscriber views.filtered None new parts.dispatch; shown_before = refl; shown_later = refl; told = did.filter_is; known = known; cached = did.cached_same; aside = record { before = aside_in views parts.world parts.dispatch; later = aside_in views new parts.dispatch; shown_before = refl; shown_later = refl; waits_before = refl; waits_later = refl; adds = did.aside_is } })
+        (record { quiet = refl; before = read_subscriber views.filter None parts.world parts.dispatch; later = read_subscriber views.filter None new parts.dispatch; shown_before = refl; shown_later = refl; told = did.filter_is; known = known; cached = did.cached_same; aside = record { before = aside_in views parts.world parts.dispatch; later = aside_in views new parts.dispatch; shown_before = refl; shown_later = refl; waits_before = refl; waits_later = refl; adds = did.aside_is } })
 
     pub keeps_measures : (inv : PipelineInvariant spans views kept is_whole parts) (ss : List ℕ) (o : List SpanOp) (heard : List FilterHook) (added : List Measure) (known : AreKnown (length inv.tables.spans) heard (length inv.tables.spans)) (answer : Reply) (resolved : Resolved) → Starts at ss o heard added → resolved ≡ Ok (measures_then ss o heard added answer) → PipelineInvariant spans views kept is_whole then_parts
     keeps_measures inv ss o heard added known answer resolved did is =
@@ -170,7 +170,7 @@ module _ {S : Type 0} (spans : S → Spans) (views : Views S) (attaches : S → 
   module _ (does : S → SubscriberCall → S → Type 0) (law : CallsLaw spans views attaches kept is_whole does)
       (at place : ℕ) where
     module _ (under : RequestParent) (parent : Option Parent) (found : parent ≡ parent_for (map held_by parts.handles) under) (site : ℕ) (fields : Fields)
-        (before : Lane) (within : place < length parts.lanes) (here : before ≡ get_or parts.lanes place before) (enabled : Bool) (gate : LetsThrough (read_subscriber views.filtered None parts.world parts.dispatch) parts.world.sites before.id site enabled)
+        (before : Lane) (within : place < length parts.lanes) (here : before ≡ get_or parts.lanes place before) (enabled : Bool) (gate : IsGateAnswer (read_subscriber views.filter None parts.world parts.dispatch) parts.world.sites before.id site enabled)
         (did : TellsEventOfRequest does parts.world new before at parent site fields parts.dispatch enabled) (decides : Decides) where
       abbrev named : HasWhatItNames (event_site parts.world.sites site) parent fields
       named = did.named
@@ -189,7 +189,7 @@ module _ {S : Type 0} (spans : S → Spans) (views : Views S) (attaches : S → 
 
       -- the ops that it is, on the own span of the scope that it reaches, and its measures
       abbrev ops_of : Bool → Scope → List SpanOp
-      ops_of b reached = if_enabled b (ops_on reached (event_ops parts.opening.counting given (event_of given values r.settings at)))
+      ops_of b reached = if_enabled b (ops_on reached (event_ops parts.filter_texts.counting given (event_op given values r.settings at)))
 
       abbrev measures_of : Bool → List Measure
       measures_of b = if_enabled b (measures given values)
@@ -207,7 +207,7 @@ module _ {S : Type 0} (spans : S → Spans) (views : Views S) (attaches : S → 
             sites_same = ap (λ (w : WorldValue S). w.sites) told.told.others;
             recorded_is = viewed.0 ∙ ap (λ (o : Option ℕ). with_event_by counting_filter o before.id at told.callsite values rec) reaches
                 ∙ ap (λ (c : Callsite). with_event_by counting_filter (span_of_scope reached) before.id at c values rec) (same_site told.callsite told.is)
-                ∙ told_is decides (map (λ (l : Lane). l.id) parts.lanes) parts.opening.counting counting_filter stands.filtering.counting_filter stands.filtering.new reached before.id place (id_seen parts.lanes place before within here) (let l = length-map parts.lanes (λ (x : Lane). x.id) in omega (arith, within, l)) at given (event_kind parts.world.sites site given named.given_is) values rec;
+                ∙ told_is decides (map (λ (l : Lane). l.id) parts.lanes) parts.filter_texts.counting counting_filter stands.filtering.counting_filter stands.filtering.new reached before.id place (id_seen parts.lanes place before within here) (let l = length-map parts.lanes (λ (x : Lane). x.id) in omega (arith, within, l)) at given (event_kind parts.world.sites site given named.given_is) values rec;
             filter_is = viewed.1;
             aside_is = subst (λ (c : Callsite). AddsMeasures (aside_in views parts.world parts.dispatch) (aside_in views new parts.dispatch) (measures c values)) (same_site told.callsite told.is) viewed.2;
             cached_same = ap (λ (w : WorldValue S). w.cached) told.told.others;
@@ -233,7 +233,7 @@ module _ {S : Type 0} (spans : S → Spans) (views : Views S) (attaches : S → 
             ops = ops_of enabled up.up;
             added = measures_of enabled;
             done = does_told t stands enabled did.did up.up reaches;
-            is = ap (λ o. need what.Site o >>= (λ c. need what.Handle (scope_at t id under) >>= (λ reached. need what.Field (all_values c fields) >>= (λ v. Ok (event_effect (here_at k.setup t at place) c v reached))))) named.given_is
+            is = ap (λ o. need what.Site o >>= (λ c. need what.Handle (parent_scope t id under) >>= (λ reached. need what.Field (all_values c fields) >>= (λ v. Ok (event_effect (here_at k.setup t at place) c v reached))))) named.given_is
                 ∙ ap (λ o. need what.Handle o >>= (λ reached. need what.Field (all_values callsite fields) >>= (λ v. Ok (event_effect (here_at k.setup t at place) callsite v reached)))) up.is
                 ∙ ap (λ o. need what.Field o >>= (λ v. Ok (event_effect (here_at k.setup t at place) callsite v up.up))) named.values_are
                 ∙ ap (λ (b : Bool). Ok (measures_then at place [] (ops_of b up.up) [] (measures_of b) (reply.Enabled b))) (answered spans views parts place before within here site callsite (site_is parts.world.sites site callsite named.given_is) enabled gate t stands);

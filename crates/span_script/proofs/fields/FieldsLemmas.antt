@@ -1,5 +1,5 @@
 -- Fields that are declared or not, recorded on spans, and asked for.
-use Rattle.span_script.proofs.Common.{list_all, cons_option, cond-true, cond-false, Recording, no_recording, Callsite, ValueSet, Parent, WorldValue, Spans, SubscriberCall, read_subscriber, Handle, HeldSpan, IsSite, RecordsAt, RecordsOn, callsite_in, field_at, field_in, as_parent, RequestParent, id_at, span_site, event_site, Scope, Tables, slot_at, site_of, Effect, Fields, declared_value, declares, declared_by, all_values, values_of, values_by, Resolved, Refusal, here_at, ◌>>=◌, need, ops_effect, effect_of_call, event_effect, scope_at, new_effect, parent_for, named_values, Views, PipelineState, state_of, StandsFor, IsScope, PipelineInvariant, IsServed, held_by, held_of, Parts, get_or-map, CallsLaw}
+use Rattle.span_script.proofs.Common.{list_all, cons_option, cond-true, cond-false, Recording, no_recording, Callsite, ValueSet, Parent, WorldValue, Spans, SubscriberCall, read_subscriber, Handle, HeldSpan, IsSite, RecordsAt, RecordsOn, callsite_in, field_at, field_in, as_parent, RequestParent, id_at, span_site, event_site, Scope, Tables, slot_at, site_of, Effect, Fields, declared_value, declares, declared_by, all_values, values_of, values_by, Resolved, Refusal, here_at, ◌>>=◌, need, ops_effect, effect_of_call, event_effect, parent_scope, new_effect, parent_for, values_or_refusal, Views, PipelineState, state_of, StandsFor, IsScope, PipelineInvariant, IsServed, held_by, held_of, Parts, get_or-map, CallsLaw}
 use Rattle.std.proofs.Common.{◌≡◌, ℕ, suc, ◌<◌, ◌≤◌, List, [], ◌∷◌, length, Bool, true, false, Option, Some, None, Result, Ok, Err, option_map, map, refl, sym, ap, subst, ◌∙◌, arith, ◌&&◌, is_some, slice_get, filter_map, option_and_then}
 use Rattle.trace_base.specs.declared.field.Field.{Field}
 use Rattle.trace_base.specs.Field.{place_of, named_field}
@@ -18,7 +18,7 @@ use Rattle.span_script.specs.declared.request.RequestParent.TheVariants as reque
 
 -- ---- places that aren't there
 
-no_scope : (k : PipelineState) (t : Tables) → Fits k t → (lane : ℕ) (under : RequestParent) → parent_for k.handles under ≡ None → scope_at t lane under ≡ None
+no_scope : (k : PipelineState) (t : Tables) → Fits k t → (lane : ℕ) (under : RequestParent) → parent_for k.handles under ≡ None → parent_scope t lane under ≡ None
 no_scope k t fits lane request_parent.Root is = absurd (cc is)
 no_scope k t fits lane request_parent.Contextual is = absurd (cc is)
 no_scope k t fits lane (request_parent.Under handle) is = by_slot (slot_at t.handles handle) (sym (ap (λ xs. option_map as_parent (slot_at xs handle)) fits.handle_slots ∙ ap (option_map as_parent) (get_or-map (option_map (held_of k.dispatch)) t.handles handle None)) ∙ is)
@@ -40,19 +40,19 @@ module _ (k : PipelineState) (t : Tables) (fits : Fits k t) (lane : ℕ) (under 
   by_values c up None e = the_refusal (refusal.UnknownName what.Field) e
   by_values c up (Some v) e = absurd (cc e)
 
-  by_parent : (c : Callsite) (o : Option Parent) → parent ≡ o → named_values (Some c) o fields ≡ Err given → made_or (Some c) (scope_at t lane under) ≡ Err given
+  by_parent : (c : Callsite) (o : Option Parent) → parent ≡ o → values_or_refusal (Some c) o fields ≡ Err given → made_or (Some c) (parent_scope t lane under) ≡ Err given
   by_parent c None is e = ap (made_or (Some c)) (no_scope k t fits lane under (sym found ∙ is)) ∙ the_refusal (refusal.UnknownName what.Handle) e
   by_parent c (Some p) is e = (let up = find_up k t fits lane under p (sym found ∙ is) in ap (made_or (Some c)) up.is ∙ by_values c up.up (all_values c fields) e)
 
-  pub refuses_named : (callsite : Option Callsite) → named_values callsite parent fields ≡ Err given → made_or callsite (scope_at t lane under) ≡ Err given
+  pub refuses_named : (callsite : Option Callsite) → values_or_refusal callsite parent fields ≡ Err given → made_or callsite (parent_scope t lane under) ≡ Err given
   refuses_named None e = the_refusal (refusal.UnknownName what.Site) e
   refuses_named (Some c) e = by_parent c parent refl e
 
-pub refuses_new : (k : PipelineState) (t : Tables) → Fits k t → (at place site : ℕ) (under : RequestParent) (parent : Option Parent) → parent ≡ parent_for k.handles under → (fields : Fields) (given : Refusal) → named_values (span_site k.setup.sites site) parent fields ≡ Err given
+pub refuses_new : (k : PipelineState) (t : Tables) → Fits k t → (at place site : ℕ) (under : RequestParent) (parent : Option Parent) → parent ≡ parent_for k.handles under → (fields : Fields) (given : Refusal) → values_or_refusal (span_site k.setup.sites site) parent fields ≡ Err given
     → effect_of_call k.setup t at place (call.New site under fields) ≡ Err given
 refuses_new k t fits at place site under parent found fields given e = refuses_named k t fits (id_at k.setup.ids place) under parent found fields given (λ c up v. new_effect (here_at k.setup t at place) site c v under up) (span_site k.setup.sites site) e
 
-pub refuses_event : (k : PipelineState) (t : Tables) → Fits k t → (at place site : ℕ) (under : RequestParent) (parent : Option Parent) → parent ≡ parent_for k.handles under → (fields : Fields) (given : Refusal) → named_values (event_site k.setup.sites site) parent fields ≡ Err given
+pub refuses_event : (k : PipelineState) (t : Tables) → Fits k t → (at place site : ℕ) (under : RequestParent) (parent : Option Parent) → parent ≡ parent_for k.handles under → (fields : Fields) (given : Refusal) → values_or_refusal (event_site k.setup.sites site) parent fields ≡ Err given
     → effect_of_call k.setup t at place (call.Event site under fields) ≡ Err given
 refuses_event k t fits at place site under parent found fields given e = refuses_named k t fits (id_at k.setup.ids place) under parent found fields given (λ c up v. event_effect (here_at k.setup t at place) c v up) (event_site k.setup.sites site) e
 
@@ -155,7 +155,7 @@ module _ {S : Type 0} (spans : S → Spans) (views : Views S) (attaches : S → 
       module _ (does : S → SubscriberCall → S → Type 0) (law : CallsLaw spans views attaches kept is_whole does)
           (fields : Fields) (values : ValueSet) (is : values ≡ values_by (callsite_in parts.world h.site) fields) (did : RecordsOn does parts.world new at values h) where
         abbrev r : Recording
-        r = read_subscriber views.recorded no_recording parts.world parts.dispatch
+        r = read_subscriber views.recording no_recording parts.world parts.dispatch
 
         does_update : (line : Scope) (o : Option Callsite) → RecordsAt does parts.world new at (values_by o fields) (held_of parts.dispatch line) o → Does spans views attaches kept is_whole parts new at (update_ops r.settings line fields o) (hooks_of_values line fields o)
         does_update [] None step = does_none spans views attaches kept is_whole parts new at step

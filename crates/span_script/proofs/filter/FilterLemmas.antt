@@ -1,6 +1,6 @@
 -- The filter in force, and the cache, after one effect more.
 use Rattle.std.proofs.Common.{◌≡◌, ℕ, zero, suc, ◌+◌, ◌<◌, List, [], ◌∷◌, ◌++◌, length, fold, Option, Some, None, option_map, map, slice_get, refl, sym, ap, subst, ◌∙◌, arith, inl, inr, is_some, nat_eq, IfSome}
-use Rattle.span_script.proofs.Common.{cases_eq, cond-true, cond-false, option_map_or, Callsite, Interest, WorldValue, IsFresh, interests_of_sites, read_subscriber, Stacks, filter_in_place, stack_interest, layer_or, sometimes, Directive, FilterState, FilterWithRoom, IsNewFilter, plain_filter, interest_in, is_admitted, enables_in, Setup, id_at, FilterHook, HookNew, HookRecord, HookEnter, HookExit, HookClose, Effect, Tables, after_effect, with_item, newer_text, hooks_since, after_filter_hook, text_in_force, filter_in_force, text_filter, Views, ShownFilter, values_below, shown_of, counting_filter_by, PipelineState, FilteringFits}
+use Rattle.span_script.proofs.Common.{cases_eq, cond-true, cond-false, option_map_or, Callsite, Interest, WorldValue, IsFresh, interests_of_sites, read_subscriber, SubscriberStack, filter_in_place, stack_interest, layer_or, sometimes, Directive, FilterState, FilterWithRoom, IsNewFilter, plain_filter, interest_in, is_admitted, enables_in, Setup, id_at, FilterHook, HookNew, HookRecord, HookEnter, HookExit, HookClose, Effect, Tables, after_effect, with_item, newer_text, hooks_since, after_filter_hook, text_in_force, filter_in_force, text_filter, Views, ShownFilter, values_below, shown_of, counting_filter_by, PipelineState, FilteringFits}
 use Rattle.std.proofs.lemmas.Bool.{eq-eqb, ne_eqb}
 use Rattle.trace_base.specs.declared.subscriber.Interest.TheVariants as interests
 use Rattle.span_registry.specs.Both.{joint_interest}
@@ -216,21 +216,21 @@ heard_none (Some f) = refl
 
 -- ---- the cache of a world with one subscriber
 
-module _ {S : Type 0} (views : Views S) (interest : S → Callsite → Interest) (shown : (s : S) (f : FilterState) (c : Callsite) → views.filtered s ≡ Some f → interest s c ≡ interest_in f c) where
-  rows_asked : (s : S) (f : FilterState) → views.filtered s ≡ Some f → (sites : List Callsite) → interests_of_sites interest (s ∷ []) sites ≡ rows_of f sites
+module _ {S : Type 0} (views : Views S) (interest : S → Callsite → Interest) (shown : (s : S) (f : FilterState) (c : Callsite) → views.filter s ≡ Some f → interest s c ≡ interest_in f c) where
+  rows_asked : (s : S) (f : FilterState) → views.filter s ≡ Some f → (sites : List Callsite) → interests_of_sites interest (s ∷ []) sites ≡ rows_of f sites
   rows_asked s f is [] = refl
   rows_asked s f is (c ∷ sites) = ap (λ (i : Interest). (i ∷ []) ∷ interests_of_sites interest (s ∷ []) sites) (shown s f c is) ∙ ap (λ (rows : List (List Interest)). (interest_in f c ∷ []) ∷ rows) (rows_asked s f is sites)
 
-  registered_rows : (ss : List S) (dispatch : ℕ) (f : FilterState) → length ss ≡ 1 → dispatch < length ss → option_map_or views.filtered (slice_get ss dispatch) None ≡ Some f → (sites : List Callsite) → interests_of_sites interest ss sites ≡ rows_of f sites
+  registered_rows : (ss : List S) (dispatch : ℕ) (f : FilterState) → length ss ≡ 1 → dispatch < length ss → option_map_or views.filter (slice_get ss dispatch) None ≡ Some f → (sites : List Callsite) → interests_of_sites interest ss sites ≡ rows_of f sites
   registered_rows [] dispatch f one there is sites = absurd (omega (arith, one))
   registered_rows (s ∷ []) zero f one there is sites = rows_asked s f is sites
   registered_rows (s ∷ []) (suc dispatch) f one there is sites = absurd (omega (arith, there))
   registered_rows (s ∷ r ∷ ss) dispatch f one there is sites = absurd (omega (arith, one))
 
-  pub cached_rows : (world : WorldValue S) (dispatch : ℕ) (f : FilterState) → length world.subscribers ≡ 1 → dispatch < length world.subscribers → read_subscriber views.filtered None world dispatch ≡ Some f → IsFresh interest world → world.cached ≡ rows_of f world.sites
+  pub cached_rows : (world : WorldValue S) (dispatch : ℕ) (f : FilterState) → length world.subscribers ≡ 1 → dispatch < length world.subscribers → read_subscriber views.filter None world dispatch ≡ Some f → IsFresh interest world → world.cached ≡ rows_of f world.sites
   cached_rows world dispatch f one there is fresh = fresh ∙ registered_rows world.subscribers dispatch f one there is world.sites
 
-  pub rows_fresh : (world : WorldValue S) (dispatch : ℕ) (f : FilterState) → length world.subscribers ≡ 1 → dispatch < length world.subscribers → read_subscriber views.filtered None world dispatch ≡ Some f → world.cached ≡ rows_of f world.sites → IsFresh interest world
+  pub rows_fresh : (world : WorldValue S) (dispatch : ℕ) (f : FilterState) → length world.subscribers ≡ 1 → dispatch < length world.subscribers → read_subscriber views.filter None world dispatch ≡ Some f → world.cached ≡ rows_of f world.sites → IsFresh interest world
   rows_fresh world dispatch f one there is rows = rows ∙ sym (registered_rows world.subscribers dispatch f one there is world.sites)
 
 -- a stack is interested in what its filter is
@@ -239,7 +239,7 @@ always_above interests.Never = refl
 always_above interests.Sometimes = refl
 always_above interests.Always = refl
 
-pub stack_shows : (s : Stacks) (f : FilterState) (c : Callsite) → filter_in_place s ≡ Some f → stack_interest s c ≡ interest_in f c
+pub stack_shows : (s : SubscriberStack) (f : FilterState) (c : Callsite) → filter_in_place s ≡ Some f → stack_interest s c ≡ interest_in f c
 stack_shows s f c is = by_layer s.layer.inner is
   where
     by_layer : (o : Option FilterWithRoom) → option_map plain_filter o ≡ Some f → joint_interest (layer_or sometimes (λ (g : FilterWithRoom). interest_in (plain_filter g)) o c) interests.Always ≡ interest_in f c

@@ -1,6 +1,6 @@
 -- Asking the gate, and another filter in force, served.
 use Rattle.std.proofs.Common.{◌≡◌, ℕ, ◌<◌, List, [], length, Bool, get_or, Some, None, Ok, option_map, map, refl, sym, ap, subst, ◌∙◌, arith, slice_get}
-use Rattle.span_script.proofs.Common.{Callsite, Lane, Interest, WorldValue, IsFresh, Spans, span_at, FilterState, interest_in, Recording, no_recording, KeepsPlainData, read_subscriber, spans_in, text_filter, filter_of_read, IsTextFilter, id_at, Effect, Tables, after_effect, quiet_effect, here_at, ◌>>=◌, need, effect_of_call, enabled_effect, reload_effect, reload_by, LetsThrough, Views, shown_of, PipelineState, state_of, lane_value, StandsFor, FilteringFits, LanesFit, PipelineInvariant, IsServed, Parts, AddsMeasures, aside_in}
+use Rattle.span_script.proofs.Common.{Callsite, Lane, Interest, WorldValue, IsFresh, Spans, span_at, FilterState, interest_in, Recording, no_recording, KeepsPlainData, read_subscriber, spans_in, text_filter, filter_of_read, IsTextFilter, id_at, Effect, Tables, after_effect, quiet_effect, here_at, ◌>>=◌, need, effect_of_call, enabled_effect, reload_effect, reload_by, IsGateAnswer, Views, shown_of, PipelineState, state_of, lane_value, StandsFor, FilteringFits, LanesFit, PipelineInvariant, IsServed, Parts, AddsMeasures, aside_in}
 use Rattle.span_script.specs.declared.reply.Reply.TheVariants as reply
 use Rattle.span_script.specs.declared.reply.What.TheVariants as what
 use Rattle.span_script.specs.declared.request.Call.TheVariants as call
@@ -17,7 +17,7 @@ module _ {S : Type 0} (spans : S → Spans) (views : Views S) (attaches : S → 
 
   -- the gate is asked
   module _ (before : Lane) (within : place < length parts.lanes) (here : before ≡ get_or parts.lanes place before) (found_site site : ℕ) (sited_is : found_site ≡ site) (there : site < length parts.world.sites)
-      (enabled : Bool) (gate : LetsThrough (read_subscriber views.filtered None parts.world parts.dispatch) parts.world.sites before.id found_site enabled) where
+      (enabled : Bool) (gate : IsGateAnswer (read_subscriber views.filter None parts.world parts.dispatch) parts.world.sites before.id found_site enabled) where
     its_site : (c : Callsite) × (slice_get parts.world.sites site ≡ Some c)
     its_site = within_get parts.world.sites site there
 
@@ -34,7 +34,7 @@ module _ {S : Type 0} (spans : S → Spans) (views : Views S) (attaches : S → 
         (its_answer inv.tables inv.stands)
 
   -- a filter of another text
-  module _ (new : WorldValue S) (alike : KeepsPlainData spans attaches kept is_whole parts.world new parts.dispatch) (sites : new.sites ≡ parts.world.sites) (records : read_subscriber views.recorded no_recording new parts.dispatch ≡ read_subscriber views.recorded no_recording parts.world parts.dispatch)
+  module _ (new : WorldValue S) (alike : KeepsPlainData spans attaches kept is_whole parts.world new parts.dispatch) (sites : new.sites ≡ parts.world.sites) (records : read_subscriber views.recording no_recording new parts.dispatch ≡ read_subscriber views.recording no_recording parts.world parts.dispatch)
       (aside : AddsMeasures (aside_in views parts.world parts.dispatch) (aside_in views new parts.dispatch) []) where
     abbrev then_parts : Parts S
     then_parts = record parts { world = new; moment = at }
@@ -43,10 +43,10 @@ module _ {S : Type 0} (spans : S → Spans) (views : Views S) (attaches : S → 
     then = state_of spans views then_parts
 
     abbrev r : Recording
-    r = read_subscriber views.recorded no_recording parts.world parts.dispatch
+    r = read_subscriber views.recording no_recording parts.world parts.dispatch
 
-    module _ (text given : List ℕ) (given_is : given ≡ text) (f : FilterState) (read_given : IsTextFilter given f) (filters : read_subscriber views.filtered None new parts.dispatch ≡ Some f)
-        (interest : S → Callsite → Interest) (shown : (s : S) (f : FilterState) (c : Callsite) → views.filtered s ≡ Some f → interest s c ≡ interest_in f c) (fresh : IsFresh interest new) (inv : PipelineInvariant spans views kept is_whole parts) where
+    module _ (text given : List ℕ) (given_is : given ≡ text) (f : FilterState) (read_given : IsTextFilter given f) (filters : read_subscriber views.filter None new parts.dispatch ≡ Some f)
+        (interest : S → Callsite → Interest) (shown : (s : S) (f : FilterState) (c : Callsite) → views.filter s ≡ Some f → interest s c ≡ interest_in f c) (fresh : IsFresh interest new) (inv : PipelineInvariant spans views kept is_whole parts) where
       read : IsTextFilter text f
       read = subst (λ (x : List ℕ). IsTextFilter x f) given_is read_given
 

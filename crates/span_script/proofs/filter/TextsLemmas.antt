@@ -2,7 +2,7 @@
 use Rattle.std.proofs.Common.{◌≡◌, ℕ, ◌+◌, List, [], ◌∷◌, ◌++◌, Bool, true, false, Ok, Err, refl, sym, ap, subst, ◌∙◌}
 use Rattle.std.specs.Str.{trim}
 use Rattle.std.proofs.lemmas.Bool.{true≢false}
-use Rattle.env_directives.specs.reading.Faults.{HasFault, HasNoLevel, HasEmptyField}
+use Rattle.env_directives.specs.reading.Faults.{HasFault, HasBadLevel, HasEmptyField}
 use Rattle.env_directives.specs.reading.Forms.{IsDirective}
 use Rattle.env_directives.specs.reading.Reading.{DirectiveRead, read_directive}
 use Rattle.env_directives.specs.reading.Separators.{comma_pieces}
@@ -43,7 +43,7 @@ unread text (fault.Fields many) h other d e is = h
 unread text fault.Memory h other d e is = true≢false other
 
 is_read : (text : List ℕ) (d : Directive) → read_directive false text ≡ Ok d → IsDirective false text d
-is_read text d e = subst (λ (r : DirectiveRead). Explained (IsDirective false text) (HasNoLevel text) (HasEmptyField text) r) e (reading_explained false text)
+is_read text d e = subst (λ (r : DirectiveRead). Explained (IsDirective false text) (HasBadLevel text) (HasEmptyField text) r) e (reading_explained false text)
 
 one_faulty : (n : ℕ) (text : List ℕ) (cause : ParseError) → HasFault false text cause → is_memory cause ≡ false → (rest : TextRead) → with_piece_read n (read_directive false text) rest ≡ Err n
 one_faulty n text cause h other rest = by_read (read_directive false text) refl

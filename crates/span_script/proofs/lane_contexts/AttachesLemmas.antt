@@ -1,6 +1,6 @@
 -- Attaches to a lane, served.
 use Rattle.std.proofs.Common.{◌≡◌, ℕ, ◌<◌, List, [], ◌∷◌, ◌++◌, length, get_or, set, false, count_by, Option, Some, None, Ok, Err, option_map, map, refl, sym, ap, subst, ◌∙◌, arith, slice_get, ◌==◌, Result}
-use Rattle.span_script.proofs.Common.{cond-true, cond-false, length-map, length_push, map_push, MAX_CONTEXTS, Context, EnterError, has_number, Lane, Spans, count_push, Recording, no_recording, read_subscriber, kept_in, AttachGuard, Guard, Refusal, refused_entry, id_at, GuardOf, Attached, ScopeGuard, Effect, Tables, slot_at, with_attached, here_at, Resolved, refuse_if, ◌>>=◌, need, effect_of_call, attach_effect, is_full, Balanced, OpenGuard, named_span, open_guard_by, Views, ContextSlots, PipelineState, state_of, LaneValue, lane_value, lane_at, lane_place_of, StandsFor, AllContextsFit, PipelineInvariant, IsServed, is_for_memory, LanesFit, Parts, aside_in}
+use Rattle.span_script.proofs.Common.{cond-true, cond-false, length-map, length_push, map_push, MAX_CONTEXTS, Context, EnterError, has_number, Lane, Spans, count_push, Recording, no_recording, read_subscriber, kept_in, AttachGuard, Guard, Refusal, entry_refusal, id_at, GuardOf, Attached, ScopeGuard, Effect, Tables, slot_at, with_attached, here_at, Resolved, refuse_if, ◌>>=◌, need, effect_of_call, attach_effect, is_full, Balanced, OpenGuard, span_of_handle, open_guard_by, Views, ContextSlots, PipelineState, state_of, LaneValue, lane_value, lane_at, lane_place_of, StandsFor, AllContextsFit, PipelineInvariant, IsServed, is_for_memory, LanesFit, Parts, aside_in}
 use Rattle.std.proofs.lemmas.Bool.{ne_eqb, eq-eqb, true≢false}
 use Rattle.otel_base.specs.declared.enter_error.EnterError.TheVariants as errors
 use Rattle.span_script.specs.declared.reply.Refusal.TheVariants as refusal
@@ -38,7 +38,7 @@ module _ {S : Type 0} (spans : S → Spans) (views : Views S) (kept : S → ℕ 
   place_id = id_at now.setup.ids place
 
   abbrev r : Recording
-  r = read_subscriber views.recorded no_recording parts.world parts.dispatch
+  r = read_subscriber views.recording no_recording parts.world parts.dispatch
 
   id_is : before.id ≡ place_id
   id_is = id_seen parts.lanes place before within here
@@ -68,7 +68,7 @@ module _ {S : Type 0} (spans : S → Spans) (views : Views S) (kept : S → ℕ 
     }
 
   -- a lane with as many contexts as may be
-  pub refuses_attach : (error : EnterError) (refused : Refusal) → refused ≡ refused_entry place error → (error ≡ errors.Full → length before.contexts.live ≡ MAX_CONTEXTS) → is_for_memory refused ≡ false → (t : Tables) → StandsFor now t
+  pub refuses_attach : (error : EnterError) (refused : Refusal) → refused ≡ entry_refusal place error → (error ≡ errors.Full → length before.contexts.live ≡ MAX_CONTEXTS) → is_for_memory refused ≡ false → (t : Tables) → StandsFor now t
       → effect_of_call now.setup t at place (call.Attach context) ≡ Err refused
   refuses_attach errors.Memory refused is full other t stands = absurd (true≢false (sym (ap is_for_memory is) ∙ other))
   refuses_attach errors.Full refused is full other t stands =
@@ -112,7 +112,7 @@ module _ {S : Type 0} (spans : S → Spans) (views : Views S) (kept : S → ℕ 
           attaches_are = ap (map (option_map lane_place_of)) one ∙ map_push (option_map lane_place_of) parts.contexts.attaches (Some (record { place = place; attached = number }));
           named_are = made_same;
           moment_is = refl;
-          balanced = subst (λ (xs : List (Option OpenGuard)). Balanced now.spans (map named_span t.handles) xs t.entries) (sym (map_push (open_guard_by ids) t.guards None)) (quiet_guard now.spans (map named_span t.handles) (map (open_guard_by ids) t.guards) t.entries fits.balanced);
+          balanced = subst (λ (xs : List (Option OpenGuard)). Balanced now.spans (map span_of_handle t.handles) xs t.entries) (sym (map_push (open_guard_by ids) t.guards None)) (quiet_guard now.spans (map span_of_handle t.handles) (map (open_guard_by ids) t.guards) t.entries fits.balanced);
           made_fit = fits.made;
           new_made = tt;
           new_site = tt;
@@ -120,11 +120,11 @@ module _ {S : Type 0} (spans : S → Spans) (views : Views S) (kept : S → ℕ 
           still = named_push (λ (y : ScopeGuard). slot_at t.handles y.handle ≡ Some y.scope) t.guards None fits.still (λ y e. absurd (cc e));
           few = fits.few;
           few_holds = λ s. (let f = fits.few_holds s in let l = length_push t.guards None in omega (arith, f, l));
-          one = fits.one_lane;
+          one = fits.one_row;
         }))
         (λ s some. known_still now then t e r.tokens refl stands.recording s refl some)
         (all_fit t stands)
-        (record { quiet = refl; before = read_subscriber views.filtered None parts.world parts.dispatch; later = read_subscriber views.filtered None parts.world parts.dispatch; shown_before = refl; shown_later = refl; told = heard_none (read_subscriber views.filtered None parts.world parts.dispatch); known = refl; cached = refl; aside = record { before = aside_in views parts.world parts.dispatch; later = aside_in views parts.world parts.dispatch; shown_before = refl; shown_later = refl; waits_before = refl; waits_later = refl; adds = adds_same views parts.world parts.world parts.dispatch refl } })
+        (record { quiet = refl; before = read_subscriber views.filter None parts.world parts.dispatch; later = read_subscriber views.filter None parts.world parts.dispatch; shown_before = refl; shown_later = refl; told = heard_none (read_subscriber views.filter None parts.world parts.dispatch); known = refl; cached = refl; aside = record { before = aside_in views parts.world parts.dispatch; later = aside_in views parts.world parts.dispatch; shown_before = refl; shown_later = refl; waits_before = refl; waits_later = refl; adds = adds_same views parts.world parts.world parts.dispatch refl } })
 
     pub keeps_attached : PipelineInvariant spans views kept is_whole then_parts
     keeps_attached =

@@ -1,6 +1,6 @@
 -- Contexts that are made, served.
 use Rattle.std.proofs.Common.{◌≡◌, ℕ, ◌<◌, List, [], ◌∷◌, ◌++◌, length, Bool, Option, Some, None, Ok, option_map, map, refl, sym, ap, subst, ◌∙◌}
-use Rattle.span_script.proofs.Common.{Context, SpanContext, ids_of, empty_context, SpanData, WorldValue, Spans, span_at, Token, data_at, own_context_or, PartCall, GivesContext, context_at, AsksContext, GivesContextOn, context_or_empty, Recording, no_recording, with_starts, Has, read_subscriber, spans_in, kept_in, Handle, HeldSpan, Scope, Effect, Tables, recording_after, slot_at, span_of_scope, open_part, here_at, Resolved, ◌>>=◌, need, effect_of_call, context_effect, context_of_scope, Views, ContextSlots, PipelineState, state_of, lane_value, lane_place_of, held_by, held_of, StandsFor, LanesFit, PipelineInvariant, IsServed, Parts, AddsMeasures, AsksLaw, aside_in}
+use Rattle.span_script.proofs.Common.{Context, SpanContext, ids_of, empty_context, SpanData, WorldValue, Spans, span_at, Token, data_at, own_context_or, PartCall, GivesContext, own_context_if_known, AsksContext, GivesContextOn, context_or_empty, Recording, no_recording, with_start_if_some, Has, read_subscriber, spans_in, kept_in, Handle, HeldSpan, Scope, Effect, Tables, recording_after, slot_at, span_of_scope, open_part, here_at, Resolved, ◌>>=◌, need, effect_of_call, context_effect, context_of_scope, Views, ContextSlots, PipelineState, state_of, lane_value, lane_place_of, held_by, held_of, StandsFor, LanesFit, PipelineInvariant, IsServed, Parts, AddsMeasures, AsksLaw, aside_in}
 use Rattle.span_script.specs.declared.reply.Reply.TheVariants as reply
 use Rattle.span_script.specs.declared.reply.What.TheVariants as what
 use Rattle.span_script.specs.declared.request.Call.TheVariants as call
@@ -16,7 +16,7 @@ pub own_open : (line : Scope) (at : ℕ) (r x : Recording) → open_part r ≡ x
 own_open [] at r x is = refl
 own_open (s ∷ up) at r x is = ap (λ (spans : List (ℕ × SpanData)). own_context_or empty_context (data_at s spans)) (start_open s at r x is)
 
-shown_is : (o : Option SpanData) → context_or_empty (context_at o) ≡ own_context_or empty_context o
+shown_is : (o : Option SpanData) → context_or_empty (own_context_if_known o) ≡ own_context_or empty_context o
 shown_is None = refl
 shown_is (Some told) = refl
 
@@ -33,20 +33,20 @@ module _ {S : Type 0} (spans : S → Spans) (views : Views S) (attaches : S → 
   then_with cs' = state_of spans views (parts_with cs')
 
   abbrev r : Recording
-  r = read_subscriber views.recorded no_recording parts.world parts.dispatch
+  r = read_subscriber views.recording no_recording parts.world parts.dispatch
 
   abbrev r' : Recording
-  r' = read_subscriber views.recorded no_recording new parts.dispatch
+  r' = read_subscriber views.recording no_recording new parts.dispatch
 
   -- what a start leaves
   record Starts (o : Option ℕ) : Type 0 where
     spans_same : spans_in spans new parts.dispatch ≡ spans_in spans parts.world parts.dispatch
     sites : new.sites ≡ parts.world.sites
-    records : r' ≡ with_starts o at r
+    records : r' ≡ with_start_if_some o at r
     kept_same : kept_in kept new parts.dispatch ≡ kept_in kept parts.world parts.dispatch
     count : length new.subscribers ≡ length parts.world.subscribers
     whole : Has is_whole parts.world parts.dispatch → Has is_whole new parts.dispatch
-    filter_same : read_subscriber views.filtered None new parts.dispatch ≡ read_subscriber views.filtered None parts.world parts.dispatch
+    filter_same : read_subscriber views.filter None new parts.dispatch ≡ read_subscriber views.filter None parts.world parts.dispatch
     cached_same : new.cached ≡ parts.world.cached
     aside : AddsMeasures (aside_in views parts.world parts.dispatch) (aside_in views new parts.dispatch) []
 
@@ -54,11 +54,11 @@ module _ {S : Type 0} (spans : S → Spans) (views : Views S) (attaches : S → 
   unchanged same = record {
     spans_same = ap (λ (w : WorldValue S). spans_in spans w parts.dispatch) same;
     sites = ap (λ (w : WorldValue S). w.sites) same;
-    records = ap (λ (w : WorldValue S). read_subscriber views.recorded no_recording w parts.dispatch) same;
+    records = ap (λ (w : WorldValue S). read_subscriber views.recording no_recording w parts.dispatch) same;
     kept_same = ap (λ (w : WorldValue S). kept_in kept w parts.dispatch) same;
     count = ap (λ (w : WorldValue S). length w.subscribers) same;
     whole = λ has. subst (λ (w : WorldValue S). Has is_whole w parts.dispatch) (sym same) has;
-    filter_same = ap (λ (w : WorldValue S). read_subscriber views.filtered None w parts.dispatch) same;
+    filter_same = ap (λ (w : WorldValue S). read_subscriber views.filter None w parts.dispatch) same;
     cached_same = ap (λ (w : WorldValue S). w.cached) same;
     aside = adds_same views parts.world new parts.dispatch same;
   }
@@ -78,7 +78,7 @@ module _ {S : Type 0} (spans : S → Spans) (views : Views S) (attaches : S → 
       (fits_step now t fits then e (quiet_step now then t e fits setup refl refl refl refl (ap (map (option_map lane_place_of)) attaches_are) made_is refl did.spans_same))
       (λ s some. known_still now then t e r.tokens rec_is stands.recording s refl (subst (λ (x : Spans). 0 < (span_at x.made s).holds) did.spans_same some))
       (all_same now then t.contexts setup attaches_are refl (ap (λ (x : Recording). x.tokens) rec_is) stands.recording.attached)
-      (record { quiet = refl; before = read_subscriber views.filtered None parts.world parts.dispatch; later = read_subscriber views.filtered None new parts.dispatch; shown_before = refl; shown_later = refl; told = did.filter_same ∙ heard_none (read_subscriber views.filtered None parts.world parts.dispatch); known = refl; cached = did.cached_same; aside = record { before = aside_in views parts.world parts.dispatch; later = aside_in views new parts.dispatch; shown_before = refl; shown_later = refl; waits_before = refl; waits_later = refl; adds = did.aside } })
+      (record { quiet = refl; before = read_subscriber views.filter None parts.world parts.dispatch; later = read_subscriber views.filter None new parts.dispatch; shown_before = refl; shown_later = refl; told = did.filter_same ∙ heard_none (read_subscriber views.filter None parts.world parts.dispatch); known = refl; cached = did.cached_same; aside = record { before = aside_in views parts.world parts.dispatch; later = aside_in views new parts.dispatch; shown_before = refl; shown_later = refl; waits_before = refl; waits_later = refl; adds = did.aside } })
 
   given_kept : (cs' : ContextSlots) (o : Option ℕ) → Starts o → (resolved : Resolved) (answer : _) → IsServed resolved inv.tables now (then_with cs') answer → PipelineInvariant spans views kept is_whole (parts_with cs')
   given_kept cs' o did resolved answer served =

@@ -44,7 +44,7 @@ count_without n number (x ∷ live) apart =
 
 -- what a subscriber keeps attached its layer's open entries keep
 abbrev pub KeepsTokens : {S : Type 0} → Views S → (S → ℕ → ℕ → ℕ) → Type 0
-KeepsTokens {S} views kept = (s : S) (lane number : ℕ) → kept s lane number ≡ kept_by (views.recorded s).settings.activation (views.recorded s).tokens lane number
+KeepsTokens {S} views kept = (s : S) (lane number : ℕ) → kept s lane number ≡ kept_by (views.recording s).settings.activation (views.recording s).tokens lane number
 
 module _ {S : Type 0} (spans : S → Spans) (views : Views S) (kept : S → ℕ → ℕ → ℕ) (is_whole : S → Type 0) (parts : Parts S)
     (at place : ℕ) (before : Lane) (within : place < length parts.lanes) (here : before ≡ get_or parts.lanes place before)
@@ -56,7 +56,7 @@ module _ {S : Type 0} (spans : S → Spans) (views : Views S) (kept : S → ℕ 
   place_id = id_at now.setup.ids place
 
   abbrev r : Recording
-  r = read_subscriber views.recorded no_recording parts.world parts.dispatch
+  r = read_subscriber views.recording no_recording parts.world parts.dispatch
 
   id_is : before.id ≡ place_id
   id_is = id_seen parts.lanes place before within here
@@ -95,7 +95,7 @@ module _ {S : Type 0} (spans : S → Spans) (views : Views S) (kept : S → ℕ 
         (fits_step now t fits then e (quiet_step now then t e fits setup_same refl refl refl refl (ap (map (option_map lane_place_of)) one ∙ map-set (option_map lane_place_of) parts.contexts.attaches guard None) made_same refl refl))
         (λ s some. known_still now then t e r.tokens refl stands.recording s refl some)
         (all_fit t stands)
-        (record { quiet = refl; before = read_subscriber views.filtered None parts.world parts.dispatch; later = read_subscriber views.filtered None parts.world parts.dispatch; shown_before = refl; shown_later = refl; told = heard_none (read_subscriber views.filtered None parts.world parts.dispatch); known = refl; cached = refl; aside = record { before = aside_in views parts.world parts.dispatch; later = aside_in views parts.world parts.dispatch; shown_before = refl; shown_later = refl; waits_before = refl; waits_later = refl; adds = adds_same views parts.world parts.world parts.dispatch refl } })
+        (record { quiet = refl; before = read_subscriber views.filter None parts.world parts.dispatch; later = read_subscriber views.filter None parts.world parts.dispatch; shown_before = refl; shown_later = refl; told = heard_none (read_subscriber views.filter None parts.world parts.dispatch); known = refl; cached = refl; aside = record { before = aside_in views parts.world parts.dispatch; later = aside_in views parts.world parts.dispatch; shown_before = refl; shown_later = refl; waits_before = refl; waits_later = refl; adds = adds_same views parts.world parts.world parts.dispatch refl } })
 
     pub keeps_detached : ((place number : ℕ) → kept_in kept parts.world parts.dispatch place number ≡ kept_by r.settings.activation r.tokens place number) → PipelineInvariant spans views kept is_whole then_parts
     keeps_detached keeps =
@@ -117,11 +117,11 @@ module _ {S : Type 0} (spans : S → Spans) (views : Views S) (kept : S → ℕ 
 
 -- the same, of a world's subscriber
 pub keeps_tokens : {S : Type 0} (views : Views S) (kept : S → ℕ → ℕ → ℕ) (world : WorldValue S) (dispatch : ℕ) → dispatch < length world.subscribers → KeepsTokens views kept
-    → (lane number : ℕ) → kept_in kept world dispatch lane number ≡ kept_by (read_subscriber views.recorded no_recording world dispatch).settings.activation (read_subscriber views.recorded no_recording world dispatch).tokens lane number
+    → (lane number : ℕ) → kept_in kept world dispatch lane number ≡ kept_by (read_subscriber views.recording no_recording world dispatch).settings.activation (read_subscriber views.recording no_recording world dispatch).tokens lane number
 keeps_tokens {S} views kept world dispatch there law lane number =
     let x = within_get world.subscribers dispatch there in
     let one = seen_there kept (λ lane number. 0) world dispatch x.0 x.1 in
-    let two = seen_there views.recorded no_recording world dispatch x.0 x.1 in
+    let two = seen_there views.recording no_recording world dispatch x.0 x.1 in
     ap (λ (f : ℕ → ℕ → ℕ). f lane number) one ∙ law x.0 lane number ∙ ap (λ (r : Recording). kept_by r.settings.activation r.tokens lane number) (sym two)
 
 -- a registry keeps nothing attached, and so do a layer of metrics and a filter

@@ -1,6 +1,6 @@
 -- The contexts of all lanes after an entry, an exit, an attach or a detach on one.
 use Rattle.std.proofs.Common.{◌≡◌, ℕ, ◌<◌, List, [], ◌∷◌, ◌++◌, length, Bool, true, false, get_or, set, Option, Some, None, option_map, map, refl, sym, ap, subst, ◌∙◌, arith, inl, inr, ◌==◌, if◌then◌else◌, slice_set}
-use Rattle.span_script.proofs.Common.{cases_eq, cond-true, cond-false, length-map, map-set, Context, has_number, without_number, last_passing, Lane, without_last, Token, is_token, AttachesOwnContext, Detaches, AttachGuard, Owner, EntryOf, GuardOf, Attached, is_owner, is_attached_by, slot_at, with_attached, with_detached, LaneValue, lane_value, no_lane_value, lane_at, owner_numbers, ContextsFit, AllContextsFit}
+use Rattle.span_script.proofs.Common.{cases_eq, cond-true, cond-false, length-map, map-set, Context, has_number, without_number, last_passing, Lane, without_last, Token, is_token, AttachesOwnContext, Detaches, AttachGuard, Owner, EntryOf, GuardOf, Attached, is_same_owner, is_attached_by, slot_at, with_attached, with_detached, LaneValue, lane_value, no_lane_value, lane_at, owner_numbers, ContextsFit, AllContextsFit}
 use Rattle.std.proofs.lemmas.Bool.{eq-eqb, ne_eqb}
 use Rattle.std.proofs.lemmas.List.{length-set, get_or-set_same, get_or-set_other}
 use Rattle.span_script.proofs.steps.LanesLemmas.{lane_seen}
@@ -48,7 +48,7 @@ module _ (activation : Bool) (lanes : List Lane) (place : ℕ) (before later : L
 
   -- the lane has one context more, whose number its owner keeps
   pub all_pushed : (tokens' : List Token) (attaches' : List (Option AttachGuard)) (owner : Owner) (number : ℕ) (context : Context) → has_number number before.contexts.live ≡ false → later.contexts.live ≡ before.contexts.live ++ (number, context) ∷ []
-      → ((o : Owner) → owner_numbers activation place before.id tokens' attaches' o ≡ owner_numbers activation place before.id tokens attaches o ++ (if is_owner owner o then Some number ∷ [] else []))
+      → ((o : Owner) → owner_numbers activation place before.id tokens' attaches' o ≡ owner_numbers activation place before.id tokens attaches o ++ (if is_same_owner owner o then Some number ∷ [] else []))
       → ((n other : ℕ) → (n ≡ place → ⊥) → (before.id ≡ other → ⊥) → (o : Owner) → owner_numbers activation n other tokens' attaches' o ≡ owner_numbers activation n other tokens attaches o)
       → AllContextsFit activation ls' tokens' attaches' (with_attached contexts before.id (Some (record { owner = owner; context = context })))
   all_pushed tokens' attaches' owner number context fresh live own others =

@@ -1,5 +1,5 @@
 -- The numbers that owners keep, after an entry, an exit, an attach and a detach.
-use Rattle.span_script.proofs.Common.{list_any, cases_Bool, cases_eq, cond-true, cond-false, or_parts, and_parts, Context, has_number, last_passing, without_last, count_cons, Token, is_token, is_attached_as, keeps_as, kept_by, AttachGuard, Owner, EntryOf, GuardOf, Attached, is_owner, is_attached_by, slot_at, live_numbers_of, token_numbers_of, attach_numbers_on, owner_numbers, HaveDistinctNumbers, ContextsFit}
+use Rattle.span_script.proofs.Common.{list_any, cases_Bool, cases_eq, cond-true, cond-false, or_parts, and_parts, Context, has_number, last_passing, without_last, count_cons, Token, is_token, is_attached_as, keeps_as, kept_by, AttachGuard, Owner, EntryOf, GuardOf, Attached, is_same_owner, is_attached_by, slot_at, live_numbers_of, token_numbers_of, attach_numbers_on, owner_numbers, HaveDistinctNumbers, ContextsFit}
 use Rattle.std.proofs.Common.{◌≡◌, ℕ, zero, suc, List, [], ◌∷◌, ◌++◌, length, Bool, true, false, Option, Some, None, map, count_by, refl, sym, ap, ◌∙◌, arith, inl, inr, ◌==◌, ◌&&◌, ◌||◌, if◌then◌else◌, filter, slice_set}
 use Rattle.std.proofs.lemmas.Bool.{eq-eqb, eqb-true, ne_eqb, true≢false}
 use Rattle.std.proofs.lemmas.List.{append-nil, get_or-set_same, get_or-set_other}
@@ -43,7 +43,7 @@ entry_same activation place lane tokens attaches (EntryOf q) = refl
 entry_same activation place lane tokens attaches (GuardOf n) = skipped place attaches n
 
 pub entry_own : (place lane s number : ℕ) (tokens : List Token) (attaches : List (Option AttachGuard)) (o : Owner)
-    → owner_numbers true place lane (tokens ++ record { lane = lane; id = s; attached = Some number } ∷ []) (attaches ++ None ∷ []) o ≡ owner_numbers true place lane tokens attaches o ++ (if is_owner (EntryOf s) o then Some number ∷ [] else [])
+    → owner_numbers true place lane (tokens ++ record { lane = lane; id = s; attached = Some number } ∷ []) (attaches ++ None ∷ []) o ≡ owner_numbers true place lane tokens attaches o ++ (if is_same_owner (EntryOf s) o then Some number ∷ [] else [])
 entry_own place lane s number tokens attaches (EntryOf q) =
     tokens_push lane q tokens (record { lane = lane; id = s; attached = Some number })
     ∙ ap (λ b. token_numbers_of lane q tokens ++ (if (b && s == q) then Some number ∷ [] else [])) (eq-eqb lane lane refl)
@@ -95,7 +95,7 @@ exit_quiet place lane tokens later attaches (GuardOf n) = refl
 -- ---- an attach
 
 pub attach_own : (activation : Bool) (place lane number : ℕ) (tokens : List Token) (attaches : List (Option AttachGuard)) (o : Owner)
-    → owner_numbers activation place lane tokens (attaches ++ Some (record { place = place; attached = number }) ∷ []) o ≡ owner_numbers activation place lane tokens attaches o ++ (if is_owner (GuardOf (length attaches)) o then Some number ∷ [] else [])
+    → owner_numbers activation place lane tokens (attaches ++ Some (record { place = place; attached = number }) ∷ []) o ≡ owner_numbers activation place lane tokens attaches o ++ (if is_same_owner (GuardOf (length attaches)) o then Some number ∷ [] else [])
 attach_own activation place lane number tokens attaches (EntryOf q) = sym (append-nil (owner_numbers activation place lane tokens attaches (EntryOf q)))
 attach_own activation place lane number tokens attaches (GuardOf n) =
     let a : Option AttachGuard = Some (record { place = place; attached = number }) in

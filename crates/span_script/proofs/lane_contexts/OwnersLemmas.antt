@@ -1,23 +1,23 @@
 -- The contexts of a lane, and who attached each.
-use Rattle.span_script.proofs.Common.{list_any, cases_Bool, cond-true, cond-false, or_parts, or_cases, Context, has_number, without_number, last_context, last_passing, without_last, Token, is_token, Owner, EntryOf, GuardOf, Attached, is_owner, is_attached_by, last_attached, live_numbers_of, token_numbers_of, HaveDistinctNumbers, ContextsFit}
+use Rattle.span_script.proofs.Common.{list_any, cases_Bool, cond-true, cond-false, or_parts, or_cases, Context, has_number, without_number, last_context, last_passing, without_last, Token, is_token, Owner, EntryOf, GuardOf, Attached, is_same_owner, is_attached_by, last_attached, live_numbers_of, token_numbers_of, HaveDistinctNumbers, ContextsFit}
 use Rattle.std.proofs.Common.{◌≡◌, ℕ, List, [], ◌∷◌, ◌++◌, Bool, true, false, Option, Some, None, map, refl, sym, ap, subst, ◌∙◌, inl, inr, ◌||◌, if◌then◌else◌, filter, eqb}
 use Rattle.std.proofs.lemmas.Bool.{eq-eqb, eqb-true, ne_eqb, true≢false}
 use Rattle.span_script.proofs.steps.SlotsLemmas.{some_is}
 
 -- ---- owners
 
-same_owner : (o : Owner) → is_owner o o ≡ true
+same_owner : (o : Owner) → is_same_owner o o ≡ true
 same_owner (EntryOf s) = eq-eqb s s refl
 same_owner (GuardOf n) = eq-eqb n n refl
 
-pub owner_is : (a o : Owner) → is_owner a o ≡ true → a ≡ o
+pub owner_is : (a o : Owner) → is_same_owner a o ≡ true → a ≡ o
 owner_is (EntryOf s) (EntryOf q) e = ap EntryOf (eqb-true s q e)
 owner_is (EntryOf s) (GuardOf m) e = absurd (true≢false (sym e))
 owner_is (GuardOf n) (EntryOf q) e = absurd (true≢false (sym e))
 owner_is (GuardOf n) (GuardOf m) e = ap GuardOf (eqb-true n m e)
 
-pub other_owner : (a o : Owner) → (a ≡ o → ⊥) → is_owner a o ≡ false
-other_owner a o apart = elim (cases_Bool (is_owner a o)) [ inl e ↦ absurd (apart (owner_is a o e)) | inr e ↦ e ]
+pub other_owner : (a o : Owner) → (a ≡ o → ⊥) → is_same_owner a o ≡ false
+other_owner a o apart = elim (cases_Bool (is_same_owner a o)) [ inl e ↦ absurd (apart (owner_is a o e)) | inr e ↦ e ]
 
 -- ---- one context more
 
@@ -53,11 +53,11 @@ tokens_push lane s (y ∷ tokens) k = elim (cases_Bool (is_token lane s y)) [ in
 
 -- a context more, whose number its owner keeps
 pub contexts_push : (owner : Owner) (live now : List (ℕ × Context)) (items : List Attached) (number : ℕ) (context : Context) (numbers later : Owner → List (Option ℕ)) → ContextsFit numbers live items → has_number number live ≡ false → now ≡ live ++ (number, context) ∷ []
-    → ((o : Owner) → later o ≡ numbers o ++ (if is_owner owner o then Some number ∷ [] else [])) → ContextsFit later now (items ++ record { owner = owner; context = context } ∷ [])
+    → ((o : Owner) → later o ≡ numbers o ++ (if is_same_owner owner o then Some number ∷ [] else [])) → ContextsFit later now (items ++ record { owner = owner; context = context } ∷ [])
 contexts_push owner live now items number context numbers later fit fresh is more = subst (λ (xs : List (ℕ × Context)). ContextsFit later xs (items ++ record { owner = owner; context = context } ∷ [])) (sym is) (record {
   contexts = map_more (λ (y : ℕ × Context). y.1) live (number, context) ∙ ap (λ cs. cs ++ context ∷ []) fit.contexts ∙ sym (map_more (λ (b : Attached). b.context) items (record { owner = owner; context = context }));
   distinct = distinct_push live (number, context) fit.distinct fresh;
-  numbers_are = λ o. numbers_push o live items (number, context) (record { owner = owner; context = context }) fit.contexts ∙ ap (λ ns. ns ++ (if is_owner owner o then Some number ∷ [] else [])) (fit.numbers_are o) ∙ sym (more o);
+  numbers_are = λ o. numbers_push o live items (number, context) (record { owner = owner; context = context }) fit.contexts ∙ ap (λ ns. ns ++ (if is_same_owner owner o then Some number ∷ [] else [])) (fit.numbers_are o) ∙ sym (more o);
 })
 
 -- where each owner keeps what it kept
@@ -204,10 +204,10 @@ contexts_take owner live now items attached numbers later fit mine others is =
     subst (λ (xs : List (ℕ × Context)). ContextsFit later xs (without_last (is_attached_by owner) items)) (sym (is t.number t.is)) (record {
       contexts = t.contexts;
       distinct = t.distinct;
-      numbers_are = λ o. elim (cases_Bool (is_owner o owner)) [
+      numbers_are = λ o. elim (cases_Bool (is_same_owner o owner)) [
         | inl here ↦ ap (λ (k : Owner). live_numbers_of k (without_number t.number live) (without_last (is_attached_by owner) items)) (owner_is o owner here) ∙ t.own ∙ ap later (sym (owner_is o owner here))
         | inr apart ↦ (
-            let other : o ≡ owner → ⊥ = λ e. true≢false (sym (ap (λ k. is_owner k owner) e ∙ same_owner owner) ∙ apart) in
+            let other : o ≡ owner → ⊥ = λ e. true≢false (sym (ap (λ k. is_same_owner k owner) e ∙ same_owner owner) ∙ apart) in
             t.others o other ∙ fit.numbers_are o ∙ sym (others o other))
       ];
     })

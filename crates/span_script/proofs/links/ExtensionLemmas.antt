@@ -1,6 +1,6 @@
 -- What is asked of the span extension, served.
 use Rattle.std.proofs.Common.{◌≡◌, ℕ, List, [], ◌∷◌, Option, Some, None, Result, Ok, Err, map, refl, sym, ap, subst, ◌∙◌, IsTrue, ◌≢◌, Bool, true, false, is_some, slice_get, if◌then◌else◌}
-use Rattle.span_script.proofs.Common.{Context, SpanContext, KeyValue, is_valid, ids_of, Op, SpanData, reply_after, is_growing, WorldValue, Spans, data_at, with_op, start_context, context_unless_started, PartCall, Applies, AppliesTo, AppliesOn, AsksDone, AsksParent, link_of, event_at, done_answer, parent_reply, parent_answer, Recording, no_recording, KeepsPlainData, read_subscriber, Handle, HeldSpan, Scope, SpanOp, Tables, slot_at, span_of_scope, here_at, Resolved, ◌>>=◌, need, op_on, ops_effect, effect_of_call, link_ops, event_time, set_result, set_parent_result, named_span, open_guard_by, Views, PipelineState, state_of, held_by, held_of, StandsFor, PipelineInvariant, IsServed, Parts, AddsMeasures, AsksLaw, aside_in}
+use Rattle.span_script.proofs.Common.{Context, SpanContext, KeyValue, is_valid, ids_of, Op, SpanData, reply_after, is_growing, WorldValue, Spans, data_at, with_op, start_context, context_unless_started, PartCall, Applies, AppliesTo, AppliesOn, AsksDone, AsksParent, link_op, add_event_op, done_answer, parent_reply, parent_answer, Recording, no_recording, KeepsPlainData, read_subscriber, Handle, HeldSpan, Scope, SpanOp, Tables, slot_at, span_of_scope, here_at, Resolved, ◌>>=◌, need, op_on, ops_effect, effect_of_call, link_ops, event_time, result_if_settable, set_parent_result, span_of_handle, open_guard_by, Views, PipelineState, state_of, held_by, held_of, StandsFor, PipelineInvariant, IsServed, Parts, AddsMeasures, AsksLaw, aside_in}
 use Rattle.otel_base.specs.declared.memory.Memory.{Memory}
 use Rattle.otel_base.specs.declared.status.Status.{Status}
 use Rattle.otel_state.specs.declared.op.Op.TheVariants as ops
@@ -43,12 +43,12 @@ unwanted (Some told) spans now id at op (Some (Ok r)) still did = refl
 unwanted (Some told) spans now id at op (Some (Err m)) still did = absurd (let e : false ≡ true = subst (λ (b : Bool). IsTrue b) still did.0 in cc e)
 
 -- a parent is set exactly while the span waits to be started
-own_answer : (own : Option SpanContext) (context parent : Context) → parent_reply (reply_after own (ops.SetParent context)) ≡ set_result (is_some (context_unless_started own parent))
+own_answer : (own : Option SpanContext) (context parent : Context) → parent_reply (reply_after own (ops.SetParent context)) ≡ result_if_settable (is_some (context_unless_started own parent))
 own_answer None context parent = refl
 own_answer (Some given) context parent = refl
 
 set_by : (o : Option SpanData) → o ≢ None → (held : ℕ × ℕ) (spans now : List (ℕ × SpanData)) (id at : ℕ) (context : Context) (answer : Option (Result OpReply Memory)) → AppliesTo o spans id at (ops.SetParent context) answer now
-    → parent_answer (Some held) answer ≡ set_result (is_some (start_context o))
+    → parent_answer (Some held) answer ≡ result_if_settable (is_some (start_context o))
 set_by None known held spans now id at context answer did = absurd (known refl)
 set_by (Some told) known held spans now id at context None did = absurd did
 set_by (Some told) known held spans now id at context (Some (Ok x)) did = ap parent_reply did.0 ∙ own_answer told.own context told.parent
@@ -69,7 +69,7 @@ module _ {S : Type 0} (spans : S → Spans) (views : Views S) (attaches : S → 
   later = state_of spans views later_parts
 
   abbrev r : Recording
-  r = read_subscriber views.recorded no_recording parts.world parts.dispatch
+  r = read_subscriber views.recording no_recording parts.world parts.dispatch
 
   abbrev IsDone : List SpanOp → Type 0
   IsDone o = Does spans views attaches kept is_whole parts new at o []
@@ -79,7 +79,7 @@ module _ {S : Type 0} (spans : S → Spans) (views : Views S) (attaches : S → 
 
   -- the span of an unspent handle is known
   known : (t : Tables) → StandsFor now t → (line : Scope) → slot_at t.handles handle ≡ Some line → (s : ℕ) (up : Scope) → line ≡ s ∷ up → data_at s r.spans ≢ None
-  known t stands line there s up is = stands.recording.known s (fits_live now.spans (map named_span t.handles) (map (open_guard_by now.setup.ids) t.guards) t.entries stands.fits.balanced handle s (named_slot t.handles handle line there ∙ ap span_of_scope is))
+  known t stands line there s up is = stands.recording.known s (fits_live now.spans (map span_of_handle t.handles) (map (open_guard_by now.setup.ids) t.guards) t.entries stands.fits.balanced handle s (named_slot t.handles handle line there ∙ ap span_of_scope is))
 
   abbrev Known : Scope → Type 0
   Known line = (s : ℕ) (up : Scope) → line ≡ s ∷ up → data_at s r.spans ≢ None
@@ -96,7 +96,7 @@ module _ {S : Type 0} (spans : S → Spans) (views : Views S) (attaches : S → 
         kept_same = alike.kept_same;
         sites_same = ap (λ (w : WorldValue S). w.sites) did.others;
         recorded_is = records.1 ∙ ap (λ (xs : List (ℕ × SpanData)). record r { spans = xs }) (applied_by (data_at s r.spans) (is_known s up refl) r.spans _ s at op answer records.0 done);
-        filter_is = told.1 ∙ heard_none (read_subscriber views.filtered None parts.world parts.dispatch);
+        filter_is = told.1 ∙ heard_none (read_subscriber views.filter None parts.world parts.dispatch);
         aside_is = told.2;
         cached_same = ap (λ (w : WorldValue S). w.cached) did.others;
         count = alike.count;
@@ -115,7 +115,7 @@ module _ {S : Type 0} (spans : S → Spans) (views : Views S) (attaches : S → 
 
   -- nothing of what is kept changed
   abbrev Rest : Type 0
-  Rest = KeepsPlainData spans attaches kept is_whole parts.world new parts.dispatch × (new.sites ≡ parts.world.sites) × (read_subscriber views.recorded no_recording new parts.dispatch ≡ r) × (read_subscriber views.filtered None new parts.dispatch ≡ read_subscriber views.filtered None parts.world parts.dispatch) × (new.cached ≡ parts.world.cached) × AddsMeasures (aside_in views parts.world parts.dispatch) (aside_in views new parts.dispatch) []
+  Rest = KeepsPlainData spans attaches kept is_whole parts.world new parts.dispatch × (new.sites ≡ parts.world.sites) × (read_subscriber views.recording no_recording new parts.dispatch ≡ r) × (read_subscriber views.filter None new parts.dispatch ≡ read_subscriber views.filter None parts.world parts.dispatch) × (new.cached ≡ parts.world.cached) × AddsMeasures (aside_in views parts.world parts.dispatch) (aside_in views new parts.dispatch) []
 
   -- where memory was wanted nothing changed
   left : (line : Scope) (op : Op) (answer : Option (Result OpReply Memory)) (memory : Memory) → AppliesOn touches parts.world new at op (held_of parts.dispatch line) answer → done_answer answer ≡ Err memory
@@ -169,9 +169,9 @@ module _ {S : Type 0} (spans : S → Spans) (views : Views S) (attaches : S → 
       left_kept = kept_alike spans views attaches kept is_whole parts (record parts { world = new }) inv left_state its_rest.0
 
   -- an event, at its time
-  pub serves_event : (name : List ℕ) (attributes : List KeyValue) (time : Option ℕ) (n : ℕ) → n ≡ event_time at time → (result : Result (Unit {0}) Memory) → AsksDone touches parts.world new at (event_at name n attributes) h.held result → result ≡ Ok tt
-      → (t : Tables) → StandsFor now t → IsServed (asked t (event_at name (event_time at time) attributes)) t now later reply.Done
-  serves_event name attributes time n is result did ok t stands = subst (λ (k : ℕ). IsServed (asked t (event_at name k attributes)) t now later reply.Done) is (serves_op (event_at name n attributes) result did ok t stands)
+  pub serves_event : (name : List ℕ) (attributes : List KeyValue) (time : Option ℕ) (n : ℕ) → n ≡ event_time at time → (result : Result (Unit {0}) Memory) → AsksDone touches parts.world new at (add_event_op name n attributes) h.held result → result ≡ Ok tt
+      → (t : Tables) → StandsFor now t → IsServed (asked t (add_event_op name (event_time at time) attributes)) t now later reply.Done
+  serves_event name attributes time n is result did ok t stands = subst (λ (k : ℕ). IsServed (asked t (add_event_op name k attributes)) t now later reply.Done) is (serves_op (add_event_op name n attributes) result did ok t stands)
 
   -- a status never wants memory
   module _ (status : Status) (did : (answer : Option (Result OpReply Memory)) × AppliesOn touches parts.world new at (ops.SetStatus status) h.held answer) where
@@ -235,10 +235,10 @@ module _ {S : Type 0} (spans : S → Spans) (views : Views S) (attaches : S → 
             keeps_ops spans views attaches kept is_whole parts new at place inv _ [] refl (reply.Set set) _ (its_parent t stands) (parent_effect t stands))
 
       -- a link
-      module _ (ids : SpanContext) (shown : ids ≡ ids_of given) (attributes : List KeyValue) (result : Result (Unit {0}) Memory) (valid : is_valid ids ≡ true → AsksDone touches parts.world new at (link_of ids attributes) h.held result)
+      module _ (ids : SpanContext) (shown : ids ≡ ids_of given) (attributes : List KeyValue) (result : Result (Unit {0}) Memory) (valid : is_valid ids ≡ true → AsksDone touches parts.world new at (link_op ids attributes) h.held result)
           (invalid : is_valid ids ≡ false → (result ≡ Ok tt) × (new ≡ parts.world)) where
-        linked : (ok : result ≡ Ok tt) (t : Tables) (stands : StandsFor now t) (b : Bool) → is_valid ids ≡ b → IsDone (if b then op_on (its_scope t stands.fits).at (link_of ids attributes) else [])
-        linked ok t stands true is = its_op (link_of ids attributes) result (valid is) ok t stands
+        linked : (ok : result ≡ Ok tt) (t : Tables) (stands : StandsFor now t) (b : Bool) → is_valid ids ≡ b → IsDone (if b then op_on (its_scope t stands.fits).at (link_op ids attributes) else [])
+        linked ok t stands true is = its_op (link_op ids attributes) result (valid is) ok t stands
         linked ok t stands false is = does_none spans views attaches kept is_whole parts new at (invalid is).1
 
         link_effect : (t : Tables) (stands : StandsFor now t) → effect_of_call now.setup t at place (call.AddLink handle context attributes) ≡ Ok (ops_effect (here_at now.setup t at place) reply.Done (link_ops (its_scope t stands.fits).at ids attributes))
@@ -254,15 +254,15 @@ module _ {S : Type 0} (spans : S → Spans) (views : Views S) (attaches : S → 
             keeps_ops spans views attaches kept is_whole parts new at place inv _ [] refl reply.Done _ (linked ok t stands (is_valid ids) refl) (link_effect t stands))
 
         -- no memory is wanted where the context is invalid
-        wanted_link : (memory : Memory) → result ≡ Err memory → AsksDone touches parts.world new at (link_of ids attributes) h.held result
+        wanted_link : (memory : Memory) → result ≡ Err memory → AsksDone touches parts.world new at (link_op ids attributes) h.held result
         wanted_link memory wanted = by_valid (is_valid ids) refl
           where
-            by_valid : (b : Bool) → is_valid ids ≡ b → AsksDone touches parts.world new at (link_of ids attributes) h.held result
+            by_valid : (b : Bool) → is_valid ids ≡ b → AsksDone touches parts.world new at (link_op ids attributes) h.held result
             by_valid true is = valid is
             by_valid false is = absurd (let e = sym (invalid is).0 ∙ wanted in cc e)
 
         pub left_link_state : (memory : Memory) → result ≡ Err memory → PipelineInvariant spans views kept is_whole parts → state_of spans views (record parts { world = new }) ≡ now
-        left_link_state memory wanted inv = left_state (link_of ids attributes) result (wanted_link memory wanted) memory wanted inv
+        left_link_state memory wanted inv = left_state (link_op ids attributes) result (wanted_link memory wanted) memory wanted inv
 
         pub left_link_kept : (memory : Memory) → result ≡ Err memory → PipelineInvariant spans views kept is_whole parts → PipelineInvariant spans views kept is_whole (record parts { world = new })
-        left_link_kept memory wanted inv = left_kept (link_of ids attributes) result (wanted_link memory wanted) memory wanted inv
+        left_link_kept memory wanted inv = left_kept (link_op ids attributes) result (wanted_link memory wanted) memory wanted inv

@@ -1,6 +1,6 @@
 -- A span that is followed, served.
 use Rattle.std.proofs.Common.{◌≡◌, ℕ, List, [], ◌∷◌, Bool, Option, Some, None, Ok, Err, map, refl, sym, ap, subst, ◌∙◌, ◌≢◌}
-use Rattle.span_script.proofs.Common.{ids_of, empty_context, SpanData, WorldValue, Spans, SubscriberCall, link_of, with_link, data_at, with_op, own_context_or, ids_at, Recording, no_recording, with_start, read_subscriber, Handle, HeldSpan, FollowsOn, AreOfOne, Scope, SpanOp, Effect, Tables, slot_at, here_at, ◌>>=◌, need, op_on, effect_of_call, context_of_scope, follow_effect, named_span, open_guard_by, Views, PipelineState, state_of, held_by, held_of, StandsFor, PipelineInvariant, IsServed, Parts, CallsLaw}
+use Rattle.span_script.proofs.Common.{ids_of, empty_context, SpanData, WorldValue, Spans, SubscriberCall, link_op, with_link, data_at, with_op, own_context_or, ids_if_known, Recording, no_recording, with_start, read_subscriber, Handle, HeldSpan, FollowsOn, AreOfOne, Scope, SpanOp, Effect, Tables, slot_at, here_at, ◌>>=◌, need, op_on, effect_of_call, context_of_scope, follow_effect, span_of_handle, open_guard_by, Views, PipelineState, state_of, held_by, held_of, StandsFor, PipelineInvariant, IsServed, Parts, CallsLaw}
 use Rattle.span_script.specs.declared.reply.Refusal.TheVariants as refusal
 use Rattle.span_script.specs.declared.reply.Reply.TheVariants as reply
 use Rattle.span_script.specs.declared.reply.What.TheVariants as what
@@ -15,7 +15,7 @@ use Rattle.span_script.proofs.runs.RefusalsLemmas.{refuses_unknown}
 use Rattle.span_script.proofs.events.EventsLemmas.{Starts, does_none, starts_then, serves_starts, keeps_starts}
 
 -- the link to a known span is one to its own context
-linked_is : (o : Option SpanData) → o ≢ None → (s at : ℕ) (spans : List (ℕ × SpanData)) → with_link s at (ids_at o) spans ≡ with_op s at (link_of (ids_of (own_context_or empty_context o)) []) spans
+linked_is : (o : Option SpanData) → o ≢ None → (s at : ℕ) (spans : List (ℕ × SpanData)) → with_link s at (ids_if_known o) spans ≡ with_op s at (link_op (ids_of (own_context_or empty_context o)) []) spans
 linked_is None known s at spans = absurd (known refl)
 linked_is (Some told) known s at spans = refl
 
@@ -34,7 +34,7 @@ module _ {S : Type 0} (spans : S → Spans) (views : Views S) (attaches : S → 
   now = state_of spans views parts
 
   abbrev r : Recording
-  r = read_subscriber views.recorded no_recording parts.world parts.dispatch
+  r = read_subscriber views.recording no_recording parts.world parts.dispatch
 
   its_scope : (t : Tables) → Fits now t → (n : ℕ) (x : Handle) → slot_at parts.handles n ≡ Some x → Found (held_of parts.dispatch) t.handles n x.held
   its_scope t fits n x there = find (held_of parts.dispatch) (map held_by parts.handles) t.handles n x.held fits.handle_slots (held_slot parts.handles n x there)
@@ -70,10 +70,10 @@ module _ {S : Type 0} (spans : S → Spans) (views : Views S) (attaches : S → 
       followed_by t stands (s ∷ up) [] there same = record { starting = []; ops = []; done = does_none spans views attaches kept is_whole parts new at same; is = refl }
       followed_by t stands (s ∷ up) (q ∷ above) there step =
           let shown = law.shown parts.world new parts.dispatch _ step in
-          let live = fits_live now.spans (map named_span t.handles) (map (open_guard_by now.setup.ids) t.guards) t.entries stands.fits.balanced from q (named_slot t.handles from (q ∷ above) there) in
+          let live = fits_live now.spans (map span_of_handle t.handles) (map (open_guard_by now.setup.ids) t.guards) t.entries stands.fits.balanced from q (named_slot t.handles from (q ∷ above) there) in
           let r1 : Recording = with_start q at r in
           let known = start_known q at q r (stands.recording.known q live) in
-          let op = link_of (ids_of (context_of_scope r at (q ∷ above))) [] in
+          let op = link_op (ids_of (context_of_scope r at (q ∷ above))) [] in
           record {
             starting = q ∷ [];
             ops = op_on (s ∷ up) op;
@@ -88,7 +88,7 @@ module _ {S : Type 0} (spans : S → Spans) (views : Views S) (attaches : S → 
               count = shown.count;
               whole = shown.whole;
             };
-            is = ap (λ (c : _). starts_then spans views attaches kept is_whole parts new at place (q ∷ []) (op_on (s ∷ up) (link_of (ids_of c) [])) [] reply.Done)
+            is = ap (λ (c : _). starts_then spans views attaches kept is_whole parts new at place (q ∷ []) (op_on (s ∷ up) (link_op (ids_of c) [])) [] reply.Done)
                 (sym (own_open (q ∷ above) at r t.recording stands.recording.recorded));
           }
 

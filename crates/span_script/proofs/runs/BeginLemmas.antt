@@ -20,7 +20,7 @@ new_fits setup lanes recording filter cached counting_filter measures base dispa
   latest = refl;
   balanced = record { holds = λ s. refl; entries = λ lane. refl; guarded = λ lane s. refl; borrowed = λ n g there. absurd (cc there) };
   made = record { count = refl; parent = λ s live. absurd (omega (arith, live)); site = λ s live. absurd (omega (arith, live)) };
-  one_lane = tt;
+  one_row = tt;
   scopes = λ n scope there. absurd (cc there);
   still = λ n g there. absurd (cc there);
   own_scopes = λ s within. absurd (omega (arith, within));
@@ -62,9 +62,9 @@ module _ {S : Type 0} (same : S → S → Type 0) (spans : S → Spans) (views :
     pub there : dispatch < length world.subscribers
     pub spans_are : spans_in spans world dispatch ≡ spans first
     pub kept_is : kept_in kept world dispatch ≡ kept first
-    pub recorded_is : read_subscriber views.recorded no_recording world dispatch ≡ views.recorded first
-    pub filter_is : read_subscriber views.filtered None world dispatch ≡ views.filtered first
-    pub aside_is : AddsMeasures (views.counting_filter first, views.measured first) (aside_in views world dispatch) []
+    pub recorded_is : read_subscriber views.recording no_recording world dispatch ≡ views.recording first
+    pub filter_is : read_subscriber views.filter None world dispatch ≡ views.filter first
+    pub aside_is : AddsMeasures (views.counting_filter first, views.measures first) (aside_in views world dispatch) []
     pub alone : length world.subscribers ≡ 1
     pub whole : is_whole first → Has is_whole world dispatch
 
@@ -108,15 +108,15 @@ no_live (l ∷ ls) are (suc n) = no_live ls (cc are) n
 module _ {S : Type 0} (same : S → S → Type 0) (spans : S → Spans) (views : Views S) (attaches : S → Bool) (kept : S → ℕ → ℕ → ℕ) (is_whole : S → Type 0)
     (law : SameLaw spans views attaches kept is_whole same) (first : S)
     (world before : WorldValue S) (dispatch : ℕ) (opening : FilterTexts) (lanes : List Lane) (ids : List ℕ) (is : dispatch ≡ length before.subscribers) (empty : length before.subscribers ≡ 0) (are : AreSame same (before.subscribers ++ first ∷ []) world.subscribers)
-    (none : spans first ≡ no_spans) (base : Setup) (nothing : views.recorded first ≡ nothing_recorded base) (quiet : map (λ (l : Lane). l.contexts.live) lanes ≡ map (λ (l : Lane). []) lanes)
-    (interest : S → Callsite → Interest) (shown : (s : S) (f : FilterState) (c : Callsite) → views.filtered s ≡ Some f → interest s c ≡ interest_in f c) (fresh : IsFresh interest world)
-    (f : FilterState) (opened : IsTextFilter opening.filter f) (gate : views.filtered first ≡ Some f) (counts : IsCountingFilter opening.counting (views.counting_filter first)) (no_measures : views.measured first ≡ [])
+    (none : spans first ≡ no_spans) (base : Setup) (nothing : views.recording first ≡ nothing_recorded base) (quiet : map (λ (l : Lane). l.contexts.live) lanes ≡ map (λ (l : Lane). []) lanes)
+    (interest : S → Callsite → Interest) (shown : (s : S) (f : FilterState) (c : Callsite) → views.filter s ≡ Some f → interest s c ≡ interest_in f c) (fresh : IsFresh interest world)
+    (f : FilterState) (opened : IsTextFilter opening.filter f) (gate : views.filter first ≡ Some f) (counts : IsCountingFilter opening.counting (views.counting_filter first)) (no_measures : views.measures first ≡ [])
     (hs : List (Option Handle)) (no_handles : hs ≡ []) (gs : List (Option Guard)) (no_guards : gs ≡ []) (cs : ContextSlots) (no_contexts : cs ≡ record { contexts = []; attaches = [] }) where
   its_only : Only same spans views attaches kept is_whole law first world dispatch
   its_only = only_one same spans views attaches kept is_whole law first world dispatch (is ∙ empty) (subst (λ (xs : List S). AreSame same (xs ++ first ∷ []) world.subscribers) (no_items before.subscribers empty) are)
 
   abbrev begun_parts : List (Option Handle) → List (Option Guard) → ContextSlots → Parts S
-  begun_parts handles guards contexts = record { world = world; dispatch = dispatch; opening = opening; lanes = lanes; handles = handles; guards = guards; contexts = contexts; moment = 0 }
+  begun_parts handles guards contexts = record { world = world; dispatch = dispatch; filter_texts = opening; lanes = lanes; handles = handles; guards = guards; contexts = contexts; moment = 0 }
 
   abbrev begun_state : PipelineState
   begun_state = state_of spans views (begun_parts hs gs cs)
@@ -152,7 +152,7 @@ module _ {S : Type 0} (same : S → S → Type 0) (spans : S → Spans) (views :
       }
 
   pub measured_nothing : begun_state.measures ≡ []
-  measured_nothing = (adds_nothing (views.counting_filter first, views.measured first) (aside_in views world dispatch) its_only.aside_is).1 ∙ no_measures
+  measured_nothing = (adds_nothing (views.counting_filter first, views.measures first) (aside_in views world dispatch) its_only.aside_is).1 ∙ no_measures
 
   pub begins : StandsFor begun_state (no_tables base)
   begins = record { fits = fits_begun; recording = records_begun; filtering = filter_begun }

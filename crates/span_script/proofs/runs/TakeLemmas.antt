@@ -18,7 +18,7 @@ fits_taken k t records measures fits = record {
   latest = fits.latest;
   balanced = fits.balanced;
   made = fits.made;
-  one_lane = fits.one_lane;
+  one_row = fits.one_row;
   scopes = fits.scopes;
   still = fits.still;
   own_scopes = fits.own_scopes;
@@ -36,9 +36,9 @@ stands_taken k t records measures stands = record {
 
 -- a world whose stack has some records and measures
 module _ {S : Type 0} (spans : S → Spans) (views : Views S) (attaches : S → Bool) (kept : S → ℕ → ℕ → ℕ) (is_whole : S → Type 0) (parts : Parts S) (new : WorldValue S) (alike : KeepsPlainData spans attaches kept is_whole parts.world new parts.dispatch)
-    (sites : new.sites ≡ parts.world.sites) (cached : new.cached ≡ parts.world.cached) (filters : read_subscriber views.filtered None new parts.dispatch ≡ read_subscriber views.filtered None parts.world parts.dispatch) (counting_filter : read_subscriber views.counting_filter None new parts.dispatch ≡ read_subscriber views.counting_filter None parts.world parts.dispatch)
-    (records : List Record) (finished : read_subscriber views.recorded no_recording new parts.dispatch ≡ record (read_subscriber views.recorded no_recording parts.world parts.dispatch) { finished = records })
-    (measures : List Measure) (waiting : read_subscriber views.measured [] new parts.dispatch ≡ measures) where
+    (sites : new.sites ≡ parts.world.sites) (cached : new.cached ≡ parts.world.cached) (filters : read_subscriber views.filter None new parts.dispatch ≡ read_subscriber views.filter None parts.world parts.dispatch) (counting_filter : read_subscriber views.counting_filter None new parts.dispatch ≡ read_subscriber views.counting_filter None parts.world parts.dispatch)
+    (records : List Record) (finished : read_subscriber views.recording no_recording new parts.dispatch ≡ record (read_subscriber views.recording no_recording parts.world parts.dispatch) { finished = records })
+    (measures : List Measure) (waiting : read_subscriber views.measures [] new parts.dispatch ≡ measures) where
   abbrev taken_parts : Parts S
   taken_parts = record parts { world = new }
 

@@ -1,6 +1,6 @@
 -- A handle is dropped, and a chain of spans closes.
 use Rattle.std.proofs.Common.{◌≡◌, ℕ, zero, suc, ◌+◌, ◌<◌, ◌≤◌, List, [], ◌∷◌, Bool, true, false, cond, count_by, slice_set, Option, Some, None, option_map, map, refl, sym, ap, subst, ◌∙◌, arith, inl, inr, ◌==◌, ◌||◌}
-use Rattle.span_script.proofs.Common.{cases_eq, cond-true, cond-false, or_parts, map-set, sum_by-set, get_or-map, Span, Spans, Entries, entries_on, span_at, span_without_hold, without_hold, parent_to_release, entered_lane_count, is_open_child, is_child_of, open_child_count, made_if_held, children_set, keeps_children, less_last, less_more, less_holds, holds_set, holds_other, OneEach, ReleasesChain, all_released, releases, id_at, Balanced, OpenGuard, names_span, named_span, open_guard_on, open_guard_by, Scope, MadeSpan, ScopeGuard, Tables, after_effect, slot_at, span_of_scope, here_at, drop_effect, borrows, is_borrowed, is_named_by_guard, ContextSlots, PipelineState, SpansFit, guard_of, lane_place_of}
+use Rattle.span_script.proofs.Common.{cases_eq, cond-true, cond-false, or_parts, map-set, sum_by-set, get_or-map, Span, Spans, Entries, entries_on, span_at, span_without_hold, without_hold, parent_to_release, entered_lane_count, is_open_child, is_child_of, open_child_count, made_if_held, children_set, keeps_children, less_last, less_more, less_holds, holds_set, holds_other, OneEach, ReleasesChain, all_released, releases, id_at, Balanced, OpenGuard, names_span, span_of_handle, open_guard_on, open_guard_by, Scope, MadeSpan, ScopeGuard, Tables, after_effect, slot_at, span_of_scope, here_at, drop_effect, borrows, is_borrowed, is_named_by_guard, ContextSlots, PipelineState, SpansFit, guard_of, lane_place_of}
 use Rattle.std.proofs.lemmas.Bool.{eq-eqb, ne_eqb}
 use Rattle.std.proofs.lemmas.List.{length-set, get_or-set_other}
 use Rattle.span_script.specs.Fits.{Fits}
@@ -135,9 +135,9 @@ pub fits_dropped : (k next : PipelineState) (t : Tables) (at place handle : ℕ)
     → next.dispatch ≡ k.dispatch → next.handles ≡ slice_set k.handles handle None → next.handle_sites ≡ slice_set k.handle_sites handle None → next.guards ≡ k.guards → next.contexts ≡ k.contexts → next.moment ≡ at → Fits next (after_effect t (drop_effect (here_at k.setup t at place) handle line))
 fits_dropped k next t at place handle line fits there free chain setup dispatch handles sites guards contexts moment =
     let ids = k.setup.ids in
-    let hs = map named_span t.handles in
+    let hs = map span_of_handle t.handles in
     let ends = drop_ends k.spans next.spans hs (map (open_guard_by ids) t.guards) t.entries fits.balanced handle line (named_slot t.handles handle line there) chain in
-    let spent : slice_set hs handle None ≡ map named_span (slice_set t.handles handle None) = sym (map-set named_span t.handles handle None) in
+    let spent : slice_set hs handle None ≡ map span_of_handle (slice_set t.handles handle None) = sym (map-set span_of_handle t.handles handle None) in
     fits_step k t fits next (drop_effect (here_at k.setup t at place) handle line) (record {
       setup_is = setup;
       dispatch_is = dispatch;
@@ -162,5 +162,5 @@ fits_dropped k next t at place handle line fits there free chain setup dispatch 
       still = still_spent t.guards t.handles handle free fits.still;
       few = (let l = length-set t.handles handle None in let f = fits.few in omega (arith, l, f));
       few_holds = λ s. (let a = ends.fewer s in let f = fits.few_holds s in let l = length-set t.handles handle None in omega (arith, a, f, l));
-      one = subst OneEach (sym ends.lanes) fits.one_lane;
+      one = subst OneEach (sym ends.lanes) fits.one_row;
     })

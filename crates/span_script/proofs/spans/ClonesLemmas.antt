@@ -1,6 +1,6 @@
 -- Clones, served.
 use Rattle.std.proofs.Common.{◌≡◌, ℕ, ◌+◌, ◌<◌, ◌≤◌, List, [], ◌∷◌, ◌++◌, length, Bool, Option, Some, None, Ok, option_map, map, refl, sym, ap, subst, ◌∙◌, arith, inl, inr, is_some}
-use Rattle.span_script.proofs.Common.{cases_eq, length-map, length_push, map_push, get_or_append_left, WorldValue, Spans, span_at, SubscriberCall, CloneSpan, OneEach, read_subscriber, spans_in, kept_in, Handle, HeldSpan, id_of, ReplacedOn, Recording, no_recording, Scope, MadeSpan, ScopeGuard, Effect, Tables, slot_at, span_of_scope, here_at, ◌>>=◌, need, effect_of_call, clone_effect, Balanced, named_span, open_guard_by, Views, PipelineState, state_of, lane_value, StandsFor, SpansFit, LanesFit, PipelineInvariant, IsServed, IsScope, held_of, held_by, site_by, Parts, holds_other, CallsLaw, aside_in}
+use Rattle.span_script.proofs.Common.{cases_eq, length-map, length_push, map_push, get_or_append_left, WorldValue, Spans, span_at, SubscriberCall, CloneSpan, OneEach, read_subscriber, spans_in, kept_in, Handle, HeldSpan, id_of, ReplacedOn, Recording, no_recording, Scope, MadeSpan, ScopeGuard, Effect, Tables, slot_at, span_of_scope, here_at, ◌>>=◌, need, effect_of_call, clone_effect, Balanced, span_of_handle, open_guard_by, Views, PipelineState, state_of, lane_value, StandsFor, SpansFit, LanesFit, PipelineInvariant, IsServed, IsScope, held_of, held_by, site_by, Parts, holds_other, CallsLaw, aside_in}
 use Rattle.span_script.specs.declared.reply.Reply.TheVariants as reply
 use Rattle.span_script.specs.declared.request.Call.TheVariants as call
 use Rattle.span_script.specs.declared.reply.What.TheVariants as what
@@ -57,13 +57,13 @@ module _ {S : Type 0} (spans : S → Spans) (views : Views S) (attaches : S → 
   clone_kept [] same = ap (λ (w : WorldValue S). kept_in kept w parts.dispatch) same
   clone_kept (s ∷ up) shown = shown.0.lanes
 
-  pub clone_recorded : (line : Scope) → ShownOn spans views attaches kept is_whole parts.world new parts.dispatch line (λ id. CloneSpan id) → read_subscriber views.recorded no_recording new parts.dispatch ≡ read_subscriber views.recorded no_recording parts.world parts.dispatch
-  clone_recorded [] same = ap (λ (w : WorldValue S). read_subscriber views.recorded no_recording w parts.dispatch) same
+  pub clone_recorded : (line : Scope) → ShownOn spans views attaches kept is_whole parts.world new parts.dispatch line (λ id. CloneSpan id) → read_subscriber views.recording no_recording new parts.dispatch ≡ read_subscriber views.recording no_recording parts.world parts.dispatch
+  clone_recorded [] same = ap (λ (w : WorldValue S). read_subscriber views.recording no_recording w parts.dispatch) same
   clone_recorded (s ∷ up) shown = shown.2
 
-  pub clone_filter : (line : Scope) → ShownOn spans views attaches kept is_whole parts.world new parts.dispatch line (λ id. CloneSpan id) → read_subscriber views.filtered None new parts.dispatch ≡ read_subscriber views.filtered None parts.world parts.dispatch
-  clone_filter [] same = ap (λ (w : WorldValue S). read_subscriber views.filtered None w parts.dispatch) same
-  clone_filter (s ∷ up) shown = shown.3 ∙ sym (heard_none (read_subscriber views.filtered None parts.world parts.dispatch))
+  pub clone_filter : (line : Scope) → ShownOn spans views attaches kept is_whole parts.world new parts.dispatch line (λ id. CloneSpan id) → read_subscriber views.filter None new parts.dispatch ≡ read_subscriber views.filter None parts.world parts.dispatch
+  clone_filter [] same = ap (λ (w : WorldValue S). read_subscriber views.filter None w parts.dispatch) same
+  clone_filter (s ∷ up) shown = shown.3 ∙ sym (heard_none (read_subscriber views.filter None parts.world parts.dispatch))
 
   module _ (does : S → SubscriberCall → S → Type 0) (law : CallsLaw spans views attaches kept is_whole does)
       (hs' : List (Option Handle)) (at place number : ℕ) (many : number ≡ length parts.handles) (inv : PipelineInvariant spans views kept is_whole parts) where
@@ -90,13 +90,13 @@ module _ {S : Type 0} (spans : S → Spans) (views : Views S) (attaches : S → 
           let ids = now.setup.ids in
           let same = clone_recorded line.at shown in
           let sites = call_sites spans views attaches kept is_whole parts new line.at (λ id. CloneSpan id) shown in
-          let setup : then.setup ≡ now.setup = ap (λ x. record now.setup { sites = x; layer = (read_subscriber views.recorded no_recording new parts.dispatch).settings }) sites ∙ ap (λ (r : Recording). record now.setup { layer = r.settings }) same in
-          let live : (s : ℕ) (up : Scope) → line.at ≡ s ∷ up → 0 < (span_at sp.made s).holds = λ s up e. fits_live sp (map named_span t.handles) (map (open_guard_by ids) t.guards) t.entries fits.balanced handle s (named_slot t.handles handle line.at line.there ∙ ap span_of_scope e) in
+          let setup : then.setup ≡ now.setup = ap (λ x. record now.setup { sites = x; layer = (read_subscriber views.recording no_recording new parts.dispatch).settings }) sites ∙ ap (λ (r : Recording). record now.setup { layer = r.settings }) same in
+          let live : (s : ℕ) (up : Scope) → line.at ≡ s ∷ up → 0 < (span_at sp.made s).holds = λ s up e. fits_live sp (map span_of_handle t.handles) (map (open_guard_by ids) t.guards) t.entries fits.balanced handle s (named_slot t.handles handle line.at line.there ∙ ap span_of_scope e) in
           let e : Effect = clone_effect (here_at now.setup t at place) line.at in
           serve now then t e _ (reply.Made enabled number) stands
           (ap (λ o. need what.Handle o >>= (λ line. Ok (clone_effect (here_at now.setup t at place) line))) line.there)
           (ap (λ n. reply.Made enabled n) (next_number t fits) ∙ ap (λ b. reply.Made b (length t.handles)) (shows ∙ enabled_is parts.dispatch line.at h.held line.is))
-          setup (read_subscriber views.recorded no_recording parts.world parts.dispatch).tokens same
+          setup (read_subscriber views.recording no_recording parts.world parts.dispatch).tokens same
           (fits_step now t fits then e (record {
             setup_is = setup;
             dispatch_is = refl;
@@ -106,7 +106,7 @@ module _ {S : Type 0} (spans : S → Spans) (views : Views S) (attaches : S → 
             attaches_are = refl;
             named_are = refl;
             moment_is = refl;
-            balanced = subst (λ (x : Spans). Balanced x (map named_span (t.handles ++ Some line.at ∷ [])) (map (open_guard_by ids) t.guards) t.entries) (sym step) (balanced_clone ids sp t.handles t.guards t.entries fits.balanced handle line.at line.there);
+            balanced = subst (λ (x : Spans). Balanced x (map span_of_handle (t.handles ++ Some line.at ∷ [])) (map (open_guard_by ids) t.guards) t.entries) (sym step) (balanced_clone ids sp t.handles t.guards t.entries fits.balanced handle line.at line.there);
             made_fit = subst (λ (x : Spans). SpansFit x.made t.spans) (sym step) (made_clone sp t.spans line.at fits.made live);
             new_made = tt;
             new_site = tt;
@@ -114,11 +114,11 @@ module _ {S : Type 0} (spans : S → Spans) (views : Views S) (attaches : S → 
             still = still_named_more t.guards t.handles line.at fits.still;
             few = (let l = length_push t.handles (Some line.at) in let f = fits.few in omega (arith, l, f));
             few_holds = λ s. (let a = held_scope_most sp line.at s in let f = fits.few_holds s in let e = ap (λ (x : Spans). (span_at x.made s).holds) step in let l = length_push t.handles (Some line.at) in omega (arith, a, f, e, l));
-            one = subst (λ (x : Spans). OneEach x.lanes) (sym step) (one_clone sp line.at fits.one_lane);
+            one = subst (λ (x : Spans). OneEach x.lanes) (sym step) (one_clone sp line.at fits.one_row);
           }))
-          (λ s some. known_still now then t e (read_subscriber views.recorded no_recording parts.world parts.dispatch).tokens same stands.recording s refl (clone_live sp line.at s live (subst (λ (x : Spans). 0 < (span_at x.made s).holds) step some)))
+          (λ s some. known_still now then t e (read_subscriber views.recording no_recording parts.world parts.dispatch).tokens same stands.recording s refl (clone_live sp line.at s live (subst (λ (x : Spans). 0 < (span_at x.made s).holds) step some)))
           (all_same now then t.contexts setup refl refl (ap (λ (r : Recording). r.tokens) same) stands.recording.attached)
-          (record { quiet = refl; before = read_subscriber views.filtered None parts.world parts.dispatch; later = read_subscriber views.filtered None new parts.dispatch; shown_before = refl; shown_later = refl; told = clone_filter line.at shown ∙ heard_none (read_subscriber views.filtered None parts.world parts.dispatch); known = refl; cached = call_cached spans views attaches kept is_whole parts new line.at (λ id. CloneSpan id) shown; aside = record { before = aside_in views parts.world parts.dispatch; later = aside_in views new parts.dispatch; shown_before = refl; shown_later = refl; waits_before = refl; waits_later = refl; adds = call_aside spans views attaches kept is_whole parts new line.at (λ id. CloneSpan id) (λ s. refl) shown } })
+          (record { quiet = refl; before = read_subscriber views.filter None parts.world parts.dispatch; later = read_subscriber views.filter None new parts.dispatch; shown_before = refl; shown_later = refl; told = clone_filter line.at shown ∙ heard_none (read_subscriber views.filter None parts.world parts.dispatch); known = refl; cached = call_cached spans views attaches kept is_whole parts new line.at (λ id. CloneSpan id) shown; aside = record { before = aside_in views parts.world parts.dispatch; later = aside_in views new parts.dispatch; shown_before = refl; shown_later = refl; waits_before = refl; waits_later = refl; adds = call_aside spans views attaches kept is_whole parts new line.at (λ id. CloneSpan id) (λ s. refl) shown } })
 
       pub keeps_cloned : PipelineInvariant spans views kept is_whole then_parts
       keeps_cloned =

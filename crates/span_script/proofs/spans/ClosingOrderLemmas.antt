@@ -1,6 +1,6 @@
 -- The spans that a chain closes, in order: those of the line that are open no more.
 use Rattle.std.proofs.Common.{◌≡◌, ℕ, ◌<◌, List, [], ◌∷◌, true, false, Option, Some, None, map, refl, sym, ap, subst, ◌∙◌, arith, inl, inr, ◌==◌, not, nat_lt, slice_set}
-use Rattle.span_script.proofs.Common.{cases_eq, cond-true, cond-false, Span, Spans, span_at, span_without_hold, without_hold, parent_to_release, made_if_held, less_holds, holds_set, ReleasesChain, all_released, releases, closed_in, map-set, Scope, MadeSpan, after_effect, slot_at, span_of_scope, made_span_at, Here, is_open, closed_of, drop_effect, named_span, open_guard_by, PipelineState, SpansFit, IsScope, parent_in}
+use Rattle.span_script.proofs.Common.{cases_eq, cond-true, cond-false, Span, Spans, span_at, span_without_hold, without_hold, parent_to_release, made_if_held, less_holds, holds_set, ReleasesChain, all_released, releases, closed_in, map-set, Scope, MadeSpan, after_effect, slot_at, span_of_scope, made_span_at, Here, is_open, closed_of, drop_effect, span_of_handle, open_guard_by, PipelineState, SpansFit, IsScope, parent_in}
 use Rattle.std.proofs.lemmas.Bool.{eq-eqb, ne_eqb, lt-ltb}
 use Rattle.span_script.specs.Fits.{Fits}
 use Rattle.span_script.proofs.spans.ChainsLemmas.{Loose, loose_released, chain_ends, spent_loose}
@@ -22,7 +22,7 @@ module _ (hs : List (Option Scope)) (ms : List MadeSpan) (named : (n : ℕ) (lin
   none_closed (s ∷ up) is first =
       cond-false {A = List ℕ} (not (is_open hs s)) (s ∷ closed_of hs up) (closed_of hs up) (ap not (first s refl)) ∙ none_closed up is.3 (λ p e. up_open s p (first s refl) (ap parent_in is.1 ∙ e))
 
-  pub closed_are : (next : Option ℕ) (x y : Spans) (r : ReleasesChain next x y) → (line : Scope) → IsScope ms line → span_of_scope line ≡ next → Loose x (map named_span hs) next → SpansFit x.made ms
+  pub closed_are : (next : Option ℕ) (x y : Spans) (r : ReleasesChain next x y) → (line : Scope) → IsScope ms line → span_of_scope line ≡ next → Loose x (map span_of_handle hs) next → SpansFit x.made ms
       → ((s : ℕ) → nat_lt 0 (span_at y.made s).holds ≡ is_open hs s) → closed_in next x y r ≡ closed_of hs line
   closed_are _ _ _ (all_released x) [] is mine loose fit final = refl
   closed_are _ _ _ (all_released x) (s ∷ up) is mine loose fit final = absurd (cc mine)
@@ -36,13 +36,13 @@ module _ (hs : List (Option Scope)) (ms : List MadeSpan) (named : (n : ℕ) (lin
       let after_one : Spans = record x { made = without_hold x.made id } in
       let within = made_if_held x.made id (omega (arith, own_hold)) in
       let h = holds_set x.made id now within id refl in
-      let ends = chain_ends (parent_to_release x.made id) after_one y rest (map named_span hs) (loose_released x (map named_span hs) id loose) in
+      let ends = chain_ends (parent_to_release x.made id) after_one y rest (map span_of_handle hs) (loose_released x (map span_of_handle hs) id loose) in
       let left = cond-true {A = Option ℕ} (was.holds == 1) was.parent None in
       let parent : was.parent ≡ span_of_scope up = fit.parent id live ∙ ap (λ (k : ℕ). parent_in (made_span_at ms k).scope) (sym same) ∙ ap parent_in is.1 in
       elim (cases_eq was.holds 1) [
         | inl last ↦ (
             let gone : is_open hs s ≡ false = ap (is_open hs) same ∙ sym (final id) ∙ (let f = ends.fewer id in let z : (span_at y.made id).holds ≡ 0 = omega (arith, f, h, last, fewer) in ap (nat_lt 0) z) in
-            let more = closed_are (parent_to_release x.made id) after_one y rest up is.3 (sym parent ∙ sym (left (eq-eqb was.holds 1 last))) (loose_released x (map named_span hs) id loose)
+            let more = closed_are (parent_to_release x.made id) after_one y rest up is.3 (sym parent ∙ sym (left (eq-eqb was.holds 1 last))) (loose_released x (map span_of_handle hs) id loose)
             (made_released x.made ms id fit) final in
             cond-true {A = List ℕ} (was.holds == 1) (id ∷ closed_in (parent_to_release x.made id) after_one y rest) (closed_in (parent_to_release x.made id) after_one y rest) (eq-eqb was.holds 1 last)
             ∙ ap (λ (xs : List ℕ). id ∷ xs) more ∙ ap (λ (k : ℕ). k ∷ closed_of hs up) (sym same)
@@ -54,10 +54,10 @@ module _ (hs : List (Option Scope)) (ms : List MadeSpan) (named : (n : ℕ) (lin
             ∙ over.0 ∙ sym (none_closed (s ∷ up) is (λ q e. subst (λ (k : ℕ). is_open hs k ≡ true) (cc e) still)))
       ]
 
-pub drop_order : (k next : PipelineState) (here : Here) (handle s : ℕ) (up : Scope) → Fits k here.script → slot_at here.script.handles handle ≡ Some (s ∷ up) → Fits next (after_effect here.script (drop_effect here handle (s ∷ up))) → (r : ReleasesChain (Some s) k.spans next.spans)
-    → closed_in (Some s) k.spans next.spans r ≡ closed_of (slice_set here.script.handles handle None) (s ∷ up)
+pub drop_order : (k next : PipelineState) (here : Here) (handle s : ℕ) (up : Scope) → Fits k here.tables → slot_at here.tables.handles handle ≡ Some (s ∷ up) → Fits next (after_effect here.tables (drop_effect here handle (s ∷ up))) → (r : ReleasesChain (Some s) k.spans next.spans)
+    → closed_in (Some s) k.spans next.spans r ≡ closed_of (slice_set here.tables.handles handle None) (s ∷ up)
 drop_order k next here handle s up fits there later r =
-    let t = here.script in
+    let t = here.tables in
     closed_are (slice_set t.handles handle None) t.spans later.scopes (Some s) k.spans next.spans r (s ∷ up) (fits.scopes handle (s ∷ up) there) refl
-    (subst (λ (xs : List (Option ℕ)). Loose k.spans xs (Some s)) (sym (map-set named_span t.handles handle None)) (spent_loose k.spans (map named_span t.handles) (map (open_guard_by k.setup.ids) t.guards) t.entries fits.balanced handle s (named_slot t.handles handle (s ∷ up) there)))
+    (subst (λ (xs : List (Option ℕ)). Loose k.spans xs (Some s)) (sym (map-set span_of_handle t.handles handle None)) (spent_loose k.spans (map span_of_handle t.handles) (map (open_guard_by k.setup.ids) t.guards) t.entries fits.balanced handle s (named_slot t.handles handle (s ∷ up) there)))
     fits.made (opens next (after_effect t (drop_effect here handle (s ∷ up))) later)

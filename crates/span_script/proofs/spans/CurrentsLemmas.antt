@@ -1,6 +1,6 @@
 -- Handles of a lane's current span, and handles that are exchanged for one of these, served.
 use Rattle.std.proofs.Common.{◌≡◌, ℕ, ◌+◌, ◌<◌, ◌≤◌, List, [], ◌∷◌, ◌++◌, length, Bool, true, false, cond, set, slice_set, get_or, Option, Some, None, Ok, Err, option_map, map, refl, sym, ap, subst, ◌∙◌, arith, is_some, IfSome}
-use Rattle.span_script.proofs.Common.{option_map_or, cond-true, cond-false, length-map, length_push, map_push, map-set, set-append_left, get_or_append_left, sum_by-set, get_or-map, Lane, WorldValue, Spans, span_at, with_hold, current_of, entries_on, SubscriberCall, CloneSpan, IsLive, OneEach, count_push, Has, read_subscriber, spans_in, kept_in, no_spans, Handle, HeldSpan, id_of, ReplacedOn, Copies, IsCurrent, Guard, id_at, Recording, no_recording, Scope, MadeSpan, ScopeGuard, Effect, Tables, slot_at, slots_after, span_of_scope, site_of, Here, here_at, Resolved, refuse_if, ◌>>=◌, need, effect_of_call, clone_effect, current_scope, scope_or_current, exchange_effect, is_borrowed, is_named_by_guard, Balanced, names_span, named_span, open_guard_by, Views, PipelineState, state_of, lane_value, StandsFor, SpansFit, LanesFit, PipelineInvariant, IsServed, IsScope, held_of, held_by, site_by, Parts, AddsMeasures, CallsLaw, aside_in}
+use Rattle.span_script.proofs.Common.{option_map_or, cond-true, cond-false, length-map, length_push, map_push, map-set, set-append_left, get_or_append_left, sum_by-set, get_or-map, Lane, WorldValue, Spans, span_at, with_hold, current_of, entries_on, SubscriberCall, CloneSpan, IsLive, OneEach, count_push, Has, read_subscriber, spans_in, kept_in, no_spans, Handle, HeldSpan, id_of, ReplacedOn, Copies, CopiesCurrent, Guard, id_at, Recording, no_recording, Scope, MadeSpan, ScopeGuard, Effect, Tables, slot_at, slots_after, span_of_scope, site_of, Here, here_at, Resolved, refuse_if, ◌>>=◌, need, effect_of_call, clone_effect, current_scope, scope_or_current, exchange_effect, is_borrowed, is_named_by_guard, Balanced, names_span, span_of_handle, open_guard_by, Views, PipelineState, state_of, lane_value, StandsFor, SpansFit, LanesFit, PipelineInvariant, IsServed, IsScope, held_of, held_by, site_by, Parts, AddsMeasures, CallsLaw, aside_in}
 use Rattle.std.proofs.lemmas.List.{length-set, get_or-set_other}
 use Rattle.trace_base.specs.declared.span.Parent.TheVariants as parent
 use Rattle.span_script.specs.declared.reply.Reply.TheVariants as reply
@@ -27,29 +27,29 @@ use Rattle.span_script.proofs.spans.ChainsLemmas.{not_borrowed, opened_handle, b
 -- ---- balance
 
 -- one handle more of a scope that is live
-balanced_more : (ids : List ℕ) (spans : Spans) (hs : List (Option Scope)) (gs : List (Option ScopeGuard)) (es : ℕ → List ℕ) → Balanced spans (map named_span hs) (map (open_guard_by ids) gs) es → (line : Scope) → IfSome (span_of_scope line) (λ s. IsLive spans.made s)
-    → Balanced (spans_held spans line) (map named_span (hs ++ Some line ∷ [])) (map (open_guard_by ids) gs) es
+balanced_more : (ids : List ℕ) (spans : Spans) (hs : List (Option Scope)) (gs : List (Option ScopeGuard)) (es : ℕ → List ℕ) → Balanced spans (map span_of_handle hs) (map (open_guard_by ids) gs) es → (line : Scope) → IfSome (span_of_scope line) (λ s. IsLive spans.made s)
+    → Balanced (spans_held spans line) (map span_of_handle (hs ++ Some line ∷ [])) (map (open_guard_by ids) gs) es
 balanced_more ids spans hs gs es fits [] live = balanced_decline ids spans hs gs es fits
 balanced_more ids spans hs gs es fits (s ∷ up) live =
-    subst (λ (xs : List (Option ℕ)). Balanced (record spans { made = with_hold spans.made s }) xs (map (open_guard_by ids) gs) es) (sym (map_push named_span hs (Some (s ∷ up))))
-    (another_handle spans (map named_span hs) (map (open_guard_by ids) gs) es fits s live)
+    subst (λ (xs : List (Option ℕ)). Balanced (record spans { made = with_hold spans.made s }) xs (map (open_guard_by ids) gs) es) (sym (map_push span_of_handle hs (Some (s ∷ up))))
+    (another_handle spans (map span_of_handle hs) (map (open_guard_by ids) gs) es fits s live)
 
 -- a disabled handle is spent
-balanced_without : (ids : List ℕ) (spans : Spans) (hs : List (Option Scope)) (gs : List (Option ScopeGuard)) (es : ℕ → List ℕ) → Balanced spans (map named_span hs) (map (open_guard_by ids) gs) es → (handle : ℕ) → slot_at hs handle ≡ Some []
-    → Balanced spans (map named_span (slice_set hs handle None)) (map (open_guard_by ids) gs) es
+balanced_without : (ids : List ℕ) (spans : Spans) (hs : List (Option Scope)) (gs : List (Option ScopeGuard)) (es : ℕ → List ℕ) → Balanced spans (map span_of_handle hs) (map (open_guard_by ids) gs) es → (handle : ℕ) → slot_at hs handle ≡ Some []
+    → Balanced spans (map span_of_handle (slice_set hs handle None)) (map (open_guard_by ids) gs) es
 balanced_without ids spans hs gs es fits handle there =
-    subst (λ (xs : List (Option ℕ)). Balanced spans xs (map (open_guard_by ids) gs) es) (sym (map-set named_span hs handle None ∙ set_none (map named_span hs) handle (named_slot hs handle [] there))) fits
+    subst (λ (xs : List (Option ℕ)). Balanced spans xs (map (open_guard_by ids) gs) es) (sym (map-set span_of_handle hs handle None ∙ set_none (map span_of_handle hs) handle (named_slot hs handle [] there))) fits
 
 -- the hold of a handle that is spent is that of another one
-balanced_moved : (ids : List ℕ) (spans : Spans) (hs : List (Option Scope)) (gs : List (Option ScopeGuard)) (es : ℕ → List ℕ) → Balanced spans (map named_span hs) (map (open_guard_by ids) gs) es → (handle s : ℕ) (up : Scope) → slot_at hs handle ≡ Some (s ∷ up)
-    → is_borrowed gs handle ≡ false → Balanced spans (map named_span (slice_set (hs ++ Some (s ∷ up) ∷ []) handle None)) (map (open_guard_by ids) gs) es
+balanced_moved : (ids : List ℕ) (spans : Spans) (hs : List (Option Scope)) (gs : List (Option ScopeGuard)) (es : ℕ → List ℕ) → Balanced spans (map span_of_handle hs) (map (open_guard_by ids) gs) es → (handle s : ℕ) (up : Scope) → slot_at hs handle ≡ Some (s ∷ up)
+    → is_borrowed gs handle ≡ false → Balanced spans (map span_of_handle (slice_set (hs ++ Some (s ∷ up) ∷ []) handle None)) (map (open_guard_by ids) gs) es
 balanced_moved ids spans hs gs es fits handle s up there free =
-    let xs : List (Option ℕ) = map named_span hs in
+    let xs : List (Option ℕ) = map span_of_handle hs in
     let ys : List (Option ℕ) = xs ++ Some s ∷ [] in
     let at : slot_at xs handle ≡ Some s = named_slot hs handle (s ∷ up) there in
     let below = named_within xs handle s at in
     let is : slot_at ys handle ≡ Some s = get_or_append_left xs (Some s ∷ []) None handle below ∙ at in
-    subst (λ (zs : List (Option ℕ)). Balanced spans zs (map (open_guard_by ids) gs) es) (ap (λ (zs : List (Option ℕ)). slice_set zs handle None) (sym (map_push named_span hs (Some (s ∷ up)))) ∙ sym (map-set named_span (hs ++ Some (s ∷ up) ∷ []) handle None)) (record {
+    subst (λ (zs : List (Option ℕ)). Balanced spans zs (map (open_guard_by ids) gs) es) (ap (λ (zs : List (Option ℕ)). slice_set zs handle None) (sym (map_push span_of_handle hs (Some (s ∷ up)))) ∙ sym (map-set span_of_handle (hs ++ Some (s ∷ up) ∷ []) handle None)) (record {
       holds = λ q. (
           let change = sum_by-set (λ (o : Option ℕ). cond {A = ℕ} (names_span q o) 1 0) ys handle None None (named_within ys handle s is) in
           let mine = ap (λ (o : Option ℕ). cond {A = ℕ} (names_span q o) 1 0) is in
@@ -90,7 +90,7 @@ copied does old new dispatch site [] h did = (ap (λ (x : Handle). x.held) did.0
 copied does old new dispatch site (s ∷ up) h did = (ap (λ (x : Handle). x.held) did.0, subst (λ (x : Handle). ReplacedOn (λ id s t. does s (CloneSpan id) t) old new x.held) (sym did.0) did.1)
 
 current_copied : {S : Type 0} (spans : S → Spans) (does : S → SubscriberCall → S → Type 0) (old new : WorldValue S) (dispatch lane : ℕ) (line : Scope) (h : Handle) → dispatch < length old.subscribers → current_of (entries_on lane (spans_in spans old dispatch).lanes) ≡ span_of_scope line
-    → IsCurrent spans does old new lane (Some dispatch) h → (h.held ≡ held_of dispatch line) × ReplacedOn (λ id s t. does s (CloneSpan id) t) old new h.held
+    → CopiesCurrent spans does old new lane (Some dispatch) h → (h.held ≡ held_of dispatch line) × ReplacedOn (λ id s t. does s (CloneSpan id) t) old new h.held
 current_copied {S} spans does old new dispatch lane line h there on did =
     let at = within_get old.subscribers dispatch there in
     let is : spans_in spans old dispatch ≡ spans at.0 = ap (λ (o : Option S). option_map_or spans o no_spans) at.1 in
@@ -100,7 +100,7 @@ current_copied {S} spans does old new dispatch lane line h there on did =
 
 -- its callsite is that of the span that was made
 current_site : {S : Type 0} (spans : S → Spans) (does : S → SubscriberCall → S → Type 0) (old new : WorldValue S) (dispatch lane : ℕ) (line : Scope) (h : Handle) → dispatch < length old.subscribers → current_of (entries_on lane (spans_in spans old dispatch).lanes) ≡ span_of_scope line
-    → IsCurrent spans does old new lane (Some dispatch) h → (made : List MadeSpan) → SpansFit (spans_in spans old dispatch).made made → IfSome (span_of_scope line) (λ s. IsLive (spans_in spans old dispatch).made s) → h.site ≡ site_of made line
+    → CopiesCurrent spans does old new lane (Some dispatch) h → (made : List MadeSpan) → SpansFit (spans_in spans old dispatch).made made → IfSome (span_of_scope line) (λ s. IsLive (spans_in spans old dispatch).made s) → h.site ≡ site_of made line
 current_site {S} spans does old new dispatch lane line h there on did made fit live =
     let at = within_get old.subscribers dispatch there in
     let is : spans_in spans old dispatch ≡ spans at.0 = ap (λ (o : Option S). option_map_or spans o no_spans) at.1 in
@@ -131,7 +131,7 @@ one_more hs line (Some n) = length-set (hs ++ Some line ∷ []) n None ∙ lengt
 -- what it makes of the spans
 record Handed (k : PipelineState) (t : Tables) (later : Spans) (line : Scope) (spent : Option ℕ) : Type 0 where
   scope : IsScope t.spans line
-  balanced : Balanced later (map named_span (slots_after t.handles (Some line) spent)) (map (open_guard_by k.setup.ids) t.guards) t.entries
+  balanced : Balanced later (map span_of_handle (slots_after t.handles (Some line) spent)) (map (open_guard_by k.setup.ids) t.guards) t.entries
   still : (n : ℕ) (g : ScopeGuard) → slot_at t.guards n ≡ Some g → slot_at (slots_after t.handles (Some line) spent) g.handle ≡ Some g.scope
   made : SpansFit later.made t.spans
   most : (s : ℕ) → (span_at later.made s).holds ≤ (span_at k.spans.made s).holds + 1
@@ -147,7 +147,7 @@ handed_more k t fits line scope live = record {
   made = made_clone k.spans t.spans line fits.made (live_at k.spans line live);
   most = held_scope_most k.spans line;
   live = λ s some. clone_live k.spans line s (live_at k.spans line live) some;
-  one = one_clone k.spans line fits.one_lane;
+  one = one_clone k.spans line fits.one_row;
 }
 
 -- the same in place of a disabled handle
@@ -176,7 +176,7 @@ handed_on k t fits handle s up there free = record {
   made = fits.made;
   most = λ q. omega arith;
   live = λ q some. some;
-  one = fits.one_lane;
+  one = fits.one_row;
 }
 
 module _ {S : Type 0} (spans : S → Spans) (views : Views S) (attaches : S → Bool) (kept : S → ℕ → ℕ → ℕ) (is_whole : S → Type 0) (parts : Parts S) (new : WorldValue S) where
@@ -202,7 +202,7 @@ module _ {S : Type 0} (spans : S → Spans) (views : Views S) (attaches : S → 
     on_id t fits = ap (λ (l : ℕ). current_of (entries_on l now.spans.lanes)) (id_seen parts.lanes place before within here) ∙ (is_on now t fits place_id).on
 
     serves_handed : (t : Tables) → StandsFor now t → (resolved : Resolved) (line : Scope) (spent : Option ℕ) (enabled : Bool) → resolved ≡ Ok (hands (here_at now.setup t at place) line spent) → enabled ≡ is_some (span_of_scope line) → new.sites ≡ parts.world.sites
-        → read_subscriber views.recorded no_recording new parts.dispatch ≡ read_subscriber views.recorded no_recording parts.world parts.dispatch → read_subscriber views.filtered None new parts.dispatch ≡ read_subscriber views.filtered None parts.world parts.dispatch → new.cached ≡ parts.world.cached → AddsMeasures (aside_in views parts.world parts.dispatch) (aside_in views new parts.dispatch) [] → then.handles ≡ slots_after now.handles (Some (held_of parts.dispatch line)) spent → then.handle_sites ≡ slots_after now.handle_sites (Some (site_of t.spans line)) spent → Handed now t then.spans line spent
+        → read_subscriber views.recording no_recording new parts.dispatch ≡ read_subscriber views.recording no_recording parts.world parts.dispatch → read_subscriber views.filter None new parts.dispatch ≡ read_subscriber views.filter None parts.world parts.dispatch → new.cached ≡ parts.world.cached → AddsMeasures (aside_in views parts.world parts.dispatch) (aside_in views new parts.dispatch) [] → then.handles ≡ slots_after now.handles (Some (held_of parts.dispatch line)) spent → then.handle_sites ≡ slots_after now.handle_sites (Some (site_of t.spans line)) spent → Handed now t then.spans line spent
         → IsServed resolved t now then (reply.Made enabled number)
     serves_handed t stands resolved line spent enabled is shows sites same filters cached aside handles handle_sites handed =
         let fits = stands.fits in
@@ -211,7 +211,7 @@ module _ {S : Type 0} (spans : S → Spans) (views : Views S) (attaches : S → 
         let more = one_more t.handles line spent in
         serve now then t e resolved (reply.Made enabled number) stands is
         (ap (λ n. reply.Made enabled n) (next_number t fits) ∙ ap (λ b. reply.Made b (length t.handles)) shows)
-        setup (read_subscriber views.recorded no_recording parts.world parts.dispatch).tokens same
+        setup (read_subscriber views.recording no_recording parts.world parts.dispatch).tokens same
         (fits_step now t fits then e (record {
           setup_is = setup;
           dispatch_is = refl;
@@ -231,20 +231,20 @@ module _ {S : Type 0} (spans : S → Spans) (views : Views S) (attaches : S → 
           few_holds = λ s. (let a = handed.most s in let f = fits.few_holds s in omega (arith, a, f, more));
           one = handed.one;
         }))
-        (λ s some. known_still now then t e (read_subscriber views.recorded no_recording parts.world parts.dispatch).tokens same stands.recording s refl (handed.live s some))
+        (λ s some. known_still now then t e (read_subscriber views.recording no_recording parts.world parts.dispatch).tokens same stands.recording s refl (handed.live s some))
         (all_same now then t.contexts setup refl refl (ap (λ (r : Recording). r.tokens) same) stands.recording.attached)
-        (record { quiet = refl; before = read_subscriber views.filtered None parts.world parts.dispatch; later = read_subscriber views.filtered None new parts.dispatch; shown_before = refl; shown_later = refl; told = filters ∙ heard_none (read_subscriber views.filtered None parts.world parts.dispatch); known = refl; cached = cached; aside = record { before = aside_in views parts.world parts.dispatch; later = aside_in views new parts.dispatch; shown_before = refl; shown_later = refl; waits_before = refl; waits_later = refl; adds = aside } })
+        (record { quiet = refl; before = read_subscriber views.filter None parts.world parts.dispatch; later = read_subscriber views.filter None new parts.dispatch; shown_before = refl; shown_later = refl; told = filters ∙ heard_none (read_subscriber views.filter None parts.world parts.dispatch); known = refl; cached = cached; aside = record { before = aside_in views parts.world parts.dispatch; later = aside_in views new parts.dispatch; shown_before = refl; shown_later = refl; waits_before = refl; waits_later = refl; adds = aside } })
 
     keeps_handed : (resolved : Resolved) (enabled : Bool) → IsServed resolved inv.tables now then (reply.Made enabled number) → length new.subscribers ≡ length parts.world.subscribers → (Has is_whole parts.world parts.dispatch → Has is_whole new parts.dispatch) → kept_in kept new parts.dispatch ≡ kept_in kept parts.world parts.dispatch → PipelineInvariant spans views kept is_whole then_parts
     keeps_handed resolved enabled served count whole same = kept_served spans views kept is_whole parts then_parts inv resolved _ served refl count whole
         (subst (λ (f : ℕ → ℕ → ℕ). LanesFit parts.dispatch f (map lane_value parts.lanes)) (sym same) inv.lanes)
 
     -- what is done by the lane's own subscriber is done by the pipeline's
-    by_own : (h : Handle) → IsCurrent spans does parts.world new before.id (dispatch_on before.default parts.world.global) h → IsCurrent spans does parts.world new before.id (Some parts.dispatch) h
-    by_own h did = subst (λ (o : Option ℕ). IsCurrent spans does parts.world new before.id (dispatch_on o parts.world.global) h) (own_lane spans views kept is_whole parts inv place before within here) did
+    by_own : (h : Handle) → CopiesCurrent spans does parts.world new before.id (dispatch_on before.default parts.world.global) h → CopiesCurrent spans does parts.world new before.id (Some parts.dispatch) h
+    by_own h did = subst (λ (o : Option ℕ). CopiesCurrent spans does parts.world new before.id (dispatch_on o parts.world.global) h) (own_lane spans views kept is_whole parts inv place before within here) did
 
     -- a handle of the lane's current span
-    module _ (h : Handle) (enabled : Bool) (shows : enabled ≡ is_some (id_of h.held)) (one : hs' ≡ parts.handles ++ Some h ∷ []) (did : IsCurrent spans does parts.world new before.id (dispatch_on before.default parts.world.global) h) where
+    module _ (h : Handle) (enabled : Bool) (shows : enabled ≡ is_some (id_of h.held)) (one : hs' ≡ parts.handles ++ Some h ∷ []) (did : CopiesCurrent spans does parts.world new before.id (dispatch_on before.default parts.world.global) h) where
       pub serves_current : (t : Tables) → StandsFor now t → IsServed (effect_of_call now.setup t at place call.Current) t now then (reply.Made enabled number)
       serves_current t stands =
           let fits = stands.fits in
@@ -268,7 +268,7 @@ module _ {S : Type 0} (spans : S → Spans) (views : Views S) (attaches : S → 
 
     -- a handle that is exchanged
     module _ (handle : ℕ) (h next : Handle) (found : slot_at parts.handles handle ≡ Some h) (free : is_named_by_guard parts.guards handle ≡ false) (enabled : Bool) (shows : enabled ≡ is_some (id_of next.held)) (one : hs' ≡ slice_set parts.handles handle None ++ Some next ∷ [])
-        (stays : IfSome h.held (λ held. (next ≡ h) × (new ≡ parts.world))) (takes : h.held ≡ None → IsCurrent spans does parts.world new before.id (dispatch_on before.default parts.world.global) next) where
+        (stays : IfSome h.held (λ held. (next ≡ h) × (new ≡ parts.world))) (takes : h.held ≡ None → CopiesCurrent spans does parts.world new before.id (dispatch_on before.default parts.world.global) next) where
       slots_are : (line : Scope) → next.held ≡ held_of parts.dispatch line → then.handles ≡ slots_after now.handles (Some (held_of parts.dispatch line)) (Some handle)
       slots_are line is =
           let xs : List (Option HeldSpan) = map held_by parts.handles in
@@ -320,7 +320,7 @@ module _ {S : Type 0} (spans : S → Spans) (views : Views S) (attaches : S → 
           let held_is : next.held ≡ held_of parts.dispatch (s ∷ up) = ap (λ (x : Handle). x.held) mine.0 ∙ is in
           record {
             served = serves_handed t stands _ (s ∷ up) (Some handle) enabled (its_effect t fits (s ∷ up) there) (shows ∙ enabled_is parts.dispatch (s ∷ up) next.held held_is) (ap (λ (w : WorldValue S). w.sites) mine.1)
-                (ap (λ (w : WorldValue S). read_subscriber views.recorded no_recording w parts.dispatch) mine.1) (ap (λ (w : WorldValue S). read_subscriber views.filtered None w parts.dispatch) mine.1) (ap (λ (w : WorldValue S). w.cached) mine.1) (adds_same views parts.world new parts.dispatch mine.1) (slots_are (s ∷ up) held_is) (sites_are t.spans (s ∷ up) (ap (λ (x : Handle). x.site) mine.0 ∙ site_found now t fits parts.handles refl handle h found (s ∷ up) there))
+                (ap (λ (w : WorldValue S). read_subscriber views.recording no_recording w parts.dispatch) mine.1) (ap (λ (w : WorldValue S). read_subscriber views.filter None w parts.dispatch) mine.1) (ap (λ (w : WorldValue S). w.cached) mine.1) (adds_same views parts.world new parts.dispatch mine.1) (slots_are (s ∷ up) held_is) (sites_are t.spans (s ∷ up) (ap (λ (x : Handle). x.site) mine.0 ∙ site_found now t fits parts.handles refl handle h found (s ∷ up) there))
                 (subst (λ (x : Spans). Handed now t x (s ∷ up) (Some handle)) (sym (ap (λ (w : WorldValue S). spans_in spans w parts.dispatch) mine.1)) (handed_on now t fits handle s up there (not_used t fits)));
             count = ap (λ (w : WorldValue S). length w.subscribers) mine.1;
             whole = λ has. subst (λ (w : WorldValue S). Has is_whole w parts.dispatch) (sym mine.1) has;

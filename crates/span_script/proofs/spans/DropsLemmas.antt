@@ -39,12 +39,12 @@ drop_known k next t at place handle line fits there later s some =
 
 module _ {S : Type 0} (spans : S → Spans) (views : Views S) (attaches : S → Bool) (kept : S → ℕ → ℕ → ℕ) (is_whole : S → Type 0) (does : S → SubscriberCall → S → Type 0) (parts : Parts S) (new : WorldValue S) where
   abbrev rec_in : WorldValue S → Recording
-  rec_in world = read_subscriber views.recorded no_recording world parts.dispatch
+  rec_in world = read_subscriber views.recording no_recording world parts.dispatch
 
   abbrev ChainOn : ℕ → Scope → Type 0
   ChainOn at [] = new ≡ parts.world
   ChainOn at (s ∷ up) = ChainChangesPlainData spans attaches kept is_whole parts.world new parts.dispatch s × (new.sites ≡ parts.world.sites) × RecordsChain at (Some s) (spans_in spans parts.world parts.dispatch) (spans_in spans new parts.dispatch) (rec_in parts.world) (rec_in new)
-      × FiltersChain (Some s) (spans_in spans parts.world parts.dispatch) (spans_in spans new parts.dispatch) (read_subscriber views.filtered None parts.world parts.dispatch) (read_subscriber views.filtered None new parts.dispatch) × (new.cached ≡ parts.world.cached) × AddsMeasures (aside_in views parts.world parts.dispatch) (aside_in views new parts.dispatch) []
+      × FiltersChain (Some s) (spans_in spans parts.world parts.dispatch) (spans_in spans new parts.dispatch) (read_subscriber views.filter None parts.world parts.dispatch) (read_subscriber views.filter None new parts.dispatch) × (new.cached ≡ parts.world.cached) × AddsMeasures (aside_in views parts.world parts.dispatch) (aside_in views new parts.dispatch) []
 
   chain_on : (at : ℕ) → ChainsLaw spans views attaches kept is_whole does → (line : Scope) (held : HeldSpan) → held ≡ held_of parts.dispatch line → ReplacedOn (λ id s t. Chain spans does at (Some id) s t) parts.world new held → ChainOn at line
   chain_on at law [] held is did = subst (λ (h : HeldSpan). ReplacedOn (λ id s t. Chain spans does at (Some id) s t) parts.world new h) is did
@@ -89,10 +89,10 @@ module _ {S : Type 0} (spans : S → Spans) (views : Views S) (attaches : S → 
   filter_heard ss (Some f) = ap Some (closes_heard ss f)
 
   chain_heard : (at : ℕ) (line : Scope) → ChainOn at line → (lines : List (Option Scope)) → ((s : ℕ) (up : Scope) → line ≡ s ∷ up → (r : ReleasesChain (Some s) (spans_in spans parts.world parts.dispatch) (spans_in spans new parts.dispatch)) → closed_in (Some s) (spans_in spans parts.world parts.dispatch) (spans_in spans new parts.dispatch) r ≡ closed_of lines line)
-      → read_subscriber views.filtered None new parts.dispatch ≡ option_map (λ f. fold after_filter_hook f (map HookClose (closed_of lines line))) (read_subscriber views.filtered None parts.world parts.dispatch)
-  chain_heard at [] same lines order = ap (λ (w : WorldValue S). read_subscriber views.filtered None w parts.dispatch) same ∙ heard_none (read_subscriber views.filtered None parts.world parts.dispatch)
-  chain_heard at (s ∷ up) shown lines order = shown.3.is ∙ ap (λ (ss : List ℕ). option_map (λ (f : FilterState). fold without_span f ss) (read_subscriber views.filtered None parts.world parts.dispatch)) (order s up refl shown.3.chain)
-      ∙ filter_heard (closed_of lines (s ∷ up)) (read_subscriber views.filtered None parts.world parts.dispatch)
+      → read_subscriber views.filter None new parts.dispatch ≡ option_map (λ f. fold after_filter_hook f (map HookClose (closed_of lines line))) (read_subscriber views.filter None parts.world parts.dispatch)
+  chain_heard at [] same lines order = ap (λ (w : WorldValue S). read_subscriber views.filter None w parts.dispatch) same ∙ heard_none (read_subscriber views.filter None parts.world parts.dispatch)
+  chain_heard at (s ∷ up) shown lines order = shown.3.is ∙ ap (λ (ss : List ℕ). option_map (λ (f : FilterState). fold without_span f ss) (read_subscriber views.filter None parts.world parts.dispatch)) (order s up refl shown.3.chain)
+      ∙ filter_heard (closed_of lines (s ∷ up)) (read_subscriber views.filter None parts.world parts.dispatch)
 
   module _ (law : ChainsLaw spans views attaches kept is_whole does)
       (hs' : List (Option Handle)) (at place handle : ℕ) (h : Handle) (found : slot_at parts.handles handle ≡ Some h) (inv : PipelineInvariant spans views kept is_whole parts) where
@@ -137,7 +137,7 @@ module _ {S : Type 0} (spans : S → Spans) (views : Views S) (attaches : S → 
           refl setup (recording_after (length t.spans) e (rec_in parts.world)).tokens rec_is (later_of then refl setup refl refl refl refl refl refl)
           (λ s some. let left = drop_known now bare t at place handle line.at fits line.there bare_fits s some in known_still now then t e (recording_after (length t.spans) e (rec_in parts.world)).tokens rec_is stands.recording s left.0 left.1)
           (all_same now then t.contexts setup refl refl tokens stands.recording.attached)
-          (record { quiet = refl; before = read_subscriber views.filtered None parts.world parts.dispatch; later = read_subscriber views.filtered None new parts.dispatch; shown_before = refl; shown_later = refl; known = closes_known (closed_of (slice_set t.handles handle None) line.at) (length t.spans); told = chain_heard at line.at chain (slice_set t.handles handle None) order; cached = (chain_kept at line.at chain).cached; aside = record { before = aside_in views parts.world parts.dispatch; later = aside_in views new parts.dispatch; shown_before = refl; shown_later = refl; waits_before = refl; waits_later = refl; adds = (chain_kept at line.at chain).aside } })
+          (record { quiet = refl; before = read_subscriber views.filter None parts.world parts.dispatch; later = read_subscriber views.filter None new parts.dispatch; shown_before = refl; shown_later = refl; known = closes_known (closed_of (slice_set t.handles handle None) line.at) (length t.spans); told = chain_heard at line.at chain (slice_set t.handles handle None) order; cached = (chain_kept at line.at chain).cached; aside = record { before = aside_in views parts.world parts.dispatch; later = aside_in views new parts.dispatch; shown_before = refl; shown_later = refl; waits_before = refl; waits_later = refl; adds = (chain_kept at line.at chain).aside } })
 
       pub keeps_dropped : PipelineInvariant spans views kept is_whole then_parts
       keeps_dropped =

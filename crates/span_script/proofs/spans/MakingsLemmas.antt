@@ -1,6 +1,6 @@
 -- Makings, served.
 use Rattle.std.proofs.Common.{◌≡◌, ℕ, ◌+◌, ◌<◌, ◌≤◌, ◌^◌, List, [], ◌∷◌, ◌++◌, length, Bool, true, false, fold, get_or, Option, Some, None, Ok, option_map, map, refl, sym, ap, subst, ◌∙◌, arith, inl, inr, IfSome, slice_get, ◌≢◌, option_and_then}
-use Rattle.span_script.proofs.Common.{cases_eq, cases_lt, cond-true, cond-false, length-map, length_push, map_push, get_or_past, get_or_push, get_or_append_left, Lane, Parent, Callsite, ValueSet, WorldValue, FilterState, Span, Spans, no_span, span_at, with_hold_of_child, entries_on, parent_on, current_of, SubscriberCall, NewSpan, with_new_span, IsLiveParent, HasFewHolds, AreFew, HasFewHoldsAbove, OneEach, ChangesPlainData, Replaced, read_subscriber, spans_in, kept_in, no_spans, Has, Handle, Makes, MayMake, no_handle, RequestParent, Setup, id_at, name_at, if_span, span_site, Context, KeyValue, empty_context, LayerSettings, SpanData, data_at_making, after_op, Token, parent_source, lane_context, context_from, new_span_data, data_at, with_span_data, Recording, source_of, no_recording, with_start, with_starts, Kind, length_held, holds_other, Scope, MadeSpan, Attached, no_made_span, HookNew, Effect, Tables, recording_after, open_part, span_of_scope, made_span_at, here_at, ◌>>=◌, need, effect_of_call, after_filter_hook, admits_on, lane_in, new_span_data_at, context_around, parent_under, new_effect, span_effect, disabled_effect, scope_at, Fields, all_values, parent_for, HasWhatItNames, MakesSpanOfRequest, MakesSpanOrNothing, LetsThrough, Balanced, named_span, open_guard_by, Views, PipelineState, state_of, lane_value, StandsFor, SpansFit, LanesFit, PipelineInvariant, IsServed, IsScope, held_of, guard_of, held_by, site_by, Parts, parent_in, CallsLaw, SameLaw, aside_in}
+use Rattle.span_script.proofs.Common.{cases_eq, cases_lt, cond-true, cond-false, length-map, length_push, map_push, get_or_past, get_or_push, get_or_append_left, Lane, Parent, Callsite, ValueSet, WorldValue, FilterState, Span, Spans, no_span, span_at, with_hold_of_child, entries_on, parent_on, current_of, SubscriberCall, NewSpan, with_new_span, IsLiveParent, HasFewHolds, AreFew, ParentHasFewHolds, OneEach, ChangesPlainData, Replaced, read_subscriber, spans_in, kept_in, no_spans, Has, Handle, Makes, MayMake, no_handle, RequestParent, Setup, id_at, name_at, if_span, span_site, Context, KeyValue, empty_context, LayerSettings, SpanData, data_at_making, after_op, Token, parent_source, lane_context, context_from, new_span_data, data_at, with_span_data, Recording, id_if_on, no_recording, with_start, with_start_if_some, Kind, length_held, holds_other, Scope, MadeSpan, Attached, no_made_span, HookNew, Effect, Tables, recording_after, open_part, span_of_scope, made_span_at, here_at, ◌>>=◌, need, effect_of_call, after_filter_hook, admits_on, lane_in, new_span_data_at, context_around, parent_under, new_effect, span_effect, disabled_effect, parent_scope, Fields, all_values, parent_for, HasWhatItNames, MakesSpanOfRequest, MakesSpanOrNothing, IsGateAnswer, Balanced, span_of_handle, open_guard_by, Views, PipelineState, state_of, lane_value, StandsFor, SpansFit, LanesFit, PipelineInvariant, IsServed, IsScope, held_of, guard_of, held_by, site_by, Parts, parent_in, CallsLaw, SameLaw, aside_in}
 use Rattle.span_handles.proofs.ChangedSubscriberLemmas.{seen_before}
 use Rattle.span_script.specs.declared.reply.Reply.TheVariants as reply
 use Rattle.span_script.specs.declared.request.Call.TheVariants as call
@@ -114,13 +114,13 @@ site_is sites site callsite is = by_site (slice_get sites site) is
 -- the settings are those of the open part, whatever started
 told_settings : (setup : Setup) (t : Tables) (at place : ℕ) (callsite : Callsite) (values : ValueSet) (q : Parent) (r : Recording) → open_part r ≡ t.recording
     → new_span_data callsite (lane_in (here_at setup t at place)) values
-    (context_from (with_starts (parent_source r.settings.activation q (current_of (t.entries (here_at setup t at place).lane))) at t.recording).spans (context_around (t.contexts (here_at setup t at place).lane) q) (parent_source r.settings.activation q (current_of (t.entries (here_at setup t at place).lane)))) at r.settings r.counting
+    (context_from (with_start_if_some (parent_source r.settings.activation q (current_of (t.entries (here_at setup t at place).lane))) at t.recording).spans (context_around (t.contexts (here_at setup t at place).lane) q) (parent_source r.settings.activation q (current_of (t.entries (here_at setup t at place).lane)))) at r.settings r.counting
     ≡ new_span_data_at (here_at (record setup { layer = r.settings }) t at place) callsite values q
 told_settings setup t at place callsite values q r is =
     let source = parent_source r.settings.activation q (current_of (t.entries (here_at setup t at place).lane)) in
-    let c = context_from (with_starts source at t.recording).spans (context_around (t.contexts (here_at setup t at place).lane) q) source in
+    let c = context_from (with_start_if_some source at t.recording).spans (context_around (t.contexts (here_at setup t at place).lane) q) source in
     ap (λ (x : LayerSettings). new_span_data callsite (lane_in (here_at setup t at place)) values c at x r.counting) (ap (λ (x : Recording). x.settings) is ∙ sym (entry_settings source at t.recording))
-    ∙ ap (λ (b : Bool). new_span_data callsite (lane_in (here_at setup t at place)) values c at (with_starts source at t.recording).settings b) (ap (λ (x : Recording). x.counting) is ∙ sym (entry_counting source at t.recording))
+    ∙ ap (λ (b : Bool). new_span_data callsite (lane_in (here_at setup t at place)) values c at (with_start_if_some source at t.recording).settings b) (ap (λ (x : Recording). x.counting) is ∙ sym (entry_counting source at t.recording))
 
 -- the recording with a span more
 abbrev made_record : ℕ → SpanData → Recording → Recording
@@ -129,17 +129,17 @@ made_record n told x = record x { spans = with_span_data n told x.spans }
 -- what was made is what the effect makes
 made_is : (setup : Setup) (t : Tables) (at place : ℕ) (callsite c : Callsite) (values : ValueSet) (p q : Parent) (before : Lane) (r : Recording) (current : Option ℕ) → open_part r ≡ t.recording → setup.layer ≡ r.settings → c ≡ callsite → p ≡ q
     → before.id ≡ (here_at setup t at place).lane → before.name ≡ name_at setup.names place → current ≡ current_of (t.entries (here_at setup t at place).lane) → map (λ (x : ℕ × Context). x.1) before.contexts.live ≡ map (λ (a : Attached). a.context) (t.contexts (here_at setup t at place).lane)
-    → new_span_data c before values (context_from (with_starts (parent_source r.settings.activation p current) at r).spans (lane_context before p) (parent_source r.settings.activation p current)) at r.settings r.counting
+    → new_span_data c before values (context_from (with_start_if_some (parent_source r.settings.activation p current) at r).spans (lane_context before p) (parent_source r.settings.activation p current)) at r.settings r.counting
     ≡ new_span_data callsite (lane_in (here_at setup t at place)) values
-    (context_from (with_starts (parent_source r.settings.activation q (current_of (t.entries (here_at setup t at place).lane))) at t.recording).spans (context_around (t.contexts (here_at setup t at place).lane) q) (parent_source r.settings.activation q (current_of (t.entries (here_at setup t at place).lane)))) at r.settings r.counting
+    (context_from (with_start_if_some (parent_source r.settings.activation q (current_of (t.entries (here_at setup t at place).lane))) at t.recording).spans (context_around (t.contexts (here_at setup t at place).lane) q) (parent_source r.settings.activation q (current_of (t.entries (here_at setup t at place).lane)))) at r.settings r.counting
 made_is setup t at place callsite c values p q before r current recorded layer c_is p_is id name current_is contexts =
     let source = λ (x : Parent) (o : Option ℕ). parent_source r.settings.activation x o in
-    ap (λ (x : Callsite). new_span_data x before values (context_from (with_starts (source p current) at r).spans (lane_context before p) (source p current)) at r.settings r.counting) c_is
-    ∙ ap (λ (x : Parent). new_span_data callsite before values (context_from (with_starts (source x current) at r).spans (lane_context before x) (source x current)) at r.settings r.counting) p_is
-    ∙ ap (λ (o : Option ℕ). new_span_data callsite before values (context_from (with_starts (source q o) at r).spans (lane_context before q) (source q o)) at r.settings r.counting) current_is
+    ap (λ (x : Callsite). new_span_data x before values (context_from (with_start_if_some (source p current) at r).spans (lane_context before p) (source p current)) at r.settings r.counting) c_is
+    ∙ ap (λ (x : Parent). new_span_data callsite before values (context_from (with_start_if_some (source x current) at r).spans (lane_context before x) (source x current)) at r.settings r.counting) p_is
+    ∙ ap (λ (o : Option ℕ). new_span_data callsite before values (context_from (with_start_if_some (source q o) at r).spans (lane_context before q) (source q o)) at r.settings r.counting) current_is
     ∙ ap (λ (xs : List (ℕ × SpanData)). new_span_data callsite before values (context_from xs (lane_context before q) (source q (current_of (t.entries (here_at setup t at place).lane)))) at r.settings r.counting) (starts_open (source q (current_of (t.entries (here_at setup t at place).lane))) at r t.recording recorded)
-    ∙ ap (λ (x : Context). new_span_data callsite before values (context_from (with_starts (source q (current_of (t.entries (here_at setup t at place).lane))) at t.recording).spans x (source q (current_of (t.entries (here_at setup t at place).lane)))) at r.settings r.counting) (around_is q before (t.contexts (here_at setup t at place).lane) contexts)
-    ∙ ap (λ (first : List KeyValue). after_op (data_at_making (record { name = callsite.name; parent = context_from (with_starts (source q (current_of (t.entries (here_at setup t at place).lane))) at t.recording).spans (context_around (t.contexts (here_at setup t at place).lane) q) (source q (current_of (t.entries (here_at setup t at place).lane))); made_at = at; first = first; counting = r.counting; inactivity = r.settings.inactivity })) at (ops.Update (span_update callsite values r.settings))) (first_same callsite before (lane_in (here_at setup t at place)) r.settings id name)
+    ∙ ap (λ (x : Context). new_span_data callsite before values (context_from (with_start_if_some (source q (current_of (t.entries (here_at setup t at place).lane))) at t.recording).spans x (source q (current_of (t.entries (here_at setup t at place).lane)))) at r.settings r.counting) (around_is q before (t.contexts (here_at setup t at place).lane) contexts)
+    ∙ ap (λ (first : List KeyValue). after_op (data_at_making (record { name = callsite.name; parent = context_from (with_start_if_some (source q (current_of (t.entries (here_at setup t at place).lane))) at t.recording).spans (context_around (t.contexts (here_at setup t at place).lane) q) (source q (current_of (t.entries (here_at setup t at place).lane))); made_at = at; first = first; counting = r.counting; inactivity = r.settings.inactivity })) at (ops.Update (span_update callsite values r.settings))) (first_same callsite before (lane_in (here_at setup t at place)) r.settings id name)
 
 module _ {S : Type 0} (spans : S → Spans) (views : Views S) (attaches : S → Bool) (kept : S → ℕ → ℕ → ℕ) (is_whole : S → Type 0) (parts : Parts S) (new : WorldValue S) where
   module _ (does : S → SubscriberCall → S → Type 0) (law : CallsLaw spans views attaches kept is_whole does)
@@ -157,7 +157,7 @@ module _ {S : Type 0} (spans : S → Spans) (views : Views S) (attaches : S → 
     place_id = id_at now.setup.ids place
 
     abbrev r : Recording
-    r = read_subscriber views.recorded no_recording parts.world parts.dispatch
+    r = read_subscriber views.recording no_recording parts.world parts.dispatch
 
     next_number : (t : Tables) → Fits now t → number ≡ length t.handles
     next_number t fits = many ∙ sym (length-map parts.handles held_by) ∙ ap length fits.handle_slots ∙ length-map t.handles (option_map (held_of parts.dispatch))
@@ -192,7 +192,7 @@ module _ {S : Type 0} (spans : S → Spans) (views : Views S) (attaches : S → 
             let contexts : map (λ (x : ℕ × Context). x.1) before.contexts.live ≡ map (λ (a : Attached). a.context) (t.contexts place_id) =
             (own_fit r.settings.activation parts.lanes place before before within seen_is refl inv.lanes.differ r.tokens parts.contexts.attaches t.contexts stands.recording.attached).contexts ∙ ap (λ (l : ℕ). map (λ (a : Attached). a.context) (t.contexts l)) id_is' in
             let told : SpanData = new_span_data_at (here_at now.setup t at place) callsite values q in
-            let raw : SpanData = new_span_data did.callsite before values (context_from (with_starts (parent_source r.settings.activation p current) at r).spans (lane_context before p) (parent_source r.settings.activation p current)) at r.settings r.counting in
+            let raw : SpanData = new_span_data did.callsite before values (context_from (with_start_if_some (parent_source r.settings.activation p current) at r).spans (lane_context before p) (parent_source r.settings.activation p current)) at r.settings r.counting in
             let told_is : raw ≡ told =
             made_is now.setup t at place callsite did.callsite values p q before r current stands.recording.recorded refl callsite_is up.parent_is id_is' (name_seen parts.lanes place before within seen_is) current_is contexts
             ∙ told_settings now.setup t at place callsite values q r stands.recording.recorded in
@@ -201,20 +201,20 @@ module _ {S : Type 0} (spans : S → Spans) (views : Views S) (attaches : S → 
             let source = parent_source r.settings.activation p current in
             let source_is : source ≡ parent_source r.settings.activation q (current_of (t.entries place_id)) = ap (λ (x : Parent). parent_source r.settings.activation x current) up.parent_is ∙ ap (λ (o : Option ℕ). parent_source r.settings.activation q o) current_is in
             let viewed = law.viewed parts.world new parts.dispatch _ made_call in
-            let rec_is : read_subscriber views.recorded no_recording new parts.dispatch ≡ record (recording_after (length t.spans) e r) { tokens = r.tokens } =
-            viewed.0 ∙ ap (λ (n : ℕ). with_starts (source_of r.settings.eager n) at (made_record n raw (with_starts source at r))) fits.made.count
-            ∙ ap (λ (x : SpanData). with_starts (source_of r.settings.eager (length t.spans)) at (made_record (length t.spans) x (with_starts source at r))) told_is
-            ∙ ap (λ (x : Recording). with_starts (source_of r.settings.eager (length t.spans)) at (made_record (length t.spans) told x)) (sym (starts_fold source at r) ∙ ap (λ (o : Option ℕ). fold (λ r s. with_start s at r) r (option_to_list o)) source_is)
+            let rec_is : read_subscriber views.recording no_recording new parts.dispatch ≡ record (recording_after (length t.spans) e r) { tokens = r.tokens } =
+            viewed.0 ∙ ap (λ (n : ℕ). with_start_if_some (id_if_on r.settings.eager n) at (made_record n raw (with_start_if_some source at r))) fits.made.count
+            ∙ ap (λ (x : SpanData). with_start_if_some (id_if_on r.settings.eager (length t.spans)) at (made_record (length t.spans) x (with_start_if_some source at r))) told_is
+            ∙ ap (λ (x : Recording). with_start_if_some (id_if_on r.settings.eager (length t.spans)) at (made_record (length t.spans) told x)) (sym (starts_fold source at r) ∙ ap (λ (o : Option ℕ). fold (λ r s. with_start s at r) r (option_to_list o)) source_is)
             ∙ ap (λ (ts : List Token). record (recording_after (length t.spans) e r) { tokens = ts }) (recorded_tokens (length t.spans) e r) in
             let settings = ap (λ (x : Recording). x.settings) rec_is ∙ recorded_settings (length t.spans) e r in
             let sites = ap (λ (w : WorldValue S). w.sites) did.made.others in
-            let setup : then.setup ≡ now.setup = ap (λ x. record now.setup { sites = x; layer = (read_subscriber views.recorded no_recording new parts.dispatch).settings }) sites ∙ ap (λ x. record now.setup { layer = x }) settings in
-            let known : (s : ℕ) → 0 < (span_at then.spans.made s).holds → data_at s (read_subscriber views.recorded no_recording new parts.dispatch).spans ≢ None = λ s some. elim (cases_eq s (length t.spans)) [
+            let setup : then.setup ≡ now.setup = ap (λ x. record now.setup { sites = x; layer = (read_subscriber views.recording no_recording new parts.dispatch).settings }) sites ∙ ap (λ x. record now.setup { layer = x }) settings in
+            let known : (s : ℕ) → 0 < (span_at then.spans.made s).holds → data_at s (read_subscriber views.recording no_recording new parts.dispatch).spans ≢ None = λ s some. elim (cases_eq s (length t.spans)) [
               | inl here ↦ (λ none. recorded_known (length t.spans) s e r refl (subst (λ (k : ℕ). data_at k (with_span_data (length t.spans) told (fold (λ r s. with_start s at r) r e.starts).spans) ≢ None) (sym here) (new_known (length t.spans) told (fold (λ r s. with_start s at r) r e.starts).spans)) (ap (λ (x : Recording). data_at s x.spans) (sym rec_is) ∙ none))
               | inr other ↦ known_still now then t e r.tokens rec_is stands.recording s refl (new_live sp.made (span_of_scope up.up) site s up.live (λ e. other (e ∙ length_held sp.made (span_of_scope up.up) ∙ fits.made.count)) (subst (λ (x : Spans). 0 < (span_at x.made s).holds) step some))
             ] in
             serve now then t e _ (reply.Made true number) stands
-            (ap (λ o. need what.Site o >>= (λ callsite. need what.Handle (scope_at t place_id under) >>= (λ up. need what.Field (all_values callsite fields) >>= (λ v. Ok (new_effect (here_at now.setup t at place) site callsite v under up))))) sited
+            (ap (λ o. need what.Site o >>= (λ callsite. need what.Handle (parent_scope t place_id under) >>= (λ up. need what.Field (all_values callsite fields) >>= (λ v. Ok (new_effect (here_at now.setup t at place) site callsite v under up))))) sited
             ∙ ap (λ o. need what.Handle o >>= (λ up. need what.Field (all_values callsite fields) >>= (λ v. Ok (new_effect (here_at now.setup t at place) site callsite v under up)))) up.is
             ∙ ap (λ o. need what.Field o >>= (λ v. Ok (new_effect (here_at now.setup t at place) site callsite v under up.up))) valued
             ∙ ap Ok (cond-true {A = Effect} (admits_on now.setup t place_id callsite) _ _ (through t stands)))
@@ -229,7 +229,7 @@ module _ {S : Type 0} (spans : S → Spans) (views : Views S) (attaches : S → 
               attaches_are = refl;
               named_are = refl;
               moment_is = refl;
-              balanced = subst (λ (x : Spans). Balanced x (map named_span (t.handles ++ Some line ∷ [])) (map (open_guard_by ids) t.guards) t.entries) (sym step) (balanced_new ids sp t.handles t.guards t.entries fits.balanced up.up site (length t.spans) up.live fits.made.count);
+              balanced = subst (λ (x : Spans). Balanced x (map span_of_handle (t.handles ++ Some line ∷ [])) (map (open_guard_by ids) t.guards) t.entries) (sym step) (balanced_new ids sp t.handles t.guards t.entries fits.balanced up.up site (length t.spans) up.live fits.made.count);
               made_fit = subst (λ (x : Spans). SpansFit x.made (t.spans ++ new_made ∷ [])) (sym step) (made_pushed (with_hold_of_child sp.made (span_of_scope up.up)) t.spans up.up site told (made_child sp.made t.spans (span_of_scope up.up) fits.made up.live));
               new_made = (up.up, refl, up.scope);
               new_site = got_within parts.world.sites site callsite (site_is parts.world.sites site callsite sited);
@@ -237,19 +237,19 @@ module _ {S : Type 0} (spans : S → Spans) (views : Views S) (attaches : S → 
               still = still_named_more t.guards t.handles line fits.still;
               few = (let a = length_push t.handles (Some line) in let b = length_push t.spans new_made in let f = fits.few in omega (arith, a, b, f));
               few_holds = λ s. (let a = new_most sp.made (span_of_scope up.up) site s (length t.handles + length t.guards) (fits.few_holds s) in let e = ap (λ (x : Spans). (span_at x.made s).holds) step in let l = length_push t.handles (Some line) in omega (arith, a, e, l));
-              one = subst (λ (x : Spans). OneEach x.lanes) (sym step) fits.one_lane;
+              one = subst (λ (x : Spans). OneEach x.lanes) (sym step) fits.one_row;
             }))
             known
             (all_same now then t.contexts setup refl refl (ap (λ (x : Recording). x.tokens) rec_is) stands.recording.attached)
             (record {
               quiet = refl;
-              before = read_subscriber views.filtered None parts.world parts.dispatch;
-              later = read_subscriber views.filtered None new parts.dispatch;
+              before = read_subscriber views.filter None parts.world parts.dispatch;
+              later = read_subscriber views.filter None new parts.dispatch;
               shown_before = refl;
               shown_later = refl;
               known = (refl, sym (length_push t.spans new_made));
-              told = viewed.1 ∙ ap (λ (n : ℕ). option_map (λ (f : FilterState). after_filter_hook f (HookNew n did.callsite values)) (read_subscriber views.filtered None parts.world parts.dispatch)) fits.made.count
-                  ∙ ap (λ (c : Callsite). option_map (λ (f : FilterState). after_filter_hook f (HookNew (length t.spans) c values)) (read_subscriber views.filtered None parts.world parts.dispatch)) callsite_is;
+              told = viewed.1 ∙ ap (λ (n : ℕ). option_map (λ (f : FilterState). after_filter_hook f (HookNew n did.callsite values)) (read_subscriber views.filter None parts.world parts.dispatch)) fits.made.count
+                  ∙ ap (λ (c : Callsite). option_map (λ (f : FilterState). after_filter_hook f (HookNew (length t.spans) c values)) (read_subscriber views.filter None parts.world parts.dispatch)) callsite_is;
               cached = ap (λ (w : WorldValue S). w.cached) did.made.others;
               aside = record { before = aside_in views parts.world parts.dispatch; later = aside_in views new parts.dispatch; shown_before = refl; shown_later = refl; waits_before = refl; waits_later = refl; adds = viewed.2 };
             })
@@ -267,11 +267,11 @@ module _ {S : Type 0} (spans : S → Spans) (views : Views S) (attaches : S → 
             let sp = spans_in spans parts.world parts.dispatch in
             let ids = now.setup.ids in
             let step : spans_in spans new parts.dispatch ≡ sp = ap (λ (w : WorldValue S). spans_in spans w parts.dispatch) same in
-            let rec_is : read_subscriber views.recorded no_recording new parts.dispatch ≡ r = ap (λ (w : WorldValue S). read_subscriber views.recorded no_recording w parts.dispatch) same in
-            let setup : then.setup ≡ now.setup = ap (λ (w : WorldValue S). record now.setup { sites = w.sites; layer = (read_subscriber views.recorded no_recording w parts.dispatch).settings }) same in
+            let rec_is : read_subscriber views.recording no_recording new parts.dispatch ≡ r = ap (λ (w : WorldValue S). read_subscriber views.recording no_recording w parts.dispatch) same in
+            let setup : then.setup ≡ now.setup = ap (λ (w : WorldValue S). record now.setup { sites = w.sites; layer = (read_subscriber views.recording no_recording w parts.dispatch).settings }) same in
             let e : Effect = disabled_effect (here_at now.setup t at place) in
             serve now then t e _ (reply.Made false number) stands
-            (ap (λ o. need what.Site o >>= (λ callsite. need what.Handle (scope_at t place_id under) >>= (λ up. need what.Field (all_values callsite fields) >>= (λ v. Ok (new_effect (here_at now.setup t at place) site callsite v under up))))) sited
+            (ap (λ o. need what.Site o >>= (λ callsite. need what.Handle (parent_scope t place_id under) >>= (λ up. need what.Field (all_values callsite fields) >>= (λ v. Ok (new_effect (here_at now.setup t at place) site callsite v under up))))) sited
             ∙ ap (λ o. need what.Handle o >>= (λ up. need what.Field (all_values callsite fields) >>= (λ v. Ok (new_effect (here_at now.setup t at place) site callsite v under up)))) up.is
             ∙ ap (λ o. need what.Field o >>= (λ v. Ok (new_effect (here_at now.setup t at place) site callsite v under up.up))) valued
             ∙ ap Ok (cond-false {A = Effect} (admits_on now.setup t place_id callsite) _ _ (through t stands)))
@@ -286,7 +286,7 @@ module _ {S : Type 0} (spans : S → Spans) (views : Views S) (attaches : S → 
               attaches_are = refl;
               named_are = refl;
               moment_is = refl;
-              balanced = subst (λ (x : Spans). Balanced x (map named_span (t.handles ++ Some [] ∷ [])) (map (open_guard_by ids) t.guards) t.entries) (sym step) (balanced_decline ids sp t.handles t.guards t.entries fits.balanced);
+              balanced = subst (λ (x : Spans). Balanced x (map span_of_handle (t.handles ++ Some [] ∷ [])) (map (open_guard_by ids) t.guards) t.entries) (sym step) (balanced_decline ids sp t.handles t.guards t.entries fits.balanced);
               made_fit = subst (λ (x : Spans). SpansFit x.made t.spans) (sym step) fits.made;
               new_made = tt;
               new_site = tt;
@@ -294,11 +294,11 @@ module _ {S : Type 0} (spans : S → Spans) (views : Views S) (attaches : S → 
               still = still_named_more t.guards t.handles [] fits.still;
               few = (let l = length_push t.handles (Some []) in let f = fits.few in omega (arith, l, f));
               few_holds = λ s. (let f = fits.few_holds s in let e = ap (λ (x : Spans). (span_at x.made s).holds) step in let l = length_push t.handles (Some []) in omega (arith, f, e, l));
-              one = subst (λ (x : Spans). OneEach x.lanes) (sym step) fits.one_lane;
+              one = subst (λ (x : Spans). OneEach x.lanes) (sym step) fits.one_row;
             }))
             (λ s some. known_still now then t e r.tokens rec_is stands.recording s refl (subst (λ (x : Spans). 0 < (span_at x.made s).holds) step some))
             (all_same now then t.contexts setup refl refl (ap (λ (x : Recording). x.tokens) rec_is) stands.recording.attached)
-            (record { quiet = refl; before = read_subscriber views.filtered None parts.world parts.dispatch; later = read_subscriber views.filtered None new parts.dispatch; shown_before = refl; shown_later = refl; told = ap (λ (w : WorldValue S). read_subscriber views.filtered None w parts.dispatch) same ∙ heard_none (read_subscriber views.filtered None parts.world parts.dispatch); known = refl; cached = ap (λ (w : WorldValue S). w.cached) same; aside = record { before = aside_in views parts.world parts.dispatch; later = aside_in views new parts.dispatch; shown_before = refl; shown_later = refl; waits_before = refl; waits_later = refl; adds = adds_same views parts.world new parts.dispatch same } })
+            (record { quiet = refl; before = read_subscriber views.filter None parts.world parts.dispatch; later = read_subscriber views.filter None new parts.dispatch; shown_before = refl; shown_later = refl; told = ap (λ (w : WorldValue S). read_subscriber views.filter None w parts.dispatch) same ∙ heard_none (read_subscriber views.filter None parts.world parts.dispatch); known = refl; cached = ap (λ (w : WorldValue S). w.cached) same; aside = record { before = aside_in views parts.world parts.dispatch; later = aside_in views new parts.dispatch; shown_before = refl; shown_later = refl; waits_before = refl; waits_later = refl; adds = adds_same views parts.world new parts.dispatch same } })
 
         pub keeps_declined : PipelineInvariant spans views kept is_whole then_parts
         keeps_declined = kept_served spans views kept is_whole parts then_parts inv _ _ (serves_declined inv.tables inv.stands) refl (ap (λ (w : WorldValue S). length w.subscribers) same) (λ has. subst (λ (w : WorldValue S). Has is_whole w parts.dispatch) (sym same) has)
@@ -306,7 +306,7 @@ module _ {S : Type 0} (spans : S → Spans) (views : Views S) (attaches : S → 
 
     -- let through or not, as a request names it
     module _ (under : RequestParent) (parent : Option Parent) (found : parent ≡ parent_for (map held_by parts.handles) under) (site : ℕ) (fields : Fields) (made : Handle × Bool) (one : hs' ≡ parts.handles ++ Some made.0 ∷ [])
-        (before : Lane) (within : place < length parts.lanes) (seen_is : before ≡ get_or parts.lanes place before) (gate : LetsThrough (read_subscriber views.filtered None parts.world parts.dispatch) parts.world.sites before.id site made.1)
+        (before : Lane) (within : place < length parts.lanes) (seen_is : before ≡ get_or parts.lanes place before) (gate : IsGateAnswer (read_subscriber views.filter None parts.world parts.dispatch) parts.world.sites before.id site made.1)
         (did : MakesSpanOfRequest spans does parts.world new before at parent site fields parts.dispatch made) where
       abbrev named : HasWhatItNames (span_site parts.world.sites site) parent fields
       named = did.named
@@ -350,7 +350,7 @@ module _ {S : Type 0} (spans : S → Spans) (views : Views S) (kept : S → ℕ 
         whole = inv.whole;
         live = has_by spans no_spans parts.world parts.dispatch (λ (x : Spans). IsLiveParent x.made p) (find_up (state_of spans views parts) inv.tables inv.stands.fits 0 under p found).live_place;
         few = has_by spans no_spans parts.world parts.dispatch (λ (x : Spans). AreFew x) (let c = inv.stands.fits.made.count in let f = inv.stands.fits.few in omega (arith, a, c, f, few_handles));
-        few_holds = has_by spans no_spans parts.world parts.dispatch (λ (x : Spans). HasFewHoldsAbove x lane p)
+        few_holds = has_by spans no_spans parts.world parts.dispatch (λ (x : Spans). ParentHasFewHolds x lane p)
             (few_if (parent_on (entries_on lane (spans_in spans parts.world parts.dispatch).lanes) p) (spans_in spans parts.world parts.dispatch).made (λ s. let f = inv.stands.fits.few_holds s in omega (arith, f, a, b, few_handles, few_guards)));
       }
 

@@ -1,6 +1,6 @@
 -- A handle more, of a span that is there or of a new one.
 use Rattle.std.proofs.Common.{◌≡◌, ℕ, ◌+◌, ◌<◌, List, [], ◌∷◌, ◌++◌, length, cond, count_by, Option, Some, None, option_map, map, refl, sym, ap, subst, ◌∙◌, arith, inl, inr, ◌==◌, IfSome}
-use Rattle.span_script.proofs.Common.{cases_eq, cases_lt, cond-true, cond-false, length_push, map_push, get_or_past, get_or_push, get_or_append_left, get_or-map, Span, Spans, no_span, span_at, with_hold, entered_lane_count, is_open_child, is_child_of, open_child_count, entries_on, current_of, parent_on, with_new_span, IsLive, IsLiveParent, Parent, count_push, made_if_held, keeps_children, holds_set, holds_other, current_in, first_if_in, as_parent, Balanced, OpenGuard, names_span, named_span, open_guard_by, RequestParent, Scope, ScopeGuard, Tables, slot_at, span_of_scope, scope_of, scope_at, parent_under, parent_for, PipelineState, IsScope, held_of}
+use Rattle.span_script.proofs.Common.{cases_eq, cases_lt, cond-true, cond-false, length_push, map_push, get_or_past, get_or_push, get_or_append_left, get_or-map, Span, Spans, no_span, span_at, with_hold, entered_lane_count, is_open_child, is_child_of, open_child_count, entries_on, current_of, parent_on, with_new_span, IsLive, IsLiveParent, Parent, count_push, made_if_held, keeps_children, holds_set, holds_other, current_in, first_if_in, as_parent, Balanced, OpenGuard, names_span, span_of_handle, open_guard_by, RequestParent, Scope, ScopeGuard, Tables, slot_at, span_of_scope, scope_of, parent_scope, parent_under, parent_for, PipelineState, IsScope, held_of}
 use Rattle.std.proofs.lemmas.Bool.{eq-eqb, ne_eqb}
 use Rattle.std.proofs.lemmas.List.{length-set}
 use Rattle.trace_base.specs.declared.span.Parent.TheVariants as parent
@@ -50,16 +50,16 @@ abbrev pub spans_held : Spans → Scope → Spans
 spans_held spans [] = spans
 spans_held spans (s ∷ up) = record spans { made = with_hold spans.made s }
 
-pub balanced_clone : (ids : List ℕ) (spans : Spans) (hs : List (Option Scope)) (gs : List (Option ScopeGuard)) (es : ℕ → List ℕ) → Balanced spans (map named_span hs) (map (open_guard_by ids) gs) es → (handle : ℕ) (line : Scope) → slot_at hs handle ≡ Some line
-    → Balanced (spans_held spans line) (map named_span (hs ++ Some line ∷ [])) (map (open_guard_by ids) gs) es
-balanced_clone ids spans hs gs es fits handle [] there = subst (λ (xs : List (Option ℕ)). Balanced spans xs (map (open_guard_by ids) gs) es) (sym (map_push named_span hs (Some []))) (quiet_handle spans (map named_span hs) (map (open_guard_by ids) gs) es fits)
+pub balanced_clone : (ids : List ℕ) (spans : Spans) (hs : List (Option Scope)) (gs : List (Option ScopeGuard)) (es : ℕ → List ℕ) → Balanced spans (map span_of_handle hs) (map (open_guard_by ids) gs) es → (handle : ℕ) (line : Scope) → slot_at hs handle ≡ Some line
+    → Balanced (spans_held spans line) (map span_of_handle (hs ++ Some line ∷ [])) (map (open_guard_by ids) gs) es
+balanced_clone ids spans hs gs es fits handle [] there = subst (λ (xs : List (Option ℕ)). Balanced spans xs (map (open_guard_by ids) gs) es) (sym (map_push span_of_handle hs (Some []))) (quiet_handle spans (map span_of_handle hs) (map (open_guard_by ids) gs) es fits)
 balanced_clone ids spans hs gs es fits handle (s ∷ up) there =
-    subst (λ (xs : List (Option ℕ)). Balanced (record spans { made = with_hold spans.made s }) xs (map (open_guard_by ids) gs) es) (sym (map_push named_span hs (Some (s ∷ up))))
-    (another_handle spans (map named_span hs) (map (open_guard_by ids) gs) es fits s (fits_live spans (map named_span hs) (map (open_guard_by ids) gs) es fits handle s (named_slot hs handle (s ∷ up) there)))
+    subst (λ (xs : List (Option ℕ)). Balanced (record spans { made = with_hold spans.made s }) xs (map (open_guard_by ids) gs) es) (sym (map_push span_of_handle hs (Some (s ∷ up))))
+    (another_handle spans (map span_of_handle hs) (map (open_guard_by ids) gs) es fits s (fits_live spans (map span_of_handle hs) (map (open_guard_by ids) gs) es fits handle s (named_slot hs handle (s ∷ up) there)))
 
-pub balanced_decline : (ids : List ℕ) (spans : Spans) (hs : List (Option Scope)) (gs : List (Option ScopeGuard)) (es : ℕ → List ℕ) → Balanced spans (map named_span hs) (map (open_guard_by ids) gs) es
-    → Balanced spans (map named_span (hs ++ Some [] ∷ [])) (map (open_guard_by ids) gs) es
-balanced_decline ids spans hs gs es fits = subst (λ (xs : List (Option ℕ)). Balanced spans xs (map (open_guard_by ids) gs) es) (sym (map_push named_span hs (Some []))) (quiet_handle spans (map named_span hs) (map (open_guard_by ids) gs) es fits)
+pub balanced_decline : (ids : List ℕ) (spans : Spans) (hs : List (Option Scope)) (gs : List (Option ScopeGuard)) (es : ℕ → List ℕ) → Balanced spans (map span_of_handle hs) (map (open_guard_by ids) gs) es
+    → Balanced spans (map span_of_handle (hs ++ Some [] ∷ [])) (map (open_guard_by ids) gs) es
+balanced_decline ids spans hs gs es fits = subst (λ (xs : List (Option ℕ)). Balanced spans xs (map (open_guard_by ids) gs) es) (sym (map_push span_of_handle hs (Some []))) (quiet_handle spans (map span_of_handle hs) (map (open_guard_by ids) gs) es fits)
 
 -- a span made, under one that has room for its hold
 pushed : (x : Spans) (hs : List (Option ℕ)) (above : Option ℕ) (site : ℕ) → ((q : ℕ) → (span_at x.made q).holds ≡ count_by (names_span q) hs + entered_lane_count x.lanes q + open_child_count x.made q + cond (is_child_of q above) 1 0)
@@ -115,16 +115,16 @@ balanced_new_own spans hs gs es fits (Some p) site live =
       borrowed = λ n g there. still_borrowed hs (Some (length spans.made)) g.handle g.span (fits.borrowed n g there);
     }
 
-pub balanced_new : (ids : List ℕ) (spans : Spans) (hs : List (Option Scope)) (gs : List (Option ScopeGuard)) (es : ℕ → List ℕ) → Balanced spans (map named_span hs) (map (open_guard_by ids) gs) es → (up : Scope) (site n : ℕ) → IfSome (span_of_scope up) (λ p. IsLive spans.made p) → length spans.made ≡ n
-    → Balanced (with_new_span spans (span_of_scope up) site) (map named_span (hs ++ Some (n ∷ up) ∷ [])) (map (open_guard_by ids) gs) es
+pub balanced_new : (ids : List ℕ) (spans : Spans) (hs : List (Option Scope)) (gs : List (Option ScopeGuard)) (es : ℕ → List ℕ) → Balanced spans (map span_of_handle hs) (map (open_guard_by ids) gs) es → (up : Scope) (site n : ℕ) → IfSome (span_of_scope up) (λ p. IsLive spans.made p) → length spans.made ≡ n
+    → Balanced (with_new_span spans (span_of_scope up) site) (map span_of_handle (hs ++ Some (n ∷ up) ∷ [])) (map (open_guard_by ids) gs) es
 balanced_new ids spans hs gs es fits up site n live is =
-    subst (λ (xs : List (Option ℕ)). Balanced (with_new_span spans (span_of_scope up) site) xs (map (open_guard_by ids) gs) es) (ap (λ (k : ℕ). map named_span hs ++ Some k ∷ []) is ∙ sym (map_push named_span hs (Some (n ∷ up))))
-    (balanced_new_own spans (map named_span hs) (map (open_guard_by ids) gs) es fits (span_of_scope up) site live)
+    subst (λ (xs : List (Option ℕ)). Balanced (with_new_span spans (span_of_scope up) site) xs (map (open_guard_by ids) gs) es) (ap (λ (k : ℕ). map span_of_handle hs ++ Some k ∷ []) is ∙ sym (map_push span_of_handle hs (Some (n ∷ up))))
+    (balanced_new_own spans (map span_of_handle hs) (map (open_guard_by ids) gs) es fits (span_of_scope up) site live)
 
 -- the place that the code found is the line that the request names
 pub record FoundUp (k : PipelineState) (t : Tables) (lane : ℕ) (under : RequestParent) (p : Parent) : Type 0 where
   pub up : Scope
-  pub is : scope_at t lane under ≡ Some up
+  pub is : parent_scope t lane under ≡ Some up
   pub parent_is : p ≡ parent_under under up
   pub scope : IsScope t.spans up
   pub on : parent_on (entries_on lane k.spans.lanes) p ≡ span_of_scope up
@@ -157,7 +157,7 @@ find_up k t fits lane (request_parent.Under handle) p is = by_slot (slot_at t.ha
     by_line : (line : Scope) → slot_at t.handles handle ≡ Some line → as_parent (held_of k.dispatch line) ≡ p → FoundUp k t lane (request_parent.Under handle) p
     by_line [] there e = subst (FoundUp k t lane (request_parent.Under handle)) e (record { up = []; is = there; parent_is = refl; scope = tt; on = refl; live_place = tt; live = tt })
     by_line (s ∷ up) there e =
-        let live = fits_live k.spans (map named_span t.handles) (map (open_guard_by k.setup.ids) t.guards) t.entries fits.balanced handle s (named_slot t.handles handle (s ∷ up) there) in
+        let live = fits_live k.spans (map span_of_handle t.handles) (map (open_guard_by k.setup.ids) t.guards) t.entries fits.balanced handle s (named_slot t.handles handle (s ∷ up) there) in
         subst (FoundUp k t lane (request_parent.Under handle)) e (record { up = s ∷ up; is = there; parent_is = refl; scope = fits.scopes handle (s ∷ up) there; on = refl; live_place = live; live = live })
 
     by_slot : (o : Option Scope) → slot_at t.handles handle ≡ o → option_map as_parent (option_map (held_of k.dispatch) o) ≡ Some p → FoundUp k t lane (request_parent.Under handle) p

@@ -1,6 +1,6 @@
 -- A span has a hold exactly while some unspent handle names it or a descendant.
 use Rattle.std.proofs.Common.{◌≡◌, ℕ, zero, suc, ◌+◌, ◌<◌, ◌≤◌, List, [], ◌∷◌, length, Bool, true, false, cond, count_by, get_or, slice_set, Option, Some, None, map, refl, sym, ap, subst, ◌∙◌, arith, inl, inr, ◌⊎◌, ◌==◌, ◌||◌, ◌&&◌, not, nat_lt, filter}
-use Rattle.span_script.proofs.Common.{cases_eq, cases_lt, cases_Bool, cond-true, cond-false, or_cases, or_right, and_parts, get_or-le-sum_by, sum_by-cons, Span, no_span, span_at, entries_on, is_in, times_in, entered_lane_count, is_child_of, is_open_child, Entries, has_entry, IsLive, count_cons, counted_if_any, made_if_held, has_lane, OneEach, OpenGuard, names_span, guards_span, named_span, open_guard_by, Scope, MadeSpan, Tables, after_effect, slot_at, span_of_scope, made_span_at, Here, holds, is_open, closed_of, drop_effect, PipelineState, IsScope, parent_in, list_any}
+use Rattle.span_script.proofs.Common.{cases_eq, cases_lt, cases_Bool, cond-true, cond-false, or_cases, or_right, and_parts, get_or-le-sum_by, sum_by-cons, Span, no_span, span_at, entries_on, is_in, times_in, entered_lane_count, is_child_of, is_open_child, Entries, has_entry, IsLive, count_cons, counted_if_any, made_if_held, has_lane, OneEach, OpenGuard, names_span, guards_span, span_of_handle, open_guard_by, Scope, MadeSpan, Tables, after_effect, slot_at, span_of_scope, made_span_at, Here, holds_span, is_open, closed_of, drop_effect, PipelineState, IsScope, parent_in, list_any}
 use Rattle.std.proofs.lemmas.Bool.{eq-eqb, eqb-true, ne_eqb, lt-ltb, le-ltb, true≢false}
 use Rattle.span_script.proofs.entries.EntriesFitLemmas.{fits_live}
 use Rattle.span_script.proofs.steps.SlotsLemmas.{named_within}
@@ -42,23 +42,23 @@ pick p (x ∷ xs) d some =
           (suc more.0, (let w = more.1 in omega (arith, w)), more.2))
     ]
 
-names_holds : (s : ℕ) (o : Option Scope) → names_span s (named_span o) ≡ true → holds s o ≡ true
+names_holds : (s : ℕ) (o : Option Scope) → names_span s (span_of_handle o) ≡ true → holds_span s o ≡ true
 names_holds s None e = absurd (true≢false (sym e))
 names_holds s (Some []) e = absurd (true≢false (sym e))
 names_holds s (Some (x ∷ up)) e = or_left_true (x == s) (is_in s up) e
 
-named_open : (hs : List (Option Scope)) (s : ℕ) → 0 < count_by (names_span s) (map named_span hs) → is_open hs s ≡ true
+named_open : (hs : List (Option Scope)) (s : ℕ) → 0 < count_by (names_span s) (map span_of_handle hs) → is_open hs s ≡ true
 named_open [] s some = absurd (omega (arith, some))
 named_open (o ∷ hs) s some =
-    elim (cases_Bool (names_span s (named_span o))) [
-      | inl passes ↦ or_left_true (holds s o) (is_open hs s) (names_holds s o passes)
-      | inr fails ↦ or_right (holds s o) (is_open hs s) (named_open hs s (let c = count_cons (names_span s) (named_span o) (map named_span hs) in let z = cond-false {A = ℕ} (names_span s (named_span o)) 1 0 fails in omega (arith, c, z, some)))
+    elim (cases_Bool (names_span s (span_of_handle o))) [
+      | inl passes ↦ or_left_true (holds_span s o) (is_open hs s) (names_holds s o passes)
+      | inr fails ↦ or_right (holds_span s o) (is_open hs s) (named_open hs s (let c = count_cons (names_span s) (span_of_handle o) (map span_of_handle hs) in let z = cond-false {A = ℕ} (names_span s (span_of_handle o)) 1 0 fails in omega (arith, c, z, some)))
     ]
 
 pub slot_open : (hs : List (Option Scope)) (n s : ℕ) (line : Scope) → slot_at hs n ≡ Some line → is_in s line ≡ true → is_open hs s ≡ true
 slot_open [] n s line there inside = absurd (cc there)
-slot_open (o ∷ hs) zero s line there inside = or_left_true (holds s o) (is_open hs s) (ap (holds s) there ∙ inside)
-slot_open (o ∷ hs) (suc n) s line there inside = or_right (holds s o) (is_open hs s) (slot_open hs n s line there inside)
+slot_open (o ∷ hs) zero s line there inside = or_left_true (holds_span s o) (is_open hs s) (ap (holds_span s) there ∙ inside)
+slot_open (o ∷ hs) (suc n) s line there inside = or_right (holds_span s o) (is_open hs s) (slot_open hs n s line there inside)
 
 pub open_slot : (hs : List (Option Scope)) (s : ℕ) → is_open hs s ≡ true → (n : ℕ) × (line : Scope) × (slot_at hs n ≡ Some line) × (is_in s line ≡ true)
 open_slot [] s passes = absurd (true≢false (sym passes))
@@ -106,14 +106,14 @@ module _ (k : PipelineState) (t : Tables) (fits : Fits k t) where
   live_if_open : (s : ℕ) → is_open t.handles s ≡ true → IsLive k.spans.made s
   live_if_open s passes =
       let at = open_slot t.handles s passes in
-      all_live at.1 (fits.scopes at.0 at.1 at.2) (λ p e. fits_live k.spans (map named_span t.handles) (map (open_guard_by k.setup.ids) t.guards) t.entries fits.balanced at.0 p (get_or-map-named at.0 at.1 at.2 ∙ e)) s at.3
+      all_live at.1 (fits.scopes at.0 at.1 at.2) (λ p e. fits_live k.spans (map span_of_handle t.handles) (map (open_guard_by k.setup.ids) t.guards) t.entries fits.balanced at.0 p (get_or-map-named at.0 at.1 at.2 ∙ e)) s at.3
     where
-      get_or-map-named : (n : ℕ) (line : Scope) → slot_at t.handles n ≡ Some line → slot_at (map named_span t.handles) n ≡ span_of_scope line
+      get_or-map-named : (n : ℕ) (line : Scope) → slot_at t.handles n ≡ Some line → slot_at (map span_of_handle t.handles) n ≡ span_of_scope line
       get_or-map-named n line there = named_slot t.handles n line there
 
   entered_open : (s : ℕ) → 0 < entered_lane_count k.spans.lanes s → is_open t.handles s ≡ true
   entered_open s some =
-      let at = first_found k.spans.lanes fits.one_lane s some in
+      let at = first_found k.spans.lanes fits.one_row s some in
       let counted = counted_if_any (λ x. x == s) (entries_on at.0 k.spans.lanes) at.2 in
       let same = ap (λ (xs : List ℕ). times_in s xs) (fits.balanced.entries at.0) in
       let g = fits.balanced.guarded at.0 s in
@@ -125,15 +125,15 @@ module _ (k : PipelineState) (t : Tables) (fits : Fits k t) where
       by_guard lane n (Some g) there is =
           let here = eqb-true g.span s (and_parts (g.lane == lane) (g.span == s) is).1 in
           let b = fits.balanced.borrowed n g there in
-          let at = named_counts (map named_span t.handles) g.handle s (b ∙ ap Some here) in
-          let c = get_or-le-sum_by (λ (o : Option ℕ). cond {A = ℕ} (names_span s o) 1 0) (map named_span t.handles) g.handle None at.0 in
+          let at = named_counts (map span_of_handle t.handles) g.handle s (b ∙ ap Some here) in
+          let c = get_or-le-sum_by (λ (o : Option ℕ). cond {A = ℕ} (names_span s o) 1 0) (map span_of_handle t.handles) g.handle None at.0 in
           named_open t.handles s (let one = at.1 in omega (arith, one, c))
 
   open_if_live : (n s : ℕ) → length t.spans ≤ s + n → IsLive k.spans.made s → is_open t.handles s ≡ true
   open_if_live zero s past live = absurd (let w = made_if_held k.spans.made s live in let c = fits.made.count in omega (arith, past, w, c))
   open_if_live (suc n) s past live =
       let h = fits.balanced.holds s in
-      elim (cases_lt 0 (count_by (names_span s) (map named_span t.handles))) [
+      elim (cases_lt 0 (count_by (names_span s) (map span_of_handle t.handles))) [
         | inl named ↦ named_open t.handles s named
         | inr none ↦ elim (cases_lt 0 (entered_lane_count k.spans.lanes s)) [
           | inl entered ↦ entered_open s entered
@@ -173,8 +173,8 @@ module _ (k : PipelineState) (t : Tables) (fits : Fits k t) where
 
 pub set_open : (hs : List (Option Scope)) (n s : ℕ) (line : Scope) → slot_at hs n ≡ Some line → is_open hs s ≡ (is_in s line || is_open (slice_set hs n None) s)
 set_open [] n s line there = absurd (cc there)
-set_open (o ∷ hs) zero s line there = ap (λ (x : Option Scope). holds s x || is_open hs s) there
-set_open (o ∷ hs) (suc n) s line there = ap (λ b. holds s o || b) (set_open hs n s line there) ∙ or_turn (holds s o) (is_in s line) (is_open (slice_set hs n None) s)
+set_open (o ∷ hs) zero s line there = ap (λ (x : Option Scope). holds_span s x || is_open hs s) there
+set_open (o ∷ hs) (suc n) s line there = ap (λ b. holds_span s o || b) (set_open hs n s line there) ∙ or_turn (holds_span s o) (is_in s line) (is_open (slice_set hs n None) s)
   where
     or_turn : (a b c : Bool) → (a || (b || c)) ≡ (b || (a || c))
     or_turn true true c = refl
@@ -201,10 +201,10 @@ in_filter p (x ∷ line) s = elim (cases_Bool (p x)) [
     gone (inr e) f = rw e refl
 
 -- the spans of the effect are those that had a hold and have none
-pub closes_them : (k next : PipelineState) (here : Here) (handle : ℕ) (line : Scope) → Fits k here.script → slot_at here.script.handles handle ≡ Some line → Fits next (after_effect here.script (drop_effect here handle line)) → (s : ℕ)
-    → is_in s (closed_of (slice_set here.script.handles handle None) line) ≡ (nat_lt 0 (span_at k.spans.made s).holds && not (nat_lt 0 (span_at next.spans.made s).holds))
+pub closes_them : (k next : PipelineState) (here : Here) (handle : ℕ) (line : Scope) → Fits k here.tables → slot_at here.tables.handles handle ≡ Some line → Fits next (after_effect here.tables (drop_effect here handle line)) → (s : ℕ)
+    → is_in s (closed_of (slice_set here.tables.handles handle None) line) ≡ (nat_lt 0 (span_at k.spans.made s).holds && not (nat_lt 0 (span_at next.spans.made s).holds))
 closes_them k next here handle line fits there later s =
-    let t = here.script in
+    let t = here.tables in
     let was = opens k t fits s in
     let is = opens next (after_effect t (drop_effect here handle line)) later s in
     in_filter (λ x. not (is_open (slice_set t.handles handle None) x)) line s ∙ only (is_in s line) (is_open (slice_set t.handles handle None) s)

@@ -1,6 +1,6 @@
 -- Holds, entries and guards after what disabled handles do, and the numbers of holds.
 use Rattle.std.proofs.Common.{◌≡◌, ℕ, Bool, zero, suc, ◌+◌, ◌≤◌, List, [], ◌∷◌, ◌++◌, length, set, Option, Some, None, map, refl, sym, ap, subst, ◌∙◌, arith, inl, inr, ◌==◌, slice_set}
-use Rattle.span_script.proofs.Common.{cases_eq, cases_Bool, cases_lt, cond-true, cond-false, map_push, map-set, get_or_past, get_or-map, Span, Spans, no_span, span_at, is_in, times_in, entries_on, with_hold, span_without_hold, without_hold, with_span_entry, with_span_exit, count_push, less_holds, holds_set, holds_other, id_at, Balanced, OpenGuard, guards_span, named_span, open_guard_on, open_guard_by, Scope, ScopeGuard, slot_at, span_of_scope, with_lane_entries, with_entry_on, with_exit_on}
+use Rattle.span_script.proofs.Common.{cases_eq, cases_Bool, cases_lt, cond-true, cond-false, map_push, map-set, get_or_past, get_or-map, Span, Spans, no_span, span_at, is_in, times_in, entries_on, with_hold, span_without_hold, without_hold, with_span_entry, with_span_exit, count_push, less_holds, holds_set, holds_other, id_at, Balanced, OpenGuard, guards_span, span_of_handle, open_guard_on, open_guard_by, Scope, ScopeGuard, slot_at, span_of_scope, with_lane_entries, with_entry_on, with_exit_on}
 use Rattle.std.proofs.lemmas.List.{length-set}
 use Rattle.span_script.proofs.entries.EntriesFitLemmas.{fits_enter, fits_exit}
 use Rattle.span_script.proofs.steps.SlotsLemmas.{named_push}
@@ -15,8 +15,8 @@ quiet_guard spans hs gs es fits = record {
 }
 
 -- the slot that a handle's line gives
-pub named_slot : (hs : List (Option Scope)) (handle : ℕ) (line : Scope) → slot_at hs handle ≡ Some line → slot_at (map named_span hs) handle ≡ span_of_scope line
-named_slot hs handle line there = get_or-map named_span hs handle None ∙ ap named_span there
+pub named_slot : (hs : List (Option Scope)) (handle : ℕ) (line : Scope) → slot_at hs handle ≡ Some line → slot_at (map span_of_handle hs) handle ≡ span_of_scope line
+named_slot hs handle line there = get_or-map span_of_handle hs handle None ∙ ap span_of_handle there
 
 pub opened_slot : (ids : List ℕ) (gs : List (Option ScopeGuard)) (n : ℕ) (g : ScopeGuard) → slot_at gs n ≡ Some g → slot_at (map (open_guard_by ids) gs) n ≡ open_guard_on g.handle (id_at ids g.place) g.scope
 opened_slot ids gs n g there = get_or-map (open_guard_by ids) gs n None ∙ ap (open_guard_by ids) there
@@ -30,13 +30,13 @@ abbrev pub spans_exited : Spans → Scope → ℕ → Spans
 spans_exited spans [] lane = spans
 spans_exited spans (s ∷ up) lane = with_span_exit spans s lane
 
-pub balanced_enter : (ids : List ℕ) (spans : Spans) (hs : List (Option Scope)) (gs : List (Option ScopeGuard)) (es : ℕ → List ℕ) → Balanced spans (map named_span hs) (map (open_guard_by ids) gs) es → (handle place : ℕ) (owns : Bool) (line : Scope) → slot_at hs handle ≡ Some line
-    → Balanced (spans_entered spans line (id_at ids place)) (map named_span hs) (map (open_guard_by ids) (gs ++ Some (record { handle = handle; place = place; owns = owns; scope = line }) ∷ [])) (with_entry_on es (id_at ids place) (span_of_scope line))
+pub balanced_enter : (ids : List ℕ) (spans : Spans) (hs : List (Option Scope)) (gs : List (Option ScopeGuard)) (es : ℕ → List ℕ) → Balanced spans (map span_of_handle hs) (map (open_guard_by ids) gs) es → (handle place : ℕ) (owns : Bool) (line : Scope) → slot_at hs handle ≡ Some line
+    → Balanced (spans_entered spans line (id_at ids place)) (map span_of_handle hs) (map (open_guard_by ids) (gs ++ Some (record { handle = handle; place = place; owns = owns; scope = line }) ∷ [])) (with_entry_on es (id_at ids place) (span_of_scope line))
 balanced_enter ids spans hs gs es fits handle place owns [] there =
-    subst (λ (xs : List (Option OpenGuard)). Balanced spans (map named_span hs) xs es) (sym (map_push (open_guard_by ids) gs (Some (record { handle = handle; place = place; owns = owns; scope = [] })))) (quiet_guard spans (map named_span hs) (map (open_guard_by ids) gs) es fits)
+    subst (λ (xs : List (Option OpenGuard)). Balanced spans (map span_of_handle hs) xs es) (sym (map_push (open_guard_by ids) gs (Some (record { handle = handle; place = place; owns = owns; scope = [] })))) (quiet_guard spans (map span_of_handle hs) (map (open_guard_by ids) gs) es fits)
 balanced_enter ids spans hs gs es fits handle place owns (s ∷ up) there =
-    subst (λ (xs : List (Option OpenGuard)). Balanced (with_span_entry spans s (id_at ids place)) (map named_span hs) xs (with_lane_entries es (id_at ids place) (es (id_at ids place) ++ s ∷ []))) (sym (map_push (open_guard_by ids) gs (Some (record { handle = handle; place = place; owns = owns; scope = s ∷ up }))))
-    (fits_enter spans (map named_span hs) (map (open_guard_by ids) gs) es fits handle s (id_at ids place) (named_slot hs handle (s ∷ up) there))
+    subst (λ (xs : List (Option OpenGuard)). Balanced (with_span_entry spans s (id_at ids place)) (map span_of_handle hs) xs (with_lane_entries es (id_at ids place) (es (id_at ids place) ++ s ∷ []))) (sym (map_push (open_guard_by ids) gs (Some (record { handle = handle; place = place; owns = owns; scope = s ∷ up }))))
+    (fits_enter spans (map span_of_handle hs) (map (open_guard_by ids) gs) es fits handle s (id_at ids place) (named_slot hs handle (s ∷ up) there))
 
 -- a span written has as many holds as are written
 pub held_most : (made : List Span) (id q : ℕ) → (span_at (with_hold made id) q).holds ≤ (span_at made q).holds + 1
@@ -81,11 +81,11 @@ set_none [] n e = refl
 set_none (x ∷ xs) zero e = ap (λ y. y ∷ xs) (sym e)
 set_none (x ∷ xs) (suc n) e = ap (λ ys. x ∷ ys) (set_none xs n e)
 
-pub balanced_exit : (ids : List ℕ) (spans : Spans) (hs : List (Option Scope)) (gs : List (Option ScopeGuard)) (es : ℕ → List ℕ) → Balanced spans (map named_span hs) (map (open_guard_by ids) gs) es
+pub balanced_exit : (ids : List ℕ) (spans : Spans) (hs : List (Option Scope)) (gs : List (Option ScopeGuard)) (es : ℕ → List ℕ) → Balanced spans (map span_of_handle hs) (map (open_guard_by ids) gs) es
     → (n : ℕ) (g : ScopeGuard) → slot_at gs n ≡ Some g → (line : Scope) → g.scope ≡ line
-    → Balanced (spans_exited spans line (id_at ids g.place)) (map named_span hs) (map (open_guard_by ids) (slice_set gs n None)) (with_exit_on es (id_at ids g.place) (span_of_scope line))
+    → Balanced (spans_exited spans line (id_at ids g.place)) (map span_of_handle hs) (map (open_guard_by ids) (slice_set gs n None)) (with_exit_on es (id_at ids g.place) (span_of_scope line))
 balanced_exit ids spans hs gs es fits n g there [] is =
-    subst (λ (xs : List (Option OpenGuard)). Balanced spans (map named_span hs) xs es) (sym (map-set (open_guard_by ids) gs n None ∙ set_none (map (open_guard_by ids) gs) n (opened_slot ids gs n g there ∙ ap (open_guard_on g.handle (id_at ids g.place)) is))) fits
+    subst (λ (xs : List (Option OpenGuard)). Balanced spans (map span_of_handle hs) xs es) (sym (map-set (open_guard_by ids) gs n None ∙ set_none (map (open_guard_by ids) gs) n (opened_slot ids gs n g there ∙ ap (open_guard_on g.handle (id_at ids g.place)) is))) fits
 balanced_exit ids spans hs gs es fits n g there (s ∷ up) is =
-    subst (λ (xs : List (Option OpenGuard)). Balanced (with_span_exit spans s (id_at ids g.place)) (map named_span hs) xs (with_exit_on es (id_at ids g.place) (Some s))) (sym (map-set (open_guard_by ids) gs n None))
-    (fits_exit spans (map named_span hs) (map (open_guard_by ids) gs) es fits n (record { handle = g.handle; span = s; lane = id_at ids g.place }) (opened_slot ids gs n g there ∙ ap (open_guard_on g.handle (id_at ids g.place)) is))
+    subst (λ (xs : List (Option OpenGuard)). Balanced (with_span_exit spans s (id_at ids g.place)) (map span_of_handle hs) xs (with_exit_on es (id_at ids g.place) (Some s))) (sym (map-set (open_guard_by ids) gs n None))
+    (fits_exit spans (map span_of_handle hs) (map (open_guard_by ids) gs) es fits n (record { handle = g.handle; span = s; lane = id_at ids g.place }) (opened_slot ids gs n g there ∙ ap (open_guard_on g.handle (id_at ids g.place)) is))

@@ -1,6 +1,6 @@
 -- What a call on the subscriber of a handle makes of the plain data.
 use Rattle.std.proofs.Common.{◌≡◌, ℕ, ◌<◌, [], ◌∷◌, length, Bool, Option, None, option_map, refl, sym, ap, subst, slice_get}
-use Rattle.span_script.proofs.Common.{option_map_or, WorldValue, Spans, SubscriberCall, HasOwnHold, Has, ChangesPlainData, read_subscriber, spans_in, no_recording, RecordsCallBy, filter_after, measures_of_call, HeldSpan, HasOn, IsKnown, ReplacedOn, IsThere, Scope, Views, held_of, AddsMeasures, aside_in, CallsLaw}
+use Rattle.span_script.proofs.Common.{option_map_or, WorldValue, Spans, SubscriberCall, HasUnboundHold, Has, ChangesPlainData, read_subscriber, spans_in, no_recording, RecordsCallBy, filter_after, measures_of_call, HeldSpan, HasOn, IsKnown, ReplacedOn, IsThere, Scope, Views, held_of, AddsMeasures, aside_in, CallsLaw}
 
 -- what is read of a subscriber that is there
 pub has_by : {S A : Type 0} (read : S → A) (none : A) (world : WorldValue S) (dispatch : ℕ) (P : A → Type 0) → P (option_map_or read (slice_get world.subscribers dispatch) none) → Has (λ s. P (read s)) world dispatch
@@ -11,8 +11,8 @@ module _ {S : Type 0} (spans : S → Spans) (views : Views S) (attaches : S → 
   abbrev pub ShownOn : WorldValue S → WorldValue S → ℕ → Scope → (ℕ → SubscriberCall) → Type 0
   ShownOn old new dispatch [] call = new ≡ old
   ShownOn old new dispatch (s ∷ up) call = ChangesPlainData spans attaches kept is_whole old new dispatch (call s) × (new.sites ≡ old.sites)
-      × RecordsCallBy (read_subscriber views.counting_filter None old dispatch) (spans_in spans old dispatch) (read_subscriber views.recorded no_recording old dispatch) (call s) (read_subscriber views.recorded no_recording new dispatch)
-      × (read_subscriber views.filtered None new dispatch ≡ option_map (filter_after (spans_in spans old dispatch) (call s)) (read_subscriber views.filtered None old dispatch)) × (new.cached ≡ old.cached)
+      × RecordsCallBy (read_subscriber views.counting_filter None old dispatch) (spans_in spans old dispatch) (read_subscriber views.recording no_recording old dispatch) (call s) (read_subscriber views.recording no_recording new dispatch)
+      × (read_subscriber views.filter None new dispatch ≡ option_map (filter_after (spans_in spans old dispatch) (call s)) (read_subscriber views.filter None old dispatch)) × (new.cached ≡ old.cached)
       × AddsMeasures (aside_in views old dispatch) (aside_in views new dispatch) (measures_of_call (call s))
 
   pub shown_on : (does : S → SubscriberCall → S → Type 0) → CallsLaw spans views attaches kept is_whole does
@@ -33,6 +33,6 @@ has_on P world dispatch [] held is has = subst (λ (h : HeldSpan). HasOn P world
 has_on P world dispatch (s ∷ up) held is has = subst (λ (h : HeldSpan). HasOn P world h) (sym is) (has s up refl)
 
 pub known_on : {S : Type 0} (spans : S → Spans) (world : WorldValue S) (dispatch : ℕ) (line : Scope) (held : HeldSpan) → held ≡ held_of dispatch line → dispatch < length world.subscribers
-    → ((s : ℕ) (up : Scope) → line ≡ s ∷ up → Has (λ x. HasOwnHold (spans x) s) world dispatch) → IsKnown spans world held
+    → ((s : ℕ) (up : Scope) → line ≡ s ∷ up → Has (λ x. HasUnboundHold (spans x) s) world dispatch) → IsKnown spans world held
 known_on spans world dispatch [] held is there own = subst (λ (h : HeldSpan). IsKnown spans world h) (sym is) tt
 known_on spans world dispatch (s ∷ up) held is there own = subst (λ (h : HeldSpan). IsKnown spans world h) (sym is) (there, own s up refl)

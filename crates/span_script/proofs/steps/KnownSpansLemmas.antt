@@ -1,5 +1,5 @@
 -- Spans that are known to the layer stay so until they close.
-use Rattle.span_script.proofs.Common.{list_any, cases_Bool, cond-true, cond-false, or_parts, Context, Op, SpanData, data_at, knows_span, with_span_data, start_context, Recording, with_start, with_starts, with_applied, with_close, without_closed, data_after, data_started, MadeSpan, SpanOp, Effect, with_span_made, recording_after}
+use Rattle.span_script.proofs.Common.{list_any, cases_Bool, cond-true, cond-false, or_parts, Context, Op, SpanData, data_at, knows_span, with_span_data, start_context, Recording, with_start, with_start_if_some, with_applied, with_close, with_span_finished, data_after, data_after_start, MadeSpan, SpanOp, Effect, with_span_made, recording_after}
 use Rattle.std.proofs.Common.{◌≡◌, ℕ, List, [], ◌∷◌, fold, Bool, true, false, Option, Some, None, refl, sym, ap, ◌∙◌, inl, inr, ◌==◌, ◌||◌, ◌≢◌}
 use Rattle.std.proofs.lemmas.Bool.{eq-eqb, true≢false}
 use Rattle.otel_layer.proofs.FoundSpanLemmas.{told_at_op, told_at_start, told_at_removed}
@@ -12,7 +12,7 @@ after_none false at op o e = e
 after_none true at op None e = refl
 after_none true at op (Some told) e = absurd (cc e)
 
-started_none : (o : Option Context) (b : Bool) (n at : ℕ) (x : Option SpanData) → data_started o b n at x ≡ None → x ≡ None
+started_none : (o : Option Context) (b : Bool) (n at : ℕ) (x : Option SpanData) → data_after_start o b n at x ≡ None → x ≡ None
 started_none None b n at x e = e
 started_none (Some under) b n at x e = after_none b at _ x e
 
@@ -40,7 +40,7 @@ made_known : (n q : ℕ) (o : Option MadeSpan) (r : Recording) → IsKnown q r �
 made_known n q None r known = known
 made_known n q (Some m) r known = more_known q n m.made_with r.spans known
 
-closed_known : (o : Option SpanData) (s at q : ℕ) (r : Recording) → q ≢ s → IsKnown q r → IsKnown q (without_closed o s at r)
+closed_known : (o : Option SpanData) (s at q : ℕ) (r : Recording) → q ≢ s → IsKnown q r → IsKnown q (with_span_finished o s at r)
 closed_known None s at q r apart known = known
 closed_known (Some told) s at q r apart known = λ none. known (sym (told_at_removed s q r.spans apart) ∙ none)
 
@@ -61,13 +61,13 @@ closes_known at q (s ∷ ss) r out known =
     let parts = or_parts (s == q) (list_any (λ x. x == q) ss) out in
     closes_known at q ss (with_close s at r) parts.1 (close_known s at q r (λ e. true≢false (sym (eq-eqb s q (sym e)) ∙ parts.0)) known)
 
-begins_known : (o : Option ℕ) (at q : ℕ) (r : Recording) → IsKnown q r → IsKnown q (with_starts o at r)
+begins_known : (o : Option ℕ) (at q : ℕ) (r : Recording) → IsKnown q r → IsKnown q (with_start_if_some o at r)
 begins_known None at q r known = known
 begins_known (Some s) at q r known = starts_known at q (s ∷ []) r known
 
 -- what was known and doesn't close, and what is made
 pub recorded_known : (n q : ℕ) (e : Effect) (r : Recording) → list_any (λ x. x == q) e.closes ≡ false → IsKnown q (with_span_made n e.new_span (fold (λ r s. with_start s e.at r) r e.starts)) → IsKnown q (recording_after n e r)
-recorded_known n q e r out known = closes_known e.at q e.closes _ out (ops_known e.at q e.ops _ (begins_known e.begins e.at q _ known))
+recorded_known n q e r out known = closes_known e.at q e.closes _ out (ops_known e.at q e.ops _ (begins_known e.new_span_start e.at q _ known))
 
 pub still_known : (n q : ℕ) (e : Effect) (r : Recording) → list_any (λ x. x == q) e.closes ≡ false → IsKnown q r → IsKnown q (recording_after n e r)
 still_known n q e r out known = recorded_known n q e r out (made_known n q e.new_span _ (starts_known e.at q e.starts r known))

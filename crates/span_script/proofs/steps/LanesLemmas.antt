@@ -1,6 +1,6 @@
 -- Lanes, and what every pipeline keeps.
 use Rattle.std.proofs.Common.{◌≡◌, ℕ, Bool, false, zero, suc, ◌<◌, ◌≤◌, List, [], ◌∷◌, length, count_by, get_or, set, Option, Some, None, map, refl, sym, ap, subst, ◌∙◌, arith, inl, inr, Result, Ok, Err, OnErr, ◌==◌}
-use Rattle.span_script.proofs.Common.{cases_eq, cond-true, cond-false, length-map, map-set, Lane, WorldValue, Spans, attached_as, AreAttached, KeepsAttached, Has, KeepsPlainData, read_subscriber, spans_in, kept_in, Handle, HeldSpan, ReplacedOn, KeepsLaneButRoom, Guard, AttachGuard, no_recording, Scope, slot_at, id_at, name_at, Views, PipelineState, state_of, LaneValue, lane_value, no_lane_value, lane_at, held_by, LanesFit, PipelineInvariant, held_of, StandsFor, Parts, AddsMeasures, SameLaw, aside_in}
+use Rattle.span_script.proofs.Common.{cases_eq, cond-true, cond-false, length-map, map-set, Lane, WorldValue, Spans, attached_count, AreAttached, TracksAttached, Has, KeepsPlainData, read_subscriber, spans_in, kept_in, Handle, HeldSpan, ReplacedOn, KeepsLaneButRoom, Guard, AttachGuard, no_recording, Scope, slot_at, id_at, name_at, Views, PipelineState, state_of, LaneValue, lane_value, no_lane_value, lane_at, held_by, LanesFit, PipelineInvariant, held_of, StandsFor, Parts, AddsMeasures, SameLaw, aside_in}
 use Rattle.std.proofs.lemmas.Bool.{eq-eqb, ne_eqb}
 use Rattle.trace_base.specs.Gate.{IsInWorld, dispatch_on}
 use Rattle.span_handles.specs.Handles.{HasIf}
@@ -60,7 +60,7 @@ are_attached dispatch kept lanes n before within is fits number =
 
 -- what is kept on a lane that was written, and on the others
 pub lanes_after : (dispatch : ℕ) (kept now : ℕ → ℕ → ℕ) (lanes : List Lane) (n : ℕ) (before later : Lane) → n < length lanes → before ≡ get_or lanes n before → LanesFit dispatch kept (map lane_value lanes) → later.id ≡ before.id → later.default ≡ before.default
-    → ((number : ℕ) → now before.id number ≤ attached_as number later) → ((lane number : ℕ) → (before.id ≡ lane → ⊥) → now lane number ≡ kept lane number) → LanesFit dispatch now (map lane_value (set lanes n later))
+    → ((number : ℕ) → now before.id number ≤ attached_count number later) → ((lane number : ℕ) → (before.id ≡ lane → ⊥) → now lane number ≡ kept lane number) → LanesFit dispatch now (map lane_value (set lanes n later))
 lanes_after dispatch kept now lanes n before later within is fits same own most others =
     let ls = map lane_value lanes in
     let ls' = map lane_value (set lanes n later) in
@@ -114,19 +114,19 @@ pub own_there : {S : Type 0} (world : WorldValue S) (dispatch : ℕ) (own : Opti
 own_there world dispatch own is there = subst (λ (o : Option ℕ). IsInWorld world o) (sym is) there
 
 -- where a call keeps what it attached
-pub lanes_step : (dispatch : ℕ) (kept now : ℕ → ℕ → ℕ) (lanes : List Lane) (n : ℕ) (before later : Lane) → n < length lanes → before ≡ get_or lanes n before → LanesFit dispatch kept (map lane_value lanes) → later.id ≡ before.id → later.default ≡ before.default → KeepsAttached kept before later now
+pub lanes_step : (dispatch : ℕ) (kept now : ℕ → ℕ → ℕ) (lanes : List Lane) (n : ℕ) (before later : Lane) → n < length lanes → before ≡ get_or lanes n before → LanesFit dispatch kept (map lane_value lanes) → later.id ≡ before.id → later.default ≡ before.default → TracksAttached kept before later now
     → LanesFit dispatch now (map lane_value (set lanes n later))
 lanes_step dispatch kept now lanes n before later within is fits same own keeps = lanes_after dispatch kept now lanes n before later within is fits same own
     (λ number. (
     let k = keeps before.id number in
     let still = are_attached dispatch kept lanes n before within is fits number in
-    let a = cond-true {A = ℕ} (before.id == before.id) (attached_as number before) 0 (eq-eqb before.id before.id refl) in
-    let b = cond-true {A = ℕ} (later.id == before.id) (attached_as number later) 0 (eq-eqb later.id before.id same) in
+    let a = cond-true {A = ℕ} (before.id == before.id) (attached_count number before) 0 (eq-eqb before.id before.id refl) in
+    let b = cond-true {A = ℕ} (later.id == before.id) (attached_count number later) 0 (eq-eqb later.id before.id same) in
     omega (arith, k, still, a, b)))
     (λ lane number apart. (
     let k = keeps lane number in
-    let a = cond-false {A = ℕ} (before.id == lane) (attached_as number before) 0 (ne_eqb before.id lane apart) in
-    let b = cond-false {A = ℕ} (later.id == lane) (attached_as number later) 0 (ne_eqb later.id lane (λ e. apart (sym same ∙ e))) in
+    let a = cond-false {A = ℕ} (before.id == lane) (attached_count number before) 0 (ne_eqb before.id lane apart) in
+    let b = cond-false {A = ℕ} (later.id == lane) (attached_count number later) 0 (ne_eqb later.id lane (λ e. apart (sym same ∙ e))) in
     omega (arith, k, a, b)))
 
 pub own_lane : {S : Type 0} (spans : S → Spans) (views : Views S) (kept : S → ℕ → ℕ → ℕ) (is_whole : S → Type 0) (parts : Parts S) → PipelineInvariant spans views kept is_whole parts → (n : ℕ) (before : Lane) → n < length parts.lanes → before ≡ get_or parts.lanes n before → before.default ≡ Some parts.dispatch
@@ -135,7 +135,7 @@ own_lane spans views kept is_whole parts inv n before within is = lane_served pa
 module _ {S : Type 0} (spans : S → Spans) (views : Views S) (attaches : S → Bool) (kept : S → ℕ → ℕ → ℕ) (is_whole : S → Type 0) where
   abbrev pub AlikeOn : WorldValue S → WorldValue S → ℕ → Scope → Type 0
   AlikeOn old new dispatch [] = new ≡ old
-  AlikeOn old new dispatch (s ∷ up) = KeepsPlainData spans attaches kept is_whole old new dispatch × (new.sites ≡ old.sites) × (read_subscriber views.recorded no_recording new dispatch ≡ read_subscriber views.recorded no_recording old dispatch) × (read_subscriber views.filtered None new dispatch ≡ read_subscriber views.filtered None old dispatch) × (new.cached ≡ old.cached) × AddsMeasures (aside_in views old dispatch) (aside_in views new dispatch) []
+  AlikeOn old new dispatch (s ∷ up) = KeepsPlainData spans attaches kept is_whole old new dispatch × (new.sites ≡ old.sites) × (read_subscriber views.recording no_recording new dispatch ≡ read_subscriber views.recording no_recording old dispatch) × (read_subscriber views.filter None new dispatch ≡ read_subscriber views.filter None old dispatch) × (new.cached ≡ old.cached) × AddsMeasures (aside_in views old dispatch) (aside_in views new dispatch) []
 
   pub alike_on : (same : S → S → Type 0) → SameLaw spans views attaches kept is_whole same
       → (old new : WorldValue S) (dispatch : ℕ) (line : Scope) (held : HeldSpan) → held ≡ held_of dispatch line → ReplacedOn (λ id s t. same s t) old new held → AlikeOn old new dispatch line
@@ -145,7 +145,7 @@ module _ {S : Type 0} (spans : S → Spans) (views : Views S) (attaches : S → 
       let told = law.viewed old new dispatch r in
       (law.shown old new dispatch r, ap (λ (w : WorldValue S). w.sites) r.others, told.0, told.1, ap (λ (w : WorldValue S). w.cached) r.others, told.2)
 
-  pub alike_line : (old new : WorldValue S) (dispatch : ℕ) (line : Scope) → AlikeOn old new dispatch line → KeepsPlainData spans attaches kept is_whole old new dispatch × (new.sites ≡ old.sites) × (read_subscriber views.recorded no_recording new dispatch ≡ read_subscriber views.recorded no_recording old dispatch) × (read_subscriber views.filtered None new dispatch ≡ read_subscriber views.filtered None old dispatch) × (new.cached ≡ old.cached) × AddsMeasures (aside_in views old dispatch) (aside_in views new dispatch) []
+  pub alike_line : (old new : WorldValue S) (dispatch : ℕ) (line : Scope) → AlikeOn old new dispatch line → KeepsPlainData spans attaches kept is_whole old new dispatch × (new.sites ≡ old.sites) × (read_subscriber views.recording no_recording new dispatch ≡ read_subscriber views.recording no_recording old dispatch) × (read_subscriber views.filter None new dispatch ≡ read_subscriber views.filter None old dispatch) × (new.cached ≡ old.cached) × AddsMeasures (aside_in views old dispatch) (aside_in views new dispatch) []
   alike_line old new dispatch [] same = (
     record {
       spans_same = ap (λ (w : WorldValue S). spans_in spans w dispatch) same;
@@ -155,8 +155,8 @@ module _ {S : Type 0} (spans : S → Spans) (views : Views S) (attaches : S → 
       whole = λ has. subst (λ (w : WorldValue S). Has is_whole w dispatch) (sym same) has;
     },
     ap (λ (w : WorldValue S). w.sites) same,
-    ap (λ (w : WorldValue S). read_subscriber views.recorded no_recording w dispatch) same,
-    ap (λ (w : WorldValue S). read_subscriber views.filtered None w dispatch) same,
+    ap (λ (w : WorldValue S). read_subscriber views.recording no_recording w dispatch) same,
+    ap (λ (w : WorldValue S). read_subscriber views.filter None w dispatch) same,
     ap (λ (w : WorldValue S). w.cached) same,
     adds_same views old new dispatch same,
   )
@@ -183,7 +183,7 @@ module _ {S : Type 0} (spans : S → Spans) (views : Views S) (attaches : S → 
     its_line : Found (held_of parts.dispatch) inv.tables.handles handle named.held
     its_line = find (held_of parts.dispatch) (map held_by parts.handles) inv.tables.handles handle named.held inv.stands.fits.handle_slots (held_slot parts.handles handle named found)
 
-    its_alike : KeepsPlainData spans attaches kept is_whole parts.world new parts.dispatch × (new.sites ≡ parts.world.sites) × (read_subscriber views.recorded no_recording new parts.dispatch ≡ read_subscriber views.recorded no_recording parts.world parts.dispatch) × (read_subscriber views.filtered None new parts.dispatch ≡ read_subscriber views.filtered None parts.world parts.dispatch) × (new.cached ≡ parts.world.cached) × AddsMeasures (aside_in views parts.world parts.dispatch) (aside_in views new parts.dispatch) []
+    its_alike : KeepsPlainData spans attaches kept is_whole parts.world new parts.dispatch × (new.sites ≡ parts.world.sites) × (read_subscriber views.recording no_recording new parts.dispatch ≡ read_subscriber views.recording no_recording parts.world parts.dispatch) × (read_subscriber views.filter None new parts.dispatch ≡ read_subscriber views.filter None parts.world parts.dispatch) × (new.cached ≡ parts.world.cached) × AddsMeasures (aside_in views parts.world parts.dispatch) (aside_in views new parts.dispatch) []
     its_alike = alike_line parts.world new parts.dispatch its_line.at (alike_on same law parts.world new parts.dispatch its_line.at named.held its_line.is did)
 
     its_rest : ((aside_in views new parts.dispatch).0 ≡ (aside_in views parts.world parts.dispatch).0) × ((aside_in views new parts.dispatch).1 ≡ (aside_in views parts.world parts.dispatch).1)

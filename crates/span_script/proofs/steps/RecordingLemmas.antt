@@ -2,7 +2,7 @@
 use Rattle.std.specs.Option.{option_to_list}
 use Rattle.std.proofs.Common.{◌≡◌, ℕ, Bool, List, [], ◌∷◌, ◌++◌, length, fold, Option, Some, None, refl, sym, ap, ◌∙◌}
 use Rattle.std.proofs.lemmas.List.{append-nil, append_assoc}
-use Rattle.span_script.proofs.Common.{LayerSettings, Context, Record, SpanData, Token, data_at, start_context, Recording, with_start_under, with_start, with_starts, with_applied, with_close, without_closed, closed_started, MadeSpan, SpanOp, Effect, Tables, after_effect, with_span_made, recording_after, open_part, records_of}
+use Rattle.span_script.proofs.Common.{LayerSettings, Context, Record, SpanData, Token, data_at, start_context, Recording, with_start_under, with_start, with_start_if_some, with_applied, with_close, with_span_finished, with_close_of_started, MadeSpan, SpanOp, Effect, Tables, after_effect, with_span_made, recording_after, open_part, records_of}
 
 -- a recording with other entries, and records before its own
 abbrev shifted : List Token → List Record → Recording → Recording
@@ -16,12 +16,12 @@ module _ (ts : List Token) (fs : List Record) where
       by_context None = refl
       by_context (Some under) = refl
 
-  closed_apart : (o : Option SpanData) (s at : ℕ) (r : Recording) → without_closed o s at (shifted ts fs r) ≡ shifted ts fs (without_closed o s at r)
+  closed_apart : (o : Option SpanData) (s at : ℕ) (r : Recording) → with_span_finished o s at (shifted ts fs r) ≡ shifted ts fs (with_span_finished o s at r)
   closed_apart None s at r = refl
-  closed_apart (Some told) s at r = ap (λ (xs : List Record). record (shifted ts fs (without_closed (Some told) s at r)) { finished = xs }) (append_assoc fs r.finished _)
+  closed_apart (Some told) s at r = ap (λ (xs : List Record). record (shifted ts fs (with_span_finished (Some told) s at r)) { finished = xs }) (append_assoc fs r.finished _)
 
   close_apart : (s at : ℕ) (r : Recording) → with_close s at (shifted ts fs r) ≡ shifted ts fs (with_close s at r)
-  close_apart s at r = ap (closed_started s at) (start_apart s at r) ∙ closed_apart (data_at s (with_start s at r).spans) s at (with_start s at r)
+  close_apart s at r = ap (with_close_of_started s at) (start_apart s at r) ∙ closed_apart (data_at s (with_start s at r).spans) s at (with_start s at r)
 
   starts_apart : (at : ℕ) (ss : List ℕ) (r : Recording) → fold (λ r s. with_start s at r) (shifted ts fs r) ss ≡ shifted ts fs (fold (λ r s. with_start s at r) r ss)
   starts_apart at [] r = refl
@@ -39,7 +39,7 @@ module _ (ts : List Token) (fs : List Record) where
   made_apart n None r = refl
   made_apart n (Some m) r = refl
 
-  begins_apart : (o : Option ℕ) (at : ℕ) (r : Recording) → with_starts o at (shifted ts fs r) ≡ shifted ts fs (with_starts o at r)
+  begins_apart : (o : Option ℕ) (at : ℕ) (r : Recording) → with_start_if_some o at (shifted ts fs r) ≡ shifted ts fs (with_start_if_some o at r)
   begins_apart None at r = refl
   begins_apart (Some s) at r = start_apart s at r
 
@@ -47,12 +47,12 @@ module _ (ts : List Token) (fs : List Record) where
   recorded_apart n e r =
       let started = fold (λ r s. with_start s e.at r) r e.starts in
       let made = with_span_made n e.new_span started in
-      let begun = with_starts e.begins e.at made in
+      let begun = with_start_if_some e.new_span_start e.at made in
       let done = fold (λ r d. with_applied d.span e.at d.op r) begun e.ops in
       let rest : Recording → Recording = λ x. fold (λ r s. with_close s e.at r) (fold (λ r d. with_applied d.span e.at d.op r) x e.ops) e.closes in
-      ap (λ (x : Recording). rest (with_starts e.begins e.at (with_span_made n e.new_span x))) (starts_apart e.at e.starts r)
-      ∙ ap (λ (x : Recording). rest (with_starts e.begins e.at x)) (made_apart n e.new_span started)
-      ∙ ap rest (begins_apart e.begins e.at made)
+      ap (λ (x : Recording). rest (with_start_if_some e.new_span_start e.at (with_span_made n e.new_span x))) (starts_apart e.at e.starts r)
+      ∙ ap (λ (x : Recording). rest (with_start_if_some e.new_span_start e.at x)) (made_apart n e.new_span started)
+      ∙ ap rest (begins_apart e.new_span_start e.at made)
       ∙ ap (λ (x : Recording). fold (λ r s. with_close s e.at r) x e.closes) (ops_apart e.at e.ops begun)
       ∙ closes_apart e.at e.closes done
 
@@ -75,7 +75,7 @@ recording_step k next t e is toks now =
     }
 
 -- starts one by one
-pub starts_fold : (o : Option ℕ) (at : ℕ) (r : Recording) → fold (λ r s. with_start s at r) r (option_to_list o) ≡ with_starts o at r
+pub starts_fold : (o : Option ℕ) (at : ℕ) (r : Recording) → fold (λ r s. with_start s at r) r (option_to_list o) ≡ with_start_if_some o at r
 starts_fold None at r = refl
 starts_fold (Some s) at r = refl
 
@@ -93,7 +93,7 @@ start_stays s at r = by_context (start_context (data_at s r.spans))
 close_stays : (s at : ℕ) (r : Recording) → stays (with_close s at r) ≡ stays r
 close_stays s at r = by_told (data_at s (with_start s at r).spans) ∙ start_stays s at r
   where
-    by_told : (o : Option SpanData) → stays (without_closed o s at (with_start s at r)) ≡ stays (with_start s at r)
+    by_told : (o : Option SpanData) → stays (with_span_finished o s at (with_start s at r)) ≡ stays (with_start s at r)
     by_told None = refl
     by_told (Some told) = refl
 
@@ -113,7 +113,7 @@ made_stays : (n : ℕ) (o : Option MadeSpan) (r : Recording) → stays (with_spa
 made_stays n None r = refl
 made_stays n (Some m) r = refl
 
-begins_stay : (o : Option ℕ) (at : ℕ) (r : Recording) → stays (with_starts o at r) ≡ stays r
+begins_stay : (o : Option ℕ) (at : ℕ) (r : Recording) → stays (with_start_if_some o at r) ≡ stays r
 begins_stay None at r = refl
 begins_stay (Some s) at r = start_stays s at r
 
@@ -121,8 +121,8 @@ recorded_stays : (n : ℕ) (e : Effect) (r : Recording) → stays (recording_aft
 recorded_stays n e r =
     let started = fold (λ r s. with_start s e.at r) r e.starts in
     let made = with_span_made n e.new_span started in
-    let begun = with_starts e.begins e.at made in
-    closes_stay e.at e.closes (fold (λ r d. with_applied d.span e.at d.op r) begun e.ops) ∙ ops_stay e.at e.ops begun ∙ begins_stay e.begins e.at made ∙ made_stays n e.new_span started ∙ starts_stay e.at e.starts r
+    let begun = with_start_if_some e.new_span_start e.at made in
+    closes_stay e.at e.closes (fold (λ r d. with_applied d.span e.at d.op r) begun e.ops) ∙ ops_stay e.at e.ops begun ∙ begins_stay e.new_span_start e.at made ∙ made_stays n e.new_span started ∙ starts_stay e.at e.starts r
 
 pub recorded_settings : (n : ℕ) (e : Effect) (r : Recording) → (recording_after n e r).settings ≡ r.settings
 recorded_settings n e r = ap (λ (x : LayerSettings × List Token × Bool). x.0) (recorded_stays n e r)
@@ -138,16 +138,16 @@ start_open s at r x is = by_context (start_context (data_at s r.spans)) ∙ ap (
     by_context None = refl
     by_context (Some under) = refl
 
-pub starts_open : (o : Option ℕ) (at : ℕ) (r x : Recording) → open_part r ≡ x → (with_starts o at r).spans ≡ (with_starts o at x).spans
+pub starts_open : (o : Option ℕ) (at : ℕ) (r x : Recording) → open_part r ≡ x → (with_start_if_some o at r).spans ≡ (with_start_if_some o at x).spans
 starts_open None at r x is = ap (λ (y : Recording). y.spans) is
 starts_open (Some s) at r x is = start_open s at r x is
 
 -- an entry leaves the others open
-pub entry_tokens : (o : Option ℕ) (at : ℕ) (r : Recording) → (with_starts o at r).tokens ≡ r.tokens
+pub entry_tokens : (o : Option ℕ) (at : ℕ) (r : Recording) → (with_start_if_some o at r).tokens ≡ r.tokens
 entry_tokens o at r = ap (λ (x : LayerSettings × List Token × Bool). x.1) (begins_stay o at r)
 
-pub entry_settings : (o : Option ℕ) (at : ℕ) (r : Recording) → (with_starts o at r).settings ≡ r.settings
+pub entry_settings : (o : Option ℕ) (at : ℕ) (r : Recording) → (with_start_if_some o at r).settings ≡ r.settings
 entry_settings o at r = ap (λ (x : LayerSettings × List Token × Bool). x.0) (begins_stay o at r)
 
-pub entry_counting : (o : Option ℕ) (at : ℕ) (r : Recording) → (with_starts o at r).counting ≡ r.counting
+pub entry_counting : (o : Option ℕ) (at : ℕ) (r : Recording) → (with_start_if_some o at r).counting ≡ r.counting
 entry_counting o at r = ap (λ (x : LayerSettings × List Token × Bool). x.2) (begins_stay o at r)

@@ -1,6 +1,6 @@
 -- What a call on the subscriber of a handle requires is what every pipeline keeps.
 use Rattle.std.proofs.Common.{◌≡◌, ℕ, ◌<◌, ◌^◌, List, ◌∷◌, length, get_or, Option, Some, None, option_map, map, sym, ap, subst, ◌∙◌, arith}
-use Rattle.span_script.proofs.Common.{length-map, get_or-map, Lane, Spans, HasOwnHold, HasFewHolds, MayExit, AreAttached, Has, spans_in, kept_in, no_spans, Handle, HeldSpan, HasOn, IsKnown, IsThere, Guard, id_at, Scope, slot_at, span_of_scope, named_span, open_guard_on, open_guard_by, Views, state_of, held_by, PipelineInvariant, held_of, guard_of, Parts}
+use Rattle.span_script.proofs.Common.{length-map, get_or-map, Lane, Spans, HasUnboundHold, HasFewHolds, MayExit, AreAttached, Has, spans_in, kept_in, no_spans, Handle, HeldSpan, HasOn, IsKnown, IsThere, Guard, id_at, Scope, slot_at, span_of_scope, span_of_handle, open_guard_on, open_guard_by, Views, state_of, held_by, PipelineInvariant, held_of, guard_of, Parts}
 use Rattle.span_script.proofs.steps.SlotsLemmas.{Found, find, held_slot}
 use Rattle.span_script.proofs.entries.EntriesFitLemmas.{fits_own, fits_may_exit}
 use Rattle.span_script.proofs.steps.BalanceLemmas.{named_slot, opened_slot}
@@ -23,7 +23,7 @@ module _ {S : Type 0} (spans : S → Spans) (views : Views S) (kept : S → ℕ 
     scope_is : Found (held_of parts.dispatch) inv.tables.handles handle h.held
     scope_is = find (held_of parts.dispatch) (map held_by parts.handles) inv.tables.handles handle h.held inv.stands.fits.handle_slots (held_slot parts.handles handle h found)
 
-    slot_is : (s : ℕ) (up : Scope) → scope_is.at ≡ s ∷ up → slot_at (map named_span inv.tables.handles) handle ≡ Some s
+    slot_is : (s : ℕ) (up : Scope) → scope_is.at ≡ s ∷ up → slot_at (map span_of_handle inv.tables.handles) handle ≡ Some s
     slot_is s up e = named_slot inv.tables.handles handle scope_is.at scope_is.there ∙ ap span_of_scope e
 
     pub needs_there : IsThere parts.world h.held
@@ -34,7 +34,7 @@ module _ {S : Type 0} (spans : S → Spans) (views : Views S) (kept : S → ℕ 
 
     pub needs_known : IsKnown spans parts.world h.held
     needs_known = known_on spans parts.world parts.dispatch scope_is.at h.held scope_is.is inv.there
-        (λ s up e. has_by spans no_spans parts.world parts.dispatch (λ (x : Spans). HasOwnHold x s) (fits_own sp (map named_span inv.tables.handles) (map (open_guard_by ids) inv.tables.guards) inv.tables.entries inv.stands.fits.balanced handle s (slot_is s up e)))
+        (λ s up e. has_by spans no_spans parts.world parts.dispatch (λ (x : Spans). HasUnboundHold x s) (fits_own sp (map span_of_handle inv.tables.handles) (map (open_guard_by ids) inv.tables.guards) inv.tables.entries inv.stands.fits.balanced handle s (slot_is s up e)))
 
     pub needs_few : length parts.handles < 2 ^ 62 → length parts.guards < 2 ^ 62 → HasOn (λ s id. HasFewHolds (spans s).made id) parts.world h.held
     needs_few few_handles few_guards = has_on (λ s id. HasFewHolds (spans s).made id) parts.world parts.dispatch scope_is.at h.held scope_is.is
@@ -71,7 +71,7 @@ module _ {S : Type 0} (spans : S → Spans) (views : Views S) (kept : S → ℕ 
         (λ s up e. has_by spans no_spans parts.world parts.dispatch (λ (x : Spans). MayExit x s before.id) (
         let lane_is : id_at ids open_is.at.place ≡ before.id = ap (id_at ids) (ap (λ (x : Guard). x.place) (sym open_is.is) ∙ on) ∙ sym (id_seen parts.lanes n before within seen) in
         subst (λ (l : ℕ). MayExit sp s l) lane_is
-        (fits_may_exit sp (map named_span inv.tables.handles) (map (open_guard_by ids) inv.tables.guards) inv.tables.entries inv.stands.fits.balanced guard (record { handle = open_is.at.handle; span = s; lane = id_at ids open_is.at.place })
+        (fits_may_exit sp (map span_of_handle inv.tables.handles) (map (open_guard_by ids) inv.tables.guards) inv.tables.entries inv.stands.fits.balanced guard (record { handle = open_is.at.handle; span = s; lane = id_at ids open_is.at.place })
         (opened_slot ids inv.tables.guards guard open_is.at open_is.there ∙ ap (open_guard_on open_is.at.handle (id_at ids open_is.at.place)) e))))
 
     pub exit_still : (h : Handle) → slot_at parts.handles g.handle ≡ Some h → (n : ℕ) (before : Lane) → n < length parts.lanes → before ≡ get_or parts.lanes n before → HasOn (λ s id. AreAttached (kept s) before) parts.world h.held

@@ -1,7 +1,7 @@
 -- What calls on the span of a scope keep, whatever their kind.
 use Rattle.std.proofs.Common.{◌≡◌, ℕ, ◌<◌, List, [], ◌∷◌, ◌++◌, length, Bool, Option, None, false, Ok, Err, refl, sym, ap, subst, ◌∙◌, arith, map, ◌==◌, ◌≢◌}
 use Rattle.std.proofs.lemmas.Bool.{true≢false}
-use Rattle.span_script.proofs.Common.{Lane, WorldValue, Spans, span_at, SubscriberCall, KeepsAttached, CallLanes, kept_in, Has, Reply, Refusal, Token, list_any, data_at, Recording, AttachGuard, Setup, Scope, Attached, Effect, Tables, after_effect, recording_after, Resolved, effect_of_call, Views, PipelineState, LaneValue, StandsFor, RecordingFits, FilteringFits, AllContextsFit, LanesFit, PipelineInvariant, IsServed, state_of, lane_value, Parts, is_for_memory, IsRefusal, ServesResolved, Serves, Measure, measures_of_call, AddsMeasures, aside_in}
+use Rattle.span_script.proofs.Common.{Lane, WorldValue, Spans, span_at, SubscriberCall, TracksAttached, CallKeepsLanes, kept_in, Has, Reply, Refusal, Token, list_any, data_at, Recording, AttachGuard, Setup, Scope, Attached, Effect, Tables, after_effect, recording_after, Resolved, effect_of_call, Views, PipelineState, LaneValue, StandsFor, RecordingFits, FilteringFits, AllContextsFit, LanesFit, PipelineInvariant, IsServed, state_of, lane_value, Parts, is_for_memory, IsRefusal, ServesResolved, Serves, Measure, measures_of_call, AddsMeasures, aside_in}
 use Rattle.span_script.specs.declared.request.Call.{Call}
 use Rattle.span_script.specs.Fits.{Fits}
 use Rattle.span_script.specs.calls.Refusals.{takes_no_memory}
@@ -111,13 +111,13 @@ module _ {S : Type 0} (spans : S → Spans) (views : Views S) (attaches : S → 
   call_whole [] call same has = subst (λ (w : WorldValue S). Has is_whole w parts.dispatch) (sym same) has
   call_whole (s ∷ up) call shown has = shown.0.whole has
 
-  pub call_lanes : (line : Scope) (call : ℕ → SubscriberCall) (before later : Lane) → ((s : ℕ) (b : Bool) (f g : ℕ → ℕ → ℕ) → CallLanes b f (call s) g → (later.id ≡ before.id) × (later.name ≡ before.name) × (later.default ≡ before.default) × KeepsAttached f before later g)
+  pub call_lanes : (line : Scope) (call : ℕ → SubscriberCall) (before later : Lane) → ((s : ℕ) (b : Bool) (f g : ℕ → ℕ → ℕ) → CallKeepsLanes b f (call s) g → (later.id ≡ before.id) × (later.name ≡ before.name) × (later.default ≡ before.default) × TracksAttached f before later g)
       → (line ≡ [] → later ≡ before) → ShownOn spans views attaches kept is_whole parts.world new parts.dispatch line call
-      → (later.id ≡ before.id) × (later.name ≡ before.name) × (later.default ≡ before.default) × KeepsAttached (kept_in kept parts.world parts.dispatch) before later (kept_in kept new parts.dispatch)
+      → (later.id ≡ before.id) × (later.name ≡ before.name) × (later.default ≡ before.default) × TracksAttached (kept_in kept parts.world parts.dispatch) before later (kept_in kept new parts.dispatch)
   call_lanes [] call before later step none same = (
     ap (λ (l : Lane). l.id) (none refl),
     ap (λ (l : Lane). l.name) (none refl),
     ap (λ (l : Lane). l.default) (none refl),
-    subst (λ (w : WorldValue S). KeepsAttached (kept_in kept parts.world parts.dispatch) before later (kept_in kept w parts.dispatch)) (sym same) (subst (λ (l : Lane). KeepsAttached (kept_in kept parts.world parts.dispatch) before l (kept_in kept parts.world parts.dispatch)) (sym (none refl)) (λ l n. refl)),
+    subst (λ (w : WorldValue S). TracksAttached (kept_in kept parts.world parts.dispatch) before later (kept_in kept w parts.dispatch)) (sym same) (subst (λ (l : Lane). TracksAttached (kept_in kept parts.world parts.dispatch) before l (kept_in kept parts.world parts.dispatch)) (sym (none refl)) (λ l n. refl)),
   )
   call_lanes (s ∷ up) call before later step none shown = step s _ _ _ shown.0.lanes

@@ -1,6 +1,6 @@
 -- One effect more: what fits the tables fits them with the effect, whatever its kind.
 use Rattle.std.proofs.Common.{◌≡◌, ℕ, ◌+◌, ◌≤◌, List, length, Option, Some, None, option_map, map, sym, ap, subst, ◌∙◌, arith}
-use Rattle.span_script.proofs.Common.{Spans, span_at, OneEach, Balanced, named_span, open_guard_by, Setup, Scope, ScopeGuard, Effect, Tables, after_effect, site_of, slot_at, slots_after, either_after, with_item, with_entry_on, with_exit_on, PipelineState, SpansFit, IsScope, held_of, guard_of, lane_place_of}
+use Rattle.span_script.proofs.Common.{Spans, span_at, OneEach, Balanced, span_of_handle, open_guard_by, Setup, Scope, ScopeGuard, Effect, Tables, after_effect, site_of, slot_at, slots_after, either_after, with_item, with_entry_on, with_exit_on, PipelineState, SpansFit, IsScope, held_of, guard_of, lane_place_of}
 use Rattle.span_script.specs.Fits.{Fits}
 use Rattle.span_script.proofs.steps.SlotsLemmas.{named_push, slots_map, either_map, either_count, still_named}
 use Rattle.span_script.proofs.spans.ScopesLemmas.{NewMade, NewSite, lines_with, lines_after, sites_left, sited_after}
@@ -22,7 +22,7 @@ pub record Step (k : PipelineState) (t : Tables) (e : Effect) (next : PipelineSt
   pub attaches_are : map (option_map lane_place_of) next.contexts.attaches ≡ either_after (map (option_map lane_place_of) k.contexts.attaches) e.new_attach e.new_guard e.spent_attach
   pub named_are : next.contexts.contexts ≡ with_item k.contexts.contexts e.new_context
   pub moment_is : next.moment ≡ e.at
-  pub balanced : Balanced next.spans (map named_span (handles_after t e)) (map (open_guard_by k.setup.ids) (guards_after t e)) (with_exit_on (with_entry_on t.entries e.lane e.entry) e.lane e.exit)
+  pub balanced : Balanced next.spans (map span_of_handle (handles_after t e)) (map (open_guard_by k.setup.ids) (guards_after t e)) (with_exit_on (with_entry_on t.entries e.lane e.entry) e.lane e.exit)
   pub made_fit : SpansFit next.spans.made (with_item t.spans e.new_span)
   pub new_made : NewMade t.spans e.new_span
   pub new_site : NewSite (length k.setup.sites) e.new_span
@@ -48,9 +48,9 @@ module _ (k : PipelineState) (t : Tables) (fits : Fits k t) (next : PipelineStat
     paired = either_count t.attaches t.guards e.new_attach e.new_guard e.spent_attach e.spent_guard fits.paired;
     named_contexts = s.named_are ∙ ap (λ xs. with_item xs e.new_context) fits.named_contexts;
     latest = s.moment_is;
-    balanced = subst (λ (x : Setup). Balanced next.spans (map named_span (handles_after t e)) (map (open_guard_by x.ids) (guards_after t e)) (with_exit_on (with_entry_on t.entries e.lane e.entry) e.lane e.exit)) (sym s.setup_is) s.balanced;
+    balanced = subst (λ (x : Setup). Balanced next.spans (map span_of_handle (handles_after t e)) (map (open_guard_by x.ids) (guards_after t e)) (with_exit_on (with_entry_on t.entries e.lane e.entry) e.lane e.exit)) (sym s.setup_is) s.balanced;
     made = s.made_fit;
-    one_lane = s.one;
+    one_row = s.one;
     scopes = λ n line there. handles_made s.new_made e.new_handle s.new_scope n line (still_named (with_item t.handles (option_map Some e.new_handle)) e.spent_handle n line there);
     still = s.still;
     own_scopes = lines_after t.spans e.new_span s.new_made fits.own_scopes;
@@ -75,7 +75,7 @@ quiet_step k next t e fits setup dispatch handles sites guards attaches named mo
   attaches_are = attaches;
   named_are = named;
   moment_is = moment;
-  balanced = subst (λ (x : Spans). Balanced x (map named_span t.handles) (map (open_guard_by k.setup.ids) t.guards) t.entries) (sym spans) fits.balanced;
+  balanced = subst (λ (x : Spans). Balanced x (map span_of_handle t.handles) (map (open_guard_by k.setup.ids) t.guards) t.entries) (sym spans) fits.balanced;
   made_fit = subst (λ (x : Spans). SpansFit x.made t.spans) (sym spans) fits.made;
   new_made = tt;
   new_site = tt;
@@ -83,5 +83,5 @@ quiet_step k next t e fits setup dispatch handles sites guards attaches named mo
   still = fits.still;
   few = fits.few;
   few_holds = λ s. (let f = fits.few_holds s in let e = ap (λ (x : Spans). (span_at x.made s).holds) spans in omega (arith, f, e));
-  one = subst (λ (x : Spans). OneEach x.lanes) (sym spans) fits.one_lane;
+  one = subst (λ (x : Spans). OneEach x.lanes) (sym spans) fits.one_row;
 }

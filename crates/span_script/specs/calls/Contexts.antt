@@ -16,7 +16,7 @@ use Rattle.span_script.specs.calls.Entries.{is_elsewhere, is_full}
 
 -- a context more, and the span that starts for it
 abbrev pub context_effect : Here → Option ℕ → Context → Effect
-context_effect here starting context = record (answer_effect here (reply.Context (length here.script.named_contexts) (ids_of context))) {
+context_effect here starting context = record (answer_effect here (reply.Context (length here.tables.named_contexts) (ids_of context))) {
   new_context = Some context;
   starts = option_to_list starting;
 }
@@ -31,13 +31,13 @@ context_of_scope r at (s ∷ up) = own_context_or empty_context (data_at s (with
 
 abbrev pub context_call : Here → ℕ → Resolved
 context_call here handle = do
-  scope ← need what.Handle (slot_at here.script.handles handle)
-  Ok (context_effect here (span_of_scope scope) (context_of_scope here.script.recording here.at scope))
+  scope ← need what.Handle (slot_at here.tables.handles handle)
+  Ok (context_effect here (span_of_scope scope) (context_of_scope here.tables.recording here.at scope))
 
 -- an attach to the lane of the request
 abbrev pub attach_effect : Here → Context → Effect
 attach_effect here context =
-    let guard = length here.script.guards in
+    let guard = length here.tables.guards in
     record (answer_effect here (reply.Guard guard)) {
       new_attach = Some here.place;
       attach = Some (record { owner = GuardOf guard; context = context });
@@ -45,13 +45,13 @@ attach_effect here context =
 
 abbrev pub attach_call : Here → ℕ → Resolved
 attach_call here context = do
-  given ← need what.Context (slice_get here.script.named_contexts context)
-  refuse_if (is_full (here.script.contexts here.lane)) (refusal.Full here.place) (Ok (attach_effect here given))
+  given ← need what.Context (slice_get here.tables.named_contexts context)
+  refuse_if (is_full (here.tables.contexts here.lane)) (refusal.Full here.place) (Ok (attach_effect here given))
 
 abbrev pub detach_effect : Here → ℕ → Effect
 detach_effect here guard = record (answer_effect here reply.Done) { spent_attach = Some guard; detach = Some (GuardOf guard) }
 
 abbrev pub detach_call : Here → ℕ → Resolved
 detach_call here guard = do
-  mine ← need what.Guard (slot_at here.script.attaches guard)
+  mine ← need what.Guard (slot_at here.tables.attaches guard)
   refuse_if (is_elsewhere here mine) (refusal.WrongLane mine) (Ok (detach_effect here guard))

@@ -26,11 +26,11 @@ entry_context r at (Some s) = Some (record { owner = EntryOf s; context = own_co
 abbrev pub enter_effect : Here → ℕ → Bool → Scope → Effect
 enter_effect here handle owns scope =
     let starting = activated_span here.setup.layer.activation scope in
-    record (answer_effect here (reply.Guard (length here.script.guards))) {
+    record (answer_effect here (reply.Guard (length here.tables.guards))) {
       new_guard = Some (record { handle = handle; place = here.place; owns = owns; scope = scope });
       starts = option_to_list starting;
       ops = op_on scope ops.Enter;
-      attach = entry_context here.script.recording here.at starting;
+      attach = entry_context here.tables.recording here.at starting;
       entry = span_of_scope scope;
       hooks = hooks_of_span scope (λ s. HookEnter s here.lane);
     }
@@ -46,14 +46,14 @@ meets_full activation scope items = is_some (activated_span activation scope) &&
 -- an entry by a handle, whoever owns that
 abbrev pub entry_call : Here → ℕ → Bool → Resolved
 entry_call here handle owns = do
-  scope ← need what.Handle (slot_at here.script.handles handle)
-  refuse_if (meets_full here.setup.layer.activation scope (here.script.contexts here.lane)) (refusal.Full here.place)
+  scope ← need what.Handle (slot_at here.tables.handles handle)
+  refuse_if (meets_full here.setup.layer.activation scope (here.tables.contexts here.lane)) (refusal.Full here.place)
       (Ok (enter_effect here handle owns scope))
 
 abbrev pub entered_call : Here → ℕ → Resolved
 entered_call here handle = do
-  scope ← need what.Handle (slot_at here.script.handles handle)
-  refuse_if (is_borrowed here.script.guards handle) refusal.InUse (entry_call here handle true)
+  scope ← need what.Handle (slot_at here.tables.handles handle)
+  refuse_if (is_borrowed here.tables.guards handle) refusal.InUse (entry_call here handle true)
 
 abbrev pub exit_effect : Here → ℕ → Scope → Effect
 exit_effect here guard scope = record (answer_effect here reply.Done) {
@@ -74,6 +74,6 @@ is_elsewhere here place = not (place == here.place)
 
 abbrev pub exit_call : Here → ℕ → Resolved
 exit_call here guard = do
-  guarded ← need what.Guard (slot_at here.script.guards guard)
-  refuse_if (is_shared here.script.guards guarded) refusal.InUse
+  guarded ← need what.Guard (slot_at here.tables.guards guard)
+  refuse_if (is_shared here.tables.guards guarded) refusal.InUse
       (refuse_if (is_elsewhere here guarded.place) (refusal.WrongLane guarded.place) (Ok (exit_effect here guard guarded.scope)))

@@ -4,7 +4,7 @@ use Rattle.env_directives.specs.orders.Choice.{admits}
 use Rattle.otel_metrics.specs.Measures.{measures}
 use Rattle.otel_state.specs.declared.op.Op.{Op}
 use Rattle.otel_state.specs.declared.op.Op.TheVariants as ops
-use Rattle.otel_state.specs.fields.EventFields.{event_of}
+use Rattle.otel_state.specs.fields.EventFields.{event_op}
 use Rattle.trace_base.specs.declared.callsite.Callsite.{Callsite}
 use Rattle.trace_base.specs.declared.field.ValueSet.{ValueSet}
 use Rattle.span_script.specs.declared.reply.Reply.TheVariants as reply
@@ -16,7 +16,7 @@ use Rattle.span_script.specs.calls.Here.{Here, Resolved, ◌>>=◌, need, ops_ef
 use Rattle.span_script.specs.Setups.{event_site}
 use Rattle.span_script.specs.Tables.{Effect, Scope}
 use Rattle.span_script.specs.calls.Filter.{admits_on}
-use Rattle.span_script.specs.calls.Spans.{scope_at}
+use Rattle.span_script.specs.calls.Spans.{parent_scope}
 
 -- what isn't let through leaves nothing
 abbrev pub if_enabled : {A : Type 0} → Bool → List A → List A
@@ -31,8 +31,8 @@ event_ops (Some text) callsite event = ops.Counted ∷ if_enabled (admits (text_
 -- an event goes to the own span of the scope that its place names, and is measured, with a span or without
 abbrev pub event_effect : Here → Callsite → ValueSet → Scope → Effect
 event_effect here callsite values reached =
-    let enabled = admits_on here.setup here.script here.lane callsite in
-    let event = event_of callsite values here.setup.layer here.at in
+    let enabled = admits_on here.setup here.tables here.lane callsite in
+    let event = event_op callsite values here.setup.layer here.at in
     record (ops_effect here (reply.Enabled enabled) (if_enabled enabled (ops_on reached (event_ops here.setup.counting callsite event)))) {
       measures = if_enabled enabled (measures callsite values);
     }
@@ -40,6 +40,6 @@ event_effect here callsite values reached =
 abbrev pub event_call : Here → ℕ → RequestParent → Fields → Resolved
 event_call here site under fields = do
   callsite ← need what.Site (event_site here.setup.sites site)
-  reached ← need what.Handle (scope_at here.script here.lane under)
+  reached ← need what.Handle (parent_scope here.tables here.lane under)
   values ← need what.Field (all_values callsite fields)
   Ok (event_effect here callsite values reached)

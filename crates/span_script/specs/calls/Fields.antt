@@ -30,15 +30,15 @@ hooks_of_values scope fields (Some callsite) = hooks_of_span scope (λ s. HookRe
 -- values are recorded on a scope's own span
 abbrev pub record_effect : Here → Scope → Fields → Effect
 record_effect here scope fields =
-    let callsite = callsite_of here.setup here.script scope in
+    let callsite = callsite_of here.setup here.tables scope in
     record (ops_effect here reply.Done (update_ops here.setup.layer scope fields callsite)) { hooks = hooks_of_values scope fields callsite }
 
 abbrev pub record_call : Here → ℕ → Fields → Resolved
 record_call here handle fields = do
-  scope ← need what.Handle (slot_at here.script.handles handle)
+  scope ← need what.Handle (slot_at here.tables.handles handle)
   Ok (record_effect here scope fields)
 
 abbrev pub has_field_call : Here → ℕ → List ℕ → Resolved
 has_field_call here handle name = do
-  scope ← need what.Handle (slot_at here.script.handles handle)
-  Ok (answer_effect here (reply.Has (declared_by (callsite_of here.setup here.script scope) name)))
+  scope ← need what.Handle (slot_at here.tables.handles handle)
+  Ok (answer_effect here (reply.Has (declared_by (callsite_of here.setup here.tables scope) name)))

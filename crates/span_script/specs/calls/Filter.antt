@@ -50,7 +50,7 @@ hooks_of_span (s ∷ up) heard = heard s ∷ []
 -- ---- asking, an answer alone
 
 abbrev pub enabled_effect : Here → Callsite → Effect
-enabled_effect here callsite = answer_effect here (reply.Enabled (admits_on here.setup here.script here.lane callsite))
+enabled_effect here callsite = answer_effect here (reply.Enabled (admits_on here.setup here.tables here.lane callsite))
 
 abbrev pub enabled_call : Here → ℕ → Resolved
 enabled_call here site = do

@@ -11,14 +11,14 @@ use Rattle.span_script.specs.Tables.{SpanOp, Effect, Scope, Tables, quiet_effect
 -- what the settings fix, the script so far, the moment of the request, and its lane, by its place and by its id
 pub record Here : Type 0 where
   pub setup : Setup
-  pub script : Tables
+  pub tables : Tables
   pub at : ℕ
   pub place : ℕ
   pub lane : ℕ
 
 -- the lane at a place has the id that the settings give it
 abbrev pub here_at : Setup → Tables → ℕ → ℕ → Here
-here_at setup script at place = record { setup = setup; script = script; at = at; place = place; lane = id_at setup.ids place }
+here_at setup script at place = record { setup = setup; tables = script; at = at; place = place; lane = id_at setup.ids place }
 
 -- ---- an effect, or a refusal
 

@@ -10,9 +10,9 @@ use Rattle.span_script.specs.declared.request.Call.{Call}
 use Rattle.span_script.specs.declared.request.Call.TheVariants as call
 
 -- what an entry is refused by, on the lane at a place
-abbrev pub refused_entry : ℕ → EnterError → Refusal
-refused_entry place errors.Full = refusals.Full place
-refused_entry place errors.Memory = refusals.Memory
+abbrev pub entry_refusal : ℕ → EnterError → Refusal
+entry_refusal place errors.Full = refusals.Full place
+entry_refusal place errors.Memory = refusals.Memory
 
 -- what a reload is refused by
 abbrev pub reload_refusal : OpenError → Refusal

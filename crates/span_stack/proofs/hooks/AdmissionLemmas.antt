@@ -1,15 +1,15 @@
 -- A stack admits by the rule of the filter in place: what lies below takes everything.
 use Rattle.std.proofs.Common.{◌≡◌, ℕ, Bool, true, Option, Some, None, refl, ap, ◌∙◌, slice_get, ◌&&◌}
-use Rattle.span_stack.proofs.Common.{option_map_or, Callsite, LevelFilter, Admits, IsFresh, fresh_admits, hint_both, Has, read_subscriber, FilterState, FilterWithRoom, plain_filter, IsWholeFilter, hint_in, enables_in, is_admitted, layer_or, HoldsIfThere, never_enabled, Stacks, StackWorlds, filter_in_place, stack_interest}
+use Rattle.span_stack.proofs.Common.{option_map_or, Callsite, LevelFilter, Admits, IsFresh, fresh_admits, hint_both, Has, read_subscriber, FilterState, FilterWithRoom, plain_filter, IsWholeFilter, hint_in, enables_in, is_admitted, layer_or, HoldsIfThere, never_enabled, SubscriberStack, StackWorld, filter_in_place, stack_interest}
 use Rattle.std.specs.Option.{option_map}
 use Rattle.trace_base.specs.declared.subscriber.Interest.TheVariants as interests
 use Rattle.env_filter.specs.Worlds.{in_place_rule, IsWholeInPlace}
 use Rattle.env_filter.proofs.Worlds.{over_all_in_place}
 
-abbrev pub hint_over : Stacks → Option LevelFilter
+abbrev pub hint_over : SubscriberStack → Option LevelFilter
 hint_over s = hint_both (layer_or None (λ f. Some (hint_in (plain_filter f))) s.layer.inner) None
 
-abbrev pub enables_over : Stacks → ℕ → Callsite → Bool
+abbrev pub enables_over : SubscriberStack → ℕ → Callsite → Bool
 enables_over s lane c = layer_or never_enabled (λ f. enables_in (plain_filter f)) s.layer.inner lane c && true
 
 -- what is read of a subscriber was there to be read
@@ -30,8 +30,8 @@ whole_in : (o : Option FilterWithRoom) → HoldsIfThere (λ f. IsWholeFilter (pl
 whole_in None w = tt
 whole_in (Some f) w = w
 
-pub admits_by_rule : (world : StackWorlds) (dispatch lane site : ℕ) (answer : Bool) → Admits hint_over enables_over world lane site (Some dispatch) answer → IsFresh stack_interest world
-    → Has (λ (s : Stacks). HoldsIfThere (λ f. IsWholeFilter (plain_filter f)) s.layer.inner) world dispatch
+pub admits_by_rule : (world : StackWorld) (dispatch lane site : ℕ) (answer : Bool) → Admits hint_over enables_over world lane site (Some dispatch) answer → IsFresh stack_interest world
+    → Has (λ (s : SubscriberStack). HoldsIfThere (λ f. IsWholeFilter (plain_filter f)) s.layer.inner) world dispatch
     → (f : FilterState) (c : Callsite) → read_subscriber filter_in_place None world dispatch ≡ Some f → slice_get world.sites site ≡ Some c → answer ≡ is_admitted f lane c
 admits_by_rule world dispatch lane site answer admits fresh whole f c in_force at =
     let read = read_of filter_in_place (slice_get world.subscribers dispatch) f in_force in

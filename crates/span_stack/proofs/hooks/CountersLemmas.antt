@@ -1,15 +1,15 @@
 -- What the calls of a layer that may count events make of what it keeps.
 use Rattle.std.proofs.Common.{◌≡◌, ℕ, List, [], ◌∷◌, length, Bool, true, false, Option, Some, None, refl, sym, ap, ◌∙◌, inl, inr, ◌==◌}
 use Rattle.std.specs.Option.{option_map}
-use Rattle.span_stack.proofs.Common.{cases_Bool, cases_eq, cond-true, cond-false, RecorderValue, Callsite, Lane, WorldValue, Hook, OnEvent, Spans, parent_to_release, span_at, entries_on, parent_on, SubscriberCall, NewSpan, Records, Follows, Event, Enter, Exit, CloneSpan, TryClose, spans_after_call, Allowed, Layered, DoesBoth, InStep, both_allowed, both_shows, Replaced, read_subscriber, Chain, ended, closes, no_spans, Core, CoreWithRoom, seen_in, PartCall, Applies, GivesContext, Touches, data_at, update, Recording, recording_of, no_recording, RecordsCall, RecordsChain, RecordsPart, FilterState, FilterWithRoom, plain_filter, enables_in, FilteredOpenTelemetryLayer, events_by, with_counted, with_event_by, RecordsCallBy}
+use Rattle.span_stack.proofs.Common.{cases_Bool, cases_eq, cond-true, cond-false, RecorderValue, Callsite, Lane, WorldValue, Hook, OnEvent, Spans, parent_to_release, span_at, entries_on, parent_on, SubscriberCall, NewSpan, Records, Follows, Event, Enter, Exit, CloneSpan, TryClose, spans_after_call, Allowed, Layered, DoesBoth, InStep, both_allowed, both_shows, Replaced, read_subscriber, Chain, ended, closes, no_spans, Core, CoreWithRoom, seen_in, PartCall, Applies, GivesContext, Touches, data_at, update, Recording, recording_of, no_recording, RecordsCall, RecordsChain, RecordsPart, FilterState, FilterWithRoom, plain_filter, enables_in, FilteredOpenTelemetryLayer, events_effect, with_counted, with_event_by, RecordsCallBy}
 use Rattle.otel_base.specs.Recorder.{DoesRecorder as RecordsBy}
 use Rattle.trace_base.specs.declared.field.ValueSet.{ValueSet}
 use Rattle.span_registry.specs.Registering.{RegistryValue, DoesRegistry}
 use Rattle.otel_state.specs.declared.op.Op.TheVariants as ops
-use Rattle.otel_state.specs.fields.EventFields.{event_of}
+use Rattle.otel_state.specs.fields.EventFields.{event_op}
 use Rattle.otel_state.specs.States.{SpanData, after_op}
 use Rattle.otel_layer.specs.Counting.{after_counted, IsNoEvent, hook_any}
-use Rattle.otel_layer.specs.Steps.{SameCore, DoesHook, Step, all_events}
+use Rattle.otel_layer.specs.Steps.{SameCore, DoesHook, Step, all_events_effect}
 use Rattle.otel_layer.proofs.FoundSpanLemmas.{told_at_next}
 use Rattle.otel_layer.proofs.RecordingHooksLemmas.{room_recording, start_recording}
 use Rattle.otel_layer.proofs.RecordingCallsLemmas.{layered_recording, chain_recording}
@@ -31,9 +31,9 @@ update_twice id f g (e ∷ es) =
     ]
 
 counts_one : (taken : Bool) (id at : ℕ) (callsite : Callsite) (values : ValueSet) (r : Recording)
-    → record r { spans = update id (after_counted taken at (event_of callsite values r.settings at)) r.spans } ≡ with_counted taken id at callsite values r
+    → record r { spans = update id (after_counted taken at (event_op callsite values r.settings at)) r.spans } ≡ with_counted taken id at callsite values r
 counts_one true id at callsite values r =
-    let op = event_of callsite values r.settings at in
+    let op = event_op callsite values r.settings at in
     ap (λ (xs : List (ℕ × SpanData)). record r { spans = xs }) (update_twice id (λ t. after_op t at op) (λ t. after_op t at ops.Counted) r.spans)
 counts_one false id at callsite values r = refl
 
@@ -45,14 +45,14 @@ abbrev enables : FilterWithRoom → ℕ → Callsite → Bool
 enables f = enables_in (plain_filter f)
 
 event_step : (o : Option FilterWithRoom) (c : Core RecorderValue) (reached : Option ℕ) (lane : Lane) (at : ℕ) (callsite : Callsite) (values : ValueSet) (d : Core RecorderValue)
-    → Step RecordsBy (events_by enables o) c (OnEvent reached lane at callsite values) d → recording_of d ≡ with_event_by (plain_counter o) reached lane.id at callsite values (recording_of c)
+    → Step RecordsBy (events_effect enables o) c (OnEvent reached lane at callsite values) d → recording_of d ≡ with_event_by (plain_counter o) reached lane.id at callsite values (recording_of c)
 event_step None c None lane at callsite values d h = ap recording_of h
 event_step None c (Some id) lane at callsite values d h = ap recording_of h
 event_step (Some f) c None lane at callsite values d h = ap recording_of h
 event_step (Some f) c (Some id) lane at callsite values d h = ap recording_of h ∙ counts_one (enables f lane.id callsite) id at callsite values (recording_of c)
 
 event_hook : (o : Option FilterWithRoom) (c : Core RecorderValue) (reached : Option ℕ) (lane : Lane) (at : ℕ) (callsite : Callsite) (values : ValueSet) (d : Core RecorderValue)
-    → DoesHook RecordsBy (events_by enables o) c (OnEvent reached lane at callsite values) d → recording_of d ≡ with_event_by (plain_counter o) reached lane.id at callsite values (recording_of c)
+    → DoesHook RecordsBy (events_effect enables o) c (OnEvent reached lane at callsite values) d → recording_of d ≡ with_event_by (plain_counter o) reached lane.id at callsite values (recording_of c)
 event_hook o c reached lane at callsite values d h =
     event_step o h.prepared reached lane at callsite values d h.step ∙ ap (with_event_by (plain_counter o) reached lane.id at callsite values) (room_recording c h.prepared h.room)
 
@@ -65,7 +65,7 @@ abbrev pub Base : Type 0
 Base = Layered Layers RegistryValue
 
 abbrev hooks_of : Layers → Hook → Layers → Type 0
-hooks_of l hook m = DoesHook RecordsBy (events_by enables l.filter) l.inner.core hook m.inner.core × (m.filter ≡ l.filter)
+hooks_of l hook m = DoesHook RecordsBy (events_effect enables l.filter) l.inner.core hook m.inner.core × (m.filter ≡ l.filter)
 
 abbrev room_of : Layers → Layers → Type 0
 room_of l m = SameCore RecordsBy l.inner.core m.inner.core × (m.filter ≡ l.filter)
@@ -81,7 +81,7 @@ Does s l call t m = DoesBoth spans_of DoesRegistry hooks_of room_of active s l c
 
 -- the same as of a layer that counts none
 abbrev plain_hooks : CoreWithRoom RecorderValue → Hook → CoreWithRoom RecorderValue → Type 0
-plain_hooks l hook m = DoesHook RecordsBy all_events l.core hook m.core
+plain_hooks l hook m = DoesHook RecordsBy all_events_effect l.core hook m.core
 
 abbrev plain_room : CoreWithRoom RecorderValue → CoreWithRoom RecorderValue → Type 0
 plain_room l m = SameCore RecordsBy l.core m.core
@@ -103,7 +103,7 @@ IsQuiet (CloneSpan id) = Unit {0}
 IsQuiet (TryClose id at) = Unit {0}
 
 as_plain : (l : Layers) (hook : Hook) (m : Layers) → IsNoEvent hook → hooks_of l hook m → plain_hooks l.inner hook m.inner
-as_plain l hook m quiet h = hook_any RecordsBy (events_by enables l.filter) all_events l.inner.core hook m.inner.core quiet h.0
+as_plain l hook m quiet h = hook_any RecordsBy (events_effect enables l.filter) all_events_effect l.inner.core hook m.inner.core quiet h.0
 
 does_plain : (s : RegistryValue) (l : Layers) (call : SubscriberCall) (t : RegistryValue) (m : Layers) → IsQuiet call → Does s l call t m → PlainDoes s l.inner call t m.inner
 does_plain s l (Event lane at parent site callsite values) t m quiet d = absurd quiet

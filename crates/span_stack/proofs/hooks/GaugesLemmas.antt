@@ -1,6 +1,6 @@
 -- What a layer of metrics over a subscriber hears of calls.
 use Rattle.std.proofs.Common.{◌≡◌, ℕ, List, [], ◌++◌, Bool, false, Option, Some, refl, sym, ap, ◌∙◌, inl, inr}
-use Rattle.span_stack.proofs.Common.{cases_eq, WorldValue, Spans, parent_to_release, span_at, SubscriberCall, NewSpan, Records, Follows, Event, Enter, Exit, CloneSpan, TryClose, CallLanes, Hook, LeavesLanes, Layered, DoesBoth, ObservesCall, Replaced, Chain, ended, closes, read_subscriber, seen_before, seen_later, Measure, Steps, over_hears, MeasuresWithRoom, waiting_measures, measures_of_call}
+use Rattle.span_stack.proofs.Common.{cases_eq, WorldValue, Spans, parent_to_release, span_at, SubscriberCall, NewSpan, Records, Follows, Event, Enter, Exit, CloneSpan, TryClose, CallKeepsLanes, Hook, LeavesLanes, Layered, DoesBoth, ObservesCall, Replaced, Chain, ended, closes, read_subscriber, seen_before, seen_later, Measure, Steps, over_hears, MeasuresWithRoom, waiting_measures, measures_of_call}
 use Rattle.std.proofs.lemmas.List.{append-nil}
 use Rattle.otel_metrics.specs.Waiting.{AddsMeasuresOf, measures_of_hook}
 use Rattle.span_stack.proofs.worlds.ViewsLemmas.{kept_place}
@@ -36,7 +36,7 @@ Whole S = Layered MeasuresWithRoom S
 abbrev does_over : {S : Type 0} → (S → Spans) → (S → SubscriberCall → S → Type 0) → Whole S → SubscriberCall → Whole S → Type 0
 does_over spans inner = λ p call q. DoesBoth spans inner measures_at unchanged attaches_no p.inner p.layer call q.inner q.layer
 
-pub one_call : {S : Type 0} (spans : S → Spans) (inner : S → SubscriberCall → S → Type 0) (attaches : S → Bool) (held : S → ℕ → ℕ → ℕ) → ((s : S) (c : SubscriberCall) (t : S) → inner s c t → CallLanes (attaches s) (held s) c (held t))
+pub one_call : {S : Type 0} (spans : S → Spans) (inner : S → SubscriberCall → S → Type 0) (attaches : S → Bool) (held : S → ℕ → ℕ → ℕ) → ((s : S) (c : SubscriberCall) (t : S) → inner s c t → CallKeepsLanes (attaches s) (held s) c (held t))
     → (old new : WorldValue (Whole S)) (dispatch : ℕ) (call : SubscriberCall) → Replaced (λ p q. does_over spans inner p call q) old new dispatch → read_subscriber waiting_measures [] new dispatch ≡ read_subscriber waiting_measures [] old dispatch ++ measures_of_call call
 one_call {S} spans inner attaches held lanes old new dispatch call r =
     let R : Whole S → Whole S → Type 0 = λ p q. does_over spans inner p call q in

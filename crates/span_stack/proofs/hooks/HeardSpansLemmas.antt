@@ -1,7 +1,7 @@
 -- What a filter over a subscriber hears of calls and of chains of closes.
 use Rattle.std.proofs.Common.{◌≡◌, ℕ, List, [], ◌∷◌, Bool, false, Option, Some, None, refl, sym, ap, ◌∙◌, inl, inr, if◌then◌else◌, fold, is_some}
 use Rattle.std.specs.Option.{option_map}
-use Rattle.span_stack.proofs.Common.{cases_eq, WorldValue, Spans, span_at, SubscriberCall, NewSpan, Records, Follows, Event, Enter, Exit, CloneSpan, TryClose, spans_after_call, Allowed, CallLanes, Hook, LeavesLanes, Layered, DoesBoth, both_allowed, both_shows, ObservesCall, Replaced, Chain, read_subscriber, no_spans, closed_in, seen_before, seen_later, Layer, FilterState, FilterWithRoom, plain_filter, span_level, DoesFilter, Both, layer_or, Steps, over_hears, step_in_place, does_in_place, same_in_place, filter_in_place}
+use Rattle.span_stack.proofs.Common.{cases_eq, WorldValue, Spans, span_at, SubscriberCall, NewSpan, Records, Follows, Event, Enter, Exit, CloneSpan, TryClose, spans_after_call, Allowed, CallKeepsLanes, Hook, LeavesLanes, Layered, DoesBoth, both_allowed, both_shows, ObservesCall, Replaced, Chain, read_subscriber, no_spans, closed_in, seen_before, seen_later, Layer, FilterState, FilterWithRoom, plain_filter, span_level, DoesFilter, BothOrNeither, layer_or, Steps, over_hears, step_in_place, does_in_place, same_in_place, filter_in_place}
 use Rattle.std.proofs.lemmas.Bool.{eq-eqb, ne_eqb}
 use Rattle.span_handles.proofs.ToldClosesLemmas.{told_world}
 use Rattle.env_filter.specs.spans.Keyed.{put}
@@ -10,10 +10,10 @@ use Rattle.span_stack.specs.FilterInPlace.{without_span, filter_after, FiltersCh
 
 -- a filter that can be exchanged, as a layer
 abbrev pub hooks_on : Layer FilterWithRoom → Hook → Layer FilterWithRoom → Type 0
-hooks_on l hook m = Both (λ a b. DoesFilter a hook b) (LeavesLanes hook) l.inner m.inner
+hooks_on l hook m = BothOrNeither (λ a b. DoesFilter a hook b) (LeavesLanes hook) l.inner m.inner
 
 abbrev pub alike : Layer FilterWithRoom → Layer FilterWithRoom → Type 0
-alike l m = Both (λ (a b : FilterWithRoom). plain_filter b ≡ plain_filter a) (Unit {0}) l.inner m.inner
+alike l m = BothOrNeither (λ (a b : FilterWithRoom). plain_filter b ≡ plain_filter a) (Unit {0}) l.inner m.inner
 
 abbrev pub attaching : Layer FilterWithRoom → Bool
 attaching l = layer_or false (λ _. false) l.inner
@@ -45,7 +45,7 @@ from_heard spans (TryClose id at) a b h =
 
 module _ {S : Type 0} (spans : S → Spans) (inner : S → SubscriberCall → S → Type 0) (attaches : S → Bool) (kept : S → ℕ → ℕ → ℕ)
     (allowed : (s : S) (c : SubscriberCall) (t : S) → inner s c t → Allowed (spans s) c) (shows : (s : S) (c : SubscriberCall) (t : S) → inner s c t → spans t ≡ spans_after_call (spans s) c)
-    (lanes : (s : S) (c : SubscriberCall) (t : S) → inner s c t → CallLanes (attaches s) (kept s) c (kept t)) where
+    (lanes : (s : S) (c : SubscriberCall) (t : S) → inner s c t → CallKeepsLanes (attaches s) (kept s) c (kept t)) where
   abbrev Whole : Type 0
   Whole = Layered (Layer FilterWithRoom) S
 

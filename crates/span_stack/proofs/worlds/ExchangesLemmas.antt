@@ -1,7 +1,7 @@
 -- Another filter over the same subscriber, in a world whose other subscribers take room at most.
 use Rattle.std.proofs.Common.{◌≡◌, ℕ, zero, suc, ◌+◌, ◌<◌, List, [], ◌∷◌, length, Bool, true, false, Option, Some, None, refl, sym, ap, subst, ◌∙◌, inl, inr, arith, slice_get, slice_set, get_or, ◌||◌, if◌then◌else◌, is_some}
 use Rattle.std.specs.Option.{option_map}
-use Rattle.span_stack.proofs.Common.{cases_eq, slice_get_within, slice_get-get_or, WorldValue, AreSame, Spans, entries_on, times_in, KnownSpans, no_known_spans, Layered, InStep, IsWholeBoth, KnowsNone, Replaced, KeepsPlainData, read_subscriber, no_spans, now_there, as_many, seen_before, StaysStack, Layer, FilterState, FilterWithRoom, plain_filter, IsWholeFilter, IsNewFilter, layer_or, HoldsIfThere, Both, both_refl, Swaps, none_kept, same_in_place, filter_in_place}
+use Rattle.span_stack.proofs.Common.{cases_eq, slice_get_within, slice_get-get_or, WorldValue, AreSame, Spans, entries_on, times_in, KnownSpans, no_known_spans, Layered, InStep, IsWholeBoth, KnowsNone, Replaced, KeepsPlainData, read_subscriber, no_spans, now_there, as_many, seen_before, StaysStack, Layer, FilterState, FilterWithRoom, plain_filter, IsWholeFilter, IsNewFilter, layer_or, HoldsIfThere, BothOrNeither, both_refl, Swaps, none_kept, same_in_place, filter_in_place}
 use Rattle.std.proofs.lemmas.Bool.{true≢false}
 use Rattle.env_filter.specs.Filtering.{seen_in}
 use Rattle.span_stack.proofs.worlds.ViewsLemmas.{the_one, see}
@@ -108,14 +108,14 @@ pub swapped_in : (o p : Option FilterWithRoom) (f out : FilterWithRoom) → is_s
 swapped_in None p f out there h = absurd (true≢false (sym there))
 swapped_in (Some l) p f out there h = h.0
 
-swapped_back : (o p q u : Option FilterWithRoom) (f out last : FilterWithRoom) → Swaps o f p out → Both (λ (a b : FilterWithRoom). plain_filter b ≡ plain_filter a) (Unit {0}) p q → Swaps q out u last → u ≡ o
+swapped_back : (o p q u : Option FilterWithRoom) (f out last : FilterWithRoom) → Swaps o f p out → BothOrNeither (λ (a b : FilterWithRoom). plain_filter b ≡ plain_filter a) (Unit {0}) p q → Swaps q out u last → u ≡ o
 swapped_back None p None u f out last h b k = k.0
-swapped_back None p (Some m) u f out last h b k = absurd (subst (λ (x : Option FilterWithRoom). Both (λ (a b : FilterWithRoom). plain_filter b ≡ plain_filter a) (Unit {0}) x (Some m)) h.0 b)
-swapped_back (Some l) p None u f out last h b k = absurd (subst (λ (x : Option FilterWithRoom). Both (λ (a b : FilterWithRoom). plain_filter b ≡ plain_filter a) (Unit {0}) x None) h.0 b)
+swapped_back None p (Some m) u f out last h b k = absurd (subst (λ (x : Option FilterWithRoom). BothOrNeither (λ (a b : FilterWithRoom). plain_filter b ≡ plain_filter a) (Unit {0}) x (Some m)) h.0 b)
+swapped_back (Some l) p None u f out last h b k = absurd (subst (λ (x : Option FilterWithRoom). BothOrNeither (λ (a b : FilterWithRoom). plain_filter b ≡ plain_filter a) (Unit {0}) x None) h.0 b)
 swapped_back (Some l) p (Some m) u f out last h b k = k.0 ∙ ap (λ (x : FilterWithRoom). Some x) h.1
 
 abbrev pub room_over : {S : Type 0} → (S → S → Type 0) → Over S → Over S → Type 0
-room_over same = λ p q. same p.inner q.inner × Both (λ (a b : FilterWithRoom). plain_filter b ≡ plain_filter a) (Unit {0}) p.layer.inner q.layer.inner
+room_over same = λ p q. same p.inner q.inner × BothOrNeither (λ (a b : FilterWithRoom). plain_filter b ≡ plain_filter a) (Unit {0}) p.layer.inner q.layer.inner
 
 abbrev pub swap : {S : Type 0} → FilterWithRoom → FilterWithRoom → Over S → Over S → Type 0
 swap f out = λ p q. (q.inner ≡ p.inner) × Swaps p.layer.inner f q.layer.inner out
@@ -124,7 +124,7 @@ module _ {S : Type 0} (same : S → S → Type 0) where
   back : (s m t u : Over S) (f out last : FilterWithRoom) → swap f out s m → (room_over same) m t → swap out last t u → (room_over same) s u
   back s m t u f out last first room second = (
     subst (λ (x : S). same s.inner x) (sym second.0) (subst (λ (x : S). same x t.inner) first.0 room.0),
-    subst (λ (o : Option FilterWithRoom). Both (λ (a b : FilterWithRoom). plain_filter b ≡ plain_filter a) (Unit {0}) s.layer.inner o) (sym (swapped_back s.layer.inner m.layer.inner t.layer.inner u.layer.inner f out last first.1 room.1 second.1)) (both_refl (λ (a b : FilterWithRoom). plain_filter b ≡ plain_filter a) (λ l. refl) s.layer.inner),
+    subst (λ (o : Option FilterWithRoom). BothOrNeither (λ (a b : FilterWithRoom). plain_filter b ≡ plain_filter a) (Unit {0}) s.layer.inner o) (sym (swapped_back s.layer.inner m.layer.inner t.layer.inner u.layer.inner f out last first.1 room.1 second.1)) (both_refl (λ (a b : FilterWithRoom). plain_filter b ≡ plain_filter a) (λ l. refl) s.layer.inner),
   )
 
   -- put in, room taken, and put back: nothing but room changed

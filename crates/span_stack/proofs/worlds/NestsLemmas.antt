@@ -1,10 +1,10 @@
 -- Through a layer that leaves lanes as they are.
 use Rattle.std.proofs.Common.{◌≡◌, ℕ, Bool, true, false, Option, Some, None, sym, subst, refl}
 use Rattle.std.proofs.lemmas.Bool.{true≢false}
-use Rattle.span_stack.proofs.Common.{Lane, Spans, parent_to_release, SubscriberCall, NewSpan, Records, Follows, Event, Enter, Exit, CloneSpan, TryClose, Hook, OnEnter, OnExit, HookLanes, Layered, DoesBoth, Chain, ended, closes, PartCall, TouchesFirst, FilterWithRoom, layer_or}
+use Rattle.span_stack.proofs.Common.{Lane, Spans, parent_to_release, SubscriberCall, NewSpan, Records, Follows, Event, Enter, Exit, CloneSpan, TryClose, Hook, OnEnter, OnExit, HookKeepsLanes, Layered, DoesBoth, Chain, ended, closes, PartCall, TouchesFirst, FilterWithRoom, layer_or}
 
 pub both_below : {S L : Type 0} (spans : S → Spans) (inner : S → SubscriberCall → S → Type 0) (outer : L → Hook → L → Type 0) (same : L → L → Type 0) (attaches : L → Bool) (kept : L → ℕ → ℕ → ℕ)
-    → ((l : L) (hook : Hook) (m : L) → outer l hook m → HookLanes (attaches l) (kept l) hook (kept m)) → ((l : L) → attaches l ≡ false)
+    → ((l : L) (hook : Hook) (m : L) → outer l hook m → HookKeepsLanes (attaches l) (kept l) hook (kept m)) → ((l : L) → attaches l ≡ false)
     → (s : S) (l : L) (call : SubscriberCall) (t : S) (m : L) → DoesBoth spans inner outer same attaches s l call t m → inner s call t
 both_below spans inner outer same attaches kept lanes never s l (NewSpan lane at parent site callsite values) t m d = d.0
 both_below spans inner outer same attaches kept lanes never s l (Records id at callsite values) t m d = d.0

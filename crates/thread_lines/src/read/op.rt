@@ -9,7 +9,7 @@ ghost use Rattle.thread_lines.specs.ThreadForm.{record_op_form, event_op_form, a
 
 use crate::line::{ThreadCall, ThreadOp};
 use line_members::Members;
-use line_members::members::whole_of;
+use line_members::members::whole_number_of;
 use otel_base::context::SpanContext;
 use otel_base::list::Items;
 use otel_base::record::{Link, Moment, OtelEvent};
@@ -36,7 +36,7 @@ fn given_attributes(alloc: Global, members: &mut Members) -> Result<Items<KeyVal
 fn moment_of(value: &Json) -> Result<Moment, LineError>
     ensures { Gives (λ n. n) result (as_moment (view value.now)) }
 {
-    let at = whole_of(value)?;
+    let at = whole_number_of(value)?;
     if at <= LAST_MOMENT {
         Ok(at)
     } else {

@@ -25,7 +25,7 @@ fn op_of(alloc: Global, value: Json) -> Result<ThreadOp, LineError>
 }
 
 // The calls that the items of an array spell.
-fn each_op(alloc: Global, values: Vec<Json>) -> Result<Items<ThreadOp>, LineError>
+fn ops_of_items(alloc: Global, values: Vec<Json>) -> Result<Items<ThreadOp>, LineError>
     ensures { Gives (λ l. l) result (each op_of (items_view values.items)) }
 {
     let mut ops = Items::new(alloc);
@@ -40,7 +40,7 @@ pub(crate) fn ops_of(alloc: Global, value: Json) -> Result<Items<ThreadOp>, Line
     ensures { Gives (λ l. l) result (option_and_then (each op_of) (as_array (view value))) }
 {
     match value {
-        Json::Array(values) => each_op(alloc, values),
+        Json::Array(values) => ops_of_items(alloc, values),
         _ => Err(LineError::BadLine),
     }
 }

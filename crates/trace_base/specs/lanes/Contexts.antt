@@ -5,12 +5,12 @@ use Rattle.trace_base.specs.declared.lane.Lane.{Lane}
 use Rattle.trace_base.specs.Calls.{SubscriberCall, NewSpan, Records, Follows, Event, Enter, Exit, CloneSpan, TryClose}
 
 -- how many live contexts of a lane have the number of an attach: one or none
-abbrev pub attached_as : ℕ → Lane → ℕ
-attached_as number lane = count_by (λ item. item.0 == number) lane.contexts.live
+abbrev pub attached_count : ℕ → Lane → ℕ
+attached_count number lane = count_by (λ item. item.0 == number) lane.contexts.live
 
 -- the same, of the lane with an id
-abbrev pub attached_on : ℕ → ℕ → Lane → ℕ
-attached_on id number lane = if lane.id == id then attached_as number lane else 0
+abbrev pub attached_count_on : ℕ → ℕ → Lane → ℕ
+attached_count_on id number lane = if lane.id == id then attached_count number lane else 0
 
 -- as many contexts are live as may be
 abbrev pub IsFull : Lane → Type 0
@@ -18,11 +18,11 @@ IsFull lane = length lane.contexts.live ≡ MAX_CONTEXTS
 
 -- all that is kept attached to a lane, by lane and number, is still attached there
 abbrev pub AreAttached : (ℕ → ℕ → ℕ) → Lane → Type 0
-AreAttached kept lane = (number : ℕ) → kept lane.id number ≤ attached_as number lane
+AreAttached kept lane = (number : ℕ) → kept lane.id number ≤ attached_count number lane
 
 -- what was attached or detached between two moments of a lane is what is kept more or less
-abbrev pub KeepsAttached : (ℕ → ℕ → ℕ) → Lane → Lane → (ℕ → ℕ → ℕ) → Type 0
-KeepsAttached kept before later now = (lane number : ℕ) → now lane number + attached_on lane number before ≡ kept lane number + attached_on lane number later
+abbrev pub TracksAttached : (ℕ → ℕ → ℕ) → Lane → Lane → (ℕ → ℕ → ℕ) → Type 0
+TracksAttached kept before later now = (lane number : ℕ) → now lane number + attached_count_on lane number before ≡ kept lane number + attached_count_on lane number later
 
 -- the lane has the same id, name and default; and where nothing can be attached the same contexts and room
 pub record KeepsLane (attaches : Bool) (before later : Lane) : Type 0 where
@@ -37,12 +37,12 @@ pub record KeepsLive (attaches : Bool) (before later : Lane) : Type 0 where
   pub live : later.contexts.live ≡ before.contexts.live
 
 -- what a call makes of lanes and of what is kept attached
-abbrev pub CallLanes : Bool → (ℕ → ℕ → ℕ) → SubscriberCall → (ℕ → ℕ → ℕ) → Type 0
-CallLanes attaches kept (Enter id at before later) now = KeepsLane attaches before later × KeepsAttached kept before later now
-CallLanes attaches kept (Exit id at before later) now = KeepsLane attaches before later × KeepsAttached kept before later now
-CallLanes attaches kept (NewSpan lane at parent site callsite values) now = now ≡ kept
-CallLanes attaches kept (Records id at callsite values) now = now ≡ kept
-CallLanes attaches kept (Follows id from at) now = now ≡ kept
-CallLanes attaches kept (Event lane at parent site callsite values) now = now ≡ kept
-CallLanes attaches kept (CloneSpan id) now = now ≡ kept
-CallLanes attaches kept (TryClose id at) now = now ≡ kept
+abbrev pub CallKeepsLanes : Bool → (ℕ → ℕ → ℕ) → SubscriberCall → (ℕ → ℕ → ℕ) → Type 0
+CallKeepsLanes attaches kept (Enter id at before later) now = KeepsLane attaches before later × TracksAttached kept before later now
+CallKeepsLanes attaches kept (Exit id at before later) now = KeepsLane attaches before later × TracksAttached kept before later now
+CallKeepsLanes attaches kept (NewSpan lane at parent site callsite values) now = now ≡ kept
+CallKeepsLanes attaches kept (Records id at callsite values) now = now ≡ kept
+CallKeepsLanes attaches kept (Follows id from at) now = now ≡ kept
+CallKeepsLanes attaches kept (Event lane at parent site callsite values) now = now ≡ kept
+CallKeepsLanes attaches kept (CloneSpan id) now = now ≡ kept
+CallKeepsLanes attaches kept (TryClose id at) now = now ≡ kept

@@ -4,7 +4,7 @@ use Rattle.trace_base.specs.declared.callsite.Callsite.{Callsite}
 use Rattle.trace_base.specs.declared.field.ValueSet.{ValueSet}
 use Rattle.trace_base.specs.declared.lane.Lane.{Lane}
 use Rattle.trace_base.specs.declared.span.Parent.{Parent}
-use Rattle.trace_base.specs.lanes.Contexts.{KeepsLane, KeepsAttached}
+use Rattle.trace_base.specs.lanes.Contexts.{KeepsLane, TracksAttached}
 
 -- the hooks; an entry and an exit tell the lane before and after
 pub data Hook : Type 0 where
@@ -79,11 +79,11 @@ pub record Sees (old : KnownSpans) (hook : Hook) (new : KnownSpans) : Type 0 whe
   pub unknown : (lane id : ℕ) → old.knows id ≡ false → new.entries lane id ≡ old.entries lane id
 
 -- what a hook makes of lanes and of what is kept attached
-abbrev pub HookLanes : Bool → (ℕ → ℕ → ℕ) → Hook → (ℕ → ℕ → ℕ) → Type 0
-HookLanes attaches kept (OnEnter id at before later) now = KeepsLane attaches before later × KeepsAttached kept before later now
-HookLanes attaches kept (OnExit id at before later) now = KeepsLane attaches before later × KeepsAttached kept before later now
-HookLanes attaches kept (OnNewSpan id lane at parent current callsite values) now = now ≡ kept
-HookLanes attaches kept (OnRecord id at callsite values) now = now ≡ kept
-HookLanes attaches kept (OnFollows id from at) now = now ≡ kept
-HookLanes attaches kept (OnEvent reached lane at callsite values) now = now ≡ kept
-HookLanes attaches kept (OnClose id at) now = now ≡ kept
+abbrev pub HookKeepsLanes : Bool → (ℕ → ℕ → ℕ) → Hook → (ℕ → ℕ → ℕ) → Type 0
+HookKeepsLanes attaches kept (OnEnter id at before later) now = KeepsLane attaches before later × TracksAttached kept before later now
+HookKeepsLanes attaches kept (OnExit id at before later) now = KeepsLane attaches before later × TracksAttached kept before later now
+HookKeepsLanes attaches kept (OnNewSpan id lane at parent current callsite values) now = now ≡ kept
+HookKeepsLanes attaches kept (OnRecord id at callsite values) now = now ≡ kept
+HookKeepsLanes attaches kept (OnFollows id from at) now = now ≡ kept
+HookKeepsLanes attaches kept (OnEvent reached lane at callsite values) now = now ≡ kept
+HookKeepsLanes attaches kept (OnClose id at) now = now ≡ kept

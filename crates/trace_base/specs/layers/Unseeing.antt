@@ -3,8 +3,8 @@ use Rattle.std.specs.Prelude.{◌≡◌, false}
 use Rattle.std.proofs.Common.{refl, sym, ap, arith}
 use Rattle.std.proofs.lemmas.Bool.{true≢false}
 use Rattle.trace_base.specs.declared.lane.Lane.{Lane}
-use Rattle.trace_base.specs.lanes.Contexts.{KeepsLane, KeepsAttached, attached_on}
-use Rattle.trace_base.specs.layers.Hooks.{Hook, OnNewSpan, OnRecord, OnFollows, OnEvent, OnEnter, OnExit, OnClose, KnownSpans, Sees, HookLanes}
+use Rattle.trace_base.specs.lanes.Contexts.{KeepsLane, TracksAttached, attached_count_on}
+use Rattle.trace_base.specs.layers.Hooks.{Hook, OnNewSpan, OnRecord, OnFollows, OnEvent, OnEnter, OnExit, OnClose, KnownSpans, Sees, HookKeepsLanes}
 
 abbrev pub no_known_spans : KnownSpans
 no_known_spans = record { knows = λ id. false; entries = λ lane id. 0 }
@@ -31,10 +31,10 @@ unseeing_sees hook = record {
 pub left_as_it_is : (a b : Lane) → b ≡ a → KeepsLane false a b
 left_as_it_is a b e = record { id = ap (λ (l : Lane). l.id) e; name = ap (λ (l : Lane). l.name) e; default = ap (λ (l : Lane). l.default) e; as_it_is = λ no. e }
 
-pub nothing_kept : (a b : Lane) → b ≡ a → KeepsAttached (λ lane number. 0) a b (λ lane number. 0)
-nothing_kept a b e lane number = let y = ap (λ (l : Lane). attached_on lane number l) e in omega (arith, y)
+pub nothing_kept : (a b : Lane) → b ≡ a → TracksAttached (λ lane number. 0) a b (λ lane number. 0)
+nothing_kept a b e lane number = let y = ap (λ (l : Lane). attached_count_on lane number l) e in omega (arith, y)
 
-pub unseeing_lanes : (hook : Hook) → LeavesLanes hook → HookLanes false (λ lane number. 0) hook (λ lane number. 0)
+pub unseeing_lanes : (hook : Hook) → LeavesLanes hook → HookKeepsLanes false (λ lane number. 0) hook (λ lane number. 0)
 unseeing_lanes (OnEnter id at before later) left = (left_as_it_is before later left, nothing_kept before later left)
 unseeing_lanes (OnExit id at before later) left = (left_as_it_is before later left, nothing_kept before later left)
 unseeing_lanes (OnNewSpan id lane at parent current callsite values) left = refl

@@ -1,7 +1,7 @@
 -- The lines of made scripts stand apart, and spell their requests.
 use Rattle.std.proofs.Common.{◌≡◌, ℕ, zero, suc, ◌+◌, ◌*◌, ◌<◌, ◌≤◌, ◌^◌, ◌==◌, ◌++◌, List, [], ◌∷◌, length, map, true, false, Some, Ok, option_and_then, decimal, refl, ap, ◌∙◌, arith, append_assoc, length-append}
 use Rattle.std.specs.Prelude.{⊤, ok_or, flat_map}
-use Rattle.trace_lines.proofs.Common.{and_parts, nat_tests, is_utf8, escape_byte, depth, number, object, Members, member, as_object, of_json, max_depth, outline, compact_text, serde_json_on_literals, number_of-decimal, Call, Request, BadLine, all_of, generated_settings, root_fields, row_fields, requests_of_round, requests_of_rounds, generated_requests, request_members, request_line, settings_line, generated_lines, generated_script, lines_of, is_blank, request_form, new_form, drop_form, enter_form, exit_form, event_form, settings_form, callsite_form, lane_form, error_flags, span_flags, layer_form, request_spelled, settings_spelled}
+use Rattle.trace_lines.proofs.Common.{and_parts, nat_tests, is_utf8, escape_byte, depth, number, object, Members, member, as_object, of_json, max_depth, outline, compact_text, serde_json_on_literals, number_of-decimal, Call, Request, BadLine, all_of, generated_settings, root_fields, row_fields, requests_of_round, requests_of_rounds, generated_requests, request_members, request_line, generated_settings_line, generated_lines, generated_script, lines_of, is_blank, request_form, new_form, drop_form, enter_form, exit_form, event_form, settings_form, callsite_form, lane_form, error_flags, span_flags, layer_form, request_spelled, settings_spelled}
 use Rattle.std.specs.Str.{chars}
 use Rattle.span_script.specs.declared.request.Call.TheVariants as call
 use Rattle.span_script.specs.declared.request.RequestParent.TheVariants as request_parent
@@ -160,8 +160,8 @@ lines_apart (r ∷ requests) all =
 
 pub script_lines : (n : ℕ) → n ≤ 50000 → lines_of (generated_script n) ≡ generated_lines n
 script_lines n few =
-    feed_apart settings_line (flat_map with_feed (map request_line (generated_requests n))) refl
-    ∙ ap (λ (ls : List (List ℕ)). settings_line ∷ ls) (lines_apart (generated_requests n) (made_each n few))
+    feed_apart generated_settings_line (flat_map with_feed (map request_line (generated_requests n))) refl
+    ∙ ap (λ (ls : List (List ℕ)). generated_settings_line ∷ ls) (lines_apart (generated_requests n) (made_each n few))
 
 -- ---- how long the script is
 
@@ -175,8 +175,8 @@ script_short n few =
     omega (
       arith,
       few,
-      length-append (with_feed settings_line) (flat_map with_feed (map request_line (generated_requests n))),
-      length-append settings_line (10 ∷ []),
+      length-append (with_feed generated_settings_line) (flat_map with_feed (map request_line (generated_requests n))),
+      length-append generated_settings_line (10 ∷ []),
       lines_length (generated_requests n) (made_each n few),
       many_rounds 0 n,
     )
@@ -190,6 +190,6 @@ spelled_each (r ∷ requests) all = rw (all.0.spells, spelled_each requests all.
 pub requests_spelled : (n : ℕ) → n ≤ 50000 → map (λ request. request_spelled (request_line request)) (generated_requests n) ≡ map Ok (generated_requests n)
 requests_spelled n few = spelled_each (generated_requests n) (made_each n few)
 
-pub settings_read : settings_spelled settings_line ≡ Ok generated_settings
+pub settings_read : settings_spelled generated_settings_line ≡ Ok generated_settings
 unfolding serde_json_on_literals settings_spelled settings_form callsite_form lane_form error_flags span_flags layer_form is_utf8 chars
 settings_read = refl

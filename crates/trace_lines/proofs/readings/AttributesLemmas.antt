@@ -1,6 +1,6 @@
 -- The value of each attribute, status and time is read as it.
 use Rattle.std.proofs.Common.{◌≡◌, ℕ, ◌≤◌, pos, negsuc, List, [], ◌∷◌, Some, option_map, option_and_then, refl, ap, ◌∙◌, arith}
-use Rattle.trace_lines.proofs.Common.{nat_tests, LAST_MOMENT, otel_value_of, key_value, attribute_spelled, error_status_form, status_spelled, IsOtelValueInRange, AreAttributesInRange, at_most, each, items, attribute_value, attribute_data, status_data}
+use Rattle.trace_lines.proofs.Common.{nat_tests, LAST_MOMENT, otel_value_of, key_value, attribute_spelled, error_status_form, status_spelled, IsOtelValueInRange, AreAttributesInRange, if_at_most, each, items, attribute_value, attribute_data, status_data}
 use Rattle.otel_base.specs.declared.status.Status.{Status}
 use Rattle.otel_base.specs.declared.status.Status.TheVariants as status
 use Rattle.otel_base.specs.declared.value.KeyValue.{KeyValue}
@@ -30,5 +30,5 @@ status_read status.Unset = refl
 status_read (status.Error description) = refl
 status_read status.Ok = refl
 
-pub time_read : (time : ℕ) → time ≤ LAST_MOMENT → at_most LAST_MOMENT time ≡ Some time
+pub time_read : (time : ℕ) → time ≤ LAST_MOMENT → if_at_most LAST_MOMENT time ≡ Some time
 time_read time most = grind (arith, nat_tests, most)

@@ -2,7 +2,7 @@
 use Rattle.std.proofs.Common.{negsuc, ◌≡◌, ℕ, suc, ◌<◌, ◌≤◌, ◌^◌, List, [], ◌∷◌, ◌++◌, length, get_or, take, drop, true, false, Bool, Some, None, Option, option_and_then, option_map, unwrap_or, refl, sym, ap, ◌∙◌, arith, append_assoc, append-nil, Bor, decimal, MatchOption, IfSome, ◌+◌, ◌-◌, nat_eq, length-append}
 use Rattle.std.specs.Prelude.{⊤}
 use Rattle.std.specs.Str.{IsUtf8}
-use Rattle.trace_lines.proofs.Common.{pointwise, strip_prefix_is, Decides-eqb, json_tokens, depth, items_depth, members_depth, HasNumbers, ItemsHaveNumbers, MembersHaveNumbers, escape, quoted, IsNumber-decimal, IsNumber-signed_decimal, Data, null, boolean, unsigned, negative, number, string, array, object, Items, no_items, item, Members, no_members, member, put, as_object, of_json, of_items, of_members, read, max_depth, outline, items_outline, members_outline, compact_text, items_text, members_text, number_of-decimal, number_of-negative, line_members, line_value, nested_value, plain_data, onto, ReadsValue, BeginsWithValue, BeginsItems, BeginsMembers, BeginsNested}
+use Rattle.trace_lines.proofs.Common.{pointwise, strip_prefix_is, Decides-eqb, json_tokens, depth, items_depth, members_depth, HasNumbers, ItemsHaveNumbers, MembersHaveNumbers, escape, quoted, IsNumber-decimal, IsNumber-signed_decimal, Data, null, boolean, unsigned, negative, number, string, array, object, Items, no_items, item, Members, no_members, member, put, as_object, of_json, of_items, of_members, read, max_depth, outline, items_outline, members_outline, compact_text, items_text, members_text, number_of-decimal, number_of-negative, line_members, line_value, nested_value, plain_data, with_members_first, ReadsValue, BeginsWithValue, BeginsItems, BeginsMembers, BeginsNested}
 use Rattle.std.proofs.Math.ListN.{take-append-drop}
 use Rattle.std.proofs.Math.Seq.{drop-cons}
 use Rattle.json.specs.Token.{Token}
@@ -243,7 +243,7 @@ nested_begins deep text words rest utf8 cut shallow d same raw is reads =
 abbrev pub Entry : Type 0
 Entry = Bor (List ℕ) × Plain
 
-pub onto_push : (es : List Entry) (e : Entry) (ms : Members) → onto (es ++ e ∷ []) ms ≡ onto es (member e.0.now (plain_data e.1) ms)
+pub onto_push : (es : List Entry) (e : Entry) (ms : Members) → with_members_first (es ++ e ∷ []) ms ≡ with_members_first es (member e.0.now (plain_data e.1) ms)
 onto_push [] e ms = refl
 onto_push (x ∷ es) e ms = ap (member x.0.now (plain_data x.1)) (onto_push es e ms)
 

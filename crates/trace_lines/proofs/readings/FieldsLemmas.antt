@@ -1,6 +1,6 @@
 -- The value of each field is read as the field.
 use Rattle.std.proofs.Common.{◌≡◌, ◌≢◌, ℕ, suc, ◌-◌, ◌^◌, ◌<◌, ℤ, pos, negsuc, neg_ℤ, List, [], ◌∷◌, true, Some, None, option_map, option_and_then, nat_lt, nat_le, decimal, refl, ap, subst, ◌∙◌, arith, ◌&&◌, if◌then◌else◌}
-use Rattle.trace_lines.proofs.Common.{signed_decimal, AllDigits, IsNumeral, nat_tests, decimal_is_IsNumeral_wide, string, as_str, Value, i128_word, below_zero, from_zero, written_value, written_field, HasBits, IsValueInRange, AreValuesInRange, error_form, typed_form, value_spelled, field_of, at_most, each, items}
+use Rattle.trace_lines.proofs.Common.{signed_decimal, AllDigits, IsNumeral, nat_tests, decimal_is_IsNumeral_wide, string, as_str, Value, i128_of_word, negative_of, nonnegative_of, written_value, written_field, HasBits, IsValueInRange, AreValuesInRange, error_form, typed_form, value_spelled, field_of, if_at_most, each, items}
 use Rattle.std.proofs.lemmas.Str.Parse.{digit_from_value}
 use Rattle.trace_base.specs.declared.field.Value.TheVariants.{Bool as Truth, I64, U64, I128, U128, Str, Debug, Error}
 use Rattle.trace_lines.proofs.texts.DecimalsLemmas.{decimal_read, no_minus}
@@ -11,17 +11,17 @@ use Rattle.trace_lines.proofs.texts.DecimalsLemmas.{decimal_read, no_minus}
 digits_first : (word : List ℕ) → IsNumeral 10 word → (rest : List ℕ) → word ≢ 45 ∷ rest
 digits_first word numeral rest same = omega (arith, digit_from_value 45 (subst (AllDigits 10) same numeral.1).0)
 
-above : (n : ℕ) → n < 2 ^ 127 → from_zero n ≡ Some (pos n)
-above n small = ap (option_map pos) {x = at_most (2 ^ 127 - 1) n} {y = Some n} (grind (arith, nat_tests, small))
+above : (n : ℕ) → n < 2 ^ 127 → nonnegative_of n ≡ Some (pos n)
+above n small = ap (option_map pos) {x = if_at_most (2 ^ 127 - 1) n} {y = Some n} (grind (arith, nat_tests, small))
 
-below : (n : ℕ) → n < 2 ^ 127 → below_zero (suc n) ≡ Some (negsuc n)
+below : (n : ℕ) → n < 2 ^ 127 → negative_of (suc n) ≡ Some (negsuc n)
 below n small = ap (λ b. if b then Some (neg_ℤ (pos (suc n))) else None) {x = nat_le 1 (suc n) && nat_le (suc n) (2 ^ 127)} {y = true} (grind (arith, nat_tests, small))
 
-signed_read : (z : ℤ) → HasBits 127 z → i128_word (signed_decimal z) ≡ Some z
+signed_read : (z : ℤ) → HasBits 127 z → i128_of_word (signed_decimal z) ≡ Some z
 signed_read (pos n) small =
     no_minus (decimal n) (digits_first (decimal n) (decimal_is_IsNumeral_wide n (omega (arith, small))).0)
-    ∙ ap (option_and_then from_zero) (decimal_read n (omega (arith, small))) ∙ above n small
-signed_read (negsuc n) small = ap (option_and_then below_zero) (decimal_read (suc n) (omega (arith, small))) ∙ below n small
+    ∙ ap (option_and_then nonnegative_of) (decimal_read n (omega (arith, small))) ∙ above n small
+signed_read (negsuc n) small = ap (option_and_then negative_of) (decimal_read (suc n) (omega (arith, small))) ∙ below n small
 
 -- ---- values
 

@@ -2,12 +2,12 @@
 use Rattle.std.proofs.Common.{◌≡◌, ℕ, zero, suc, ◌+◌, ◌<◌, ◌≤◌, List, [], ◌∷◌, ◌++◌, length, get_or, take, drop, remove, Some, None, Ordering, Less, Equal, Greater, is_eq, Bool, true, false, true≢false, bytes_eq, nat_cmp, refl, sym, ap, subst, ◌∙◌, arith}
 use Rattle.std.proofs.Math.Seq.{drop-cons}
 use Rattle.std.proofs.lemmas.List.{get_or-drop, length-drop}
-use Rattle.trace_lines.proofs.Common.{nat_list_cmp_total, tied_itself, bytes_eq-Decides, slice_cmp, match_ordering, Data, Members, no_members, member, put, get_member, without_member, plain_data, onto, FindsMember, FitsIn}
+use Rattle.trace_lines.proofs.Common.{nat_list_cmp_total, tied_itself, bytes_eq-Decides, slice_cmp, match_ordering, Data, Members, no_members, member, put, get_member, without_member, plain_data, with_members_first, FindsMember, FitsIn}
 use Rattle.std.proofs.lemmas.Map.Text.{is_eq-slice_cmp}
 use Rattle.trace_lines.proofs.readings.CompactLemmas.{Entry, onto_push}
 
 abbrev pub Passed : List ℕ → List Entry → ℕ → Type 0
-Passed name es at = (get_member name (onto es no_members) ≡ get_member name (onto (drop at es) no_members)) × (without_member name (onto es no_members) ≡ onto (take at es) (without_member name (onto (drop at es) no_members)))
+Passed name es at = (get_member name (with_members_first es no_members) ≡ get_member name (with_members_first (drop at es) no_members)) × (without_member name (with_members_first es no_members) ≡ with_members_first (take at es) (without_member name (with_members_first (drop at es) no_members)))
 
 same_text : (xs : List ℕ) → slice_cmp nat_cmp xs xs ≡ Equal
 same_text xs = tied_itself nat_list_cmp_total xs
@@ -30,7 +30,7 @@ differ xs ys false e other = refl
 unlike : (name k : List ℕ) → (k ≡ name → ⊥) → is_eq (slice_cmp nat_cmp name k) ≡ false
 unlike name k other = is_eq-slice_cmp name k ∙ differ name k _ refl (λ e. other (sym e))
 
-onto_append : (xs ys : List Entry) (ms : Members) → onto (xs ++ ys) ms ≡ onto xs (onto ys ms)
+onto_append : (xs ys : List Entry) (ms : Members) → with_members_first (xs ++ ys) ms ≡ with_members_first xs (with_members_first ys ms)
 onto_append [] ys ms = refl
 onto_append (x ∷ xs) ys ms = ap (member x.0.now (plain_data x.1)) (onto_append xs ys ms)
 
@@ -47,13 +47,13 @@ passed_more name es at d within other passed =
     let e = get_or es at d in
     let seam = drop-cons es at d within in
     let next : suc at ≡ at + 1 = omega arith in
-    let left = onto (drop (suc at) es) no_members in
+    let left = with_members_first (drop (suc at) es) no_members in
     let one : Passed name es (suc at) = (
-      passed.0 ∙ ap (λ xs. get_member name (onto xs no_members)) seam ∙ either (slice_cmp nat_cmp name e.0.now) (get_member name left) (Some (plain_data e.1)) (unlike name e.0.now other),
-      passed.1 ∙ ap (λ xs. onto (take at es) (without_member name (onto xs no_members))) seam
-          ∙ ap (onto (take at es)) (either (slice_cmp nat_cmp name e.0.now) (member e.0.now (plain_data e.1) (without_member name left)) left (unlike name e.0.now other))
+      passed.0 ∙ ap (λ xs. get_member name (with_members_first xs no_members)) seam ∙ either (slice_cmp nat_cmp name e.0.now) (get_member name left) (Some (plain_data e.1)) (unlike name e.0.now other),
+      passed.1 ∙ ap (λ xs. with_members_first (take at es) (without_member name (with_members_first xs no_members))) seam
+          ∙ ap (with_members_first (take at es)) (either (slice_cmp nat_cmp name e.0.now) (member e.0.now (plain_data e.1) (without_member name left)) left (unlike name e.0.now other))
           ∙ sym (onto_push (take at es) e (without_member name left))
-          ∙ ap (λ xs. onto xs (without_member name left)) (sym (take_more es at d within)),
+          ∙ ap (λ xs. with_members_first xs (without_member name left)) (sym (take_more es at d within)),
     ) in
     subst (Passed name es) next one
 
@@ -62,9 +62,9 @@ is_found name es at d within same passed =
     let seam = λ (x : Entry). drop-cons es at x within in
     let e = get_or es at d in (
       within,
-      λ x. passed.0 ∙ ap (λ xs. get_member name (onto xs no_members)) (seam x) ∙ get_here name (get_or es at x).0.now _ _ (ap (λ (y : Entry). y.0.now) (get_or-any es at x d within) ∙ same),
-      passed.1 ∙ ap (λ xs. onto (take at es) (without_member name (onto xs no_members))) (seam d)
-          ∙ ap (onto (take at es)) (without_here name e.0.now (plain_data e.1) (onto (drop (suc at) es) no_members) same)
+      λ x. passed.0 ∙ ap (λ xs. get_member name (with_members_first xs no_members)) (seam x) ∙ get_here name (get_or es at x).0.now _ _ (ap (λ (y : Entry). y.0.now) (get_or-any es at x d within) ∙ same),
+      passed.1 ∙ ap (λ xs. with_members_first (take at es) (without_member name (with_members_first xs no_members))) (seam d)
+          ∙ ap (with_members_first (take at es)) (without_here name e.0.now (plain_data e.1) (with_members_first (drop (suc at) es) no_members) same)
           ∙ sym (onto_append (take at es) (drop (suc at) es) no_members),
     )
   where
@@ -75,8 +75,8 @@ is_found name es at d within same passed =
 
 pub not_found : (name : List ℕ) (es : List Entry) (at : ℕ) → length es ≤ at → Passed name es at → FindsMember name es None
 not_found name es at past passed = (
-  passed.0 ∙ ap (λ xs. get_member name (onto xs no_members)) (drop_of_length-le es at past),
-  passed.1 ∙ ap (λ xs. onto (take at es) (without_member name (onto xs no_members))) (drop_of_length-le es at past) ∙ ap (λ xs. onto xs no_members) (take_all es at past),
+  passed.0 ∙ ap (λ xs. get_member name (with_members_first xs no_members)) (drop_of_length-le es at past),
+  passed.1 ∙ ap (λ xs. with_members_first (take at es) (without_member name (with_members_first xs no_members))) (drop_of_length-le es at past) ∙ ap (λ xs. with_members_first xs no_members) (take_all es at past),
 )
   where
     take_all : (es : List Entry) (at : ℕ) → length es ≤ at → take at es ≡ es
@@ -132,16 +132,16 @@ other_left es taken at some =
 -- ---- where a member goes
 
 abbrev pub Puts : List ℕ → List Entry → ℕ → Type 0
-Puts name es at = (d : Data) → put name d (onto es no_members) ≡ onto (take at es) (put name d (onto (drop at es) no_members))
+Puts name es at = (d : Data) → put name d (with_members_first es no_members) ≡ with_members_first (take at es) (put name d (with_members_first (drop at es) no_members))
 
 pub puts_more : (name : List ℕ) (es : List Entry) (at : ℕ) (x : Entry) → at < length es → Greater ≡ slice_cmp nat_cmp name (get_or es at x).0.now → Puts name es at → Puts name es (at + 1)
 puts_more name es at x within is puts =
     let e = get_or es at x in
     let next : suc at ≡ at + 1 = omega arith in
-    let left = onto (drop (suc at) es) no_members in
-    let one : Puts name es (suc at) = λ d. puts d ∙ ap (λ xs. onto (take at es) (put name d (onto xs no_members))) (drop-cons es at x within)
-    ∙ ap (λ o. onto (take at es) (match_ordering o (member name d (member e.0.now (plain_data e.1) left)) (member e.0.now d left) (member e.0.now (plain_data e.1) (put name d left)))) (sym is)
-    ∙ sym (onto_push (take at es) e (put name d left)) ∙ ap (λ xs. onto xs (put name d left)) (sym (take_more es at x within)) in
+    let left = with_members_first (drop (suc at) es) no_members in
+    let one : Puts name es (suc at) = λ d. puts d ∙ ap (λ xs. with_members_first (take at es) (put name d (with_members_first xs no_members))) (drop-cons es at x within)
+    ∙ ap (λ o. with_members_first (take at es) (match_ordering o (member name d (member e.0.now (plain_data e.1) left)) (member e.0.now d left) (member e.0.now (plain_data e.1) (put name d left)))) (sym is)
+    ∙ sym (onto_push (take at es) e (put name d left)) ∙ ap (λ xs. with_members_first xs (put name d left)) (sym (take_more es at x within)) in
     subst (Puts name es) next one
 
 pub puts_before : (name : List ℕ) (es : List Entry) (at : ℕ) (x : Entry) → at < length es → Less ≡ slice_cmp nat_cmp name (get_or es at x).0.now → Puts name es at → FitsIn name es at
@@ -150,11 +150,11 @@ puts_before name es at x within is puts = (
   λ n same.
       let e = get_or es at x in
       let d = plain_data n.1 in
-      let left = onto (drop (suc at) es) no_members in
-      puts d ∙ ap (λ xs. onto (take at es) (put name d (onto xs no_members))) (drop-cons es at x within)
-      ∙ ap (λ o. onto (take at es) (match_ordering o (member name d (member e.0.now (plain_data e.1) left)) (member e.0.now d left) (member e.0.now (plain_data e.1) (put name d left)))) (sym is)
-      ∙ ap (λ xs. onto (take at es) (member name d (onto xs no_members))) (sym (drop-cons es at x within))
-      ∙ ap (λ k. onto (take at es) (member k d (onto (drop at es) no_members))) (sym same)
+      let left = with_members_first (drop (suc at) es) no_members in
+      puts d ∙ ap (λ xs. with_members_first (take at es) (put name d (with_members_first xs no_members))) (drop-cons es at x within)
+      ∙ ap (λ o. with_members_first (take at es) (match_ordering o (member name d (member e.0.now (plain_data e.1) left)) (member e.0.now d left) (member e.0.now (plain_data e.1) (put name d left)))) (sym is)
+      ∙ ap (λ xs. with_members_first (take at es) (member name d (with_members_first xs no_members))) (sym (drop-cons es at x within))
+      ∙ ap (λ k. with_members_first (take at es) (member k d (with_members_first (drop at es) no_members))) (sym same)
       ∙ sym (onto_append (take at es) (n ∷ drop at es) no_members),
 )
 
@@ -163,9 +163,9 @@ puts_last name es at past puts = (
   omega arith,
   λ n same.
       let d = plain_data n.1 in
-      puts d ∙ ap (λ xs. onto (take at es) (put name d (onto xs no_members))) (none_left es at past)
-      ∙ ap (λ k. onto (take at es) (member k d no_members)) (sym same)
-      ∙ ap (λ xs. onto (take at es) (member n.0.now d (onto xs no_members))) (sym (none_left es at past))
+      puts d ∙ ap (λ xs. with_members_first (take at es) (put name d (with_members_first xs no_members))) (none_left es at past)
+      ∙ ap (λ k. with_members_first (take at es) (member k d no_members)) (sym same)
+      ∙ ap (λ xs. with_members_first (take at es) (member n.0.now d (with_members_first xs no_members))) (sym (none_left es at past))
       ∙ sym (onto_append (take at es) (n ∷ drop at es) no_members),
 )
   where

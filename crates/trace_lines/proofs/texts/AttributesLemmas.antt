@@ -1,9 +1,9 @@
 -- Attributes that stand in a text.
 use Rattle.std.proofs.Common.{◌≡◌, refl}
-use Rattle.trace_lines.proofs.Common.{Data, null, boolean, number, string, array, object, list_of, otel_value_of, nested_value}
+use Rattle.trace_lines.proofs.Common.{Data, null, boolean, number, string, array, object, text_list_of, otel_value_of, nested_value}
 
 -- a value that nests is a list, or none of an attribute
-pub list_nested : (d : Data) → otel_value_of (nested_value d) ≡ list_of (nested_value d)
+pub list_nested : (d : Data) → otel_value_of (nested_value d) ≡ text_list_of (nested_value d)
 list_nested null = refl
 list_nested (boolean b) = refl
 list_nested (number n) = refl

@@ -10,8 +10,8 @@ use Rattle.otel_base.specs.declared.value.OtelValue.TheVariants as otel
 use Rattle.trace_lines.specs.forms.Forms.{Form, ◌>>=◌, give, when, text, optional, if_absent, each, pair_with, object_of}
 
 -- a list of texts
-abbrev pub list_of : Data → Option OtelValue
-list_of d = option_map otel.List (option_and_then (each as_str) (as_array d))
+abbrev pub text_list_of : Data → Option OtelValue
+text_list_of d = option_map otel.List (option_and_then (each as_str) (as_array d))
 
 -- the value of an attribute that a JSON value spells: a bool, a signed number of 64 bits, a text, or a list of texts
 abbrev pub otel_value_of : Data → Option OtelValue
@@ -19,7 +19,7 @@ otel_value_of null = None
 otel_value_of (boolean b) = Some (otel.Bool b)
 otel_value_of (number n) = option_map otel.I64 (as_i64 n)
 otel_value_of (string s) = Some (otel.Str s)
-otel_value_of (array ds) = list_of (array ds)
+otel_value_of (array ds) = text_list_of (array ds)
 otel_value_of (object ms) = None
 
 -- an attribute has a key and a value
@@ -42,8 +42,8 @@ attributes_form = do
 -- ---- statuses
 
 -- the words of the statuses that have no description
-abbrev pub status_word : List ℕ → Option Status
-status_word word =
+abbrev pub status_of_word : List ℕ → Option Status
+status_of_word word =
     if bytes_eq word (codes "unset") then Some status.Unset else
     (if bytes_eq word (codes "ok") then Some status.Ok else None)
 
@@ -55,7 +55,7 @@ error_status_form = do
 
 -- the status that a value names: by a word, or as an error
 abbrev pub status_by : Option (List ℕ) → Data → Option Status
-status_by (Some word) d = status_word word
+status_by (Some word) d = status_of_word word
 status_by None d = object_of error_status_form d
 
 abbrev pub status_spelled : Data → Option Status

@@ -5,7 +5,7 @@ use Rattle.span_script.specs.declared.request.Call.{Call}
 use Rattle.span_script.specs.declared.request.Call.TheVariants as call
 use Rattle.span_script.specs.declared.request.TheConstants.{LAST_MOMENT}
 use Rattle.trace_lines.specs.forms.AttributeForm.{otel_value_of, attributes_form, status_spelled}
-use Rattle.trace_lines.specs.forms.Forms.{Form, ◌>>=◌, give, when, natural, text, member, optional, if_there, at_most, as_whole}
+use Rattle.trace_lines.specs.forms.Forms.{Form, ◌>>=◌, give, when, natural, text, member, optional, if_there, if_at_most, as_whole}
 
 -- `follows` links a handle's span to that of another handle
 unfoldable pub follows_form : Form Call
@@ -48,7 +48,7 @@ set_status_form = do
 
 -- a time up to the last moment
 abbrev pub as_moment : Data → Option ℕ
-as_moment d = option_and_then (at_most LAST_MOMENT) (as_whole d)
+as_moment d = option_and_then (if_at_most LAST_MOMENT) (as_whole d)
 
 -- the time of an event, if it is said
 abbrev pub time_form : Form (Option ℕ)

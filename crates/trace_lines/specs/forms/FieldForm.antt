@@ -4,7 +4,7 @@ use Rattle.serde_json.specs.Data.{Data, null, boolean, number, string, array, ob
 use Rattle.serde_json.specs.Find.{as_str, as_array, as_i64, as_u64}
 use Rattle.trace_base.specs.declared.field.Value.{Value}
 use Rattle.trace_base.specs.declared.field.Value.TheVariants.{Bool, I64, U64, I128, U128, Str, Debug, Error}
-use Rattle.trace_lines.specs.text.Decimals.{u128_word, i128_word}
+use Rattle.trace_lines.specs.text.Decimals.{u128_of_word, i128_of_word}
 use Rattle.trace_lines.specs.forms.Forms.{Form, ◌>>=◌, give, text, texts, optional, as_whole, each, pair_with, all_of}
 
 -- a signed number where there is one, else a number without a sign
@@ -18,10 +18,10 @@ abbrev pub u64_of : Data → Option Value
 u64_of d = option_map U64 (as_whole d)
 
 abbrev pub i128_of : Data → Option Value
-i128_of d = option_map I128 (option_and_then i128_word (as_str d))
+i128_of d = option_map I128 (option_and_then i128_of_word (as_str d))
 
 abbrev pub u128_of : Data → Option Value
-u128_of d = option_map U128 (option_and_then u128_word (as_str d))
+u128_of d = option_map U128 (option_and_then u128_of_word (as_str d))
 
 abbrev pub debug_of : Data → Option Value
 debug_of d = option_map Debug (as_str d)

@@ -50,12 +50,12 @@ abbrev pub as_whole : Data → Option ℕ
 as_whole d = option_and_then as_u64 (as_number d)
 
 -- a number that is at most the greatest
-abbrev pub at_most : ℕ → ℕ → Option ℕ
-at_most greatest n = if nat_le n greatest then Some n else None
+abbrev pub if_at_most : ℕ → ℕ → Option ℕ
+if_at_most greatest n = if nat_le n greatest then Some n else None
 
 -- a whole number of 32 bits
 abbrev pub as_u32 : Data → Option ℕ
-as_u32 d = option_and_then (at_most (2 ^ 32 - 1)) (as_whole d)
+as_u32 d = option_and_then (if_at_most (2 ^ 32 - 1)) (as_whole d)
 
 -- a value, if there is one, has to be of a kind
 abbrev pub if_there : {A : Type 0} → (Data → Option A) → Option Data → Option (Option A)
@@ -91,7 +91,7 @@ natural name = do
 abbrev pub whole_to : ℕ → List ℕ → Members → Option (ℕ × Members)
 whole_to greatest name = do
   n ← natural name
-  when (at_most greatest n)
+  when (if_at_most greatest n)
 
 -- a text
 abbrev pub text : List ℕ → Members → Option (List ℕ × Members)

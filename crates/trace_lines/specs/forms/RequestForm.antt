@@ -11,16 +11,16 @@ use Rattle.span_script.specs.declared.request.RequestParent.TheVariants as reque
 use Rattle.trace_lines.specs.forms.ExtensionForm.{follows_form, set_parent_form, add_link_form, set_attribute_form, set_status_form, add_event_form}
 use Rattle.trace_lines.specs.forms.FieldForm.{fields_of}
 use Rattle.trace_lines.specs.forms.Forms.{Form, ◌>>=◌, give, when, natural, text, member, optional, if_absent, as_whole}
-use Rattle.trace_lines.specs.text.Hex.{id_word, long_id_word}
+use Rattle.trace_lines.specs.text.Hex.{id_of_word, long_id_of_word}
 
 -- the word of no span
-abbrev pub root_word : List ℕ → Option RequestParent
-root_word word = if bytes_eq word (codes "root") then Some request_parent.Root else None
+abbrev pub root_of_word : List ℕ → Option RequestParent
+root_of_word word = if bytes_eq word (codes "root") then Some request_parent.Root else None
 
 -- the place that a value names: by a handle's number, or by the word of no span
 abbrev pub parent_by : Option ℕ → Data → Option RequestParent
 parent_by (Some handle) d = Some (request_parent.Under handle)
-parent_by None d = option_and_then root_word (as_str d)
+parent_by None d = option_and_then root_of_word (as_str d)
 
 abbrev pub parent_spelled : Data → Option RequestParent
 parent_spelled d = parent_by (as_whole d) d
@@ -126,9 +126,9 @@ event_form = do
 unfoldable pub remote_form : Form Call
 remote_form = do
   trace_word ← text (codes "trace")
-  trace ← when (long_id_word trace_word)
+  trace ← when (long_id_of_word trace_word)
   span_word ← text (codes "span")
-  span ← when (id_word span_word)
+  span ← when (id_of_word span_word)
   give (call.Remote (record { trace = trace; span = span }))
 
 -- `enabled` asks whether what a callsite makes is let through

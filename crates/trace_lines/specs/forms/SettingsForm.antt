@@ -8,7 +8,7 @@ use Rattle.trace_base.specs.declared.callsite.Kind.{Kind}
 use Rattle.trace_base.specs.declared.level.Level.{Level}
 use Rattle.span_script.specs.declared.settings.Settings.{Settings}
 use Rattle.trace_lines.specs.forms.Forms.{Form, ◌>>=◌, give, when, unit_if, whole_to, text, flag_or, optional, if_absent, optional_text, optional_u32, array, texts, each, object_of}
-use Rattle.trace_lines.specs.text.Words.{level_word, kind_word}
+use Rattle.trace_lines.specs.text.Words.{level_of_word, kind_of_word}
 
 -- a lane's id and name
 abbrev pub GivenLane : Type 0
@@ -25,13 +25,13 @@ lane_form = do
 abbrev pub level_form : Form Level
 level_form = do
   name ← text (codes "level")
-  when (level_word name)
+  when (level_of_word name)
 
 -- what a callsite makes, by its word
 abbrev pub kind_form : Form Kind
 kind_form = do
   name ← text (codes "kind")
-  when (kind_word name)
+  when (kind_of_word name)
 
 -- a file and a module, each of which may be absent
 abbrev pub source_form : Form (Option (List ℕ) × Option (List ℕ))

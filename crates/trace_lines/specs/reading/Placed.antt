@@ -7,7 +7,7 @@ use Rattle.std.specs.Borrow.{Bor}
 use Rattle.serde_json.specs.Data.{Data, Members, no_members, member, put}
 use Rattle.serde_json.specs.Find.{get_member}
 use Rattle.trace_lines.specs.forms.Forms.{without_member}
-use Rattle.trace_lines.specs.text.Compact.{plain_data, onto, members_of}
+use Rattle.trace_lines.specs.text.Compact.{plain_data, with_members_first, members_of}
 use Rattle.trace_lines.specs.declared.read.plain.Plain.{Plain}
 
 -- where the member of a name stands, if there is one

@@ -7,7 +7,7 @@ use Rattle.serde_json.specs.Read.{of_json, of_items, of_members}
 use Rattle.serde_json.specs.Written.{outline, items_outline, members_outline, compact_text, items_text, members_text}
 use Rattle.trace_lines.specs.reading.Spelled.{line_value}
 use Rattle.trace_lines.specs.declared.read.plain.Plain.{Plain}
-use Rattle.trace_lines.specs.declared.read.plain.Plain.TheVariants.{Whole, Below, Text, Flag, Nested}
+use Rattle.trace_lines.specs.declared.read.plain.Plain.TheVariants.{Whole, Negative, Text, Flag, Nested}
 
 -- an array or an object as it is, and null in the place of another value
 abbrev pub nested_value : Data → Data
@@ -21,19 +21,19 @@ nested_value (object ms) = object ms
 -- the value that stands plainly, of which what nests is still a text
 abbrev pub plain_data : Plain → Data
 plain_data (Whole n) = number (unsigned n)
-plain_data (Below z) = number (negative z)
+plain_data (Negative z) = number (negative z)
 plain_data (Text s) = string s.now
 plain_data (Flag b) = boolean b
 plain_data (Nested s) = nested_value (unwrap_or (line_value s.now) null)
 
 -- members as they stand, in front of others
-abbrev pub onto : List (Bor (List ℕ) × Plain) → Members → Members
-onto [] ms = ms
-onto (e ∷ es) ms = member e.0.now (plain_data e.1) (onto es ms)
+abbrev pub with_members_first : List (Bor (List ℕ) × Plain) → Members → Members
+with_members_first [] ms = ms
+with_members_first (e ∷ es) ms = member e.0.now (plain_data e.1) (with_members_first es ms)
 
 -- the same, with none behind them
 abbrev pub members_of : List (Bor (List ℕ) × Plain) → Members
-members_of es = onto es no_members
+members_of es = with_members_first es no_members
 
 -- What is written as `raw`, with members in any order and more than once, is read as d. It nests so deep at
 -- the most.

@@ -19,18 +19,18 @@ digit_value b =
     (if nat_le 97 b && nat_le b 102 then Some (b - 87) else None)
 
 -- the number whose digits go on behind those of another
-abbrev pub go_on : List ℕ → ℕ → Option ℕ
-go_on [] n = Some n
-go_on (b ∷ bs) n = option_and_then (λ digit. go_on bs (16 * n + digit)) (digit_value b)
+abbrev pub with_more_digits : List ℕ → ℕ → Option ℕ
+with_more_digits [] n = Some n
+with_more_digits (b ∷ bs) n = option_and_then (λ digit. with_more_digits bs (16 * n + digit)) (digit_value b)
 
 -- a number of so many digits
-unfoldable pub hex_word : ℕ → List ℕ → Option ℕ
-hex_word size word = if length word == size then go_on word 0 else None
+unfoldable pub number_of_hex : ℕ → List ℕ → Option ℕ
+number_of_hex size word = if length word == size then with_more_digits word 0 else None
 
 -- the id of 64 bits that 16 lower case digits are
-abbrev pub id_word : List ℕ → Option ℕ
-id_word word = hex_word 16 word
+abbrev pub id_of_word : List ℕ → Option ℕ
+id_of_word word = number_of_hex 16 word
 
 -- the id of 128 bits that 32 lower case digits are
-abbrev pub long_id_word : List ℕ → Option ℕ
-long_id_word word = hex_word 32 word
+abbrev pub long_id_of_word : List ℕ → Option ℕ
+long_id_of_word word = number_of_hex 32 word

@@ -21,11 +21,11 @@ use Rattle.trace_lines.specs.values.MeasureData.{measure_data}
 -- ---- replies
 
 -- whether a parent was set, by its name or that of the fault
-abbrev pub set_name : Result (Unit {0}) SetParentError → List ℕ
-set_name (Ok u) = codes "Ok"
-set_name (Err unset.AlreadyStarted) = codes "AlreadyStarted"
-set_name (Err unset.SpanDisabled) = codes "SpanDisabled"
-set_name (Err unset.LayerNotFound) = codes "LayerNotFound"
+abbrev pub name_of_set_result : Result (Unit {0}) SetParentError → List ℕ
+name_of_set_result (Ok u) = codes "Ok"
+name_of_set_result (Err unset.AlreadyStarted) = codes "AlreadyStarted"
+name_of_set_result (Err unset.SpanDisabled) = codes "SpanDisabled"
+name_of_set_result (Err unset.LayerNotFound) = codes "LayerNotFound"
 
 -- what a reply line tells of the reply
 abbrev pub reply_members : Reply → List (List ℕ × Data)
@@ -38,7 +38,7 @@ reply_members (reply.Context context ids) =
 reply_members reply.Done = []
 reply_members (reply.Has has) = (codes "has", boolean has) ∷ []
 reply_members (reply.Enabled enabled) = (codes "enabled", boolean enabled) ∷ []
-reply_members (reply.Set set) = (codes "set", string (set_name set)) ∷ []
+reply_members (reply.Set set) = (codes "set", string (name_of_set_result set)) ∷ []
 
 -- a reply, with the number of its request's line
 abbrev pub reply_data : ℕ → Reply → Data

@@ -6,8 +6,8 @@ use Rattle.trace_base.specs.declared.callsite.Kind.{Kind}
 use Rattle.trace_base.specs.declared.callsite.Kind.TheVariants as kind
 
 -- the level that one of the five level words in lower case stands for
-abbrev pub level_word : List ℕ → Option Level
-level_word word =
+abbrev pub level_of_word : List ℕ → Option Level
+level_of_word word =
     if bytes_eq word (codes "error") then Some level.ERROR else
     (if bytes_eq word (codes "warn") then Some level.WARN else
     (if bytes_eq word (codes "info") then Some level.INFO else
@@ -15,7 +15,7 @@ level_word word =
     (if bytes_eq word (codes "trace") then Some level.TRACE else None))))
 
 -- what a callsite makes, by its word
-abbrev pub kind_word : List ℕ → Option Kind
-kind_word word =
+abbrev pub kind_of_word : List ℕ → Option Kind
+kind_of_word word =
     if bytes_eq word (codes "span") then Some kind.Span else
     (if bytes_eq word (codes "event") then Some kind.Event else None)

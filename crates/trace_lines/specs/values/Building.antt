@@ -10,8 +10,8 @@ abbrev pub members_of : ObjectBuilder → Members
 members_of o = members_view o.members.entries
 
 -- it has one more
-abbrev pub HasMore : ObjectBuilder → List ℕ → Data → ObjectBuilder → Type 0
-HasMore old name value new = members_of new ≡ put name value (members_of old)
+abbrev pub AddsMember : ObjectBuilder → List ℕ → Data → ObjectBuilder → Type 0
+AddsMember old name value new = members_of new ≡ put name value (members_of old)
 
 -- members with the lane, if that is told
 abbrev pub with_lane : Option ℕ → Members → Members

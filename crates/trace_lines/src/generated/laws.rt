@@ -2,7 +2,7 @@
 ghost use Rattle.std.specs.Prelude.{◌≡◌, ◌≤◌, ℕ, [], map, Ok, Some};
 ghost use Rattle.span_script.specs.Admission.{opening_read};
 ghost use Rattle.span_script.specs.Tables.{History};
-ghost use Rattle.trace_lines.specs.Generated.{generated_settings, generated_setup, generated_requests, request_line, settings_line, generated_lines, generated_script};
+ghost use Rattle.trace_lines.specs.Generated.{generated_settings, generated_setup, generated_requests, request_line, generated_settings_line, generated_lines, generated_script};
 ghost use Rattle.trace_lines.specs.Lines.{lines_of};
 ghost use Rattle.trace_lines.specs.Replay.{history_after};
 ghost use Rattle.trace_lines.specs.Report.{IsValid};
@@ -13,7 +13,7 @@ use crate::generated::MAX_ROUNDS;
 /// The lines of a script spell its settings and its requests.
 pub fn lines()
     ensures lines { (rounds : ℕ) → rounds ≤ MAX_ROUNDS → lines_of (generated_script rounds) ≡ generated_lines rounds }
-    ensures settings { settings_spelled settings_line ≡ Ok generated_settings }
+    ensures settings { settings_spelled generated_settings_line ≡ Ok generated_settings }
     ensures requests { (rounds : ℕ) → rounds ≤ MAX_ROUNDS
         → map (λ request. request_spelled (request_line request)) (generated_requests rounds) ≡ map Ok (generated_requests rounds) }
 {}

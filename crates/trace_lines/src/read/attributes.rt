@@ -1,7 +1,7 @@
 //! Reading attributes and statuses.
 ghost use Rattle.std.specs.Prelude.{◌≡◌, option_map};
 ghost use Rattle.serde_json.specs.View.{view};
-ghost use Rattle.trace_lines.specs.forms.AttributeForm.{list_of, otel_value_of, key_value, attribute_spelled, attributes_spelled, attributes_form, status_word, error_status_form, status_spelled};
+ghost use Rattle.trace_lines.specs.forms.AttributeForm.{text_list_of, otel_value_of, key_value, attribute_spelled, attributes_spelled, attributes_form, status_of_word, error_status_form, status_spelled};
 ghost use Rattle.trace_lines.specs.text.Compact.{plain_data};
 ghost use Rattle.trace_lines.specs.forms.Forms.{each, pair_with, object_of};
 ghost use Rattle.trace_lines.specs.reading.Gives.{Gives};
@@ -22,7 +22,7 @@ use std::alloc::Global;
 
 // The list of texts that a value is.
 fn list_value(alloc: Global, value: Value<'_>) -> Result<OtelValue, LineError>
-    ensures { Gives (λ v. v) result (list_of (value_data value.entry)) }
+    ensures { Gives (λ v. v) result (text_list_of (value_data value.entry)) }
 {
     let values = value.into_array(alloc)?;
     Ok(OtelValue::List(texts(alloc, values)?))
@@ -38,7 +38,7 @@ fn plain_value(alloc: Global, plain: Plain<'_>) -> Result<OtelValue, LineError>
             Ok(signed) => Ok(OtelValue::I64(signed)),
             Err(_) => Err(LineError::BadLine),
         },
-        Plain::Below(number) => Ok(OtelValue::I64(number)),
+        Plain::Negative(number) => Ok(OtelValue::I64(number)),
         Plain::Text(words) => Ok(OtelValue::Str(Text::from_str(alloc, words)?)),
         Plain::Flag(flag) => Ok(OtelValue::Bool(flag)),
         Plain::Nested(_) => list_value(alloc, Value::Plain(plain)),
@@ -118,8 +118,8 @@ pub(crate) fn given_attributes(
     }
 }
 
-fn status_word(word: &str) -> Option<Status>
-    ensures { result ≡ status_word word.now }
+fn status_of_word(word: &str) -> Option<Status>
+    ensures { result ≡ status_of_word word.now }
 {
     match word {
         "unset" => Some(Status::Unset),
@@ -150,7 +150,7 @@ pub(crate) fn status_of(alloc: Global, value: Value<'_>) -> Result<Status, LineE
     ensures { Gives (λ s. s) result (status_spelled (value_data value.entry)) }
 {
     match value.word() {
-        Ok(word) => return status_word(word).ok_or(LineError::BadLine),
+        Ok(word) => return status_of_word(word).ok_or(LineError::BadLine),
         Err(LineError::BadLine) => {}
         Err(error) => return Err(error),
     }

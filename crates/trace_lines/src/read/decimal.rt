@@ -1,6 +1,6 @@
 //! Numbers of 128 bits that are read from their decimals.
 ghost use Rattle.std.specs.Prelude.{◌≡◌, ◌≢◌, ◌∷◌, List, ℕ, Decides, MatchOption, decimal};
-ghost use Rattle.trace_lines.specs.text.Decimals.{u128_word, i128_word, below_zero, from_zero};
+ghost use Rattle.trace_lines.specs.text.Decimals.{u128_of_word, i128_of_word, negative_of, nonnegative_of};
 
 use itoa::Buffer;
 
@@ -13,7 +13,7 @@ fn is_decimal(number: u128, word: &str) -> bool
 
 /// The number of 128 bits whose decimal a text is.
 pub fn u128_of(word: &str) -> Option<u128>
-    ensures { result ≡ u128_word word.now }
+    ensures { result ≡ u128_of_word word.now }
 {
     match word.parse::<u128>() {
         Ok(number) => {
@@ -36,16 +36,16 @@ fn behind_minus(word: &str) -> Option<&str>
 }
 
 // A number below zero, by how far it is below.
-fn below_zero(number: u128) -> Option<i128>
-    ensures { result ≡ below_zero number }
+fn negative_of(number: u128) -> Option<i128>
+    ensures { result ≡ negative_of number }
 {
     let less = i128::try_from(number.checked_sub(1)?).ok()?;
     Some(-1 - less)
 }
 
 // A signed number from zero on.
-fn from_zero(number: u128) -> Option<i128>
-    ensures { result ≡ from_zero number }
+fn nonnegative_of(number: u128) -> Option<i128>
+    ensures { result ≡ nonnegative_of number }
 {
     i128::try_from(number).ok()
 }
@@ -53,10 +53,10 @@ fn from_zero(number: u128) -> Option<i128>
 /// The signed number of 128 bits whose decimal a text is.
 #[tactic(auto, using(crate::proofs::texts::DecimalsLemmas::with_minus, crate::proofs::texts::DecimalsLemmas::no_minus))]
 pub(crate) fn i128_of(word: &str) -> Option<i128>
-    ensures { result ≡ i128_word word.now }
+    ensures { result ≡ i128_of_word word.now }
 {
     match behind_minus(word) {
-        Some(digits) => below_zero(u128_of(digits)?),
-        None => from_zero(u128_of(word)?),
+        Some(digits) => negative_of(u128_of(digits)?),
+        None => nonnegative_of(u128_of(word)?),
     }
 }

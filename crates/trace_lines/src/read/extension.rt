@@ -5,7 +5,7 @@ ghost use Rattle.trace_lines.specs.reading.Left.{members_left};
 
 use crate::read::LineError;
 use crate::read::attributes::{given_attributes, otel_value_of, status_of};
-use crate::read::syntax::object::{Object, at_most};
+use crate::read::syntax::object::{Object, if_at_most};
 use otel_base::record::Moment;
 use span_script::request::{Call, LAST_MOMENT};
 use std::alloc::Global;
@@ -66,7 +66,7 @@ fn time(object: &mut Object) -> Result<Option<Moment>, LineError>
     ensures { Gives (λ t. (t, members_left object.new)) result (time_form (members_left object.old)) }
 {
     match object.optional("time") {
-        Some(value) => Ok(Some(at_most(LAST_MOMENT, value.whole()?)?)),
+        Some(value) => Ok(Some(if_at_most(LAST_MOMENT, value.whole()?)?)),
         None => Ok(None),
     }
 }

@@ -17,7 +17,7 @@ use crate::read::plain::Plain;
 use crate::read::plain_fields::plain_fields;
 use crate::read::syntax::flat::expect_bracket;
 use crate::read::syntax::object::Object;
-use crate::read::syntax::scan::{number, word};
+use crate::read::syntax::scan::{behind_word, number};
 use crate::read::syntax::value::Value;
 use otel_base::list::Items;
 use otel_base::text::Text;
@@ -128,7 +128,7 @@ fn plain_u64(object: &[u8]) -> Option<u64>
     ensures text { IfSome result (λ n. object.now ≡ codes "{\"u64\":" ++ (decimal n ++ 125 ∷ [])) }
     ensures fits { IfSome result (λ n. n < 2 ^ 64) }
 {
-    let digits = word(object, b"{\"u64\":")?;
+    let digits = behind_word(object, b"{\"u64\":")?;
     let (whole, rest) = number(digits)?;
     expect_bracket(rest, b'}')?;
     Some(whole)
@@ -141,7 +141,7 @@ pub(crate) fn plain_value(alloc: Global, plain: Plain<'_>) -> Result<FieldValue,
 {
     match plain {
         Plain::Whole(number) => Ok(whole_value(number)),
-        Plain::Below(number) => Ok(FieldValue::I64(number)),
+        Plain::Negative(number) => Ok(FieldValue::I64(number)),
         Plain::Text(words) => Ok(FieldValue::Str(Text::from_str(alloc, words)?)),
         Plain::Flag(flag) => Ok(FieldValue::Bool(flag)),
         Plain::Nested(words) => match plain_u64(words.as_bytes()) {

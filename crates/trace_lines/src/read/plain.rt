@@ -10,7 +10,7 @@ pub enum Plain<'a> {
     /// A whole number.
     Whole(u64),
     /// A number below zero.
-    Below(i64),
+    Negative(i64),
     /// A text with no escape.
     Text(&'a str),
     /// True or false.
@@ -27,7 +27,7 @@ impl<'a> Plain<'a> {
     {
         match self {
             Plain::Whole(number) => Some(number),
-            Plain::Below(_) => None,
+            Plain::Negative(_) => None,
             Plain::Text(_) => None,
             Plain::Flag(_) => None,
             Plain::Nested(_) => None,
@@ -41,7 +41,7 @@ impl<'a> Plain<'a> {
     {
         match self {
             Plain::Whole(_) => None,
-            Plain::Below(_) => None,
+            Plain::Negative(_) => None,
             Plain::Text(_) => None,
             Plain::Flag(flag) => Some(flag),
             Plain::Nested(_) => None,
@@ -55,7 +55,7 @@ impl<'a> Plain<'a> {
     {
         match self {
             Plain::Whole(_) => None,
-            Plain::Below(_) => None,
+            Plain::Negative(_) => None,
             Plain::Text(words) => Some(words),
             Plain::Flag(_) => None,
             Plain::Nested(_) => None,

@@ -9,7 +9,7 @@ ghost use Rattle.trace_lines.specs.reading.Spelled.{request_spelled};
 
 use crate::read::plain_fields::leading_fields;
 use crate::read::syntax::flat::expect_bracket;
-use crate::read::syntax::scan::{behind, number, word};
+use crate::read::syntax::scan::{behind, behind_word, number};
 use otel_base::list::Items;
 use otel_base::text::Text;
 use span_script::request::{Call, Request, RequestParent};
@@ -48,7 +48,7 @@ fn number_member<'a>(slot: &mut Option<u64>, text: &'a [u8], name: &[u8]) -> Opt
     ensures { IfSome result (λ rest. (d : Data) × (option_map whole_number slot.new ≡ Some d)
         × HasValue text.now name.now d rest.now) }
 {
-    let digits = word(text, name)?;
+    let digits = behind_word(text, name)?;
     let (number, rest) = number(digits)?;
     *slot = Some(number);
     Some(rest)
@@ -71,7 +71,7 @@ fn word_of(kind: CallKind) -> &'static [u8]
 
 // The only kind that a word in quotes may be.
 #[inline(always)]
-fn kind_at(word: &[u8]) -> Option<CallKind> {
+fn possible_kind(word: &[u8]) -> Option<CallKind> {
     if word.len() < 3 {
         return None;
     }
@@ -91,9 +91,9 @@ fn kind_member<'a>(slot: &mut Option<CallKind>, text: &'a [u8]) -> Option<&'a [u
     ensures { IfSome result (λ rest. (d : Data) × (option_map kind_value slot.new ≡ Some d)
         × HasValue text.now (codes "\"do\":") d rest.now) }
 {
-    let value = word(text, b"\"do\":")?;
-    let kind = kind_at(value)?;
-    let rest = word(value, word_of(kind))?;
+    let value = behind_word(text, b"\"do\":")?;
+    let kind = possible_kind(value)?;
+    let rest = behind_word(value, word_of(kind))?;
     *slot = Some(kind);
     Some(rest)
 }
@@ -108,7 +108,7 @@ fn fields_member<'a>(
     ensures { IfSome result (λ rest. (d : Data) × (AreSpelled slot.new (Some d))
         × HasValue text.now (codes "\"fields\":") d rest.now) }
 {
-    let array = word(text, b"\"fields\":")?;
+    let array = behind_word(text, b"\"fields\":")?;
     let (fields, rest) = leading_fields(alloc, array)?;
     *slot = Some(fields);
     Some(rest)
@@ -120,14 +120,14 @@ fn parent_member<'a>(parent: &mut RequestParent, text: &'a [u8]) -> Option<&'a [
     ensures { IfSome result (λ rest. (d : Data) × (parent_value parent.new ≡ Some d)
         × HasValue text.now (codes "\"parent\":") d rest.now) }
 {
-    let value = word(text, b"\"parent\":")?;
+    let value = behind_word(text, b"\"parent\":")?;
     match number(value) {
         Some((handle, rest)) => {
             *parent = RequestParent::Under { handle };
             Some(rest)
         }
         None => {
-            let rest = word(value, b"\"root\"")?;
+            let rest = behind_word(value, b"\"root\"")?;
             *parent = RequestParent::Root;
             Some(rest)
         }

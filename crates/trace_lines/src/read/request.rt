@@ -2,7 +2,7 @@
 ghost use Rattle.std.specs.Prelude.{◌≡◌};
 ghost use Rattle.trace_lines.specs.reading.Gives.{Gives};
 ghost use Rattle.trace_lines.specs.reading.Left.{value_data, members_left};
-ghost use Rattle.trace_lines.specs.forms.RequestForm.{root_word, parent_spelled, parent_form, fields_form, new_form, clone_form, or_current_form, drop_form, enter_form, entered_form, exit_form, record_form, has_field_form, event_form, remote_form, context_form, attach_form, detach_form, call_by, call_form, request_form, enabled_form, reload_form};
+ghost use Rattle.trace_lines.specs.forms.RequestForm.{root_of_word, parent_spelled, parent_form, fields_form, new_form, clone_form, or_current_form, drop_form, enter_form, entered_form, exit_form, record_form, has_field_form, event_form, remote_form, context_form, attach_form, detach_form, call_by, call_form, request_form, enabled_form, reload_form};
 
 use crate::read::LineError;
 use crate::read::extension::{
@@ -21,7 +21,7 @@ use std::alloc::Global;
 use trace_base::field::Value as FieldValue;
 
 fn root_of(word: &str) -> Option<RequestParent>
-    ensures { result ≡ root_word word.now }
+    ensures { result ≡ root_of_word word.now }
 {
     match word {
         "root" => Some(RequestParent::Root),

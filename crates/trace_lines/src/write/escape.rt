@@ -75,7 +75,7 @@ fn add_byte(out: &mut TextBuffer, byte: u8) -> Result<(), AllocError>
 }
 
 // What stands behind a byte.
-fn behind(bytes: &[u8], at: usize) -> &[u8]
+fn bytes_after(bytes: &[u8], at: usize) -> &[u8]
     requires { at < length bytes.now }
     ensures { result.now ≡ drop (at + 1) bytes.now }
 {
@@ -91,7 +91,7 @@ pub(crate) fn add_escaped(out: &mut TextBuffer, bytes: &[u8]) -> Result<(), Allo
     while run < rest.len() {
         out.extend_from_slice(&rest[..run])?;
         add_byte(out, rest[run])?;
-        rest = behind(rest, run);
+        rest = bytes_after(rest, run);
         run = plain_run(rest);
     }
     out.extend_from_slice(rest)?;

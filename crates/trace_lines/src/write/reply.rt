@@ -2,7 +2,7 @@
 ghost use Rattle.std.specs.Prelude.{◌≡◌, ◌++◌, codes};
 ghost use Rattle.serde_json.specs.Data.{boolean};
 ghost use Rattle.serde_json.specs.Written.{compact_text};
-ghost use Rattle.trace_lines.specs.text.Texts.{reply_data, set_name};
+ghost use Rattle.trace_lines.specs.text.Texts.{reply_data, name_of_set_result};
 ghost use Rattle.trace_lines.specs.text.Writes.{Writes};
 
 use super::hex::{add_id, add_long_id};
@@ -87,7 +87,7 @@ fn add_has(out: &mut TextBuffer, line: u64, has: bool) -> Result<(), AllocError>
 }
 
 fn name_of(set: Result<(), SetParentError>) -> &'static str
-    ensures { result.now ≡ set_name set }
+    ensures { result.now ≡ name_of_set_result set }
 {
     match set {
         Ok(()) => "Ok",

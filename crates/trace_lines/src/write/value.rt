@@ -2,7 +2,7 @@
 ghost use Rattle.std.specs.Prelude.{◌≡◌, IfOk};
 ghost use Rattle.serde_json.specs.Data.{Data, no_members, object, string};
 ghost use Rattle.serde_json.specs.View.{view};
-ghost use Rattle.trace_lines.specs.values.Building.{members_of, with_lane, HasMore};
+ghost use Rattle.trace_lines.specs.values.Building.{members_of, with_lane, AddsMember};
 ghost use Rattle.trace_lines.specs.text.Hex.{hex16, hex32};
 ghost use Rattle.trace_lines.specs.reading.Object.{whole_number};
 ghost use Rattle.trace_lines.specs.values.RecordData.{record_object};
@@ -144,7 +144,7 @@ impl ObjectBuilder {
 
     // With one member more.
     fn with<T: ToJson>(self, name: &str, part: &T) -> Result<ObjectBuilder, AllocError>
-        ensures { IfOk result (HasMore self name.now (T.as_data part.now)) }
+        ensures { IfOk result (AddsMember self name.now (T.as_data part.now)) }
     {
         let mut object = self;
         let value = part.to_json(object.alloc)?;
@@ -153,7 +153,7 @@ impl ObjectBuilder {
     }
 
     fn with_number(self, name: &str, number: u64) -> Result<ObjectBuilder, AllocError>
-        ensures { IfOk result (HasMore self name.now (whole_number number)) }
+        ensures { IfOk result (AddsMember self name.now (whole_number number)) }
     {
         let mut object = self;
         put(&mut object.members, object.alloc, name, Value::from(number))?;
@@ -171,7 +171,7 @@ impl ObjectBuilder {
     }
 
     fn with_text(self, name: &str, text: &str) -> Result<ObjectBuilder, AllocError>
-        ensures { IfOk result (HasMore self name.now (string text.now)) }
+        ensures { IfOk result (AddsMember self name.now (string text.now)) }
     {
         let mut object = self;
         let value = Value::try_from_str(object.alloc, text)?;
@@ -180,14 +180,14 @@ impl ObjectBuilder {
     }
 
     fn with_id(self, name: &str, id: u64) -> Result<ObjectBuilder, AllocError>
-        ensures { IfOk result (HasMore self name.now (string (hex16 id))) }
+        ensures { IfOk result (AddsMember self name.now (string (hex16 id))) }
     {
         let digits = digits_of(id);
         self.with_text(name, as_text(&digits))
     }
 
     fn with_long_id(self, name: &str, id: u128) -> Result<ObjectBuilder, AllocError>
-        ensures { IfOk result (HasMore self name.now (string (hex32 id))) }
+        ensures { IfOk result (AddsMember self name.now (string (hex32 id))) }
     {
         let digits = digits_of_long(id);
         self.with_text(name, as_text(&digits))

@@ -6,9 +6,9 @@ ghost use Rattle.span_handles.specs.Worlds.{Has, Replaced};
 ghost use Rattle.span_script.specs.declared.request.Call.{Call};
 ghost use Rattle.span_script.specs.Fits.{is_for_memory};
 ghost use Rattle.span_script.specs.Setups.{event_site};
-ghost use Rattle.span_script.specs.Slots.{TellsEventOfRequest, named_values};
+ghost use Rattle.span_script.specs.Slots.{TellsEventOfRequest, values_or_refusal};
 
-use crate::fields::named_at;
+use crate::fields::parent_and_values;
 use crate::laws;
 use crate::names::parent_for;
 use crate::pipeline::Pipeline;
@@ -44,18 +44,18 @@ fn tell_at<S: Subscriber>(
     ensures ok { IfOk result (TellsEventOfRequest S.does world.old world.new lane.now at parent site fields dispatch) }
     ensures gate { IfOk result (Admits S.hint S.enables world.old lane.now.id site (Some dispatch)) }
     ensures refused { IfErr result (λ refusal. is_for_memory refusal ≡ false
-        → named_values (event_site world.old.sites site) parent fields ≡ Err refusal) }
+        → values_or_refusal (event_site world.old.sites site) parent fields ≡ Err refusal) }
     ensures leaves { OnErr result (Replaced S.same_but_room world.old world.new dispatch) }
 {
     let Some(id) = world.site_at(site) else {
         return Err(Refusal::UnknownName { what: What::Site });
     };
     let alloc = world.allocator();
-    let (subscriber, callsite, interest) = world.interest(dispatch, id);
+    let (subscriber, callsite, interest) = world.subscriber_site_and_interest(dispatch, id);
     let Kind::Event = callsite.kind else {
         return Err(Refusal::UnknownName { what: What::Site });
     };
-    let (parent, values) = named_at(alloc, callsite, parent, fields)?;
+    let (parent, values) = parent_and_values(alloc, callsite, parent, fields)?;
     if !passes(interest, subscriber, lane.id, callsite) {
         return Ok(false);
     }
@@ -80,8 +80,8 @@ impl Pipeline {
     {
         laws::calls();
         laws::same();
-        span_stack::laws::passes();
-        span_stack::laws::statics();
+        span_stack::laws::gate_answers_by_filter();
+        span_stack::laws::new_filter_admits_by_statics();
         let parent = parent_for(&self.handles, parent);
         let on = &self.lanes[place as usize];
         let enabled = tell_at(&mut self.world, self.dispatch, on, at, site, parent, fields)?;

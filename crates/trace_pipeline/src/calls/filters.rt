@@ -30,7 +30,7 @@ impl Pipeline {
     {
         let filter = match read_filter(*self.lanes.allocator(), false, text.as_str()) {
             Ok(filter) => filter,
-            Err(error) => return Err(Refusal::of_text(error)),
+            Err(error) => return Err(Refusal::of_reload(error)),
         };
         put_in_force(&mut self.world, self.dispatch, filter)?;
         self.moment = at;

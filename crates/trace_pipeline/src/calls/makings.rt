@@ -6,9 +6,9 @@ ghost use Rattle.span_handles.specs.Worlds.{Replaced};
 ghost use Rattle.span_script.specs.declared.request.Call.{Call};
 ghost use Rattle.span_script.specs.Fits.{is_for_memory};
 ghost use Rattle.span_script.specs.Setups.{span_site};
-ghost use Rattle.span_script.specs.Slots.{MakesSpanOfRequest, named_values};
+ghost use Rattle.span_script.specs.Slots.{MakesSpanOfRequest, values_or_refusal};
 
-use crate::fields::named_at;
+use crate::fields::parent_and_values;
 use crate::laws;
 use crate::names::{check_few_names, parent_for};
 use crate::pipeline::Pipeline;
@@ -45,18 +45,18 @@ fn make_at<S: Subscriber>(
     ensures gate { IfOk result (λ made.
         Admits S.hint S.enables world.old lane.now.id site (Some dispatch) made.1) }
     ensures refused { IfErr result (λ refusal. is_for_memory refusal ≡ false
-        → named_values (span_site world.old.sites site) parent fields ≡ Err refusal) }
+        → values_or_refusal (span_site world.old.sites site) parent fields ≡ Err refusal) }
     ensures leaves { OnErr result (Replaced S.same_but_room world.old world.new dispatch) }
 {
     let Some(id) = world.site_at(site) else {
         return Err(Refusal::UnknownName { what: What::Site });
     };
     let alloc = world.allocator();
-    let (subscriber, callsite, interest) = world.interest(dispatch, id);
+    let (subscriber, callsite, interest) = world.subscriber_site_and_interest(dispatch, id);
     let Kind::Span = callsite.kind else {
         return Err(Refusal::UnknownName { what: What::Site });
     };
-    let (parent, values) = named_at(alloc, callsite, parent, fields)?;
+    let (parent, values) = parent_and_values(alloc, callsite, parent, fields)?;
     if !passes(interest, subscriber, lane.id, callsite) {
         return Ok((Span::none(), false));
     }
@@ -82,7 +82,7 @@ impl Pipeline {
     {
         laws::calls();
         laws::same();
-        span_stack::laws::passes();
+        span_stack::laws::gate_answers_by_filter();
         check_few_names(&self.handles, &self.guards)?;
         let number = self.handles.len() as u64;
         let parent = parent_for(&self.handles, parent);

@@ -17,16 +17,16 @@ summary_line_if None = []
 summary_line_if (Some h) = summary_text (summary_of generated_setup h)
 
 -- the summary of the script of so many rounds
-abbrev pub generated_line : ℕ → List ℕ
-generated_line rounds = summary_line_if (history_after generated_setup [] (generated_requests rounds))
+abbrev pub generated_summary_line : ℕ → List ℕ
+generated_summary_line rounds = summary_line_if (history_after generated_setup [] (generated_requests rounds))
 
 -- What is left in a sink at each status: the whole line, the script being valid, a front of it, or nothing.
 abbrev pub LeavesSummary : Status → ℕ → Option (List ℕ) → Option (List ℕ) → Type 0
-LeavesSummary ends.Ok rounds before now = IsValid (generated_script rounds) × Puts before now (generated_line rounds)
+LeavesSummary ends.Ok rounds before now = IsValid (generated_script rounds) × Puts before now (generated_summary_line rounds)
 LeavesSummary ends.Usage rounds before now = ⊥
 LeavesSummary ends.Refused rounds before now = ⊥
 LeavesSummary ends.ReadFault rounds before now = ⊥
-LeavesSummary ends.WriteFault rounds before now = PutsFront before now (generated_line rounds)
+LeavesSummary ends.WriteFault rounds before now = PutsFront before now (generated_summary_line rounds)
 LeavesSummary ends.Memory rounds before now = Puts before now []
 LeavesSummary ends.TooLong rounds before now = ⊥
 
@@ -37,7 +37,7 @@ CompletesSummary status writes writes' = IsQuiet writes writes' → (status ≡ 
 -- A summary was made and written, and nothing was read.
 pub record MakesSummary (rounds : ℕ) (status : Status) (before now : Streams) : Type 0 where
   pub leaves : LeavesSummary status rounds before.held now.held
-  pub front : PutsFront before.held now.held (generated_line rounds)
+  pub front : PutsFront before.held now.held (generated_summary_line rounds)
   pub complete : CompletesSummary status before.write_faults now.write_faults
 
 abbrev pub meaning_of_make : ℕ → Meaning

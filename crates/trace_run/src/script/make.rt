@@ -5,7 +5,7 @@ ghost use Rattle.trace_lines.specs.Generated.{generated_requests};
 ghost use Rattle.trace_lines.specs.Replay.{busy_in, busy_of};
 ghost use Rattle.trace_records.specs.Following.{without_outputs};
 ghost use Rattle.trace_run.specs.Commands.Make.{LeavesSummary, CompletesSummary};
-ghost use Rattle.trace_run.specs.Making.{SumsUp, IsGeneratedLine, with_records, Counts, ServesRequests};
+ghost use Rattle.trace_run.specs.Making.{SumsUp, IsGeneratedSummaryLine, with_records, StandsWithTotals, ServesRequests};
 ghost use Rattle.trace_stream.specs.Streams.{CountsFault, StopsWriting};
 
 use otel_base::memory::Memory;
@@ -33,7 +33,7 @@ pub fn make<W: Sink>(alloc: Global, rounds: u64, sink: &mut W) -> Status
     ensures complete { CompletesSummary result (W.faults sink.old) (W.faults sink.new) }
     ensures write_stops { result ≡ Status.WriteFault → StopsWriting W.faults W.holds sink.old sink.new }
 {
-    let Ok(text) = generated_line(alloc, rounds) else {
+    let Ok(text) = generated_summary_line(alloc, rounds) else {
         return Status::Memory;
     };
     match write_all(sink, text.as_slice()) {
@@ -43,9 +43,9 @@ pub fn make<W: Sink>(alloc: Global, rounds: u64, sink: &mut W) -> Status
 }
 
 // The line of the summary.
-fn generated_line(alloc: Global, rounds: u64) -> Result<Vec<u8>, Memory>
+fn generated_summary_line(alloc: Global, rounds: u64) -> Result<Vec<u8>, Memory>
     requires { rounds ≤ MAX_ROUNDS }
-    ensures { IfOk result (λ text. IsGeneratedLine rounds text.items) }
+    ensures { IfOk result (λ text. IsGeneratedSummaryLine rounds text.items) }
 {
     let summary = run_rounds(alloc, rounds)?;
     let mut text = TextBuffer::new(alloc);
@@ -106,7 +106,7 @@ fn serve_rounds(
     totals: &mut Totals,
 ) -> Result<(), Memory>
     requires { rounds ≤ MAX_ROUNDS }
-    ensures { Counts [] pipeline.old totals.old
+    ensures { StandsWithTotals [] pipeline.old totals.old
         → OnOk result (ServesRequests (generated_requests rounds) [] pipeline.new totals.new) }
 {
     for i in 0..rounds {
@@ -122,7 +122,7 @@ fn serve_all(
     totals: &mut Totals,
     requests: Vec<Request>,
 ) -> Result<(), Memory>
-    ensures { (h : History) → Counts h pipeline.old totals.old
+    ensures { (h : History) → StandsWithTotals h pipeline.old totals.old
         → OnOk result (ServesRequests requests.items h pipeline.new totals.new) }
 {
     for request in requests {
@@ -133,7 +133,7 @@ fn serve_all(
 
 // Serves a request. None that is made is refused but for want of memory.
 fn serve(pipeline: &mut Pipeline, totals: &mut Totals, request: Request) -> Result<(), Memory>
-    ensures { (h : History) → Counts h pipeline.old totals.old
+    ensures { (h : History) → StandsWithTotals h pipeline.old totals.old
         → OnOk result (ServesRequests (request ∷ []) h pipeline.new totals.new) }
 {
     let Ok(_) = pipeline.step(request) else {

@@ -64,7 +64,7 @@ StandsBehindRequest signal false lines count kept text tally = IsStopped signal 
 -- the answers to these lines, of which this text was put before
 abbrev pub AnswersTo : Signal → List ℕ → List (List ℕ) → Answers → Type 0
 AnswersTo signal put lines answers =
-    AnswersAt signal answers.stage lines answers.lines (put ++ answers.written.text.items) answers.written.count
+    AnswersAt signal answers.stage lines answers.line_count (put ++ answers.written.text.items) answers.written.count
 
 abbrev pub is_refused : RunStage → Bool
 is_refused stage.Opening = false

@@ -32,8 +32,8 @@ abbrev pub PutsWhole : Answering → List ℕ → Option (List ℕ) → Option (
 PutsWhole answers bytes before now = (text : List ℕ) × answers.Whole (lines_of bytes) text × Puts before now text
 
 -- the sink gained nothing, or a front of such a text
-abbrev pub PutsSome : Answering → List ℕ → Option (List ℕ) → Option (List ℕ) → Type 0
-PutsSome answers bytes before now =
+abbrev pub PutsNothingOrFront : Answering → List ℕ → Option (List ℕ) → Option (List ℕ) → Type 0
+PutsNothingOrFront answers bytes before now =
     Puts before now [] ⊎ ((text : List ℕ) × answers.Whole (lines_of bytes) text × PutsFront before now text)
 
 -- ---- what is left at each status, of the source's bytes, those left, and what the sink held before and holds now
@@ -72,8 +72,8 @@ LeavesStreams answers ends.Ok bytes left before now = ReadsWhole answers bytes l
 LeavesStreams answers ends.Usage bytes left before now = ⊥
 LeavesStreams answers ends.Refused bytes left before now = StopsRefused answers bytes left before now
 LeavesStreams answers ends.ReadFault bytes left before now = BreaksOff answers bytes left before now
-LeavesStreams answers ends.WriteFault bytes left before now = PutsSome answers bytes before now
-LeavesStreams answers ends.Memory bytes left before now = PutsSome answers bytes before now
+LeavesStreams answers ends.WriteFault bytes left before now = PutsNothingOrFront answers bytes before now
+LeavesStreams answers ends.Memory bytes left before now = PutsNothingOrFront answers bytes before now
 LeavesStreams answers ends.TooLong bytes left before now = StopsTooLong answers bytes left before now
 
 -- ---- the whole of it
@@ -86,17 +86,17 @@ Completes answers status bytes before now =
 
 -- A refusal is told at a whole line of what was read, within the longest input, or where the source's end was met. A source that
 -- doesn't tell its bytes ties nothing to what was read, so of such a one this says nothing.
-abbrev pub IsRefusedAt : Answering → Status → Streams → Streams → Type 0
-IsRefusedAt answers status before now = status ≡ ends.Refused
+abbrev pub IsRefusedForCause : Answering → Status → Streams → Streams → Type 0
+IsRefusedForCause answers status before now = status ≡ ends.Refused
     → (read : List ℕ) × Takes before.left now.left read
     × (HasRefused answers.accepts (whole_lines (take MAX_INPUT read)) ⊎ MeetsEnd before.ends now.ends)
 
 -- Lines were read and answered. Where the source tells its bytes, what is left and what is written follow from these.
 pub record ReadsLines (answers : Answering) (status : Status) (before now : Streams) : Type 0 where
   pub leaves : IfSome before.left (λ bytes. LeavesStreams answers status bytes now.left before.held now.held)
-  pub front : IfSome before.left (λ bytes. PutsSome answers bytes before.held now.held)
+  pub front : IfSome before.left (λ bytes. PutsNothingOrFront answers bytes before.held now.held)
   pub complete : IfSome before.left (λ bytes. Completes answers status bytes before now)
-  pub refused : IsRefusedAt answers status before now
+  pub refused : IsRefusedForCause answers status before now
   pub met : status ≡ ends.Ok → MeetsEnd before.ends now.ends
 
 abbrev pub meaning_of_reading : Answering → Meaning

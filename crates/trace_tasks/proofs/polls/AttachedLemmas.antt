@@ -3,7 +3,7 @@ use Rattle.std.proofs.Common.{◌≡◌, ◌<◌, ◌≤◌, ◌+◌, ℕ, List,
 use Rattle.std.proofs.lemmas.Bool.{eq-eqb, cond-false}
 use Rattle.std.proofs.lemmas.Bool.Decides.{eqb_tells}
 use Rattle.std.proofs.lemmas.List.Sums.{sum_by-append}
-use Rattle.trace_tasks.proofs.Common.{cond-true, count_cons, Lane, SubscriberCall, Enter, Exit, CallLanes, attached_as, WorldValue, Spans, entries_on, Replaced, spans_in, kept_in, no_spans, now_there, seen_before, seen_later, HasAll, SameAttached}
+use Rattle.trace_tasks.proofs.Common.{cond-true, count_cons, Lane, SubscriberCall, Enter, Exit, CallKeepsLanes, attached_count, WorldValue, Spans, entries_on, Replaced, spans_in, kept_in, no_spans, now_there, seen_before, seen_later, HasAll, SameAttached}
 
 -- ---- as many of each number are as many
 
@@ -63,7 +63,7 @@ as_many_live before later same = (
 
 -- ---- an entry and its exit
 
-module _ {S : Type 0} (spans : S → Spans) (attaches : S → Bool) (kept : S → ℕ → ℕ → ℕ) (is_whole : S → Type 0) (does : S → SubscriberCall → S → Type 0) (lanes : (s : S) (call : SubscriberCall) (t : S) → does s call t → CallLanes (attaches s) (kept s) call (kept t))
+module _ {S : Type 0} (spans : S → Spans) (attaches : S → Bool) (kept : S → ℕ → ℕ → ℕ) (is_whole : S → Type 0) (does : S → SubscriberCall → S → Type 0) (lanes : (s : S) (call : SubscriberCall) (t : S) → does s call t → CallKeepsLanes (attaches s) (kept s) call (kept t))
     (none_kept : (s : S) (lane number : ℕ) → is_whole s → entries_on lane (spans s).lanes ≡ [] → kept s lane number ≡ 0) (d id at : ℕ) where
   -- where no entry is open before and behind them
   pub entered_and_left : (old world left new : WorldValue S) (before lane later : Lane) (e : Replaced (λ s t. does s (Enter id at before lane) t) old world d) → kept_in kept left d ≡ kept_in kept world d → (q : Replaced (λ s t. does s (Exit id at lane later) t) left new d)
@@ -81,6 +81,6 @@ module _ {S : Type 0} (spans : S → Spans) (attaches : S → Bool) (kept : S �
       let between = ap (λ (k : ℕ → ℕ → ℕ). k before.id number) kept_is in
       let a = el.1 before.id number in
       let c = ql.1 before.id number in
-      let on_first = cond-true {A = ℕ} (eqb before.id before.id) (attached_as number before) 0 (eq-eqb before.id before.id refl) in
-      let on_last = cond-true {A = ℕ} (eqb later.id before.id) (attached_as number later) 0 (eq-eqb later.id before.id id_is) in
+      let on_first = cond-true {A = ℕ} (eqb before.id before.id) (attached_count number before) 0 (eq-eqb before.id before.id refl) in
+      let on_last = cond-true {A = ℕ} (eqb later.id before.id) (attached_count number later) 0 (eq-eqb later.id before.id id_is) in
       omega (arith, a, c, first, last, last_is, between, on_first, on_last))

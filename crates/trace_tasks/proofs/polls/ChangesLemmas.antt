@@ -1,6 +1,6 @@
 -- What the changes of a step keep, and what they are to a subscriber.
 use Rattle.std.proofs.Common.{◌≡◌, ℕ, Option, Some, Result, Ok, Err, refl, sym, subst, ◌∙◌, arith, Bool, slice_get, slice_set, OnOk, OnErr}
-use Rattle.trace_tasks.proofs.Common.{Memory, OpReply, ValueSet, Callsite, Lane, LevelFilter, WorldValue, Spans, SubscriberCall, Records, Event, spans_after_call, CallLanes, KeepsLaneButRoom, Beside, ChangesUpTo, KeepsLent, calls_none, calls_one, called_same, called_once, changed_once, keeps_nothing, refused, PartCall, Applies, StaysStack, Changes, nothing, room, told, recorded, asked, Asks, WantsMemory, spare, denied}
+use Rattle.trace_tasks.proofs.Common.{Memory, OpReply, ValueSet, Callsite, Lane, LevelFilter, WorldValue, Spans, SubscriberCall, Records, Event, spans_after_call, CallKeepsLanes, KeepsLaneButRoom, Beside, ChangesUpTo, KeepsLent, calls_none, calls_one, called_same, called_once, changed_once, keeps_nothing, refused, PartCall, Applies, StaysStack, Changes, nothing, room, told, recorded, asked, Asks, WantsMemory, spare, denied}
 use Rattle.otel_state.specs.declared.op.Op.{Op}
 use Rattle.trace_base.specs.declared.span.Parent.{Parent}
 
@@ -26,7 +26,7 @@ lent_then spans kept is_whole old world new before lane later first second = rec
 
 module _ {S : Type 0} (spans : S → Spans) (hint : S → Option LevelFilter) (enables : S → ℕ → Callsite → Bool) (attaches : S → Bool) (kept : S → ℕ → ℕ → ℕ) (is_whole : S → Type 0) (does : S → SubscriberCall → S → Type 0) (touches : S → PartCall → S → Type 0) (same : S → S → Type 0) where
   module _ (same_spans : (s t : S) → same s t → spans t ≡ spans s) (same_kept : (s t : S) → same s t → kept t ≡ kept s) (same_whole : (s t : S) → same s t → is_whole s → is_whole t)
-      (shows : (s : S) (call : SubscriberCall) (t : S) → does s call t → spans t ≡ spans_after_call (spans s) call) (lanes : (s : S) (call : SubscriberCall) (t : S) → does s call t → CallLanes (attaches s) (kept s) call (kept t))
+      (shows : (s : S) (call : SubscriberCall) (t : S) → does s call t → spans t ≡ spans_after_call (spans s) call) (lanes : (s : S) (call : SubscriberCall) (t : S) → does s call t → CallKeepsLanes (attaches s) (kept s) call (kept t))
       (keeps_whole : (s : S) (call : SubscriberCall) (t : S) → does s call t → is_whole s → is_whole t)
       (stays : (s : S) (call : PartCall) (t : S) → touches s call t → StaysStack spans kept attaches is_whole s t) where
     -- a change keeps all

@@ -1,6 +1,6 @@
 -- An entry of a task's span, its steps and the exit are the requests of its poll.
 use Rattle.std.proofs.Common.{◌≡◌, ℕ, List, [], ◌∷◌, ◌++◌, length, map, Bool, Option, Some, None, refl, sym, ap, subst, ◌∙◌, slice_get, zero, suc}
-use Rattle.trace_tasks.proofs.Common.{Callsite, Lane, LevelFilter, SubscriberCall, Enter, Exit, spans_after_call, with_span_entry, with_span_exit, CallLanes, attached_as, WorldValue, Span, Spans, span_at, entries_on, current_on, without_hold, Replaced, spans_in, no_spans, Handle, HeldSpan, ReplacedOn, BeginsInside, as_many, seen_before, seen_later, HasAll, PartCall, StaysStack, Request, on_first_lane, Step, steps_now, StepsOn, TaskScene, CarriesEnter, CarriesExit, Carries, UnfinishedTask, step_call, moment_of, root_of_one_handle, IsAloneAs, SameAttached}
+use Rattle.trace_tasks.proofs.Common.{Callsite, Lane, LevelFilter, SubscriberCall, Enter, Exit, spans_after_call, with_span_entry, with_span_exit, CallKeepsLanes, attached_count, WorldValue, Span, Spans, span_at, entries_on, current_on, without_hold, Replaced, spans_in, no_spans, Handle, HeldSpan, ReplacedOn, BeginsInside, as_many, seen_before, seen_later, HasAll, PartCall, StaysStack, Request, on_first_lane, Step, steps_now, StepsOn, TaskScene, CarriesEnter, CarriesExit, Carries, UnfinishedTask, step_call, moment_of, root_of_one_handle, IsAloneAs, SameAttached}
 use Rattle.span_script.specs.declared.request.Call.TheVariants as call
 use Rattle.trace_tasks.proofs.queues.RootLemmas.{back, entered_made, entered_entries, entered_current, exited_made, exited_entries, none_current}
 use Rattle.trace_tasks.proofs.polls.AttachedLemmas.{entered_and_left}
@@ -24,7 +24,7 @@ current_by None site = None
 current_by (Some h) site = Some (h.1, site)
 
 module _ {S : Type 0} (spans : S → Spans) (hint : S → Option LevelFilter) (enables : S → ℕ → Callsite → Bool) (attaches : S → Bool) (kept : S → ℕ → ℕ → ℕ) (is_whole : S → Type 0) (does : S → SubscriberCall → S → Type 0) (touches : S → PartCall → S → Type 0) (d : ℕ)
-    (shows : (s : S) (call : SubscriberCall) (t : S) → does s call t → spans t ≡ spans_after_call (spans s) call) (lanes : (s : S) (call : SubscriberCall) (t : S) → does s call t → CallLanes (attaches s) (kept s) call (kept t))
+    (shows : (s : S) (call : SubscriberCall) (t : S) → does s call t → spans t ≡ spans_after_call (spans s) call) (lanes : (s : S) (call : SubscriberCall) (t : S) → does s call t → CallKeepsLanes (attaches s) (kept s) call (kept t))
     (stays : (s : S) (call : PartCall) (t : S) → touches s call t → StaysStack spans kept attaches is_whole s t)
     (none_kept : (s : S) (lane number : ℕ) → is_whole s → entries_on lane (spans s).lanes ≡ [] → kept s lane number ≡ 0) where
   -- what came of an entry, steps and the exit
@@ -97,7 +97,7 @@ module _ {S : Type 0} (spans : S → Spans) (hint : S → Option LevelFilter) (e
         none_open = ap (λ (l : Lane). entries_on l.id (spans_in spans new d).lanes) at_end ∙ ap (λ (x : Spans). entries_on before.id x.lanes) same ∙ none_open;
         lane_id = ap (λ (l : Lane). l.id) at_end;
         default = ap (λ (l : Lane). l.default) at_end;
-        attached = λ number. ap (λ (l : Lane). attached_as number l) at_end;
+        attached = λ number. ap (λ (l : Lane). attached_count number l) at_end;
         sites = ap (λ (w : WorldValue S). w.sites) exits ∙ did.1.sites ∙ ap (λ (w : WorldValue S). w.sites) world_same;
         count = ap (λ (w : WorldValue S). length w.subscribers) exits ∙ did.1.count ∙ ap (λ (w : WorldValue S). length w.subscribers) world_same;
         carried = carried None own site at steps old world left new before lane later default begins on exits none (ap (λ (w : WorldValue S). w.sites) world_same) lane_default current here;

@@ -1,6 +1,6 @@
 -- A poll of a task that was refused.
 use Rattle.std.proofs.Common.{◌≡◌, ℕ, List, [], ◌∷◌, ◌++◌, length, map, Bool, Option, Some, None, Err, refl, sym, ap, subst, ◌∙◌, slice_get, inl, inr, ◌⊎◌}
-use Rattle.trace_tasks.proofs.Common.{EnterError, Callsite, Lane, LevelFilter, SubscriberCall, Enter, spans_after_call, with_span_entry, CallLanes, WorldValue, Spans, entries_on, current_on, Replaced, Chain, spans_in, no_spans, Handle, HeldSpan, ReplacedOn, BeginsInside, KeepsLaneButRoom, MeetsFullLane, seen_before, seen_later, Instrumented, PollResult, CannotEnter, PollsInside, PartCall, StaysStack, Request, on_first_lane, TaskFuture, Step, PollsSteps, WantsMemory, untouched, spare, TaskScene, CarriesEnter, CarriesExit, CarriesOnHandle, UnfinishedTask, step_call, moment_of, StopsPoll, TurnStops, MeetsFull, dispatch_serving, ReadyToPoll, IsAlone, IsAloneAs, unfinished_task}
+use Rattle.trace_tasks.proofs.Common.{EnterError, Callsite, Lane, LevelFilter, SubscriberCall, Enter, spans_after_call, with_span_entry, CallKeepsLanes, WorldValue, Spans, entries_on, current_on, Replaced, Chain, spans_in, no_spans, Handle, HeldSpan, ReplacedOn, BeginsInside, KeepsLaneButRoom, MeetsFullLane, seen_before, seen_later, Instrumented, PollResult, FailsToEnter, PollsInside, PartCall, StaysStack, Request, on_first_lane, TaskFuture, Step, PollsSteps, WantsMemory, untouched, spare, TaskScene, CarriesEnter, CarriesExit, CarriesOnHandle, UnfinishedTask, step_call, moment_of, StopsPoll, TurnStops, MeetsFull, dispatch_serving, ReadyToPoll, IsAlone, IsAloneAs, unfinished_task}
 use Rattle.span_script.specs.declared.request.Call.TheVariants as call
 use Rattle.trace_tasks.proofs.queues.RootLemmas.{entered_current, none_current}
 use Rattle.trace_tasks.proofs.polls.StepLemmas.{IsAt, disabled, enabled, first_acts, acts_carry}
@@ -15,7 +15,7 @@ map_both f (x ∷ xs) ys = ap (λ zs. f x ∷ zs) (map_both f xs ys)
 
 module _ {S : Type 0} (spans : S → Spans) (hint : S → Option LevelFilter) (enables : S → ℕ → Callsite → Bool) (attaches : S → Bool) (activates : S → ℕ → Bool) (kept : S → ℕ → ℕ → ℕ) (is_whole : S → Type 0)
     (does : S → SubscriberCall → S → Type 0) (touches : S → PartCall → S → Type 0) (same : S → S → Type 0)
-    (shows : (s : S) (call : SubscriberCall) (t : S) → does s call t → spans t ≡ spans_after_call (spans s) call) (lanes : (s : S) (call : SubscriberCall) (t : S) → does s call t → CallLanes (attaches s) (kept s) call (kept t))
+    (shows : (s : S) (call : SubscriberCall) (t : S) → does s call t → spans t ≡ spans_after_call (spans s) call) (lanes : (s : S) (call : SubscriberCall) (t : S) → does s call t → CallKeepsLanes (attaches s) (kept s) call (kept t))
     (stays : (s : S) (call : PartCall) (t : S) → touches s call t → StaysStack spans kept attaches is_whole s t) where
   -- what is current once a task's span was entered
   record Inner (d : ℕ) (held : HeldSpan) (own : Option ℕ) (site : ℕ) (old world : WorldValue S) (before lane : Lane) : Type 0 where
@@ -93,7 +93,7 @@ module _ {S : Type 0} (spans : S → Spans) (hint : S → Option LevelFilter) (e
       full = full.1;
     }
 
-    refused : CannotEnter {A = Unit {0}} same activates f old before (Err e) g world later → ReplacedOn (λ id s t. Chain spans does m (Some id) s t) world new f.span.held → StopsPoll spans hint enables activates does touches same d old.sites m k t e start new later
+    refused : FailsToEnter {A = Unit {0}} same activates f old before (Err e) g world later → ReplacedOn (λ id s t. Chain spans does m (Some id) s t) world new f.span.held → StopsPoll spans hint enables activates does touches same d old.sites m k t e start new later
     refused r chain = record {
       part = [];
       in_poll = (_, _, refl);
@@ -154,19 +154,19 @@ module _ {S : Type 0} (spans : S → Spans) (hint : S → Option LevelFilter) (e
           handles = refl;
         }
 
-    either : CannotEnter {A = Unit {0}} same activates f old before (Err e) g world later ⊎ PollsInside does activates RunPolls f old before m (Err e) g world later → ReplacedOn (λ id s t. Chain spans does m (Some id) s t) world new g.span.held
+    either : FailsToEnter {A = Unit {0}} same activates f old before (Err e) g world later ⊎ PollsInside does activates RunPolls f old before m (Err e) g world later → ReplacedOn (λ id s t. Chain spans does m (Some id) s t) world new g.span.held
         → StopsPoll spans hint enables activates does touches same d old.sites m k t e start new later
     either (inl r) chain = refused r (subst (λ (h : Instrumented TaskFuture). ReplacedOn (λ id s t. Chain spans does m (Some id) s t) world new h.span.held) r.future_same chain)
     either (inr i) chain = inside i (subst (λ (h : Handle). ReplacedOn (λ id s t. Chain spans does m (Some id) s t) world new h.held) i.span_same chain)
 
   pub stops : (f g : Instrumented TaskFuture) (at site : ℕ) (old world new : WorldValue S) (before later : Lane) (e : EnterError) → ReadyToPoll spans kept is_whole old before → IsAlone (spans_in spans old (dispatch_serving before)).made (dispatch_serving before) site f.span
-      → CannotEnter {A = Unit {0}} same activates f old before (Err e) g world later ⊎ PollsInside does activates RunPolls f old before at (Err e) g world later → ReplacedOn (λ id s t. Chain spans does at (Some id) s t) world new g.span.held
+      → FailsToEnter {A = Unit {0}} same activates f old before (Err e) g world later ⊎ PollsInside does activates RunPolls f old before at (Err e) g world later → ReplacedOn (λ id s t. Chain spans does at (Some id) s t) world new g.span.held
       → TurnStops spans hint enables activates does touches same at f old before e new later
   stops f g at site old world new before later e ready lone polled chain = record {
     stops = λ number own k handles guards moment is count own_is.
         let same_site : site ≡ own = cc (lone.site_is, own_is) in
         subst (λ (n : ℕ). StopsPoll spans hint enables activates does touches same (dispatch_serving before) old.sites n k (unfinished_task number own f.inner) e (record { world = old; lane = before; handles = handles; guards = guards }) new later) (sym moment)
         (either f g own old world new before later e ready (subst (λ (x : ℕ). IsAlone (spans_in spans old (dispatch_serving before)).made (dispatch_serving before) x f.span) same_site lone) number k handles guards is count
-        (subst (λ (n : ℕ). CannotEnter {A = Unit {0}} same activates f old before (Err e) g world later ⊎ PollsInside does activates RunPolls f old before n (Err e) g world later) moment polled)
+        (subst (λ (n : ℕ). FailsToEnter {A = Unit {0}} same activates f old before (Err e) g world later ⊎ PollsInside does activates RunPolls f old before n (Err e) g world later) moment polled)
         (subst (λ (n : ℕ). ReplacedOn (λ id s t. Chain spans does n (Some id) s t) world new g.span.held) moment chain));
   }

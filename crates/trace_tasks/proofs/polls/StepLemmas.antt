@@ -1,6 +1,6 @@
 -- Steps on the lane's current span are requests on the handle that was entered.
 use Rattle.std.proofs.Common.{◌≡◌, ℕ, List, [], ◌∷◌, ◌++◌, length, map, Bool, true, false, Option, Some, None, refl, sym, ap, subst, ◌∙◌, slice_get, if◌then◌else◌, filter_map, is_some}
-use Rattle.trace_tasks.proofs.Common.{cons_option, Callsite, ValueSet, Lane, LevelFilter, SubscriberCall, Records, Event, spans_after_call, place_of, CallLanes, WorldValue, dispatch_on, Spans, current_on, Replaced, spans_in, kept_in, no_spans, Handle, HeldSpan, RecordsAt, handle_of, as_many, seen_before, seen_later, PartCall, Applies, StaysStack, on_first_lane, Step, steps_now, CallsIf, TellsAt, RecordsTo, StepAt, StepIf, StepOn, StepsOn, Fields, declared_value, values_of, values_by, UnfinishedTask, declared_ones, step_call, TaskScene, CarriesCall, Carries}
+use Rattle.trace_tasks.proofs.Common.{cons_option, Callsite, ValueSet, Lane, LevelFilter, SubscriberCall, Records, Event, spans_after_call, place_of, CallKeepsLanes, WorldValue, dispatch_on, Spans, current_on, Replaced, spans_in, kept_in, no_spans, Handle, HeldSpan, RecordsAt, handle_of, as_many, seen_before, seen_later, PartCall, Applies, StaysStack, on_first_lane, Step, steps_now, CallsIf, TellsAt, RecordsTo, StepAt, StepIf, StepOn, StepsOn, Fields, declared_value, values_of, values_by, UnfinishedTask, declared_ones, step_call, TaskScene, CarriesCall, Carries}
 use Rattle.std.specs.Option.{option_map}
 use Rattle.trace_base.specs.declared.field.Value.{Value}
 use Rattle.trace_base.specs.declared.span.Parent.TheVariants as parent
@@ -48,7 +48,7 @@ pub first_acts : (done others steps : List Step) → done ++ others ≡ steps_no
 first_acts done others steps is = acts_front done others (subst (λ (xs : List Step). AreActs xs) (sym is) (now_acts steps))
 
 module _ {S : Type 0} (spans : S → Spans) (hint : S → Option LevelFilter) (enables : S → ℕ → Callsite → Bool) (attaches : S → Bool) (kept : S → ℕ → ℕ → ℕ) (is_whole : S → Type 0) (does : S → SubscriberCall → S → Type 0) (touches : S → PartCall → S → Type 0) (d : ℕ)
-    (shows : (s : S) (call : SubscriberCall) (t : S) → does s call t → spans t ≡ spans_after_call (spans s) call) (lanes : (s : S) (call : SubscriberCall) (t : S) → does s call t → CallLanes (attaches s) (kept s) call (kept t))
+    (shows : (s : S) (call : SubscriberCall) (t : S) → does s call t → spans t ≡ spans_after_call (spans s) call) (lanes : (s : S) (call : SubscriberCall) (t : S) → does s call t → CallKeepsLanes (attaches s) (kept s) call (kept t))
     (stays : (s : S) (call : PartCall) (t : S) → touches s call t → StaysStack spans kept attaches is_whole s t) where
   -- what a step leaves of the world
   pub record Leaves (old new : WorldValue S) : Type 0 where

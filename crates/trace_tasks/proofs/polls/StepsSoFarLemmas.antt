@@ -1,6 +1,6 @@
 -- A poll of a task's steps, so far.
 use Rattle.std.proofs.Common.{◌≡◌, ℕ, List, [], ◌∷◌, ◌++◌, Bool, Option, Err, refl, sym, ap, subst, ◌∙◌, ◌⊎◌, inl, inr, append_assoc}
-use Rattle.trace_tasks.proofs.Common.{Callsite, Lane, LevelFilter, WorldValue, Spans, SubscriberCall, spans_after_call, CallLanes, ChangesUpTo, KeepsLent, calls_none, calls_then, keeps_nothing, PartCall, StaysStack, Step, steps_now, steps_left, StepOn, StepsOn, PollsSteps, Changes, Asks, WantsMemory}
+use Rattle.trace_tasks.proofs.Common.{Callsite, Lane, LevelFilter, WorldValue, Spans, SubscriberCall, spans_after_call, CallKeepsLanes, ChangesUpTo, KeepsLent, calls_none, calls_then, keeps_nothing, PartCall, StaysStack, Step, steps_now, steps_left, StepOn, StepsOn, PollsSteps, Changes, Asks, WantsMemory}
 use Rattle.otel_base.specs.declared.enter_error.EnterError.TheVariants as faults
 use Rattle.trace_tasks.specs.declared.script.Step.TheVariants as step
 use Rattle.trace_tasks.proofs.polls.ChangesLemmas.{lent_then, changes_keep, changes_call}
@@ -49,7 +49,7 @@ module _ {S : Type 0} (spans : S → Spans) (hint : S → Option LevelFilter) (e
     polling_first steps world = record { lent = keeps_nothing spans kept is_whole world lane; called = calls_none does (Asks touches) same same_refl same_trans at world; left = refl; done = []; split = refl; did = refl }
 
     module _ (same_spans : (s t : S) → same s t → spans t ≡ spans s) (same_kept : (s t : S) → same s t → kept t ≡ kept s) (same_whole : (s t : S) → same s t → is_whole s → is_whole t)
-        (shows : (s : S) (call : SubscriberCall) (t : S) → does s call t → spans t ≡ spans_after_call (spans s) call) (lanes : (s : S) (call : SubscriberCall) (t : S) → does s call t → CallLanes (attaches s) (kept s) call (kept t))
+        (shows : (s : S) (call : SubscriberCall) (t : S) → does s call t → spans t ≡ spans_after_call (spans s) call) (lanes : (s : S) (call : SubscriberCall) (t : S) → does s call t → CallKeepsLanes (attaches s) (kept s) call (kept t))
         (keeps_whole : (s : S) (call : SubscriberCall) (t : S) → does s call t → is_whole s → is_whole t)
         (stays : (s : S) (call : PartCall) (t : S) → touches s call t → StaysStack spans kept attaches is_whole s t) where
       pub lent_more : (first steps : List Step) (old world next : WorldValue S) → Polling first steps old world → Changes spans hint enables does touches same at world next → KeepsLent spans kept is_whole old next lane lane

@@ -1,6 +1,6 @@
 -- A poll of a task, and its end if it is finished.
 use Rattle.std.proofs.Common.{◌≡◌, ℕ, List, [], ◌∷◌, ◌++◌, length, map, Bool, Option, Some, None, Ok, refl, sym, ap, subst, ◌∙◌, arith, inl, inr, ◌⊎◌}
-use Rattle.trace_tasks.proofs.Common.{Callsite, Lane, LevelFilter, SubscriberCall, TryClose, Exit, spans_after_call, CallLanes, WorldValue, Span, Spans, span_at, entries_on, parent_to_release, without_hold, Replaced, Chain, ended, closes, ReleasesChain, all_released, releases, spans_in, Handle, HeldSpan, ReplacedOn, as_many, seen_before, seen_later, chain_shown, Instrumented, HasAll, AreAllAttached, KeepsLent, PollResult, CannotEnter, PollsInside, same_kept, keeps_all, PartCall, StaysStack, on_first_lane, TaskFuture, Step, steps_now, StepsOn, PollsSteps, TaskScene, CarriesOnHandle, Carries, UnfinishedTask, step_call, moment_of, drop_at_end, dispatch_of_default, dispatch_serving, ReadyToPoll, root_of_one_handle, IsAlone, IsAloneAs, unfinished_task, PollsTask}
+use Rattle.trace_tasks.proofs.Common.{Callsite, Lane, LevelFilter, SubscriberCall, TryClose, Exit, spans_after_call, CallKeepsLanes, WorldValue, Span, Spans, span_at, entries_on, parent_to_release, without_hold, Replaced, Chain, ended, closes, ReleasesChain, all_released, releases, spans_in, Handle, HeldSpan, ReplacedOn, as_many, seen_before, seen_later, chain_shown, Instrumented, HasAll, AreAllAttached, KeepsLent, PollResult, FailsToEnter, PollsInside, same_kept, keeps_all, PartCall, StaysStack, on_first_lane, TaskFuture, Step, steps_now, StepsOn, PollsSteps, TaskScene, CarriesOnHandle, Carries, UnfinishedTask, step_call, moment_of, drop_at_end, dispatch_of_default, dispatch_serving, ReadyToPoll, root_of_one_handle, IsAlone, IsAloneAs, unfinished_task, PollsTask}
 use Rattle.std.specs.Option.{option_map}
 use Rattle.futures.specs.declared.task.Poll.{Poll}
 use Rattle.futures.specs.declared.task.Poll.TheVariants as polls
@@ -24,7 +24,7 @@ rel_some _ _ _ (releases i at x y own rest) id is none =
 module _ {S : Type 0} (spans : S → Spans) (hint : S → Option LevelFilter) (enables : S → ℕ → Callsite → Bool) (attaches : S → Bool) (activates : S → ℕ → Bool) (kept : S → ℕ → ℕ → ℕ) (is_whole : S → Type 0)
     (does : S → SubscriberCall → S → Type 0) (touches : S → PartCall → S → Type 0) (same : S → S → Type 0)
     (allowed : (s : S) (call : SubscriberCall) (t : S) → does s call t → Allowed (spans s) call) (shows : (s : S) (call : SubscriberCall) (t : S) → does s call t → spans t ≡ spans_after_call (spans s) call)
-    (lanes : (s : S) (call : SubscriberCall) (t : S) → does s call t → CallLanes (attaches s) (kept s) call (kept t)) (keeps_attaches : (s : S) (call : SubscriberCall) (t : S) → does s call t → attaches t ≡ attaches s)
+    (lanes : (s : S) (call : SubscriberCall) (t : S) → does s call t → CallKeepsLanes (attaches s) (kept s) call (kept t)) (keeps_attaches : (s : S) (call : SubscriberCall) (t : S) → does s call t → attaches t ≡ attaches s)
     (keeps_whole : (s : S) (call : SubscriberCall) (t : S) → does s call t → is_whole s → is_whole t)
     (stays : (s : S) (call : PartCall) (t : S) → touches s call t → StaysStack spans kept attaches is_whole s t) (none_kept : (s : S) (lane number : ℕ) → is_whole s → entries_on lane (spans s).lanes ≡ [] → kept s lane number ≡ 0) where
   -- what a poll of a task's steps is
@@ -32,7 +32,7 @@ module _ {S : Type 0} (spans : S → Spans) (hint : S → Option LevelFilter) (e
   RunPolls f world lane at r g new later = PollsSteps spans hint enables does touches same f.steps.items world lane at r g.steps.items new later
 
   -- a poll that was answered ran inside the span
-  pub inside_of : (f g : Instrumented TaskFuture) (old new : WorldValue S) (before later : Lane) (at : ℕ) (p : Poll (Unit {0})) → CannotEnter same activates f old before (Ok p) g new later ⊎ PollsInside does activates RunPolls f old before at (Ok p) g new later
+  pub inside_of : (f g : Instrumented TaskFuture) (old new : WorldValue S) (before later : Lane) (at : ℕ) (p : Poll (Unit {0})) → FailsToEnter same activates f old before (Ok p) g new later ⊎ PollsInside does activates RunPolls f old before at (Ok p) g new later
       → PollsInside does activates RunPolls f old before at (Ok p) g new later
   inside_of f g old new before later at p (inl refused) = absurd (cc refused.is)
   inside_of f g old new before later at p (inr inside) = inside

@@ -2,7 +2,7 @@
 use Rattle.std.proofs.Common.{◌≡◌, ◌≢◌, ℕ, ◌+◌, ◌<◌, ◌≤◌, ◌^◌, List, [], ◌∷◌, ◌++◌, length, Bool, Option, Some, None, Result, Ok, Err, refl, sym, ap, subst, ◌∙◌, arith, sum_by, append_assoc, inl, inr, IfOk, IfErr, OnErr}
 use Rattle.std.proofs.lemmas.List.{append-nil, length_push}
 use Rattle.otel_base.specs.declared.enter_error.EnterError.TheVariants as faults
-use Rattle.trace_tasks.proofs.Common.{sum_by-cons, EnterError, Callsite, Lane, LevelFilter, SubscriberCall, WorldValue, Span, Spans, span_at, made_if_held, spans_in, Handle, HeldSpan, id_of, Instrumented, PartCall, Request, on_first_lane, TaskFuture, Task, Begins, AreBegun, RunsTasks, TaskScene, Carries, UnfinishedTask, yield_count, polls_left, all_polls, tasks_at_first, makings, moment_of, rounds_requests, untouched, turns_requests, DropsAll, leaving_requests, StopsTurns, StopsBeginning, IsPartOfPoll, IsFrontOf, GaveUp, IsAloneAs, ReadyToPoll, dispatch_serving, Waits, AllWait, AllKnown, AllStand, TakesTurns, polls_in}
+use Rattle.trace_tasks.proofs.Common.{sum_by-cons, EnterError, Callsite, Lane, LevelFilter, SubscriberCall, WorldValue, Span, Spans, span_at, made_if_held, spans_in, Handle, HeldSpan, id_of, Instrumented, PartCall, Request, on_first_lane, TaskFuture, Task, Begins, AreBegun, RunsTasks, TaskScene, Carries, UnfinishedTask, yield_count, polls_left, poll_count, tasks_at_first, makings, moment_of, rounds_requests, untouched, turns_requests, DropsAll, leaving_requests, StopsTurns, StopsBeginning, IsPartOfPoll, IsFrontOf, GaveUp, IsAloneAs, ReadyToPoll, dispatch_serving, Waits, AllWait, AllKnownAndApart, AllStand, TakesTurns, polls_in}
 use Rattle.span_handles.specs.Knowing.{KeepsHandles}
 use Rattle.span_script.specs.declared.request.Call.TheVariants as call
 use Rattle.span_script.specs.declared.request.RequestParent.TheVariants as request_parent
@@ -68,7 +68,7 @@ module _ {S : Type 0} (spans : S → Spans) where
       wait_end fs all.2,
     )
 
-  pub known_stays : (old new : WorldValue S) (fs : List (Instrumented TaskFuture)) → KeepsHandles spans old new → AllKnown spans old fs → AllKnown spans new fs
+  pub known_stays : (old new : WorldValue S) (fs : List (Instrumented TaskFuture)) → KeepsHandles spans old new → AllKnownAndApart spans old fs → AllKnownAndApart spans new fs
   known_stays old new [] keeps all = tt
   known_stays old new (f ∷ fs) keeps all = (keeps.known f.span.held all.0, all.1, known_stays old new fs keeps all.2)
 
@@ -102,7 +102,7 @@ module _ {S : Type 0} (spans : S → Spans) (hint : S → Option LevelFilter) (e
   none_begun lane old ready = record { handles = []; count = refl; stand = tt; wait = tt; ready = ready; sites = refl; few = omega arith; carried = refl }
 
 -- as many polls as the tasks take
-same_polls : (handles : List Handle) (ts : List UnfinishedTask) (fs : List (Instrumented TaskFuture)) → AllStand handles ts fs → all_polls ts ≡ polls_in fs
+same_polls : (handles : List Handle) (ts : List UnfinishedTask) (fs : List (Instrumented TaskFuture)) → AllStand handles ts fs → poll_count ts ≡ polls_in fs
 same_polls handles [] [] all = refl
 same_polls handles [] (f ∷ fs) all = absurd all
 same_polls handles (t ∷ ts) [] all = absurd all
@@ -119,7 +119,7 @@ front_of [] some = absurd (some refl)
 front_of (t ∷ tasks) some = (t, tasks, refl)
 
 module _ {S : Type 0} (spans : S → Spans) (hint : S → Option LevelFilter) (enables : S → ℕ → Callsite → Bool) (kept : S → ℕ → ℕ → ℕ) (is_whole : S → Type 0) (does : S → SubscriberCall → S → Type 0) (touches : S → PartCall → S → Type 0) where
-  pub few_polls : (tasks : List Task) (lane : Lane) (old world : WorldValue S) (fs : List (Instrumented TaskFuture)) → AreBegun spans hint enables kept is_whole does touches tasks lane old world fs → all_polls (tasks_at_first 0 tasks) < 2 ^ 60 → polls_in fs < 2 ^ 60
+  pub few_polls : (tasks : List Task) (lane : Lane) (old world : WorldValue S) (fs : List (Instrumented TaskFuture)) → AreBegun spans hint enables kept is_whole does touches tasks lane old world fs → poll_count (tasks_at_first 0 tasks) < 2 ^ 60 → polls_in fs < 2 ^ 60
   few_polls tasks lane old world fs all few = (let e = same_polls all.handles (tasks_at_first 0 tasks) fs all.stand in omega (arith, e, few))
 
   -- the makings and the turns are the flat list
@@ -133,14 +133,14 @@ module _ {S : Type 0} (spans : S → Spans) (hint : S → Option LevelFilter) (e
       let start : TaskScene S = record { world = old; lane = lane; handles = []; guards = [] } in
       let middle : TaskScene S = record { world = world; lane = lane; handles = all.handles; guards = [] } in
       let end : TaskScene S = record { world = new; lane = later; handles = all.handles; guards = taken.guards } in
-      let rest : Carries spans hint enables does touches (dispatch_serving lane) (rounds_requests sites (all_polls ts) 0 ts) middle end =
-      subst (λ (rs : List Request). Carries spans hint enables does touches (dispatch_serving lane) rs middle end) (sym (rounds_are_turns sites (all_polls ts) 0 ts (omega arith)))
-      (subst (λ (xs : List Callsite). Carries spans hint enables does touches (dispatch_serving lane) (turns_requests xs (all_polls ts) 0 ts) middle end) (all.sites ∙ same) taken.carried) in
+      let rest : Carries spans hint enables does touches (dispatch_serving lane) (rounds_requests sites (poll_count ts) 0 ts) middle end =
+      subst (λ (rs : List Request). Carries spans hint enables does touches (dispatch_serving lane) rs middle end) (sym (rounds_are_turns sites (poll_count ts) 0 ts (omega arith)))
+      (subst (λ (xs : List Callsite). Carries spans hint enables does touches (dispatch_serving lane) (turns_requests xs (poll_count ts) 0 ts) middle end) (all.sites ∙ same) taken.carried) in
       record {
         answer = taken.polled;
         handles = all.handles;
         guards = taken.guards;
-        carried = carry_then spans hint enables does touches (dispatch_serving lane) (makings tasks) (rounds_requests sites (all_polls ts) 0 ts) start middle end all.carried rest;
+        carried = carry_then spans hint enables does touches (dispatch_serving lane) (makings tasks) (rounds_requests sites (poll_count ts) 0 ts) start middle end all.carried rest;
       }
 
   -- a run that was refused in a poll
@@ -163,7 +163,7 @@ module _ {S : Type 0} (spans : S → Spans) (hint : S → Option LevelFilter) (e
         part = stop.part;
         others = stop.others;
         within = append_assoc (makings tasks ++ front) stop.part stop.others ∙ append_assoc (makings tasks) front (stop.part ++ stop.others)
-            ∙ ap (λ (rs : List Request). makings tasks ++ rs) (sym (append_assoc front stop.part stop.others) ∙ stop.within ∙ sym (rounds_are_turns sites (all_polls ts) 0 ts (omega arith)));
+            ∙ ap (λ (rs : List Request). makings tasks ++ rs) (sym (append_assoc front stop.part stop.others) ∙ stop.within ∙ sym (rounds_are_turns sites (poll_count ts) 0 ts (omega arith)));
         at = moment_of stop.polls;
         moment = inl (refl, refl, subst (λ (us : List UnfinishedTask). IsPartOfPoll sites stop.polls us stop.part) (sym stop.next) stop.in_poll);
         not_entered = stop.not_entered;
@@ -190,7 +190,7 @@ module _ {S : Type 0} (spans : S → Spans) (hint : S → Option LevelFilter) (e
       let made : List Request = makings stop.first in
       let behind : List Task = stop.within.0 ∷ stop.within.1 in
       let ts : List UnfinishedTask = tasks_at_first 0 tasks in
-      let later : List Request = rounds_requests sites (all_polls ts) 0 ts in
+      let later : List Request = rounds_requests sites (poll_count ts) 0 ts in
       let start : TaskScene S = record { world = old; lane = lane; handles = []; guards = [] } in
       let middle : TaskScene S = record { world = stop.world; lane = lane; handles = b.handles; guards = [] } in
       let none : (made ++ []) ++ [] ≡ made = append-nil (made ++ []) ∙ append-nil made in
@@ -231,7 +231,7 @@ module _ {S : Type 0} (spans : S → Spans) (hint : S → Option LevelFilter) (e
   gave_up_if activates same sites tasks lane later old world new fs (Err e) is all stops = gave_up_polls activates same sites tasks lane later old world new fs e is all stops
 
 -- one poll for each task and one for each yield
-pub answer_is : (n : ℕ) (tasks : List Task) → all_polls (tasks_at_first n tasks) ≡ sum_by (λ t. yield_count t.steps) tasks + length tasks
+pub answer_is : (n : ℕ) (tasks : List Task) → poll_count (tasks_at_first n tasks) ≡ sum_by (λ t. yield_count t.steps) tasks + length tasks
 answer_is n [] = refl
 answer_is n (t ∷ tasks) = (
     let u : UnfinishedTask = record { number = n; site = t.site; steps = t.steps } in

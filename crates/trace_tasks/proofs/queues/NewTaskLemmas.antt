@@ -1,7 +1,7 @@
 -- A span that was made for a task.
 use Rattle.std.proofs.Common.{◌≡◌, ℕ, zero, suc, ◌+◌, ◌<◌, ◌≤◌, List, [], ◌∷◌, ◌++◌, length, Bool, true, false, Option, Some, None, Result, Ok, Err, refl, sym, ap, subst, ◌∙◌, arith, slice_get, IfOk, OnErr}
 use Rattle.std.proofs.lemmas.List.{length_push}
-use Rattle.trace_tasks.proofs.Common.{Memory, Callsite, ValueSet, Lane, LevelFilter, SubscriberCall, NewSpan, spans_after_call, with_new_span, CallLanes, WorldValue, Span, Spans, span_at, entries_on, parent_on, spans_in, no_spans, Handle, IsKnown, MakesIf, ReplacedIf, id_of, as_many, seen_before, seen_later, Instrumented, HasAll, same_kept, keeps_all, PartCall, TaskFuture, Task, WantsMemory, untouched, spare, MakesTaskSpan, Begins, MakesGated, values_of, root_of_one_handle, IsAlone, IsAloneAs, ReadyToPoll, dispatch_serving}
+use Rattle.trace_tasks.proofs.Common.{Memory, Callsite, ValueSet, Lane, LevelFilter, SubscriberCall, NewSpan, spans_after_call, with_new_span, CallKeepsLanes, WorldValue, Span, Spans, span_at, entries_on, parent_on, spans_in, no_spans, Handle, IsKnown, MakesIf, ReplacedIf, id_of, as_many, seen_before, seen_later, Instrumented, HasAll, same_kept, keeps_all, PartCall, TaskFuture, Task, WantsMemory, untouched, spare, MakesTaskSpan, Begins, MakesGated, values_of, root_of_one_handle, IsAlone, IsAloneAs, ReadyToPoll, dispatch_serving}
 use Rattle.trace_base.specs.declared.span.Parent.TheVariants as parent
 
 -- something is at each place
@@ -22,7 +22,7 @@ before_end (x ∷ made) new zero less = refl
 before_end (x ∷ made) new (suc q) less = before_end made new q (omega (arith, less))
 
 module _ {S : Type 0} (spans : S → Spans) (hint : S → Option LevelFilter) (enables : S → ℕ → Callsite → Bool) (attaches : S → Bool) (kept : S → ℕ → ℕ → ℕ) (is_whole : S → Type 0) (does : S → SubscriberCall → S → Type 0) (touches : S → PartCall → S → Type 0)
-    (shows : (s : S) (call : SubscriberCall) (t : S) → does s call t → spans t ≡ spans_after_call (spans s) call) (lanes : (s : S) (call : SubscriberCall) (t : S) → does s call t → CallLanes (attaches s) (kept s) call (kept t))
+    (shows : (s : S) (call : SubscriberCall) (t : S) → does s call t → spans t ≡ spans_after_call (spans s) call) (lanes : (s : S) (call : SubscriberCall) (t : S) → does s call t → CallKeepsLanes (attaches s) (kept s) call (kept t))
     (keeps_whole : (s : S) (call : SubscriberCall) (t : S) → does s call t → is_whole s → is_whole t) where
   begun : (task : Task) (lane : Lane) (old new : WorldValue S) (f : Instrumented TaskFuture) (one : MakesTaskSpan spans hint enables does touches task.site task.fields lane old new f.span) → ReadyToPoll spans kept is_whole old lane → IsKnown spans new f.span.held → f.inner.steps.items ≡ task.steps
       → (made : f.span.site ≡ Some task.site) → IsAlone (spans_in spans new (dispatch_serving lane)).made (dispatch_serving lane) task.site f.span → ((id : ℕ) → id_of f.span.held ≡ Some id → length (spans_in spans old (dispatch_serving lane)).made ≤ id)

@@ -1,7 +1,7 @@
 -- A queue after a poll of its first task.
 use Rattle.std.proofs.Common.{◌≡◌, ℕ, suc, ◌+◌, List, [], ◌∷◌, ◌++◌, Option, Some, None, refl, sym, ap, subst, ◌∙◌, arith}
 use Rattle.std.specs.Option.{option_map}
-use Rattle.trace_tasks.proofs.Common.{sum_by-cons, sum_by_push, WorldValue, Span, Spans, span_at, spans_in, Handle, HeldSpan, IsKnown, id_of, Instrumented, TaskFuture, Step, steps_left, UnfinishedTask, yield_count, polls_left, all_polls, after_poll, requeue, IsAlone, IsAloneAs, IsAfterPoll, SpansStay, Waits, IsApart, AreApart, AllWait, AllKnown, TaskStands, AllStand, KeepsBut, queue_with, polls_in}
+use Rattle.trace_tasks.proofs.Common.{sum_by-cons, sum_by_push, WorldValue, Span, Spans, span_at, spans_in, Handle, HeldSpan, IsKnown, id_of, Instrumented, TaskFuture, Step, steps_left, UnfinishedTask, yield_count, polls_left, poll_count, after_poll, requeue, IsAlone, IsAloneAs, IsAfterPoll, OtherSpansStay, Waits, IsApart, AreApart, AllWait, AllKnownAndApart, TaskStands, AllStand, KeepsKnownBut, queue_with, polls_in}
 use Rattle.trace_tasks.specs.declared.script.Step.TheVariants as step
 
 -- ---- polls
@@ -35,10 +35,10 @@ polls_after f fs (Some g) is = (
     let c = sum_by_push (λ (h : Instrumented TaskFuture). yield_count h.inner.steps.items + 1) fs g in
     omega (arith, a, b, c))
 
-left_cons : (t : UnfinishedTask) (ts : List UnfinishedTask) → all_polls (t ∷ ts) ≡ polls_left t + all_polls ts
+left_cons : (t : UnfinishedTask) (ts : List UnfinishedTask) → poll_count (t ∷ ts) ≡ polls_left t + poll_count ts
 left_cons t ts = sum_by-cons polls_left t ts
 
-left_after : (t : UnfinishedTask) (ts : List UnfinishedTask) (o : Option (List Step)) → steps_left t.steps ≡ o → all_polls (t ∷ ts) ≡ suc (all_polls (requeue ts (option_map (λ steps. record t { steps = steps }) o)))
+left_after : (t : UnfinishedTask) (ts : List UnfinishedTask) (o : Option (List Step)) → steps_left t.steps ≡ o → poll_count (t ∷ ts) ≡ suc (poll_count (requeue ts (option_map (λ steps. record t { steps = steps }) o)))
 left_after t ts None is = (let a = left_cons t ts in let b = yields_none t.steps is in omega (arith, a, b))
 left_after t ts (Some rest) is = (
     let u : UnfinishedTask = record t { steps = rest } in
@@ -47,7 +47,7 @@ left_after t ts (Some rest) is = (
     let c = sum_by_push polls_left ts u in
     omega (arith, a, b, c))
 
-pub left_less : (t : UnfinishedTask) (ts : List UnfinishedTask) → all_polls (t ∷ ts) ≡ suc (all_polls (requeue ts (after_poll t)))
+pub left_less : (t : UnfinishedTask) (ts : List UnfinishedTask) → poll_count (t ∷ ts) ≡ suc (poll_count (requeue ts (after_poll t)))
 left_less t ts = left_after t ts (steps_left t.steps) refl
 
 -- ---- where the tasks stand
@@ -81,7 +81,7 @@ apart_push f (x ∷ fs) g all one = (all.0, apart_push f fs g all.1 one)
 
 module _ {S : Type 0} (spans : S → Spans) where
   -- of another span than the one that closed it is known still
-  known_apart : (old new : WorldValue S) (closed held : HeldSpan) → KeepsBut spans old new closed → IsApart closed held → IsKnown spans old held → IsKnown spans new held
+  known_apart : (old new : WorldValue S) (closed held : HeldSpan) → KeepsKnownBut spans old new closed → IsApart closed held → IsKnown spans old held → IsKnown spans new held
   known_apart old new closed None keeps apart known = tt
   known_apart old new closed (Some h) keeps apart known = keeps (Some h) (λ is. apart h.1 (ap id_of (sym is)) refl) known
 
@@ -90,11 +90,11 @@ module _ {S : Type 0} (spans : S → Spans) where
   lone_apart old new d site closed None stay apart lone = tt
   lone_apart old new d site closed (Some h) stay apart lone = (lone.0, stay h.1 (λ is. apart h.1 is refl) ∙ lone.1)
 
-  stay_all : (left : Option (Instrumented TaskFuture)) (held : HeldSpan) (old new : List Span) → SpansStay left held old new → (q : ℕ) → (option_map (λ h. h.1) held ≡ Some q → ⊥) → span_at new q ≡ span_at old q
+  stay_all : (left : Option (Instrumented TaskFuture)) (held : HeldSpan) (old new : List Span) → OtherSpansStay left held old new → (q : ℕ) → (option_map (λ h. h.1) held ≡ Some q → ⊥) → span_at new q ≡ span_at old q
   stay_all None held old new stay = stay
   stay_all (Some g) held old new stay = λ q apart. ap (λ (made : List Span). span_at made q) stay
 
-  module _ (old new : WorldValue S) (d : ℕ) (f : Instrumented TaskFuture) (keeps : KeepsBut spans old new f.span.held) (stay : (q : ℕ) → (option_map (λ h. h.1) f.span.held ≡ Some q → ⊥) → span_at (spans_in spans new d).made q ≡ span_at (spans_in spans old d).made q) where
+  module _ (old new : WorldValue S) (d : ℕ) (f : Instrumented TaskFuture) (keeps : KeepsKnownBut spans old new f.span.held) (stay : (q : ℕ) → (option_map (λ h. h.1) f.span.held ≡ Some q → ⊥) → span_at (spans_in spans new d).made q ≡ span_at (spans_in spans old d).made q) where
     others_wait : (fs : List (Instrumented TaskFuture)) → AreApart f fs → AllWait spans old d fs → AllWait spans new d fs
     others_wait [] apart all = tt
     others_wait (g ∷ fs) apart all = (
@@ -116,7 +116,7 @@ module _ {S : Type 0} (spans : S → Spans) where
   same_apart f g (x ∷ fs) is apart = (subst (λ (h : Handle). IsApart h.held x.span.held) (sym is) apart.0, same_apart f g fs is apart.1)
 
   pub wait_after : (old new : WorldValue S) (d : ℕ) (f : Instrumented TaskFuture) (fs : List (Instrumented TaskFuture)) (left : Option (Instrumented TaskFuture)) → AllWait spans old d (f ∷ fs) → IsAfterPoll left f
-      → SpansStay left f.span.held (spans_in spans old d).made (spans_in spans new d).made → KeepsBut spans old new f.span.held → ((g : Instrumented TaskFuture) → left ≡ Some g → IsKnown spans new g.span.held)
+      → OtherSpansStay left f.span.held (spans_in spans old d).made (spans_in spans new d).made → KeepsKnownBut spans old new f.span.held → ((g : Instrumented TaskFuture) → left ≡ Some g → IsKnown spans new g.span.held)
       → AllWait spans new d (queue_with fs left)
   wait_after old new d f fs None all is stay keeps known = others_wait old new d f keeps stay fs all.1 all.2
   wait_after old new d f fs (Some g) all is stay keeps known =
@@ -128,10 +128,10 @@ module _ {S : Type 0} (spans : S → Spans) where
 
   -- ---- which are known
 
-  pub all_known : (world : WorldValue S) (d : ℕ) (fs : List (Instrumented TaskFuture)) → AllWait spans world d fs → AllKnown spans world fs
+  pub all_known : (world : WorldValue S) (d : ℕ) (fs : List (Instrumented TaskFuture)) → AllWait spans world d fs → AllKnownAndApart spans world fs
   all_known world d [] all = tt
   all_known world d (f ∷ fs) all = (all.0.known, all.1, all_known world d fs all.2)
 
-  pub known_after : (old new : WorldValue S) (f : Instrumented TaskFuture) (fs : List (Instrumented TaskFuture)) → KeepsBut spans old new f.span.held → AreApart f fs → AllKnown spans old fs → AllKnown spans new fs
+  pub known_after : (old new : WorldValue S) (f : Instrumented TaskFuture) (fs : List (Instrumented TaskFuture)) → KeepsKnownBut spans old new f.span.held → AreApart f fs → AllKnownAndApart spans old fs → AllKnownAndApart spans new fs
   known_after old new f [] keeps apart all = tt
   known_after old new f (g ∷ fs) keeps apart all = (known_apart old new f.span.held g.span.held keeps apart.0 all.0, all.1, known_after old new f fs keeps apart.1 all.2)

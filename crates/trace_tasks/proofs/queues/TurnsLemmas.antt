@@ -2,7 +2,7 @@
 use Rattle.std.proofs.Common.{◌≡◌, ℕ, suc, ◌+◌, List, [], ◌∷◌, ◌++◌, length, Bool, true, false, Option, Some, Result, Err, IfErr, refl, sym, ap, subst, ◌∙◌, arith, append_assoc}
 use Rattle.std.proofs.lemmas.Bool.{true≢false}
 use Rattle.std.proofs.lemmas.List.{length_push}
-use Rattle.trace_tasks.proofs.Common.{EnterError, Callsite, Lane, LevelFilter, SubscriberCall, WorldValue, Spans, Handle, HeldSpan, IsKnown, Instrumented, PartCall, Request, TaskFuture, Step, TaskScene, Carries, UnfinishedTask, all_polls, drop_at_end, moment_of, on_first_lane, poll_requests, steps_left, after_poll, requeue, turns_requests, dispatch_of_default, dispatch_serving, ReadyToPoll, unfinished_task, PollsTask, AllWait, AllStand, KeepsBut, TakesTurn, TakesTurnIf, TakesTurns, queue_with, polls_in, left_after, exit_if, drops_of_tasks, leaving_requests, StopsInTurn, StopsPoll, StopsTurns, TurnStops, DropsAll, SameAttached}
+use Rattle.trace_tasks.proofs.Common.{EnterError, Callsite, Lane, LevelFilter, SubscriberCall, WorldValue, Spans, Handle, HeldSpan, IsKnown, Instrumented, PartCall, Request, TaskFuture, Step, TaskScene, Carries, UnfinishedTask, poll_count, drop_at_end, moment_of, on_first_lane, poll_requests, steps_left, after_poll, requeue, turns_requests, dispatch_of_default, dispatch_serving, ReadyToPoll, unfinished_task, PollsTask, AllWait, AllStand, KeepsKnownBut, TakesTurn, TakesTurnIf, TakesTurns, queue_with, polls_in, left_after, exit_if, drops_of_tasks, leaving_requests, StopsInTurn, StopsPoll, StopsTurns, TurnStops, DropsAll, SameAttached}
 use Rattle.span_script.specs.declared.request.Call.TheVariants as call
 use Rattle.trace_tasks.proofs.polls.AttachedLemmas.{as_many_live}
 use Rattle.trace_tasks.proofs.polls.CarriesLemmas.{carry_then}
@@ -20,7 +20,7 @@ module _ {S : Type 0} (spans : S → Spans) (hint : S → Option LevelFilter) (e
     pub stand : AllStand handles now fs
     pub guards : List HeldSpan
     pub count : length guards ≡ polls
-    pub polled : polls + all_polls now ≡ all_polls ts
+    pub polled : polls + poll_count now ≡ poll_count ts
     pub after : left_after polls ts ≡ now
     pub carried : Carries spans hint enables does touches (dispatch_serving before) (turns_requests old.sites polls 0 ts) (record { world = old; lane = before; handles = handles; guards = [] }) (record { world = world; lane = lane; handles = handles; guards = guards })
 
@@ -66,7 +66,7 @@ module _ {S : Type 0} (spans : S → Spans) (hint : S → Option LevelFilter) (e
         stand = stand_after handles t rest f fs left stand.0 stand.1 turned.left_is;
         guards = s.guards ++ f.span.held ∷ [];
         count = (let l = length_push s.guards f.span.held in let k = s.count in omega (arith, l, k));
-        polled = (let p = s.polled in let q = ap all_polls is in let less = left_less t rest in omega (arith, p, q, less));
+        polled = (let p = s.polled in let q = ap poll_count is in let less = left_less t rest in omega (arith, p, q, less));
         after = left_more polls ts t rest e;
         carried = subst (λ (rs : List Request). Carries spans hint enables does touches d rs first there) (sym (turns_more old.sites polls ts t rest e))
             (carry_then spans hint enables does touches d (turns_requests old.sites polls 0 ts) (poll_requests old.sites polls t) first here there s.carried did);
@@ -74,7 +74,7 @@ module _ {S : Type 0} (spans : S → Spans) (hint : S → Option LevelFilter) (e
 
   -- a turn that was taken
   pub takes_turn : (at : ℕ) (all last : List (Instrumented TaskFuture)) (f : Instrumented TaskFuture) (fs : List (Instrumented TaskFuture)) (left : Option (Instrumented TaskFuture)) (world next : WorldValue S) (lane later : Lane) → all ≡ f ∷ fs → last ≡ queue_with fs left → AllWait spans world (dispatch_serving lane) all
-      → PollsTask spans hint enables kept is_whole does touches at f world lane left next later → KeepsBut spans world next f.span.held → ((g : Instrumented TaskFuture) → left ≡ Some g → IsKnown spans next g.span.held) → TakesTurn spans hint enables kept is_whole does touches at all world lane last next later
+      → PollsTask spans hint enables kept is_whole does touches at f world lane left next later → KeepsKnownBut spans world next f.span.held → ((g : Instrumented TaskFuture) → left ≡ Some g → IsKnown spans next g.span.held) → TakesTurn spans hint enables kept is_whole does touches at all world lane last next later
   takes_turn at all last f fs left world next lane later is queue wait turned keeps known =
       let others = wait_after spans world next (dispatch_serving lane) f fs left (subst (λ (xs : List (Instrumented TaskFuture)). AllWait spans world (dispatch_serving lane) xs) is wait) turned.left_is turned.stay keeps known in
       record {
@@ -122,9 +122,9 @@ module _ {S : Type 0} (spans : S → Spans) (hint : S → Option LevelFilter) (e
       → TakesTurns spans hint enables does touches handles ts old world before lane polls
   at_last handles ts old world before lane polls s [] is stand = record {
     guards = s.guards;
-    polled = (let p = s.polled in let e = ap all_polls is in omega (arith, p, e));
+    polled = (let p = s.polled in let e = ap poll_count is in omega (arith, p, e));
     carried = subst (λ (n : ℕ). Carries spans hint enables does touches (dispatch_serving before) (turns_requests old.sites n 0 ts) (record { world = old; lane = before; handles = handles; guards = [] }) (record { world = world; lane = lane; handles = handles; guards = s.guards }))
-        (let p = s.polled in let e = ap all_polls is in omega (arith, p, e)) s.carried;
+        (let p = s.polled in let e = ap poll_count is in omega (arith, p, e)) s.carried;
   }
   at_last handles ts old world before lane polls s (t ∷ now) is stand = absurd stand
 
@@ -156,11 +156,11 @@ module _ {S : Type 0} (spans : S → Spans) (hint : S → Option LevelFilter) (e
         (subst (λ (v : UnfinishedTask). StopsPoll spans hint enables activates does touches same (dispatch_serving lane) world.sites m polls v e start next later) same_task
         (turn.stops t.number t.site polls handles s.guards refl stand.0.handle s.count stand.0.site))) in
         let here_is : left_after polls ts ≡ t ∷ rest = s.after ∙ is in
-        let n : ℕ = all_polls (requeue rest (after_poll t)) in
+        let n : ℕ = poll_count (requeue rest (after_poll t)) in
         let more : List Request = turns_requests old.sites n (polls + 1) (requeue rest (after_poll t)) in
-        let all : all_polls ts ≡ polls + suc n = (let p = s.polled in let q = ap all_polls is in let less = left_less t rest in omega (arith, p, q, less)) in
+        let all : poll_count ts ≡ polls + suc n = (let p = s.polled in let q = ap poll_count is in let less = left_less t rest in omega (arith, p, q, less)) in
         let zero_is : 0 + polls ≡ polls = omega arith in
-        let whole : turns_requests old.sites (all_polls ts) 0 ts ≡ turns_requests old.sites polls 0 ts ++ (poll_requests old.sites polls t ++ more) =
+        let whole : turns_requests old.sites (poll_count ts) 0 ts ≡ turns_requests old.sites polls 0 ts ++ (poll_requests old.sites polls t ++ more) =
         ap (λ (k : ℕ). turns_requests old.sites k 0 ts) all ∙ turns_split old.sites polls (suc n) 0 ts
         ∙ ap (λ (xs : List UnfinishedTask). turns_requests old.sites polls 0 ts ++ turns_requests old.sites (suc n) (0 + polls) xs) here_is
         ∙ ap (λ (k : ℕ). turns_requests old.sites polls 0 ts ++ turns_requests old.sites (suc n) k (t ∷ rest)) zero_is in

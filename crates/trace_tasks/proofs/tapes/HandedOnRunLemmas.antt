@@ -1,7 +1,7 @@
 -- A run over a new tape hands the flat list on.
 use Rattle.std.proofs.Common.{◌≡◌, ℕ, ◌+◌, List, [], ◌++◌, length, true, None, Result, Ok, Err, sym, ap, subst, ◌∙◌, arith, IfOk}
 use Rattle.std.specs.Prelude.{sum_by}
-use Rattle.trace_tasks.proofs.Common.{EnterError, Callsite, Lane, WorldValue, Instrumented, TaskFuture, Request, TapeValue, DoesTape, TouchesTape, Task, yield_count, all_polls, tasks_at_first, makings, rounds_requests, turns_requests, flat_list, TasksAreDeclared, IsNewTape, tape_spans, ReadyToPoll, dispatch_serving, AreBegun}
+use Rattle.trace_tasks.proofs.Common.{EnterError, Callsite, Lane, WorldValue, Instrumented, TaskFuture, Request, TapeValue, DoesTape, TouchesTape, Task, yield_count, poll_count, tasks_at_first, makings, rounds_requests, turns_requests, flat_list, TasksAreDeclared, IsNewTape, tape_spans, ReadyToPoll, dispatch_serving, AreBegun}
 use Rattle.trace_tasks.specs.TapeTurns.{WaitOnTape, TakesAll, HandsOn, HandsTurnsOn}
 use Rattle.trace_tasks.proofs.queues.BegunTasksLemmas.{answer_is}
 use Rattle.trace_tasks.proofs.tapes.HandingOnLemmas.{takes_after, waits_emptied, taken_from}
@@ -24,10 +24,10 @@ module _ {K : Type 0} (takes : K → Request → K → Type 0) (d : ℕ) (tasks 
   turned : (polls : ℕ) (end : K) → HandsTurnsOn takes next.sites (tasks_at_first 0 tasks) polls mid end → next.sites ≡ old.sites → TakesAll takes (flat_list old.sites tasks) start end
   turned polls end turns_on sites =
       let ts = tasks_at_first 0 tasks in
-      let later : TakesAll takes (rounds_requests old.sites (all_polls ts) 0 ts) mid end =
-      subst (λ (rs : List Request). TakesAll takes rs mid end) (sym (rounds_are_turns old.sites (all_polls ts) 0 ts (omega arith)))
-      (subst (λ (xs : List Callsite). TakesAll takes (turns_requests xs (all_polls ts) 0 ts) mid end) sites turns_on.taken) in
-      takes_after takes (makings tasks) (rounds_requests old.sites (all_polls ts) 0 ts) start mid end taken later
+      let later : TakesAll takes (rounds_requests old.sites (poll_count ts) 0 ts) mid end =
+      subst (λ (rs : List Request). TakesAll takes rs mid end) (sym (rounds_are_turns old.sites (poll_count ts) 0 ts (omega arith)))
+      (subst (λ (xs : List Callsite). TakesAll takes (turns_requests xs (poll_count ts) 0 ts) mid end) sites turns_on.taken) in
+      takes_after takes (makings tasks) (rounds_requests old.sites (poll_count ts) 0 ts) start mid end taken later
 
   same_sites : next.sites ≡ old.sites
   same_sites = ap (λ (w : WorldValue TapeValue). w.sites) h.emptied ∙ b.sites

@@ -2,8 +2,8 @@
 use Rattle.std.proofs.Common.{◌≡◌, ℕ, zero, suc, ◌+◌, ◌<◌, ◌^◌, List, [], ◌∷◌, ◌++◌, length, true, false, Option, Some, None, Result, Ok, Err, refl, sym, ap, subst, ◌∙◌, arith, slice_get, slice_set, OnOk}
 use Rattle.std.proofs.lemmas.Bool.{true≢false}
 use Rattle.otel_base.specs.declared.enter_error.EnterError.TheVariants as faults
-use Rattle.trace_tasks.proofs.Common.{EnterError, Memory, Callsite, Lane, WorldValue, Spans, cached_at, entries_on, no_spans, spans_in, now_there, seen_before, seen_later, Handle, HeldSpan, Request, Instrumented, TaskFuture, refused, TapeValue, DoesTape, TouchesTape, Step, steps_left, TaskScene, UnfinishedTask, poll_requests, after_poll, requeue, turns_requests, all_polls, moment_of, tape_spans, CarriesTape, left_after, ReadyToPoll, IsAlone, unfinished_task, PollsTask, dispatch_serving, dispatch_of_default, AllStand, AllWait, AllKnown, polls_in, queue_with, TakesTurn, StopsInTurn}
-use Rattle.span_futures.specs.Lent.{more_parts}
+use Rattle.trace_tasks.proofs.Common.{EnterError, Memory, Callsite, Lane, WorldValue, Spans, cached_at, entries_on, no_spans, spans_in, now_there, seen_before, seen_later, Handle, HeldSpan, Request, Instrumented, TaskFuture, refused, TapeValue, DoesTape, TouchesTape, Step, steps_left, TaskScene, UnfinishedTask, poll_requests, after_poll, requeue, turns_requests, poll_count, moment_of, tape_spans, CarriesTape, left_after, ReadyToPoll, IsAlone, unfinished_task, PollsTask, dispatch_serving, dispatch_of_default, AllStand, AllWait, AllKnownAndApart, polls_in, queue_with, TakesTurn, StopsInTurn}
+use Rattle.span_futures.specs.Lent.{keeps_subscriber}
 use Rattle.span_handles.specs.Knowing.{KeepsHandles}
 use Rattle.span_handles.proofs.KnownHandlesLemmas.{handles_same}
 use Rattle.trace_tasks.specs.TapeTurns.{BetweenPolls, AllCanBePolled, WaitOnTape, TakesAll, OnlyRequestsChange, HandsOn, HandsTurnsOn}
@@ -40,7 +40,7 @@ module _ (d : ℕ) (old new : WorldValue TapeValue) (r : OnlyRequestsChange d ol
     wait_still fs all.2,
   )
 
-  pub known_still : (fs : List (Instrumented TaskFuture)) → AllKnown tape_spans old fs → AllKnown tape_spans new fs
+  pub known_still : (fs : List (Instrumented TaskFuture)) → AllKnownAndApart tape_spans old fs → AllKnownAndApart tape_spans new fs
   known_still fs all = known_stays tape_spans old new fs kept all
 
   pub ready_still : (lane : Lane) → dispatch_serving lane ≡ d → ReadyToPoll tape_spans (λ s lane number. 0) (λ s. Unit {0}) old lane → ReadyToPoll tape_spans (λ s lane number. 0) (λ s. Unit {0}) new lane
@@ -48,7 +48,7 @@ module _ (d : ℕ) (old new : WorldValue TapeValue) (r : OnlyRequestsChange d ol
       let lent = refused tape_spans (λ s lane number. 0) (λ s. Unit {0}) (λ s t. t ≡ record s { requests = t.requests }) same_spans (λ s t is. refl) (λ s t is whole. tt) (Some (d, 0)) old new lane lane r (record { id = refl; name = refl; default = refl; live = refl }) in
       record {
         default = ready.default;
-        there = more_parts old new (dispatch_serving lane) lent.parts ready.there;
+        there = keeps_subscriber old new (dispatch_serving lane) lent.parts ready.there;
         whole = λ dispatch s there. tt;
         still = lent.attached ready.still;
         none_open = subst (λ (n : ℕ). entries_on lane.id (spans_in tape_spans new n).lanes ≡ []) (sym serves)
@@ -195,7 +195,7 @@ module _ {K : Type 0} (takes : K → Request → K → Type 0) (d : ℕ) (sites 
   pub record TurnsSoFar (ts : List UnfinishedTask) (polls : ℕ) (world : WorldValue TapeValue) (lane : Lane) (fs : List (Instrumented TaskFuture)) (start now : K) : Type 0 where
     pub left : List UnfinishedTask
     pub after : left_after polls ts ≡ left
-    pub polled : polls + all_polls left ≡ all_polls ts
+    pub polled : polls + poll_count left ≡ poll_count ts
     pub waits : WaitOnTape d sites polls left world lane fs
     pub taken : TakesAll takes (turns_requests sites polls 0 ts) start now
 
@@ -225,7 +225,7 @@ module _ {K : Type 0} (takes : K → Request → K → Type 0) (d : ℕ) (sites 
       record {
         left = requeue one.rest (after_poll one.t);
         after = left_more polls ts one.t one.rest is;
-        polled = (let p = s.polled in let q = ap all_polls one.is in let less = left_less one.t one.rest in omega (arith, p, q, less));
+        polled = (let p = s.polled in let q = ap poll_count one.is in let less = left_less one.t one.rest in omega (arith, p, q, less));
         waits = one.waits;
         taken = subst (λ (rs : List Request). TakesAll takes rs start after) (sym (turns_more sites polls ts one.t one.rest is))
             (takes_after takes (turns_requests sites polls 0 ts) (poll_requests sites polls one.t) start before after s.taken one.taken);
@@ -249,9 +249,9 @@ module _ {K : Type 0} (takes : K → Request → K → Type 0) (d : ℕ) (sites 
             (subst (λ (xs : List (Instrumented TaskFuture)). TurnsSoFar ts polls world lane xs start now) turn.is (h.so_far ts waits)));
       }
 
-  at_last : (ts : List UnfinishedTask) (polls : ℕ) (world : WorldValue TapeValue) (lane : Lane) (start now : K) (left : List UnfinishedTask) → polls + all_polls left ≡ all_polls ts → WaitOnTape d sites polls left world lane [] → TakesAll takes (turns_requests sites polls 0 ts) start now → HandsTurnsOn takes sites ts polls start now
+  at_last : (ts : List UnfinishedTask) (polls : ℕ) (world : WorldValue TapeValue) (lane : Lane) (start now : K) (left : List UnfinishedTask) → polls + poll_count left ≡ poll_count ts → WaitOnTape d sites polls left world lane [] → TakesAll takes (turns_requests sites polls 0 ts) start now → HandsTurnsOn takes sites ts polls start now
   at_last ts polls world lane start now [] polled waits taken =
-      let is : polls ≡ all_polls ts = omega (arith, polled) in
+      let is : polls ≡ poll_count ts = omega (arith, polled) in
       record { polled = is; taken = subst (λ (n : ℕ). TakesAll takes (turns_requests sites n 0 ts) start now) is taken }
   at_last ts polls world lane start now (t ∷ left) polled waits taken = absurd waits.stand
 

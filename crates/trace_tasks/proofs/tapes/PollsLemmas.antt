@@ -1,7 +1,7 @@
 -- Polls over a tape spell their requests.
 use Rattle.std.proofs.Common.{◌≡◌, ℕ, zero, suc, ◌+◌, ◌-◌, ◌<◌, ◌^◌, List, [], ◌∷◌, ◌++◌, length, map, Bool, true, Option, Some, None, refl, sym, ap, subst, ◌∙◌, arith, slice_get, slice_set, append_assoc, ◌==◌, ◌&&◌, if◌then◌else◌, nat_lt}
 use Rattle.std.proofs.lemmas.List.{append-nil, length_push}
-use Rattle.trace_tasks.proofs.Common.{cond-true, Callsite, Lane, Enter, Exit, TryClose, with_span_entry, with_span_exit, cached_at, Span, Spans, span_at, entries_on, with_hold, without_hold, without_last, parent_to_release, Replaced, Chain, ended, closes, Handle, HeldSpan, ReplacedOn, handle_of, BeginsInside, Request, TapeValue, DoesTape, on_first_lane, is_entry_of, is_due, without_handle, exit_requests, drop_requests, handles_of, one_more, TouchesTape, is_live, Step, steps_now, steps_left, TaskScene, CarriesEnter, CarriesExit, UnfinishedTask, step_call, moment_of, drop_at_end, poll_requests, tape_spans, CarriesTape, StepsAreDeclared, root_of_one_handle}
+use Rattle.trace_tasks.proofs.Common.{cond-true, Callsite, Lane, Enter, Exit, TryClose, with_span_entry, with_span_exit, cached_at, Span, Spans, span_at, entries_on, with_hold, without_hold, without_last, parent_to_release, Replaced, Chain, ended, closes, Handle, HeldSpan, ReplacedOn, handle_of, BeginsInside, Request, TapeValue, DoesTape, on_first_lane, is_entry_of, is_due, without_handle, exit_requests, drop_requests, handle_count_of, one_more, TouchesTape, is_live, Step, steps_now, steps_left, TaskScene, CarriesEnter, CarriesExit, UnfinishedTask, step_call, moment_of, drop_at_end, poll_requests, tape_spans, CarriesTape, StepsAreDeclared, root_of_one_handle}
 use Rattle.std.proofs.lemmas.Bool.{eq-eqb, lt-ltb}
 use Rattle.otel_state.specs.Stack.{last_passing}
 use Rattle.trace_tape.specs.declared.opened.OpenEntry.{OpenEntry}
@@ -28,10 +28,10 @@ pub record Polled (d : ℕ) (sites : List Callsite) (k : ℕ) (t : UnfinishedTas
   pub between : BetweenPolls d sites (k + 1) m now
   pub requests : now.requests ≡ tape.requests ++ poll_requests sites k t
   pub handles : m.handles ≡ s.handles
-  pub others : (n : ℕ) → (n ≡ t.number → ⊥) → (span_at now.below.spans.made n ≡ span_at tape.below.spans.made n) × (handles_of now.handles n ≡ handles_of tape.handles n)
-  pub left : (rest : List Step) → steps_left t.steps ≡ Some rest → (now.below.spans.made ≡ tape.below.spans.made) × (now.handles ≡ tape.handles)
+  pub others : (n : ℕ) → (n ≡ t.number → ⊥) → (span_at now.below.spans.made n ≡ span_at tape.below.spans.made n) × (handle_count_of now.handle_counts n ≡ handle_count_of tape.handle_counts n)
+  pub left : (rest : List Step) → steps_left t.steps ≡ Some rest → (now.below.spans.made ≡ tape.below.spans.made) × (now.handle_counts ≡ tape.handle_counts)
 
-handles_other : (xs : List ℕ) (i n y : ℕ) → (n ≡ i → ⊥) → handles_of (slice_set xs i y) n ≡ handles_of xs n
+handles_other : (xs : List ℕ) (i n y : ℕ) → (n ≡ i → ⊥) → handle_count_of (slice_set xs i y) n ≡ handle_count_of xs n
 handles_other [] i n y apart = refl
 handles_other (x ∷ xs) zero zero y apart = absurd (apart refl)
 handles_other (x ∷ xs) zero (suc n) y apart = refl
@@ -85,9 +85,9 @@ module _ (d : ℕ) (sites : List Callsite) (k : ℕ) (t : UnfinishedTask) (few :
     pub spans_are : now.below.spans ≡ with_span_entry tape.below.spans t.number s.lane.id
     pub due : now.due ≡ None
     pub entries : now.entries ≡ record { lane = s.lane.id; id = t.number; guard = k } ∷ []
-    pub guards : now.guards ≡ k + 1
+    pub guards : now.made_guard_count ≡ k + 1
     pub spells : now.requests ≡ tape.requests ++ rs
-    pub holds : now.handles ≡ tape.handles
+    pub holds : now.handle_counts ≡ tape.handle_counts
     pub sites_are : m.world.sites ≡ sites
     pub cached : m.world.cached ≡ s.world.cached
     pub lane : m.lane ≡ s.lane
@@ -108,11 +108,11 @@ module _ (d : ℕ) (sites : List Callsite) (k : ℕ) (t : UnfinishedTask) (few :
         there = one.there;
         spans_are = one.spans_are;
         due = ap (λ (x : TapeValue). x.due) one.is ∙ between.no_due;
-        entries = ap (λ (x : TapeValue). x.entries) one.is ∙ ap (λ (xs : List OpenEntry). xs ++ record { lane = s.lane.id; id = n; guard = tape.guards } ∷ []) between.no_entries
+        entries = ap (λ (x : TapeValue). x.entries) one.is ∙ ap (λ (xs : List OpenEntry). xs ++ record { lane = s.lane.id; id = n; guard = tape.made_guard_count } ∷ []) between.no_entries
             ∙ ap (λ (g : ℕ). let o : OpenEntry = record { lane = s.lane.id; id = n; guard = g } in o ∷ []) between.guards;
-        guards = ap (λ (x : TapeValue). x.guards) one.is ∙ ap one_more between.guards ∙ few_more k few;
+        guards = ap (λ (x : TapeValue). x.made_guard_count) one.is ∙ ap one_more between.guards ∙ few_more k few;
         spells = ap (λ (x : TapeValue). x.requests) one.is;
-        holds = ap (λ (x : TapeValue). x.handles) one.is;
+        holds = ap (λ (x : TapeValue). x.handle_counts) one.is;
         sites_are = one.sites ∙ between.sites_are;
         cached = one.cached;
         lane = r.did.below.lane;
@@ -137,9 +137,9 @@ module _ (d : ℕ) (sites : List Callsite) (k : ℕ) (t : UnfinishedTask) (few :
         spans_are = adds.spans_same ∙ inside.spans_are;
         due = ap (λ (x : TapeValue). x.due) adds.is ∙ inside.due;
         entries = ap (λ (x : TapeValue). x.entries) adds.is ∙ inside.entries;
-        guards = ap (λ (x : TapeValue). x.guards) adds.is ∙ inside.guards;
+        guards = ap (λ (x : TapeValue). x.made_guard_count) adds.is ∙ inside.guards;
         spells = ap (λ (x : TapeValue). x.requests) adds.is ∙ ap (λ (qs : List Request). qs ++ steps) inside.spells ∙ append_assoc tape.requests rs steps;
-        holds = ap (λ (x : TapeValue). x.handles) adds.is ∙ inside.holds;
+        holds = ap (λ (x : TapeValue). x.handle_counts) adds.is ∙ inside.holds;
         sites_are = adds.sites ∙ inside.sites_are;
         cached = adds.cached ∙ inside.cached;
         lane = adds.lane ∙ inside.lane;
@@ -153,7 +153,7 @@ module _ (d : ℕ) (sites : List Callsite) (k : ℕ) (t : UnfinishedTask) (few :
     pub between : BetweenPolls d sites (k + 1) m now
     pub made : now.below.spans.made ≡ tape.below.spans.made
     pub spells : now.requests ≡ tape.requests ++ rs
-    pub holds : now.handles ≡ tape.handles
+    pub holds : now.handle_counts ≡ tape.handle_counts
     pub table : m.handles ≡ s.handles
 
   leaves : (s e m : TaskScene TapeValue) (tape : TapeValue) → BetweenPolls d sites k s tape → HeldOnce d s tape t → (rs : List Request) → Inside s e tape rs → CarriesExit tape_spans (λ x. None) (λ x lane c. true) DoesTape TouchesTape d (moment_of k) k e m
@@ -180,28 +180,28 @@ module _ (d : ℕ) (sites : List Callsite) (k : ℕ) (t : UnfinishedTask) (few :
           cached = λ i less. ap (λ x. cached_at x d i) (one.cached ∙ inside.cached) ∙ between.cached i less;
           no_due = ap (λ (x : TapeValue). x.due) one.is ∙ inside.due;
           no_entries = ap (λ (x : TapeValue). x.entries) one.is ∙ ap (λ (xs : List OpenEntry). without_last p xs) inside.entries ∙ without_is p o passes;
-          guards = ap (λ (x : TapeValue). x.guards) one.is ∙ inside.guards;
+          guards = ap (λ (x : TapeValue). x.made_guard_count) one.is ∙ inside.guards;
           guard_count = (let l = ap (λ (gs : List HeldSpan). length gs) (exit.guards ∙ inside.guarded) in let q = length_push s.guards (Some (d, n)) in let z = between.guard_count in omega (arith, l, q, z));
           none_open = ap (λ (l : Lane). entries_on l.id one.now.below.spans.lanes) (lane_same ∙ inside.lane) ∙ ap (λ (x : Spans). entries_on s.lane.id x.lanes) spans_now ∙ exited_entries y n s.lane.id open_one;
         };
         made = ap (λ (x : Spans). x.made) spans_now ∙ exited_made y n s.lane.id open_one ∙ ap (λ (made : List Span). without_hold made n) (entered_made tape.below.spans n s.lane.id between.none_open) ∙ back tape.below.spans.made n t.site waits.lone;
         spells = ap (λ (x : TapeValue). x.requests) one.is ∙ ap (λ (qs : List Request). qs ++ exit_requests a (last_passing p inside.now.entries)) inside.spells
             ∙ ap (λ (o' : Option OpenEntry). (tape.requests ++ rs) ++ exit_requests a o') (ap (λ (xs : List OpenEntry). last_passing p xs) inside.entries ∙ last_is p o passes) ∙ append_assoc tape.requests rs (on_first_lane a (call.Exit k) ∷ []);
-        holds = ap (λ (x : TapeValue). x.handles) one.is ∙ inside.holds;
+        holds = ap (λ (x : TapeValue). x.handle_counts) one.is ∙ inside.holds;
         table = exit.handles ∙ inside.table;
       }
 
   -- the handle's drop, if the task is finished
   finishes : (s e m : TaskScene TapeValue) (tape : TapeValue) → HeldOnce d s tape t → (rs : List Request) (out : Outside s e tape rs) → (o : Option (List Step)) → steps_left t.steps ≡ o → CarriesTape d (drop_at_end k t.number o) e m
       → (now : TapeValue) × BetweenPolls d sites (k + 1) m now × (now.requests ≡ tape.requests ++ (rs ++ drop_at_end k t.number o)) × (m.handles ≡ s.handles)
-      × ((i : ℕ) → (i ≡ t.number → ⊥) → (span_at now.below.spans.made i ≡ span_at tape.below.spans.made i) × (handles_of now.handles i ≡ handles_of tape.handles i))
-      × ((rest : List Step) → o ≡ Some rest → (now.below.spans.made ≡ tape.below.spans.made) × (now.handles ≡ tape.handles))
+      × ((i : ℕ) → (i ≡ t.number → ⊥) → (span_at now.below.spans.made i ≡ span_at tape.below.spans.made i) × (handle_count_of now.handle_counts i ≡ handle_count_of tape.handle_counts i))
+      × ((rest : List Step) → o ≡ Some rest → (now.below.spans.made ≡ tape.below.spans.made) × (now.handle_counts ≡ tape.handle_counts))
   finishes s e m tape waits rs out (Some later) left_is did = (
     out.now,
     subst (λ (x : TaskScene TapeValue). BetweenPolls d sites (k + 1) x out.now) (sym did) out.between,
     out.spells ∙ ap (λ (qs : List Request). tape.requests ++ qs) (sym (append-nil rs)),
     ap (λ (x : TaskScene TapeValue). x.handles) did ∙ out.table,
-    λ i apart. (ap (λ (made : List Span). span_at made i) out.made, ap (λ (hs : List ℕ). handles_of hs i) out.holds),
+    λ i apart. (ap (λ (made : List Span). span_at made i) out.made, ap (λ (hs : List ℕ). handle_count_of hs i) out.holds),
     λ rest is. (out.made, out.holds),
   )
   finishes s e m tape waits rs out None left_is (x, drop, last) =
@@ -220,7 +220,7 @@ module _ (d : ℕ) (sites : List Callsite) (k : ℕ) (t : UnfinishedTask) (few :
         others = chain.others;
       } in
       let one = one_call e.world x.world d out.now (TryClose n a) out.between.there r in
-      let once : handles_of out.now.handles n ≡ 1 = ap (λ (hs : List ℕ). handles_of hs n) out.holds ∙ waits.once in
+      let once : handle_count_of out.now.handle_counts n ≡ 1 = ap (λ (hs : List ℕ). handle_count_of hs n) out.holds ∙ waits.once in
       -- what the release is, since nothing is due
       let let_it_go : one.now ≡ record (record (without_handle out.now n a) { due = parent_to_release out.now.below.spans.made n }) { below = one.now.below } =
       one.is ∙ ap (λ (b : Bool). let y : TapeValue = record (record (if b then out.now else without_handle out.now n a) { due = parent_to_release out.now.below.spans.made n }) { below = one.now.below } in y) (ap (λ (o : Option ℕ). is_due o n) out.between.no_due) in
@@ -232,7 +232,7 @@ module _ (d : ℕ) (sites : List Callsite) (k : ℕ) (t : UnfinishedTask) (few :
           cached = λ i less. ap (λ c. cached_at c d i) one.cached ∙ out.between.cached i less;
           no_due = ap (λ (y : TapeValue). y.due) let_it_go ∙ no_next out.now.below.spans.made n t.site lone;
           no_entries = ap (λ (y : TapeValue). y.entries) let_it_go ∙ out.between.no_entries;
-          guards = ap (λ (y : TapeValue). y.guards) let_it_go ∙ out.between.guards;
+          guards = ap (λ (y : TapeValue). y.made_guard_count) let_it_go ∙ out.between.guards;
           guard_count = ap (λ (gs : List HeldSpan). length gs) drop.guards ∙ out.between.guard_count;
           none_open = ap (λ (l : Lane). entries_on l.id one.now.below.spans.lanes) drop.did.0 ∙ ap (λ (y : Spans). entries_on e.lane.id y.lanes) one.spans_are ∙ out.between.none_open;
         }),
@@ -240,7 +240,7 @@ module _ (d : ℕ) (sites : List Callsite) (k : ℕ) (t : UnfinishedTask) (few :
         ap (λ (y : TaskScene TapeValue). y.handles) last ∙ drop.handles ∙ out.table,
         (λ i apart. (
           ap (λ (made : List Span). span_at made i) spans_now ∙ others_stay out.now.below.spans.made n i apart ∙ ap (λ (made : List Span). span_at made i) out.made,
-          ap (λ (y : TapeValue). handles_of y.handles i) let_it_go ∙ handles_other out.now.handles n i (handles_of out.now.handles n - 1) apart ∙ ap (λ (hs : List ℕ). handles_of hs i) out.holds,
+          ap (λ (y : TapeValue). handle_count_of y.handle_counts i) let_it_go ∙ handles_other out.now.handle_counts n i (handle_count_of out.now.handle_counts n - 1) apart ∙ ap (λ (hs : List ℕ). handle_count_of hs i) out.holds,
         )),
         (λ rest is. absurd (cc is)),
       ) where

@@ -2,7 +2,7 @@
 use Rattle.std.proofs.Common.{◌≡◌, ℕ, zero, suc, ◌+◌, ◌≤◌, List, [], ◌∷◌, ◌++◌, length, Option, Some, None, refl, sym, ap, ◌∙◌, arith, append_assoc, filter_map}
 use Rattle.std.proofs.lemmas.List.{append-nil}
 use Rattle.std.specs.Option.{option_map}
-use Rattle.trace_tasks.proofs.Common.{cons_option, sum_by-cons, Callsite, Request, Step, steps_left, UnfinishedTask, polls_left, all_polls, poll_requests, after_poll, requeue, round_requests, rounds_requests, turns_requests, left_after}
+use Rattle.trace_tasks.proofs.Common.{cons_option, sum_by-cons, Callsite, Request, Step, steps_left, UnfinishedTask, polls_left, poll_count, poll_requests, after_poll, requeue, round_requests, rounds_requests, turns_requests, left_after}
 use Rattle.trace_tasks.proofs.queues.QueueLemmas.{yields_none, yields_some}
 
 module _ (sites : List Callsite) where
@@ -31,25 +31,25 @@ module _ (sites : List Callsite) where
             ∙ ap (λ (xs : List UnfinishedTask). round_requests sites (k + 1) ts ++ turns_requests sites n (k + 1 + length ts) xs) (append_assoc kept (u ∷ []) (filter_map after_poll ts))
 
 -- a round takes one poll of each task
-polls_split : (ts : List UnfinishedTask) → all_polls ts ≡ length ts + all_polls (filter_map after_poll ts)
+polls_split : (ts : List UnfinishedTask) → poll_count ts ≡ length ts + poll_count (filter_map after_poll ts)
 polls_split [] = refl
 polls_split (t ∷ ts) = by_left (polls_split ts) (steps_left t.steps) refl where
-  by_left : all_polls ts ≡ length ts + all_polls (filter_map after_poll ts) → (o : Option (List Step)) → steps_left t.steps ≡ o → all_polls (t ∷ ts) ≡ length (t ∷ ts) + all_polls (cons_option (option_map (λ steps. record t { steps = steps }) (steps_left t.steps)) (filter_map after_poll ts))
+  by_left : poll_count ts ≡ length ts + poll_count (filter_map after_poll ts) → (o : Option (List Step)) → steps_left t.steps ≡ o → poll_count (t ∷ ts) ≡ length (t ∷ ts) + poll_count (cons_option (option_map (λ steps. record t { steps = steps }) (steps_left t.steps)) (filter_map after_poll ts))
   by_left rest None is = (
       let a = sum_by-cons polls_left t ts in
       let b = yields_none t.steps is in
-      let c = ap (λ (o : Option (List Step)). all_polls (cons_option (option_map (λ steps. let u : UnfinishedTask = record t { steps = steps } in u) o) (filter_map after_poll ts))) is in
+      let c = ap (λ (o : Option (List Step)). poll_count (cons_option (option_map (λ steps. let u : UnfinishedTask = record t { steps = steps } in u) o) (filter_map after_poll ts))) is in
       omega (arith, a, b, c, rest))
   by_left rest (Some later) is = (
       let u : UnfinishedTask = record t { steps = later } in
       let a = sum_by-cons polls_left t ts in
       let b = yields_some t.steps later is in
-      let c = ap (λ (o : Option (List Step)). all_polls (cons_option (option_map (λ steps. let u : UnfinishedTask = record t { steps = steps } in u) o) (filter_map after_poll ts))) is in
+      let c = ap (λ (o : Option (List Step)). poll_count (cons_option (option_map (λ steps. let u : UnfinishedTask = record t { steps = steps } in u) o) (filter_map after_poll ts))) is in
       let e = sum_by-cons polls_left u (filter_map after_poll ts) in
       omega (arith, a, b, c, e, rest))
 
 module _ (sites : List Callsite) where
-  pub rounds_are_turns : (r k : ℕ) (ts : List UnfinishedTask) → all_polls ts ≤ r → rounds_requests sites r k ts ≡ turns_requests sites (all_polls ts) k ts
+  pub rounds_are_turns : (r k : ℕ) (ts : List UnfinishedTask) → poll_count ts ≤ r → rounds_requests sites r k ts ≡ turns_requests sites (poll_count ts) k ts
   rounds_are_turns zero k [] few = refl
   rounds_are_turns zero k (t ∷ ts) few = absurd (let a = polls_split (t ∷ ts) in omega (arith, a, few))
   rounds_are_turns (suc r) k [] few = rounds_are_turns r (k + 0) [] (omega arith)
@@ -57,10 +57,10 @@ module _ (sites : List Callsite) where
       let all : List UnfinishedTask = t ∷ ts in
       let later : List UnfinishedTask = filter_map after_poll all in
       let a = polls_split all in
-      let less : all_polls later ≤ r = omega (arith, a, few) in
+      let less : poll_count later ≤ r = omega (arith, a, few) in
       ap (λ (rs : List Request). round_requests sites k all ++ rs) (rounds_are_turns r (k + length all) later less)
-      ∙ sym (turns_round sites (all_polls later) k all [])
-      ∙ ap (λ (xs : List UnfinishedTask). turns_requests sites (length all + all_polls later) k xs) (append-nil all)
+      ∙ sym (turns_round sites (poll_count later) k all [])
+      ∙ ap (λ (xs : List UnfinishedTask). turns_requests sites (length all + poll_count later) k xs) (append-nil all)
       ∙ ap (λ (n : ℕ). turns_requests sites n k all) (sym a)
 
   turns_none : (m k : ℕ) → turns_requests sites m k [] ≡ []

@@ -2,7 +2,7 @@
 use Rattle.std.proofs.Common.{◌≡◌, ℕ, zero, suc, ◌+◌, ◌<◌, ◌^◌, List, [], ◌∷◌, ◌++◌, length, Bool, true, Option, Some, None, refl, sym, ap, subst, ◌∙◌, arith, slice_get, append_assoc, slice_index_or}
 use Rattle.std.proofs.lemmas.List.{append-nil, length_push}
 use Rattle.std.proofs.lemmas.Option.{slice_get_within}
-use Rattle.trace_tasks.proofs.Common.{list_all, option_map_or, Callsite, Lane, SubscriberCall, NewSpan, with_new_span, WorldValue, cached_at, gate, Span, Spans, no_span, span_at, entries_on, parent_on, Replaced, spans_in, no_spans, Handle, handle_of, Request, TapeValue, DoesTape, on_first_lane, named_values, handles_of, TouchesTape, Step, steps_left, TaskScene, MakesGated, CarriesNew, Fields, declares, values_of, UnfinishedTask, requeue, tasks_at_first, makings, tape_spans, CarriesTape, IsDeclared, StepsAreDeclared, TasksAreDeclared, IsNewTape, ReadyToPoll, root_of_one_handle, dispatch_serving, Task, Instrumented, TaskFuture, AreBegun}
+use Rattle.trace_tasks.proofs.Common.{list_all, option_map_or, Callsite, Lane, SubscriberCall, NewSpan, with_new_span, WorldValue, cached_at, gate, Span, Spans, no_span, span_at, entries_on, parent_on, Replaced, spans_in, no_spans, Handle, handle_of, Request, TapeValue, DoesTape, on_first_lane, named_values, handle_count_of, TouchesTape, Step, steps_left, TaskScene, MakesGated, CarriesNew, Fields, declares, values_of, UnfinishedTask, requeue, tasks_at_first, makings, tape_spans, CarriesTape, IsDeclared, StepsAreDeclared, TasksAreDeclared, IsNewTape, ReadyToPoll, root_of_one_handle, dispatch_serving, Task, Instrumented, TaskFuture, AreBegun}
 use Rattle.std.specs.Option.{option_map}
 use Rattle.trace_base.specs.declared.span.Parent.TheVariants as parent
 use Rattle.span_script.specs.declared.request.Call.TheVariants as call
@@ -59,7 +59,7 @@ tasks_after d sites k t s m tape p ts all (Some rest) is =
       waits = record {
         handle = ap (λ (hs : List Handle). slice_get hs t.number) p.handles ∙ all.0.waits.handle;
         lone = ap (λ (made : List Span). span_at made t.number) same.0 ∙ all.0.waits.lone;
-        once = ap (λ (hs : List ℕ). handles_of hs t.number) same.1 ∙ all.0.waits.once;
+        once = ap (λ (hs : List ℕ). handle_count_of hs t.number) same.1 ∙ all.0.waits.once;
       };
       callsite = all.0.callsite;
       is = all.0.is;
@@ -72,7 +72,7 @@ tasks_after d sites k t s m tape p ts all (Some rest) is =
 pub record OnlySpansMade (d : ℕ) (sites : List Callsite) (i : ℕ) (s : TaskScene TapeValue) (tape : TapeValue) : Type 0 where
   pub between : BetweenPolls d sites 0 s tape
   pub made : length tape.below.spans.made ≡ i
-  pub handles : length tape.handles ≡ i
+  pub handles : length tape.handle_counts ≡ i
   pub table : length s.handles ≡ i
 
 at_push : {X : Type 0} (xs : List X) (x d : X) (n : ℕ) → length xs ≡ n → slice_index_or (xs ++ x ∷ []) n d ≡ x
@@ -93,8 +93,8 @@ pub record MadeOne (d : ℕ) (sites : List Callsite) (i site : ℕ) (fields : Fi
   pub requests : now.requests ≡ tape.requests ++ on_first_lane 0 (call.New site request_parent.Contextual fields) ∷ []
   pub handle : slice_get m.handles i ≡ Some (handle_of d i site)
   pub lone : span_at now.below.spans.made i ≡ root_of_one_handle site
-  pub once : handles_of now.handles i ≡ 1
-  pub earlier : (n : ℕ) → n < i → (span_at now.below.spans.made n ≡ span_at tape.below.spans.made n) × (handles_of now.handles n ≡ handles_of tape.handles n)
+  pub once : handle_count_of now.handle_counts i ≡ 1
+  pub earlier : (n : ℕ) → n < i → (span_at now.below.spans.made n ≡ span_at tape.below.spans.made n) × (handle_count_of now.handle_counts n ≡ handle_count_of tape.handle_counts n)
   pub before : (n : ℕ) (h : Handle) → slice_get s.handles n ≡ Some h → slice_get m.handles n ≡ Some h
 
 make_spells : (d : ℕ) (sites : List Callsite) (i site : ℕ) (fields : Fields) (s m : TaskScene TapeValue) (tape : TapeValue) → OnlySpansMade d sites i s tape → IsDeclared (slice_get sites site) fields
@@ -114,7 +114,7 @@ make_spells d sites i site fields s m tape making declared new =
     let id_is : one_made.id ≡ i = r.did.0 ∙ ap (λ (x : TapeValue). length x.below.spans.made) before_is ∙ making.made in
     let grown : one.now.below.spans ≡ record tape.below.spans { made = tape.below.spans.made ++ root_of_one_handle site ∷ [] } = one.spans_are ∙ ap (λ (ids : List ℕ). with_new_span tape.below.spans (parent_on ids parent.Current) site) between.none_open in
     let made_is : one.now.below.spans.made ≡ tape.below.spans.made ++ root_of_one_handle site ∷ [] = ap (λ (x : Spans). x.made) grown in
-    let held_is : one.now.handles ≡ tape.handles ++ 1 ∷ [] = ap (λ (x : TapeValue). x.handles) one.is in
+    let held_is : one.now.handle_counts ≡ tape.handle_counts ++ 1 ∷ [] = ap (λ (x : TapeValue). x.handle_counts) one.is in
     let handle_is : new.handle ≡ handle_of d i site = one_made.handle_is ∙ ap (λ (n : ℕ). handle_of d n site) id_is in
     record {
       now = one.now;
@@ -125,21 +125,21 @@ make_spells d sites i site fields s m tape making declared new =
           cached = λ n less. ap (λ x. cached_at x d n) one.cached ∙ between.cached n less;
           no_due = ap (λ (x : TapeValue). x.due) one.is ∙ between.no_due;
           no_entries = ap (λ (x : TapeValue). x.entries) one.is ∙ between.no_entries;
-          guards = ap (λ (x : TapeValue). x.guards) one.is ∙ between.guards;
+          guards = ap (λ (x : TapeValue). x.made_guard_count) one.is ∙ between.guards;
           guard_count = ap (λ gs. length gs) new.guards ∙ between.guard_count;
           none_open = ap (λ (l : Lane). entries_on l.id one.now.below.spans.lanes) new.lane ∙ ap (λ (x : Spans). entries_on s.lane.id x.lanes) grown ∙ between.none_open;
         };
         made = ap (λ (xs : List Span). length xs) made_is ∙ length_push tape.below.spans.made (root_of_one_handle site) ∙ ap (λ (n : ℕ). n + 1) making.made;
-        handles = ap (λ (xs : List ℕ). length xs) held_is ∙ length_push tape.handles 1 ∙ ap (λ (n : ℕ). n + 1) making.handles;
+        handles = ap (λ (xs : List ℕ). length xs) held_is ∙ length_push tape.handle_counts 1 ∙ ap (λ (n : ℕ). n + 1) making.handles;
         table = ap (λ (xs : List Handle). length xs) new.handles ∙ length_push s.handles new.handle ∙ ap (λ (n : ℕ). n + 1) making.table;
       };
       requests = ap (λ (x : TapeValue). x.requests) one.is ∙ ap (λ (fs : Fields). tape.requests ++ on_first_lane 0 (call.New site request_parent.Contextual fs) ∷ []) (ap (λ (x : Callsite). named_values x (values_of c fields)) same_site ∙ named_back c fields (declared_by_it declared));
       handle = ap (λ (hs : List Handle). slice_get hs i) new.handles ∙ get_push s.handles new.handle i making.table ∙ ap (λ (h : Handle). Some h) handle_is;
       lone = ap (λ (xs : List Span). span_at xs i) made_is ∙ at_push tape.below.spans.made (root_of_one_handle site) no_span i making.made;
-      once = ap (λ (xs : List ℕ). handles_of xs i) held_is ∙ at_push tape.handles 1 0 i making.handles;
+      once = ap (λ (xs : List ℕ). handle_count_of xs i) held_is ∙ at_push tape.handle_counts 1 0 i making.handles;
       earlier = λ n less. (
         ap (λ (xs : List Span). span_at xs n) made_is ∙ at_before tape.below.spans.made (root_of_one_handle site) no_span n (let e = making.made in omega (arith, e, less)),
-        ap (λ (xs : List ℕ). handles_of xs n) held_is ∙ at_before tape.handles 1 0 n (let e = making.handles in omega (arith, e, less)),
+        ap (λ (xs : List ℕ). handle_count_of xs n) held_is ∙ at_before tape.handle_counts 1 0 n (let e = making.handles in omega (arith, e, less)),
       );
       before = λ n h is. ap (λ (hs : List Handle). slice_get hs n) new.handles ∙ get_before s.handles new.handle h n is;
     } where
@@ -158,7 +158,7 @@ pub record MadeAll (d : ℕ) (sites : List Callsite) (i : ℕ) (tasks : List Tas
   pub between : BetweenPolls d sites 0 m now
   pub requests : now.requests ≡ tape.requests ++ makings tasks
   pub waiting : AllCanBePolled d sites m now (tasks_at_first i tasks)
-  pub earlier : (n : ℕ) → n < i → (span_at now.below.spans.made n ≡ span_at tape.below.spans.made n) × (handles_of now.handles n ≡ handles_of tape.handles n)
+  pub earlier : (n : ℕ) → n < i → (span_at now.below.spans.made n ≡ span_at tape.below.spans.made n) × (handle_count_of now.handle_counts n ≡ handle_count_of tape.handle_counts n)
   pub before : (n : ℕ) (h : Handle) → slice_get s.handles n ≡ Some h → slice_get m.handles n ≡ Some h
 
 later_numbers : (j i : ℕ) (tasks : List Task) (t : UnfinishedTask) → t.number ≡ j → j < i → HasOwnNumber t (tasks_at_first i tasks)

@@ -1,9 +1,9 @@
 -- What one turn of a handle comes to.
 use Rattle.std.proofs.Common.{◌≡◌, ◌≢◌, ℕ, zero, suc, ◌+◌, ◌<◌, ◌^◌, Bool, true, false, List, [], ◌∷◌, ◌++◌, length, refl, ap, sym, ◌∙◌, subst, arith, Some, None, Option}
-use Rattle.trace_threads.proofs.Common.{IsPrefix, Making, Entry, HandleAct, Clone, Call, Join, Release, Op, View, Idle, move_of, count, open_count_after, start, is_legal, IsLegal, may, may_do, may_move, has, entries_by, IsHeld, IsOut, written_entry, is_closed, open_count, move_in, Shared, shared_of, some_making, reply_at, Turn, Slot, SeatValue, entries, home_of, AllBegin, view_after, passed_by, MayTurn, MayEnd, left_of, right_of, both_of, IsIdle, IsBare, IsAtRest, Begun, MakesEntry, Called, LeftAsIs, MayFinish, MayClose, IsCloneOf, ClosesWith}
+use Rattle.trace_threads.proofs.Common.{IsPrefix, Making, Entry, HandleAct, Clone, Call, Join, Release, Op, View, Idle, move_of, count, open_count_after, start, is_legal, IsLegal, may, may_do, may_move, has, entries_by, IsHeld, HasNoneOpen, written_entry, is_closed, open_count, move_in, SharedSpanValue, shared_of, some_making, reply_at, Turn, Slot, SeatValue, entries, home_of, AllBegin, view_after, passed_by, MayTurn, MayEnd, left_of, right_of, both_of, IsIdle, IsBare, IsAtRest, Begun, MakesEntry, Called, MakesNoEntry, MayFinish, MayClose, IsCloneOf, ClosesWith}
 use Rattle.otel_state.specs.declared.op.Op.TheVariants as ops
 use Rattle.otel_state.specs.declared.op.OpReply.{OpReply}
-use Rattle.trace_threads.specs.History.{sum}
+use Rattle.trace_threads.specs.History.{state_of_history}
 use Rattle.trace_threads.proofs.histories.HoldersLemmas.{few, counted, counted_none}
 use Rattle.trace_threads.proofs.histories.OpenEntriesLemmas.{own_count, opens_push}
 use Rattle.trace_threads.proofs.histories.HistoriesLemmas.{legal_push, held_push, by_own, by_other, may_any, may_clone, may_join, may_release, Spares, fresh, fresh_entries}
@@ -40,34 +40,34 @@ by_idle v seen e Release = (refl, refl, refl)
 
 -- ---- what a handle's own entries tell of the whole history
 
-open_of : (made k n : ℕ) (log mine : List Entry) → entries_by k log ≡ mine → open_count mine ≡ n → count k (sum made log).inside ≡ n
+open_of : (made k n : ℕ) (log mine : List Entry) → entries_by k log ≡ mine → open_count mine ≡ n → count k (state_of_history made log).inside ≡ n
 open_of made k n log mine own e = own_count made k log ∙ ap open_count own ∙ e
 
-out_of : (made k : ℕ) (log mine : List Entry) → entries_by k log ≡ mine → open_count mine ≡ 0 → IsOut made k log
-out_of made k log mine own e = counted_none k (sum made log).inside (open_of made k 0 log mine own e)
+out_of : (made k : ℕ) (log mine : List Entry) → entries_by k log ≡ mine → open_count mine ≡ 0 → HasNoneOpen made k log
+out_of made k log mine own e = counted_none k (state_of_history made log).inside (open_of made k 0 log mine own e)
 
 inside_case : (n k : ℕ) (i : List ℕ) → count k i ≡ n → 0 < n → has k i ≡ true
 inside_case zero k i e l = absurd (omega (arith, l))
 inside_case (suc n) k i e l = counted k n i e
 
-may_own : (made k : ℕ) (log mine : List Entry) (op : Op) → entries_by k log ≡ mine → (op ≡ ops.Exit → 0 < open_count mine) → may_move (sum made log).inside k (move_of op) ≡ true
-may_own made k log mine ops.Exit own l = inside_case (open_count mine) k (sum made log).inside (open_of made k (open_count mine) log mine own refl) (l refl)
+may_own : (made k : ℕ) (log mine : List Entry) (op : Op) → entries_by k log ≡ mine → (op ≡ ops.Exit → 0 < open_count mine) → may_move (state_of_history made log).inside k (move_of op) ≡ true
+may_own made k log mine ops.Exit own l = inside_case (open_count mine) k (state_of_history made log).inside (open_of made k (open_count mine) log mine own refl) (l refl)
 may_own made k log mine _ own l = refl
 
-pub few_own : (made k : ℕ) (log mine : List Entry) → entries_by k log ≡ mine → length (sum made log).inside < 2 ^ 63 → open_count mine < 2 ^ 63
-few_own made k log mine own l = let a = open_of made k (open_count mine) log mine own refl in let b = few k (sum made log).inside in omega (arith, a, b, l)
+pub few_own : (made k : ℕ) (log mine : List Entry) → entries_by k log ≡ mine → length (state_of_history made log).inside < 2 ^ 63 → open_count mine < 2 ^ 63
+few_own made k log mine own l = let a = open_of made k (open_count mine) log mine own refl in let b = few k (state_of_history made log).inside in omega (arith, a, b, l)
 
 -- ---- an entry of any kind
 
-module _ (m w : SeatValue) (t : ℕ) (state : Shared) (k : ℕ) (num : m.0.number ≡ Some k) (b : Begun m w t state) where
+module _ (m w : SeatValue) (t : ℕ) (state : SharedSpanValue) (k : ℕ) (num : m.0.number ≡ Some k) (b : Begun m w t state) where
   pub held : (entries_by k (entries w.0.seen) ≡ m.0.mine) × IsHeld m.0.origin.made_at k (entries w.0.seen)
   held = known_at m.0.origin (entries w.0.seen) m.0.mine m.0.number k num b.own_entries
 
   pub held_in : IsHeld state.making.made_at k state.log
-  held_in = subst (λ (s : Shared). IsHeld s.making.made_at k s.log) (sym b.state) held.1
+  held_in = subst (λ (s : SharedSpanValue). IsHeld s.making.made_at k s.log) (sym b.state) held.1
 
   pub own_in : entries_by k state.log ≡ m.0.mine
-  own_in = subst (λ (s : Shared). entries_by k s.log ≡ m.0.mine) (sym b.state) held.0
+  own_in = subst (λ (s : SharedSpanValue). entries_by k s.log ≡ m.0.mine) (sym b.state) held.0
 
   same_origin : w.0.origin ≡ m.0.origin
   same_origin = ap (λ (x : View). x.origin) b.view
@@ -76,27 +76,27 @@ module _ (m w : SeatValue) (t : ℕ) (state : Shared) (k : ℕ) (num : m.0.numbe
   is_live = ap (λ (x : View). x.live) b.view
 
   module _ (at : ℕ) (what : HandleAct) where
-    may_now : may_do (sum m.0.origin.made_at (entries w.0.seen)) k what ≡ true → may (sum m.0.origin.made_at (entries w.0.seen)) (written_entry m.0.origin.made_at (entries w.0.seen) k at what) ≡ true
-    may_now can = may_any (sum m.0.origin.made_at (entries w.0.seen)) k at what held.1 can
+    may_now : may_do (state_of_history m.0.origin.made_at (entries w.0.seen)) k what ≡ true → may (state_of_history m.0.origin.made_at (entries w.0.seen)) (written_entry m.0.origin.made_at (entries w.0.seen) k at what) ≡ true
+    may_now can = may_any (state_of_history m.0.origin.made_at (entries w.0.seen)) k at what held.1 can
 
-    may_turn : may_do (sum m.0.origin.made_at (entries w.0.seen)) k what ≡ true → MayEnd m.0.other what → MayTurn w.0 (entries w.0.seen) (Some (written_entry m.0.origin.made_at (entries w.0.seen) k at what))
+    may_turn : may_do (state_of_history m.0.origin.made_at (entries w.0.seen)) k what ≡ true → MayEnd m.0.other what → MayTurn w.0 (entries w.0.seen) (Some (written_entry m.0.origin.made_at (entries w.0.seen) k at what))
     may_turn can ends = (
-      ap (λ (o : Making). may (sum o.made_at (entries w.0.seen)) (written_entry m.0.origin.made_at (entries w.0.seen) k at what)) same_origin ∙ may_now can,
+      ap (λ (o : Making). may (state_of_history o.made_at (entries w.0.seen)) (written_entry m.0.origin.made_at (entries w.0.seen) k at what)) same_origin ∙ may_now can,
       ap (λ (x : View). x.number) b.view ∙ num,
       subst (λ (o : Option ℕ). MayEnd o what) (sym (ap (λ (x : View). x.other) b.view)) ends,
     )
 
-    entry_state : (s : Shared) → s ≡ shared_of state.making (state.log ++ written_entry state.making.made_at state.log k at what ∷ []) → s ≡ shared_of w.0.origin (entries (w.0.seen ++ Some (written_entry m.0.origin.made_at (entries w.0.seen) k at what) ∷ []))
-    entry_state s is = is ∙ ap (λ (x : Shared). shared_of x.making (x.log ++ written_entry x.making.made_at x.log k at what ∷ [])) b.state
+    entry_state : (s : SharedSpanValue) → s ≡ shared_of state.making (state.log ++ written_entry state.making.made_at state.log k at what ∷ []) → s ≡ shared_of w.0.origin (entries (w.0.seen ++ Some (written_entry m.0.origin.made_at (entries w.0.seen) k at what) ∷ []))
+    entry_state s is = is ∙ ap (λ (x : SharedSpanValue). shared_of x.making (x.log ++ written_entry x.making.made_at x.log k at what ∷ [])) b.state
         ∙ (λ i. shared_of (sym same_origin i) (sym (entries_some w.0.seen (written_entry m.0.origin.made_at (entries w.0.seen) k at what)) i))
 
-    pub entry_turn : may_do (sum m.0.origin.made_at (entries w.0.seen)) k what ≡ true → MayEnd m.0.other what → (s : Shared) → s ≡ shared_of state.making (state.log ++ written_entry state.making.made_at state.log k at what ∷ [])
+    pub entry_turn : may_do (state_of_history m.0.origin.made_at (entries w.0.seen)) k what ≡ true → MayEnd m.0.other what → (s : SharedSpanValue) → s ≡ shared_of state.making (state.log ++ written_entry state.making.made_at state.log k at what ∷ [])
         → home_of w.0.origin (entries (w.0.seen ++ Some (written_entry m.0.origin.made_at (entries w.0.seen) k at what) ∷ [])) ≡ Some (shared_of w.0.origin (entries (w.0.seen ++ Some (written_entry m.0.origin.made_at (entries w.0.seen) k at what) ∷ []))) → MayFinish w.0 s
     entry_turn can ends s is home = (t, Some (written_entry m.0.origin.made_at (entries w.0.seen) k at what), ap (λ (x : View). x.stage) b.view, entry_state s is, home, may_turn can ends)
 
-    pub last_turn : may_do (sum m.0.origin.made_at (entries w.0.seen)) k what ≡ true → MayEnd m.0.other what → (s : Shared) → s ≡ shared_of state.making (state.log ++ written_entry state.making.made_at state.log k at what ∷ [])
+    pub last_turn : may_do (state_of_history m.0.origin.made_at (entries w.0.seen)) k what ≡ true → MayEnd m.0.other what → (s : SharedSpanValue) → s ≡ shared_of state.making (state.log ++ written_entry state.making.made_at state.log k at what ∷ [])
         → home_of w.0.origin (entries (w.0.seen ++ Some (written_entry m.0.origin.made_at (entries w.0.seen) k at what) ∷ [])) ≡ None → MayClose w.0 t (Some s)
-    last_turn can ends s is home = (Some (written_entry m.0.origin.made_at (entries w.0.seen) k at what), ap (λ (x : View). x.stage) b.view, ap (λ (x : Shared). Some x) (entry_state s is), home, may_turn can ends)
+    last_turn can ends s is home = (Some (written_entry m.0.origin.made_at (entries w.0.seen) k at what), ap (λ (x : View). x.stage) b.view, ap (λ (x : SharedSpanValue). Some x) (entry_state s is), home, may_turn can ends)
 
     -- who isn't ended by it is held afterwards
     pub still_home : Spares k k what → home_of w.0.origin (entries (w.0.seen ++ Some (written_entry m.0.origin.made_at (entries w.0.seen) k at what) ∷ [])) ≡ Some (shared_of w.0.origin (entries (w.0.seen ++ Some (written_entry m.0.origin.made_at (entries w.0.seen) k at what) ∷ [])))
@@ -105,9 +105,9 @@ module _ (m w : SeatValue) (t : ℕ) (state : Shared) (k : ℕ) (num : m.0.numbe
         home_held w.0.origin k (entries (w.0.seen ++ Some (written_entry m.0.origin.made_at (entries w.0.seen) k at what) ∷ []))
         (subst (λ (p : Making × List Entry). IsHeld p.0.made_at k p.1) (λ i. (sym same_origin i, sym (entries_some w.0.seen (written_entry m.0.origin.made_at (entries w.0.seen) k at what)) i)) (held_push m.0.origin.made_at k (entries w.0.seen) e spares held.1))
 
-    module _ (s : Shared) (is : s ≡ shared_of state.making (state.log ++ written_entry state.making.made_at state.log k at what ∷ [])) (u : SeatValue) (turn : Turn) (back : s ≡ shared_of w.0.origin (entries (w.0.seen ++ turn ∷ []))) (after : u ≡ (view_after w.0 turn, [])) where
+    module _ (s : SharedSpanValue) (is : s ≡ shared_of state.making (state.log ++ written_entry state.making.made_at state.log k at what ∷ [])) (u : SeatValue) (turn : Turn) (back : s ≡ shared_of w.0.origin (entries (w.0.seen ++ turn ∷ []))) (after : u ≡ (view_after w.0 turn, [])) where
       pub after_entry : u ≡ (view_after w.0 (Some (written_entry m.0.origin.made_at (entries w.0.seen) k at what)), [])
-      after_entry = after ∙ ap (λ (x : Turn). (view_after w.0 x, [])) (same_turn w.0.seen turn (Some (written_entry m.0.origin.made_at (entries w.0.seen) k at what)) (ap (λ (x : Shared). x.log) (sym back ∙ entry_state s is)))
+      after_entry = after ∙ ap (λ (x : Turn). (view_after w.0 x, [])) (same_turn w.0.seen turn (Some (written_entry m.0.origin.made_at (entries w.0.seen) k at what)) (ap (λ (x : SharedSpanValue). x.log) (sym back ∙ entry_state s is)))
 
       seen_after : u.0.seen ≡ w.0.seen ++ Some (written_entry m.0.origin.made_at (entries w.0.seen) k at what) ∷ []
       seen_after = ap (λ (x : SeatValue). x.0.seen) after_entry ∙ by_seen w.0 (w.0.seen ++ Some (written_entry m.0.origin.made_at (entries w.0.seen) k at what) ∷ []) (written_entry m.0.origin.made_at (entries w.0.seen) k at what) what
@@ -130,7 +130,7 @@ module _ (m w : SeatValue) (t : ℕ) (state : Shared) (k : ℕ) (num : m.0.numbe
 
       -- an earlier view's list, which begins what the holder of the turn saw
       module _ (v : View) (begins : IsPrefix v.seen w.0.seen) (mine : m.0.mine ≡ v.mine) (origin : m.0.origin ≡ v.origin) where
-        pub made : may_do (sum m.0.origin.made_at (entries w.0.seen)) k what ≡ true → MakesEntry v u.0 k at what
+        pub made : may_do (state_of_history m.0.origin.made_at (entries w.0.seen)) k what ≡ true → MakesEntry v u.0 k at what
         made can = record {
           between = begins.0;
           ends = seen_after ∙ (λ i. sym begins.1 i ++ Some (written_entry (origin i).made_at (entries (sym begins.1 i)) k at what) ∷ []);
@@ -145,7 +145,7 @@ module _ (m w : SeatValue) (t : ℕ) (state : Shared) (k : ℕ) (num : m.0.numbe
 
   -- ---- a turn without an entry
 
-  pub empty_turn : (s : Shared) → s ≡ state → MayFinish w.0 s
+  pub empty_turn : (s : SharedSpanValue) → s ≡ state → MayFinish w.0 s
   empty_turn s is = (
     t,
     None,
@@ -155,9 +155,9 @@ module _ (m w : SeatValue) (t : ℕ) (state : Shared) (k : ℕ) (num : m.0.numbe
     tt,
   )
 
-  module _ (other : m.0.other ≡ None) (s : Shared) (is : s ≡ state) (u : SeatValue) (turn : Turn) (back : s ≡ shared_of w.0.origin (entries (w.0.seen ++ turn ∷ []))) (after : u ≡ (view_after w.0 turn, [])) where
+  module _ (other : m.0.other ≡ None) (s : SharedSpanValue) (is : s ≡ state) (u : SeatValue) (turn : Turn) (back : s ≡ shared_of w.0.origin (entries (w.0.seen ++ turn ∷ []))) (after : u ≡ (view_after w.0 turn, [])) where
     after_none : u ≡ (view_after w.0 None, [])
-    after_none = after ∙ ap (λ (x : Turn). (view_after w.0 x, [])) (same_turn w.0.seen turn None (ap (λ (x : Shared). x.log) (sym back ∙ is ∙ b.state) ∙ sym (entries_none w.0.seen)))
+    after_none = after ∙ ap (λ (x : Turn). (view_after w.0 x, [])) (same_turn w.0.seen turn None (ap (λ (x : SharedSpanValue). x.log) (sym back ∙ is ∙ b.state) ∙ sym (entries_none w.0.seen)))
 
     log_still : entries u.0.seen ≡ entries w.0.seen
     log_still = ap (λ (x : SeatValue). entries x.0.seen) after_none ∙ entries_none w.0.seen
@@ -173,7 +173,7 @@ module _ (m w : SeatValue) (t : ℕ) (state : Shared) (k : ℕ) (num : m.0.numbe
       own_still,
     )
 
-    pub refused : LeftAsIs m.0 u.0 k
+    pub refused : MakesNoEntry m.0 u.0 k
     refused = record {
       begins = subst (IsPrefix m.0.seen) (sym (ap (λ (x : SeatValue). x.0.seen) after_none)) (prefix_more m.0.seen w.0.seen (None ∷ []) b.begins);
       mine = ap (λ (x : SeatValue). x.0.mine) after_none ∙ ap (λ (x : View). x.mine) b.view;
@@ -184,14 +184,14 @@ module _ (m w : SeatValue) (t : ℕ) (state : Shared) (k : ℕ) (num : m.0.numbe
 
 -- ---- a call
 
-module _ (m w : SeatValue) (t : ℕ) (state : Shared) (k : ℕ) (r : IsAtRest m k) (b : Begun m w t state) (at : ℕ) (op : Op) (l : op ≡ ops.Exit → 0 < open_count m.0.mine) where
-  pub call_own : may_move (sum state.making.made_at state.log).inside k (move_of op) ≡ true
+module _ (m w : SeatValue) (t : ℕ) (state : SharedSpanValue) (k : ℕ) (r : IsAtRest m k) (b : Begun m w t state) (at : ℕ) (op : Op) (l : op ≡ ops.Exit → 0 < open_count m.0.mine) where
+  pub call_own : may_move (state_of_history state.making.made_at state.log).inside k (move_of op) ≡ true
   call_own = may_own state.making.made_at k state.log m.0.mine op (own_in m w t state k r.1 b) l
 
-  can_call : may_do (sum m.0.origin.made_at (entries w.0.seen)) k (Call op) ≡ true
+  can_call : may_do (state_of_history m.0.origin.made_at (entries w.0.seen)) k (Call op) ≡ true
   can_call = may_own m.0.origin.made_at k (entries w.0.seen) m.0.mine op (held m w t state k r.1 b).0 l
 
-  module _ (s : Shared) (is : s ≡ shared_of state.making (state.log ++ written_entry state.making.made_at state.log k at (Call op) ∷ [])) where
+  module _ (s : SharedSpanValue) (is : s ≡ shared_of state.making (state.log ++ written_entry state.making.made_at state.log k at (Call op) ∷ [])) where
     pub call_turn : MayFinish w.0 s
     call_turn = entry_turn m w t state k r.1 b at (Call op) can_call tt s is (still_home m w t state k r.1 b at (Call op) tt)
 
@@ -211,20 +211,20 @@ module _ (m w : SeatValue) (t : ℕ) (state : Shared) (k : ℕ) (r : IsAtRest m 
       unfolding made
       called place reply at_place told = record {
         made = made m w t state k r.1 b at (Call op) s is u turn back after m.0 b.begins refl refl can_call;
-        at_place = at_place ∙ ap (λ (x : Shared). length x.log) b.state ∙ ap (λ (x : List Turn). length (entries x)) (sym b.begins.1);
-        replied = told ∙ ap (λ (x : Shared). reply_at x.making x.log op) b.state ∙ ap (λ (x : List Turn). reply_at m.0.origin (entries x) op) (sym b.begins.1);
+        at_place = at_place ∙ ap (λ (x : SharedSpanValue). length x.log) b.state ∙ ap (λ (x : List Turn). length (entries x)) (sym b.begins.1);
+        replied = told ∙ ap (λ (x : SharedSpanValue). reply_at x.making x.log op) b.state ∙ ap (λ (x : List Turn). reply_at m.0.origin (entries x) op) (sym b.begins.1);
       }
 
-      pub call_few : length (sum s.making.made_at s.log).inside < 2 ^ 63 → open_count u.0.mine < 2 ^ 63
-      call_few f = few_own s.making.made_at k s.log u.0.mine (ap (λ (x : Shared). entries_by k x.log) (is ∙ ap (λ (x : Shared). shared_of x.making (x.log ++ written_entry x.making.made_at x.log k at (Call op) ∷ [])) b.state) ∙ ap (entries_by k) (sym (log_after m w t state k r.1 b at (Call op) s is u turn back after)) ∙ own_after m w t state k r.1 b at (Call op) s is u turn back after) f
+      pub call_few : length (state_of_history s.making.made_at s.log).inside < 2 ^ 63 → open_count u.0.mine < 2 ^ 63
+      call_few f = few_own s.making.made_at k s.log u.0.mine (ap (λ (x : SharedSpanValue). entries_by k x.log) (is ∙ ap (λ (x : SharedSpanValue). shared_of x.making (x.log ++ written_entry x.making.made_at x.log k at (Call op) ∷ [])) b.state) ∙ ap (entries_by k) (sym (log_after m w t state k r.1 b at (Call op) s is u turn back after)) ∙ own_after m w t state k r.1 b at (Call op) s is u turn back after) f
 
 -- ---- a clone, and the seat that is cut off after it
 
-module _ (m w : SeatValue) (t : ℕ) (state : Shared) (k : ℕ) (r : IsAtRest m k) (b : Begun m w t state) (at n : ℕ) (is_next : n ≡ (sum state.making.made_at state.log).clones + 1) where
-  can_clone : may_do (sum m.0.origin.made_at (entries w.0.seen)) k (Clone n) ≡ true
-  can_clone = may_clone (sum m.0.origin.made_at (entries w.0.seen)).clones n (is_next ∙ ap (λ (x : Shared). (sum x.making.made_at x.log).clones + 1) b.state)
+module _ (m w : SeatValue) (t : ℕ) (state : SharedSpanValue) (k : ℕ) (r : IsAtRest m k) (b : Begun m w t state) (at n : ℕ) (is_next : n ≡ (state_of_history state.making.made_at state.log).clones + 1) where
+  can_clone : may_do (state_of_history m.0.origin.made_at (entries w.0.seen)) k (Clone n) ≡ true
+  can_clone = may_clone (state_of_history m.0.origin.made_at (entries w.0.seen)).clones n (is_next ∙ ap (λ (x : SharedSpanValue). (state_of_history x.making.made_at x.log).clones + 1) b.state)
 
-  module _ (s : Shared) (is : s ≡ shared_of state.making (state.log ++ written_entry state.making.made_at state.log k at (Clone n) ∷ [])) where
+  module _ (s : SharedSpanValue) (is : s ≡ shared_of state.making (state.log ++ written_entry state.making.made_at state.log k at (Clone n) ∷ [])) where
     pub clone_turn : MayFinish w.0 s
     clone_turn = entry_turn m w t state k r.1 b at (Clone n) can_clone r.2 s is (still_home m w t state k r.1 b at (Clone n) tt)
 
@@ -249,7 +249,7 @@ module _ (m w : SeatValue) (t : ℕ) (state : Shared) (k : ℕ) (r : IsAtRest m 
 
         none_yet : entries_by n (entries u.0.seen) ≡ []
         none_yet =
-            let can = may_any (sum m.0.origin.made_at (entries w.0.seen)) k at (Clone n) (held m w t state k r.1 b).1 can_clone in
+            let can = may_any (state_of_history m.0.origin.made_at (entries w.0.seen)) k at (Clone n) (held m w t state k r.1 b).1 can_clone in
             let e = written_entry m.0.origin.made_at (entries w.0.seen) k at (Clone n) in
             let apart : k ≢ n = fresh m.0.origin.made_at (entries w.0.seen) k e.at n k b.legal can (held m w t state k r.1 b).1 in
             ap (entries_by n) (log_after m w t state k r.1 b at (Clone n) s is u turn back after) ∙ by_other n (entries w.0.seen) e apart ∙ fresh_entries m.0.origin.made_at (entries w.0.seen) k e.at n b.legal can
@@ -277,7 +277,7 @@ module _ (m w : SeatValue) (t : ℕ) (state : Shared) (k : ℕ) (r : IsAtRest m 
 
 -- ---- a join, after the other's seat was taken in
 
-module _ (m o m' w : SeatValue) (t : ℕ) (state : Shared) (k j : ℕ) (r : IsAtRest m k) (r' : IsAtRest o j) (met : m' ≡ (both_of m.0 o.0, m.1)) (b : Begun m' w t state) (at : ℕ) (none_open : open_count o.0.mine ≡ 0) where
+module _ (m o m' w : SeatValue) (t : ℕ) (state : SharedSpanValue) (k j : ℕ) (r : IsAtRest m k) (r' : IsAtRest o j) (met : m' ≡ (both_of m.0 o.0, m.1)) (b : Begun m' w t state) (at : ℕ) (none_open : open_count o.0.mine ≡ 0) where
   pub num_met : m'.0.number ≡ Some k
   num_met = ap (λ (x : SeatValue). x.0.number) met ∙ r.1
 
@@ -293,17 +293,17 @@ module _ (m o m' w : SeatValue) (t : ℕ) (state : Shared) (k j : ℕ) (r : IsAt
   differ : j ≢ k
   differ e = b.apart j (num_met ∙ ap (λ (x : ℕ). Some x) (sym e)) other_met
 
-  pub join_ended : IsHeld state.making.made_at j state.log × (j ≢ k) × IsOut state.making.made_at j state.log
+  pub join_ended : IsHeld state.making.made_at j state.log × (j ≢ k) × HasNoneOpen state.making.made_at j state.log
   join_ended = (
-    subst (λ (s : Shared). IsHeld s.making.made_at j s.log) (sym b.state) theirs_known.1,
+    subst (λ (s : SharedSpanValue). IsHeld s.making.made_at j s.log) (sym b.state) theirs_known.1,
     differ,
-    subst (λ (s : Shared). IsOut s.making.made_at j s.log) (sym b.state) (out_of m'.0.origin.made_at j (entries w.0.seen) o.0.mine theirs_are none_open),
+    subst (λ (s : SharedSpanValue). HasNoneOpen s.making.made_at j s.log) (sym b.state) (out_of m'.0.origin.made_at j (entries w.0.seen) o.0.mine theirs_are none_open),
   )
 
-  can_join : may_do (sum m'.0.origin.made_at (entries w.0.seen)) k (Join j) ≡ true
-  can_join = may_join (sum m'.0.origin.made_at (entries w.0.seen)) k j theirs_known.1 differ (out_of m'.0.origin.made_at j (entries w.0.seen) o.0.mine theirs_are none_open)
+  can_join : may_do (state_of_history m'.0.origin.made_at (entries w.0.seen)) k (Join j) ≡ true
+  can_join = may_join (state_of_history m'.0.origin.made_at (entries w.0.seen)) k j theirs_known.1 differ (out_of m'.0.origin.made_at j (entries w.0.seen) o.0.mine theirs_are none_open)
 
-  module _ (s : Shared) (is : s ≡ shared_of state.making (state.log ++ written_entry state.making.made_at state.log k at (Join j) ∷ [])) where
+  module _ (s : SharedSpanValue) (is : s ≡ shared_of state.making (state.log ++ written_entry state.making.made_at state.log k at (Join j) ∷ [])) where
     pub join_turn : MayFinish w.0 s
     join_turn = entry_turn m' w t state k num_met b at (Join j) can_join other_met s is (still_home m' w t state k num_met b at (Join j) (λ e. differ (sym e)))
 
@@ -334,19 +334,19 @@ module _ (m o m' w : SeatValue) (t : ℕ) (state : Shared) (k j : ℕ) (r : IsAt
 
 -- ---- a release
 
-module _ (m w : SeatValue) (t : ℕ) (state : Shared) (k : ℕ) (r : IsAtRest m k) (b : Begun m w t state) (at : ℕ) (none_open : open_count m.0.mine ≡ 0) where
-  pub release_own : IsOut state.making.made_at k state.log
+module _ (m w : SeatValue) (t : ℕ) (state : SharedSpanValue) (k : ℕ) (r : IsAtRest m k) (b : Begun m w t state) (at : ℕ) (none_open : open_count m.0.mine ≡ 0) where
+  pub release_own : HasNoneOpen state.making.made_at k state.log
   release_own = out_of state.making.made_at k state.log m.0.mine (own_in m w t state k r.1 b) none_open
 
-  can_release : may_do (sum m.0.origin.made_at (entries w.0.seen)) k Release ≡ true
-  can_release = may_release (sum m.0.origin.made_at (entries w.0.seen)) k (out_of m.0.origin.made_at k (entries w.0.seen) m.0.mine (held m w t state k r.1 b).0 none_open)
+  can_release : may_do (state_of_history m.0.origin.made_at (entries w.0.seen)) k Release ≡ true
+  can_release = may_release (state_of_history m.0.origin.made_at (entries w.0.seen)) k (out_of m.0.origin.made_at k (entries w.0.seen) m.0.mine (held m w t state k r.1 b).0 none_open)
 
-  module _ (s : Shared) (is : s ≡ shared_of state.making (state.log ++ written_entry state.making.made_at state.log k at Release ∷ [])) where
+  module _ (s : SharedSpanValue) (is : s ≡ shared_of state.making (state.log ++ written_entry state.making.made_at state.log k at Release ∷ [])) where
     end_state : s ≡ shared_of w.0.origin (entries (w.0.seen ++ Some (written_entry m.0.origin.made_at (entries w.0.seen) k at Release) ∷ []))
     end_state = entry_state m w t state k r.1 b at Release s is
 
     home_when : (closed : Bool) → is_closed s.making.made_at s.log ≡ closed → is_closed w.0.origin.made_at (entries (w.0.seen ++ Some (written_entry m.0.origin.made_at (entries w.0.seen) k at Release) ∷ [])) ≡ closed
-    home_when closed e = ap (λ (x : Shared). is_closed x.making.made_at x.log) (sym end_state) ∙ e
+    home_when closed e = ap (λ (x : SharedSpanValue). is_closed x.making.made_at x.log) (sym end_state) ∙ e
 
     pub release_turn : is_closed s.making.made_at s.log ≡ false → MayFinish w.0 s
     release_turn e = entry_turn m w t state k r.1 b at Release can_release tt s is (rw (home_when false e) refl)
@@ -365,19 +365,19 @@ module _ (m w : SeatValue) (t : ℕ) (state : Shared) (k : ℕ) (r : IsAtRest m 
       release_made = made m w t state k r.1 b at Release s is u turn back after m.0 b.begins refl refl can_release
 
       state_is : s ≡ shared_of m.0.origin (entries u.0.seen)
-      state_is = is ∙ ap (λ (x : Shared). shared_of x.making (x.log ++ written_entry x.making.made_at x.log k at Release ∷ [])) b.state ∙ ap (shared_of m.0.origin) (sym (log_after m w t state k r.1 b at Release s is u turn back after))
+      state_is = is ∙ ap (λ (x : SharedSpanValue). shared_of x.making (x.log ++ written_entry x.making.made_at x.log k at Release ∷ [])) b.state ∙ ap (shared_of m.0.origin) (sym (log_after m w t state k r.1 b at Release s is u turn back after))
 
       pub release_open : is_closed s.making.made_at s.log ≡ false → ClosesWith m.0.origin (entries u.0.seen) None
-      release_open e = ap (λ (x : Shared). is_closed x.making.made_at x.log) (sym state_is) ∙ e
+      release_open e = ap (λ (x : SharedSpanValue). is_closed x.making.made_at x.log) (sym state_is) ∙ e
 
       pub release_closed : is_closed s.making.made_at s.log ≡ true → ClosesWith m.0.origin (entries u.0.seen) (Some s)
-      release_closed e = (state_is, ap (λ (x : Shared). is_closed x.making.made_at x.log) (sym state_is) ∙ e)
+      release_closed e = (state_is, ap (λ (x : SharedSpanValue). is_closed x.making.made_at x.log) (sym state_is) ∙ e)
 
-abbrev in_some : Slot → Shared
+abbrev in_some : Slot → SharedSpanValue
 in_some None = shared_of some_making []
 in_some (Some s) = s
 
-pub some_same : (a b : Shared) → Some a ≡ Some b → a ≡ b
+pub some_same : (a b : SharedSpanValue) → Some a ≡ Some b → a ≡ b
 some_same a b e = ap in_some e
 
 -- how many entries a handle has open after an entry more

@@ -3,7 +3,7 @@ use Rattle.std.proofs.Common.{◌≡◌, ◌≢◌, inl, ℕ, ◌+◌, ◌%◌, 
 use Rattle.trace_threads.proofs.Common.{nat_tests, get_elem?, either, step, gives, Allows, Making, Entry, HandleAct, Clone, Call, Join, Release, View, TicketStage, Idle, Waits, Holds, MAX_TURNS, start, IsLegal, is_legal, may, entries_by, IsHeld, entry, shared_of, Turn, Slot, SeatValue, entries, home_of, AllBegin, Staged, Known, Placed, ViewFitsRule, KeepsRule, KeepsWords, passed_by, view_after, PassedOn, MayEnd, MayTurn, Closed}
 use mathlib.Core.Option as core
 use Rattle.std.proofs.Math.Nat.{mod-eq_of_lt}
-use Rattle.trace_threads.specs.History.{sum}
+use Rattle.trace_threads.specs.History.{state_of_history}
 use Rattle.trace_threads.proofs.histories.HistoriesLemmas.{legal_push, Spares, held_push, by_other, by_own, fresh, fresh_entries, held_new}
 use Rattle.trace_threads.proofs.queue.SeatsLemmas.{prefix_self, prefix_more, all_more, Goes, allows, fits_set, at_own, sides}
 
@@ -40,7 +40,7 @@ module _ (making : Making) where
   known_at log mine num k e h = subst (Known making log mine) e h
 
   -- an entry leaves the numbers at other places than its caller's and the ended one's alone
-  leaves_entry : (place : ℕ → ℕ × Bool) (id : ℕ) (log : List Entry) (e : Entry) (q : ℕ × Bool) (what : HandleAct) → e.what ≡ what → IsLegal making.made_at log → may (sum making.made_at log) (entry e.caller e.at what) ≡ true
+  leaves_entry : (place : ℕ → ℕ × Bool) (id : ℕ) (log : List Entry) (e : Entry) (q : ℕ × Bool) (what : HandleAct) → e.what ≡ what → IsLegal making.made_at log → may (state_of_history making.made_at log) (entry e.caller e.at what) ≡ true
       → place e.caller ≢ q → ((m : ℕ) → what ≡ Join m → place m ≢ q) → Leaves place (placed_by place id what) log (log ++ e ∷ []) q
   leaves_entry place id log e q (Clone n) is legal m own joined k at held =
       let apart : e.caller ≢ k = λ same. own (ap place same ∙ at) in
@@ -85,7 +85,7 @@ fits_passed turns turn owner place tickets id j v u apart own legal m a b f =
     record { same = f.same; begins = prefix_more u.seen turns (turn ∷ []) f.begins; before = all_more v.origin u.earlier turns (turn ∷ []) f.before; staged = staged_passed turns turn owner tickets id j u.seen u.stage apart own f.staged; own_entries = x.0; own_place = x.1; other = y.0; other_place = y.1 }
 
 -- the view that made the entry
-fits_entry : (v : View) (e : Entry) (owner : ℕ → ℕ) (place : ℕ → ℕ × Bool) (tickets id : ℕ) (what : HandleAct) → e.what ≡ what → IsLegal v.origin.made_at (entries v.seen) → may (sum v.origin.made_at (entries v.seen)) (entry e.caller e.at what) ≡ true
+fits_entry : (v : View) (e : Entry) (owner : ℕ → ℕ) (place : ℕ → ℕ × Bool) (tickets id : ℕ) (what : HandleAct) → e.what ≡ what → IsLegal v.origin.made_at (entries v.seen) → may (state_of_history v.origin.made_at (entries v.seen)) (entry e.caller e.at what) ≡ true
     → v.number ≡ Some e.caller → MayEnd v.other what → ViewFitsRule v.origin v.seen owner place tickets id v → ViewFitsRule v.origin (v.seen ++ Some e ∷ []) owner (placed_by place id what) tickets id (passed_by v (v.seen ++ Some e ∷ []) e what)
 fits_entry v e owner place tickets id what is legal m num ends f = entry_by what is m ends
   where
@@ -108,13 +108,13 @@ fits_entry v e owner place tickets id what is legal m num ends f = entry_by what
         (subst (Known v.origin (entries v.seen ++ e ∷ []) (v.mine ++ e ∷ [])) (sym num) (by_own e.caller (entries v.seen) e refl ∙ ap (λ (l : List Entry). l ++ e ∷ []) own.0, held_push v.origin.made_at e.caller (entries v.seen) e spares own.1))
 
     -- its other number is left alone
-    other_more : (w : HandleAct) → e.what ≡ w → may (sum v.origin.made_at (entries v.seen)) (entry e.caller e.at w) ≡ true → ((j : ℕ) → w ≡ Join j → ⊥) → Known v.origin (entries (v.seen ++ Some e ∷ [])) v.theirs v.other × Placed (placed_by place id w) (id, true) v.other
+    other_more : (w : HandleAct) → e.what ≡ w → may (state_of_history v.origin.made_at (entries v.seen)) (entry e.caller e.at w) ≡ true → ((j : ℕ) → w ≡ Join j → ⊥) → Known v.origin (entries (v.seen ++ Some e ∷ [])) v.theirs v.other × Placed (placed_by place id w) (id, true) v.other
     other_more w is m none =
         let l = leaves_entry v.origin place id (entries v.seen) e (id, true) w is legal m (λ h. sides id (sym place_own ∙ h)) (λ j s h. none j s) in
         let y = known_more v.origin place (placed_by place id w) (entries v.seen) (entries v.seen ++ e ∷ []) (id, true) v.theirs v.other l f.other f.other_place in
         (subst (λ (ls : List Entry). Known v.origin ls v.theirs v.other) (sym (entries_some v.seen e)) y.0, y.1)
 
-    entry_by : (what : HandleAct) → e.what ≡ what → may (sum v.origin.made_at (entries v.seen)) (entry e.caller e.at what) ≡ true → MayEnd v.other what → ViewFitsRule v.origin (v.seen ++ Some e ∷ []) owner (placed_by place id what) tickets id (passed_by v (v.seen ++ Some e ∷ []) e what)
+    entry_by : (what : HandleAct) → e.what ≡ what → may (state_of_history v.origin.made_at (entries v.seen)) (entry e.caller e.at what) ≡ true → MayEnd v.other what → ViewFitsRule v.origin (v.seen ++ Some e ∷ []) owner (placed_by place id what) tickets id (passed_by v (v.seen ++ Some e ∷ []) e what)
     entry_by (Call op) is m ends =
         let y = other_more (Call op) is m (λ j no. absurd cc) in
         record {

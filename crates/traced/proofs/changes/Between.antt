@@ -1,10 +1,10 @@
 -- What is done between a making and a close, or an entry and an exit, put together from what the calls say.
 use Rattle.std.proofs.Common.{◌≡◌, ℕ, Result, Ok, OnOk, ap, ◌∙◌, subst}
-use Rattle.traced.proofs.Common.{Memory, ValueSet, Lane, Parent, Ghosts, WorldValue, Exit, Handle, ReplacedOn, EntryGuard, TellsOne, TellsIfAnswered, MakesIfAnswered, Closes, Enters, Exits, MakesAndCloses, EntersAndExits, Tells}
+use Rattle.traced.proofs.Common.{Memory, ValueSet, Lane, Parent, Ghosts, WorldValue, Exit, Handle, ReplacedOn, EntryGuard, TellsOne, TellsIfGateAdmits, MakesIfGateAdmits, Closes, Enters, Exits, MakesAndCloses, EntersAndExits, Tells}
 
 module _ {S : Type 0} {sub : Ghosts S} {old new : WorldValue S} where
   pub makes_and_closes : {begun ended : WorldValue S} {lane : Lane} {parent : Parent} {site begins ends : ℕ} {values : ValueSet} {handle : Handle} {between : Handle → WorldValue S → WorldValue S → Type 0}
-      → MakesIfAnswered sub old begun lane begins parent site values (Ok handle) → between handle begun ended → Closes sub ended new ends handle → MakesAndCloses sub lane parent site values begins ends between old new
+      → MakesIfGateAdmits sub old begun lane begins parent site values (Ok handle) → between handle begun ended → Closes sub ended new ends handle → MakesAndCloses sub lane parent site values begins ends between old new
   makes_and_closes {begun} {ended} {handle = handle} makes meanwhile closes = record {
     handle = handle;
     begun = begun;
@@ -31,7 +31,7 @@ module _ {S : Type 0} {sub : Ghosts S} {old new : WorldValue S} where
 
   -- an event that is told, if the gate lets its callsite through
   pub tells_if_answered : {lane : Lane} {at site : ℕ} {parent : Parent} {values : ValueSet} {result : Result (Unit {0}) Memory}
-      → Tells sub old new lane at parent site values result → result ≡ Ok tt → TellsIfAnswered sub old new lane at parent site values
+      → Tells sub old new lane at parent site values result → result ≡ Ok tt → TellsIfGateAdmits sub old new lane at parent site values
   tells_if_answered {lane} {at} {site} {parent} {values} tells done = record {
     told = λ through. subst (λ (r : Result (Unit {0}) Memory). OnOk r (TellsOne sub old new lane at parent site values)) done (tells.told through);
     refused = λ back. (tells.refused back).1;

@@ -1,7 +1,7 @@
 -- What is made is closed, and what is entered is exited.
 use Rattle.std.proofs.Common.{◌≡◌, ℕ, ◌+◌, ◌-◌, ◌<◌, List, [], ◌∷◌, ◌++◌, length, Option, Some, None, Bool, true, refl, sym, ap, ◌∙◌, subst, arith, inl, inr, ◌==◌, if◌then◌else◌}
 use Rattle.std.specs.List.{list_any}
-use Rattle.traced.proofs.Common.{cases_eq, cases_order, cases_Bool, cond-true, cond-false, length_push, get_or_past, get_or_push, get_or_append_left, Span, Spans, no_span, span_at, entries_on, is_in, times_in, without_last, parent_to_release, with_hold, without_hold, span_without_hold, with_hold_of_child, with_new_span, with_span_entry, with_span_exit, count_push, counted_if_any, any_if_counted, none_counted, length_held, made_if_held, with_same, with_other, less_last, less_more, ReleasesChain, all_released, releases, HeldSpan, AreAsBefore, IsNewest, IsOfNewest, IsLiveOn, IsEntered, IsOpen}
+use Rattle.traced.proofs.Common.{cases_eq, cases_order, cases_Bool, cond-true, cond-false, length_push, get_or_past, get_or_push, get_or_append_left, Span, Spans, no_span, span_at, entries_on, is_in, times_in, without_last, parent_to_release, with_hold, without_hold, span_without_hold, with_hold_of_child, with_new_span, with_span_entry, with_span_exit, count_push, counted_if_any, any_if_counted, none_counted, length_held, made_if_held, with_same, with_other, less_last, less_more, ReleasesChain, all_released, releases, HeldSpan, AreAsBefore, IsNewest, IsOfNewest, IsLiveOn, GainsEntry, IsOpen}
 use Rattle.std.proofs.lemmas.Bool.{eq-eqb, ne_eqb}
 use Rattle.std.proofs.lemmas.List.{get_or-set_same, get_or-set_other}
 
@@ -174,7 +174,7 @@ entries_both x y id lane lanes l =
     ]
 
 -- an entry is exited
-pub exits : (h : HeldSpan) (x y z : Spans) (lane : ℕ) → IsLiveOn h x → IsEntered h lane x y → IsExitedOn h lane y z → AreAsBefore x z
+pub exits : (h : HeldSpan) (x y z : Spans) (lane : ℕ) → IsLiveOn h x → GainsEntry h lane x y → IsExitedOn h lane y z → AreAsBefore x z
 exits None x y z lane live enter exit = on x y z enter (unchanged y z exit)
 exits (Some h) x y z lane live enter exit =
     let back : AreAsBefore x (with_span_exit y h.1 lane) = record {
@@ -184,11 +184,11 @@ exits (Some h) x y z lane live enter exit =
     on x (with_span_exit y h.1 lane) z back (unchanged (with_span_exit y h.1 lane) z exit)
 
 -- it is entered still after calls that leave spans as they were
-pub stays_entered : (h : HeldSpan) (lane : ℕ) (x w y : Spans) → IsEntered h lane x w → AreAsBefore w y → IsEntered h lane x y
+pub stays_entered : (h : HeldSpan) (lane : ℕ) (x w y : Spans) → GainsEntry h lane x w → AreAsBefore w y → GainsEntry h lane x y
 stays_entered None lane x w y enter same = on x w y enter same
 stays_entered (Some h) lane x w y enter same = on (with_span_entry x h.1 lane) w y enter same
 
-pub opened : (h : HeldSpan) (lane : ℕ) (x y : Spans) → IsEntered h lane x y → IsOpen h lane y
+pub opened : (h : HeldSpan) (lane : ℕ) (x y : Spans) → GainsEntry h lane x y → IsOpen h lane y
 opened None lane x y enter = tt
 opened (Some h) lane x y enter =
     let ids = entries_on lane x.lanes in

@@ -1,9 +1,9 @@
 //! Reading a directive from its text, one cut after the other.
 ghost use Rattle.std.specs.Prelude.{◌≡◌, [], IfOk, Some, false, true};
-ghost use Rattle.env_directives.specs.reading.Forms.{begins, may_begin, head_alone, target_at, level_behind, unless_empty};
-ghost use Rattle.env_directives.specs.reading.Reading.{AnswersRead, read_last, read_level, LeadsToNoPattern, SpanLeadsToNoPattern, read_end, read_close, read_fields, read_fielded, read_bracket, read_directive};
+ghost use Rattle.env_directives.specs.reading.Forms.{begins_as_directive, may_begin, head_alone, directive_of_target, level_behind, unless_empty};
+ghost use Rattle.env_directives.specs.reading.Reading.{AnswersRead, read_nothing_more, read_level, LeadsToRefusedPattern, SpanLeadsToRefusedPattern, read_level_if_any, read_close, read_fields, read_fielded, read_bracket, read_directive};
 ghost use Rattle.trace_base.specs.declared.level.LevelFilter.TheVariants.{TRACE};
-ghost use Rattle.env_directives.specs.reading.Faults.{HasNoPattern};
+ghost use Rattle.env_directives.specs.reading.Faults.{HasRefusedPattern};
 ghost use Rattle.env_directives.specs.reading.Values.{HavePatterns};
 
 use crate::directive::ParseError;
@@ -20,24 +20,29 @@ use unicode::properties::{GeneralCategory, GeneralCategoryGroup, is_alphabetic};
 // Reads a text without white space at its ends.
 #[tactic(auto, unfolding(crate::specs::reading::Reading::read_directive))]
 pub(super) fn read(alloc: Global, text: &str, patterns: bool) -> Result<Directive, ParseError>
-    ensures is { AnswersRead (λ d. d) patterns (HasNoPattern text.now) result (read_directive patterns text.now) }
+    ensures is { AnswersRead (λ d. d) patterns (HasRefusedPattern text.now) result (read_directive patterns text.now) }
     ensures patterns { IfOk result (λ d. HavePatterns d.fields) }
 {
-    if !begins(text) {
+    if !begins_as_directive(text) {
         return Err(ParseError::Shape);
     }
     let pieces = cut(text, b"=[,");
     match pieces.stop {
         None => Ok(head_alone(alloc, pieces.front)?),
-        Some(b',') => read_last(head_alone(alloc, pieces.front)?, pieces.rest),
-        Some(b'=') => read_level(target(alloc, pieces.front)?, pieces.rest),
-        Some(_) => read_bracket(alloc, target(alloc, pieces.front)?, pieces.rest, patterns),
+        Some(b',') => read_nothing_more(head_alone(alloc, pieces.front)?, pieces.rest),
+        Some(b'=') => read_level(directive_of_target(alloc, pieces.front)?, pieces.rest),
+        Some(_) => read_bracket(
+            alloc,
+            directive_of_target(alloc, pieces.front)?,
+            pieces.rest,
+            patterns,
+        ),
     }
 }
 
 // Whether a directive may begin as the text does.
-fn begins(text: &str) -> bool
-    ensures { result ≡ begins text.now }
+fn begins_as_directive(text: &str) -> bool
+    ensures { result ≡ begins_as_directive text.now }
 {
     match text.chars().next() {
         Some(first) => may_begin(first),
@@ -68,13 +73,13 @@ fn head_alone(alloc: Global, head: &str) -> Result<Directive, Memory>
             target: None,
             level,
         }),
-        Err(_) => target(alloc, head),
+        Err(_) => directive_of_target(alloc, head),
     }
 }
 
 // The directive at TRACE for the targets that begin with a text, for all if it is empty.
-fn target(alloc: Global, head: &str) -> Result<Directive, Memory>
-    ensures { IfOk result (λ d. d ≡ target_at head.now TRACE) }
+fn directive_of_target(alloc: Global, head: &str) -> Result<Directive, Memory>
+    ensures { IfOk result (λ d. d ≡ directive_of_target head.now TRACE) }
 {
     Ok(Directive {
         in_span: None,
@@ -94,9 +99,9 @@ fn unless_empty(alloc: Global, text: &str) -> Result<Option<Text>, Memory>
 }
 
 // Nothing may stand behind a last comma.
-#[tactic(auto, unfolding(crate::specs::reading::Reading::read_last))]
-fn read_last(directive: Directive, rest: &str) -> Result<Directive, ParseError>
-    ensures { AnswersRead (λ d. d) false ⊥ result (read_last directive rest.now) }
+#[tactic(auto, unfolding(crate::specs::reading::Reading::read_nothing_more))]
+fn read_nothing_more(directive: Directive, rest: &str) -> Result<Directive, ParseError>
+    ensures { AnswersRead (λ d. d) false ⊥ result (read_nothing_more directive rest.now) }
 {
     if rest.is_empty() {
         Ok(directive)
@@ -117,7 +122,7 @@ fn read_level(directive: Directive, text: &str) -> Result<Directive, ParseError>
     let directive = Directive { level, ..directive };
     match pieces.stop {
         None => Ok(directive),
-        Some(_) => read_last(directive, pieces.rest),
+        Some(_) => read_nothing_more(directive, pieces.rest),
     }
 }
 
@@ -132,9 +137,9 @@ fn level_behind(text: &str) -> Option<LevelFilter>
 }
 
 // Behind a bracket: the end, or a level.
-#[tactic(auto, unfolding(crate::specs::reading::Reading::read_end))]
-fn read_end(directive: Directive, rest: &str) -> Result<Directive, ParseError>
-    ensures { AnswersRead (λ d. d) false ⊥ result (read_end directive rest.now) }
+#[tactic(auto, unfolding(crate::specs::reading::Reading::read_level_if_any))]
+fn read_level_if_any(directive: Directive, rest: &str) -> Result<Directive, ParseError>
+    ensures { AnswersRead (λ d. d) false ⊥ result (read_level_if_any directive rest.now) }
 {
     if rest.is_empty() {
         return Ok(directive);
@@ -151,7 +156,7 @@ fn read_close(directive: Directive, rest: &str) -> Result<Directive, ParseError>
     ensures { AnswersRead (λ d. d) false ⊥ result (read_close directive rest.now) }
 {
     match rest.strip_prefix(']') {
-        Some(rest) => read_end(directive, rest),
+        Some(rest) => read_level_if_any(directive, rest),
         None => Err(ParseError::Shape),
     }
 }
@@ -164,7 +169,7 @@ fn read_bracket(
     text: &str,
     patterns: bool,
 ) -> Result<Directive, ParseError>
-    ensures is { AnswersRead (λ d. d) patterns (SpanLeadsToNoPattern text.now) result (read_bracket patterns directive text.now) }
+    ensures is { AnswersRead (λ d. d) patterns (SpanLeadsToRefusedPattern text.now) result (read_bracket patterns directive text.now) }
     ensures patterns { HavePatterns directive.fields → IfOk result (λ d. HavePatterns d.fields) }
 {
     let pieces = cut(text, b"]{");
@@ -182,10 +187,10 @@ fn read_named(
     span: &str,
     rest: &str,
 ) -> Result<Directive, ParseError>
-    ensures { AnswersRead (λ d. d) false ⊥ result (read_end (record directive { in_span = Some span.now }) rest.now) }
+    ensures { AnswersRead (λ d. d) false ⊥ result (read_level_if_any (record directive { in_span = Some span.now }) rest.now) }
 {
     let in_span = Some(text_of(alloc, span)?);
-    read_end(
+    read_level_if_any(
         Directive {
             in_span,
             ..directive
@@ -202,7 +207,7 @@ fn read_fielded(
     rest: &str,
     patterns: bool,
 ) -> Result<Directive, ParseError>
-    ensures is { AnswersRead (λ d. d) patterns (LeadsToNoPattern rest.now) result (read_fielded (record directive { in_span = unless_empty span.now }) (read_fields patterns [] rest.now)) }
+    ensures is { AnswersRead (λ d. d) patterns (LeadsToRefusedPattern rest.now) result (read_fielded (record directive { in_span = unless_empty span.now }) (read_fields patterns [] rest.now)) }
     ensures patterns { IfOk result (λ d. HavePatterns d.fields) }
 {
     let in_span = unless_empty(alloc, span)?;
@@ -223,7 +228,7 @@ fn read_fields<'t>(
     text: &'t str,
     patterns: bool,
 ) -> Result<(Items<Match>, &'t str), ParseError>
-    ensures is { AnswersRead (λ r. (r.0, r.1.now)) patterns (LeadsToNoPattern text.now) result (read_fields patterns [] text.now) }
+    ensures is { AnswersRead (λ r. (r.0, r.1.now)) patterns (LeadsToRefusedPattern text.now) result (read_fields patterns [] text.now) }
     ensures patterns { IfOk result (λ r. HavePatterns r.0) }
 {
     let mut fields = Items::new(alloc);

@@ -5,7 +5,7 @@ use Rattle.future_tests.proofs.acts.enter_for_good.Goals as goal
 
 pub returns-in-Ok-clause-keeps : goal.returns-in-Ok-clause-keeps
 returns-in-Ok-clause-keeps g c =
-    begun g.S.Subscriber.spans g.S.Subscriber.attaches g.S.Subscriber.kept g.S.Subscriber.is_whole g.S.Subscriber.does g.met.S.Subscriber.sound g.met.S.Subscriber.allowed g.met.S.Subscriber.shows g.met.S.Subscriber.lanes g.met.S.Subscriber.keeps_whole c.args.at c.args.span.now.held c.args.world.now c.open_entry.new.world c.args.lane.now c.open_entry.new.lane
+    begun g.S.Subscriber.spans g.S.Subscriber.attaches g.S.Subscriber.kept g.S.Subscriber.is_whole g.S.Subscriber.does g.met.S.Subscriber.sound g.met.S.Subscriber.allowed g.met.S.Subscriber.shows g.met.S.Subscriber.keeps_lanes g.met.S.Subscriber.keeps_whole c.args.at c.args.span.now.held c.args.world.now c.open_entry.new.world c.args.lane.now c.open_entry.new.lane
     (record { entered = c.in-Ok.ensures.did; none = c.open_entry.ensures.none })
 
 pub returns-in-Ok-clause-moments : goal.returns-in-Ok-clause-moments

@@ -14,7 +14,7 @@ returns-in_err-span-clause-moments g c =
 
 pub returns-clause-keeps : goal.returns-clause-keeps
 returns-clause-keeps g c =
-    made_lent g.S.Subscriber.spans g.S.Subscriber.kept g.S.Subscriber.is_whole g.S.Subscriber.attaches g.S.Subscriber.does g.met.S.Subscriber.shows g.met.S.Subscriber.lanes g.met.S.Subscriber.keeps_whole c.args.world.now c.new.new.world c.args.lane.now c.args.at parent.Current c.args.site c.args.values.now (dispatch_on c.args.lane.now.default c.args.world.now.global) c.in_ok-span.span c.new.ensures.makes.keeps.known c.in_ok-span.ensures.makes.ok
+    made_lent g.S.Subscriber.spans g.S.Subscriber.kept g.S.Subscriber.is_whole g.S.Subscriber.attaches g.S.Subscriber.does g.met.S.Subscriber.shows g.met.S.Subscriber.keeps_lanes g.met.S.Subscriber.keeps_whole c.args.world.now c.new.new.world c.args.lane.now c.args.at parent.Current c.args.site c.args.values.now (dispatch_on c.args.lane.now.default c.args.world.now.global) c.in_ok-span.span c.new.ensures.makes.keeps.known c.in_ok-span.ensures.makes.ok
 
 pub returns-clause-moments : goal.returns-clause-moments
 returns-clause-moments g c =

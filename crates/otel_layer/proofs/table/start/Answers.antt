@@ -1,6 +1,6 @@
 -- The span is found, or isn't known.
 use Rattle.std.proofs.Common.{Some, sym, refl, ◌∙◌, ap}
-use Rattle.otel_layer.proofs.Common.{context_at}
+use Rattle.otel_layer.proofs.Common.{own_context_if_known}
 use Rattle.otel_layer.proofs.TableLemmas.{no_gap, found_read, found_update, found_same, found_ids, not_read}
 use Rattle.otel_layer.proofs.StartsLemmas.{started_in, shown_in, unstarted}
 use Rattle.otel_layer.proofs.table.start.Goals as goal
@@ -32,4 +32,4 @@ pub returns-in-None-clause-starts : goal.returns-in-None-clause-starts
 returns-in-None-clause-starts g c = unstarted g.T.Tracer.does c.args.id c.args.at _ _ c.args.tracer.now (not_read (λ s. s.span_data) c.args.id c.args.entries.now (sym c.find.ensures ∙ c.in-None.is))
 
 pub returns-in-None-clause-context : goal.returns-in-None-clause-context
-returns-in-None-clause-context g c = sym (ap context_at (not_read (λ s. s.span_data) c.args.id c.args.entries.now (sym c.find.ensures ∙ c.in-None.is)))
+returns-in-None-clause-context g c = sym (ap own_context_if_known (not_read (λ s. s.span_data) c.args.id c.args.entries.now (sym c.find.ensures ∙ c.in-None.is)))

@@ -10,5 +10,5 @@ invariant-loop g l = record {
   copies : All (λ t. IsFirst l.origin.first.value (arc_value t)) l.copies.items;
   count : vec_len l.made ≡ l.counter;
   room : vec_capacity l.made ≡ l.readers;
-  readers : All (IsNewReader (arc_value l.origin.home.value.board).shared.table_id l.origin.first.value) l.made.items;
+  readers : All (IsNewReader (arc_value l.origin.factory.value.board).shared.table_id l.origin.first.value) l.made.items;
 }

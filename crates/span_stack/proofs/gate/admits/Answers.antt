@@ -1,7 +1,7 @@
 -- By the rule of the gate, since the subscriber that serves the lane is asked.
 use Rattle.std.proofs.Common.{subst}
 use Rattle.span_handles.specs.Handles.{HasIf}
-use Rattle.span_stack.specs.Reading.{Stacks}
+use Rattle.span_stack.specs.Reading.{SubscriberStack}
 use Rattle.span_stack.proofs.Common.{Admits}
 use Rattle.span_stack.proofs.hooks.AdmissionLemmas.{hint_over, enables_over, admits_by_rule}
 use Rattle.span_stack.proofs.gate.admits.Goals as goal

@@ -1,6 +1,6 @@
 -- A record is all that is gone.
 use Rattle.std.proofs.Common.{refl, ap, None}
-use Rattle.span_stack.proofs.Common.{no_recording, stack_recording, stack_counting_filter, stack_interest, without_first}
+use Rattle.span_stack.proofs.Common.{no_recording, stack_recording, stack_counting_filter, stack_interest, without_oldest_record}
 use Rattle.span_stack.proofs.worlds.FreshInterestsLemmas.{fresh_later}
 use Rattle.span_stack.proofs.hooks.TakenRecordsLemmas.{one_less, taken_recorded, taken_counts_by, whole_left}
 use Rattle.span_stack.proofs.worlds.ViewsLemmas.{leave_alike, kept_place, read_two}
@@ -16,7 +16,7 @@ pub returns-clause-current : goal.returns-clause-current
 returns-clause-current c = λ old new dispatch r. fresh_later stack_interest _ (λ s t e. ap stack_interest e) old new dispatch r
 
 pub returns-clause-others : goal.returns-clause-others
-returns-clause-others c = λ old new dispatch r. leave_alike _ _ _ _ without_first (λ s. refl) (λ s. refl) (λ s. refl)
+returns-clause-others c = λ old new dispatch r. leave_alike _ _ _ _ without_oldest_record (λ s. refl) (λ s. refl) (λ s. refl)
     (λ s w. record {
       inner = record {
         inner = record {

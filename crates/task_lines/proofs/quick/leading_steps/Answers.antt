@@ -35,6 +35,6 @@ loop-preserved c =
     let p : Pair = (b.1.0, b.0) in (
       ps ++ p ∷ [],
       AllRead-push (MAX_DEPTH + 3) ps p c.loop.invariant.1 b.1.2,
-      items_on c.in_ok-rest.rest.now c.loop.rest.now c.in_ok-next.after.now c.in-Some-word.more.now ps p c.loop.invariant.2 b.1.1 c.in-Some-word.ensures,
+      items_on c.in_ok-rest.rest.now c.loop.rest.now c.in_ok-next.after.now c.in-Some-behind_word.more.now ps p c.loop.invariant.2 b.1.1 c.in-Some-behind_word.ensures,
       step_more ps p c.loop.steps.items c.push_step.new.steps.items c.in_ok-next.next c.loop.invariant.3 b.2 c.in_ok-push_step.ensures,
     )

@@ -1,6 +1,6 @@
 use Rattle.std.proofs.Common.{◌≡◌, ◌+◌, ◌∙◌, ◌∷◌, List, refl, subst}
 use Rattle.thread_script.specs.declared.script.WorkerOp.{WorkerOp}
-use Rattle.thread_script.specs.Plans.{AreTimed, last_moment}
+use Rattle.thread_script.specs.Plans.{MomentsInRange, last_moment}
 use Rattle.thread_handles.specs.Works.{AllAtWork}
 use Rattle.thread_handles.proofs.WorkLemmas.{did_all}
 use Rattle.thread_handles.proofs.worker.make_calls.Goals as goal
@@ -9,7 +9,7 @@ pub loop-op-preserved : goal.loop-op-preserved
 loop-op-preserved g c =
     let i = c.loop-op.invariant in
     let e : c.loop-op.ops.items ≡ c.in-Some.op ∷ c.pop_front.new.self.items = c.in-Some.ensures.items in
-    let timed : AreTimed (c.in-Some.op ∷ c.pop_front.new.self.items) = subst AreTimed e i.timed in
+    let timed : MomentsInRange (c.in-Some.op ∷ c.pop_front.new.self.items) = subst MomentsInRange e i.timed in
     let all = c.args.ops.now.items in
     let before = subst (λ (l : List WorkerOp). AllAtWork c.args.plan.now (c.args.worker + 1) (last_moment all) all l c.args.handles.now c.loop-op.handles) e i.working in
     record {

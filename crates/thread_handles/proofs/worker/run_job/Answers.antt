@@ -1,7 +1,7 @@
 use Rattle.std.proofs.Common.{[], sym, subst, ◌∙◌, ◌+◌, ap, List, length}
 use Rattle.trace_threads.specs.Handles.{SharedHandle}
 use Rattle.thread_script.specs.Plans.{last_moment}
-use Rattle.thread_handles.specs.Works.{AreTimedSpans, AllReleased, AllAtWork}
+use Rattle.thread_handles.specs.Works.{SpanMomentsInRange, AllReleased, AllAtWork}
 use Rattle.thread_handles.proofs.WorkLemmas.{made_low, last_low, all_left, on_done, no_held}
 use Rattle.thread_handles.proofs.ClonesLemmas.{take_front}
 use Rattle.thread_handles.proofs.worker.run_job.Goals as goal
@@ -12,7 +12,7 @@ end_all-requires-clause-moments g c =
     let len = c.make_calls.ensures.len in
     let value = c.as_mut_slice.ensures.value in
     let len' = len ∙ ap length value in
-    subst (λ (l : List SharedHandle). AreTimedSpans c.args.plan.now (length l)) (sym (take_front c.args.job.now.handles.len c.make_calls.new.handles _ (len' ∙ sym ok)))
+    subst (λ (l : List SharedHandle). SpanMomentsInRange c.args.plan.now (length l)) (sym (take_front c.args.job.now.handles.len c.make_calls.new.handles _ (len' ∙ sym ok)))
     (made_low c.args.plan.now c.args.job.now.handles.items (length c.make_calls.new.handles) no_held (sym len') c.requires.ready.made)
 
 pub end_all-requires-clause-last : goal.end_all-requires-clause-last

@@ -8,7 +8,7 @@ returns-in-Clone-clause-counted c before all = counted_other before c.args.entry
 
 pub returns-in_ok-number-in-Call-clause-counted : goal.returns-in_ok-number-in-Call-clause-counted
 returns-in_ok-number-in-Call-clause-counted c before all =
-    counted_call before c.args.entry.now c.args.counts.now.items c.next_call.new.counts.items (ap one_if_call c.in-Call.is) c.in_ok-number-in-Call.ensures.counted all
+    counted_call before c.args.entry.now c.args.counts.now.items c.take_call_number.new.counts.items (ap one_if_call c.in-Call.is) c.in_ok-number-in-Call.ensures.counted all
 
 pub returns-in-Join-clause-counted : goal.returns-in-Join-clause-counted
 returns-in-Join-clause-counted c before all = counted_other before c.args.entry.now c.args.counts.now.items (ap one_if_call c.in-Join.is) all

@@ -3,7 +3,7 @@ use Rattle.std.specs.Prelude.{Option}
 use Rattle.otel_base.specs.declared.context.SpanContext.{SpanContext}
 use Rattle.trace_base.specs.declared.callsite.Callsite.{Callsite}
 use Rattle.trace_base.specs.declared.field.Value.{Value}
-use Rattle.thread_run.specs.Spans.{IsLane}
+use Rattle.thread_run.specs.Spans.{IsFirstLane}
 use Rattle.thread_run.proofs.ListLemmas.{any_default}
 use Rattle.thread_run.proofs.MakingLemmas.{low_at, site_low, made_where}
 use Rattle.thread_run.proofs.spans.make_span.Goals as goal
@@ -34,7 +34,7 @@ returns c = record {
       (rw c.as_slice.ensures (any_default c.args.script.now.shared c.args.place (record { at = 0; site = 0 }) _ c.requires.place))
       (rw c.as_slice.ensures (site_low c.args.script.now.callsites c.args.script.now.shared c.args.place (record { at = 0; site = 0 }) c.requires.script.shared c.requires.place))
       (subst (λ (cs : List Callsite). site ≡ slice_index_or cs line.site site) c.as_slice-2.ensures c.index-as_slice-line.is)
-      (subst (λ ls. IsLane ls c.in_ok-lane.lane) c.as_slice-3.ensures c.in_ok-lane.ensures)
+      (subst (λ ls. IsFirstLane ls c.in_ok-lane.lane) c.as_slice-3.ensures c.in_ok-lane.ensures)
       (ap (λ (t : ℕ). record { trace = t; span = c.args.place + 1 }) c.from.ensures) (ap (λ (s : Option SpanContext). record { span = s }) c.empty.ensures) (ap (λ (p : List (ℕ × Value)). record { pairs = p }) c.new.ensures)
       c.make.ensures.view c.make.ensures.number;
 }

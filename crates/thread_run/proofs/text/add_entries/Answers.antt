@@ -3,7 +3,7 @@ use Rattle.std.specs.Prelude.{slice_index_or}
 use Rattle.serde_json.specs.Written.{compact_text, comma_if, items_text}
 use Rattle.trace_lines.specs.reading.Object.{items}
 use Rattle.trace_lines.proofs.texts.AddsLemmas.{begun, then, retold, item_added, items_added}
-use Rattle.thread_run.specs.declared.entry.EntryText.{EntryText}
+use Rattle.thread_run.specs.declared.entry.EntryDeed.{EntryDeed}
 use Rattle.thread_run.specs.declared.entry.Deed.TheVariants as deed
 use Rattle.thread_run.specs.Texts.{entry_data}
 use Rattle.thread_run.proofs.ListLemmas.{any_default}
@@ -17,7 +17,7 @@ loop-entry-preserved c =
     let w = c.loop-entry.invariant.0 in
     let xs = c.args.entries.now in
     let i = c.loop-entry.entry-index in
-    let none : EntryText = record { caller = 0; deed = deed.Clone } in
+    let none : EntryDeed = record { caller = 0; deed = deed.Clone } in
     let x = slice_index_or xs i none in
     let text = comma_if c.loop-entry.later ++ compact_text (entry_data x) in (
       w ++ text,

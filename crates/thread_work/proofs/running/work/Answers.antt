@@ -23,7 +23,7 @@ work_over-requires-clause-jobs g c κs within =
     (subst (λ (p : Plan). AreFirsts p c.args.spans.items) (sym w.plan) c.requires.spans).0
     (subst (λ (p : Plan). AllValidWork p c.args.script.workers) (sym w.plan) c.requires.tested)
     (subst (λ (p : Plan). AllAtOpening g.G.EventGate.opening p.filter c.args.script.workers c.args.gates.items) (sym w.plan) c.requires.gates)
-    (subst (λ n. AllUnstarted n c.in-Ok.field-0.jobs.items) count w.begun)
+    (subst (λ n. AllUnstarted n c.in-Ok.field-0.jobs.items) count w.unstarted)
 
 pub returns-in-Ok-clause-ended : goal.returns-in-Ok-clause-ended
 returns-in-Ok-clause-ended g c =

@@ -16,14 +16,14 @@ left_false false b e = refl
 pub absorb-requires-clause-rule : goal.absorb-requires-clause-rule
 absorb-requires-clause-rule g c =
     let s = c.requires.serving in
-    merges _ _ _ _ c.args.lane s.known s.got (map (sent_of g.F.Finished.text) (take c.args.ended.sent (get_or c.args.lists.now c.args.lane []))) s.knows c.requires.sends.1
+    merges _ _ _ _ c.args.lane s.known s.got (map (sent_of g.F.Finished.text) (take c.args.ended.sent_count (get_or c.args.lists.now c.args.lane []))) s.knows c.requires.sends.1
 
 pub returns-clause-serving : goal.returns-clause-serving
 returns-clause-serving g c =
     let s = c.requires.serving in
     let lists : List (List (Item g.row.F.Denot)) = c.args.lists.now in
     let lane = c.args.lane in
-    let sent = c.args.ended.sent in
+    let sent = c.args.ended.sent_count in
     let list : List (Item g.row.F.Denot) = get_or lists lane [] in
     let w : Writer = c.args.writer.now in
     let v : Writer = record { pass = c.absorb.new.pass; taken = w.taken; late = c.serve_rest.new.late; lacks_memory = c.serve_rest.new.lacks_memory } in

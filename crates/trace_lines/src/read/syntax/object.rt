@@ -4,7 +4,7 @@ ghost use Rattle.serde_json.specs.Find.{get_member, as_object};
 ghost use Rattle.trace_lines.specs.reading.Gives.{Gives};
 ghost use Rattle.trace_lines.specs.reading.Spelled.{line_members};
 ghost use Rattle.trace_lines.specs.reading.Left.{value_data, members_left};
-ghost use Rattle.trace_lines.specs.forms.Forms.{at_most};
+ghost use Rattle.trace_lines.specs.forms.Forms.{if_at_most};
 ghost use Rattle.trace_lines.specs.reading.Object.{items};
 
 use crate::read::LineError;
@@ -27,8 +27,8 @@ pub enum Object<'a> {
 }
 
 /// A whole number up to the greatest.
-pub(crate) fn at_most(greatest: u64, number: u64) -> Result<u64, LineError>
-    ensures { Gives (λ n. n) result (at_most greatest number) }
+pub(crate) fn if_at_most(greatest: u64, number: u64) -> Result<u64, LineError>
+    ensures { Gives (λ n. n) result (if_at_most greatest number) }
 {
     if number <= greatest {
         Ok(number)
@@ -39,7 +39,7 @@ pub(crate) fn at_most(greatest: u64, number: u64) -> Result<u64, LineError>
 
 // A whole number of 32 bits.
 fn u32_of(number: u64) -> Result<u32, LineError>
-    ensures { Gives (λ n. n) result (at_most (2 ^ 32 - 1) number) }
+    ensures { Gives (λ n. n) result (if_at_most (2 ^ 32 - 1) number) }
 {
     u32::try_from(number).map_err(|_| LineError::BadLine)
 }
@@ -121,7 +121,7 @@ impl<'a> Object<'a> {
     pub(crate) fn whole_to(&mut self, greatest: u64, name: &str) -> Result<u64, LineError>
         ensures { Gives (λ n. (n, members_left self.new)) result (whole_to greatest name.now (members_left self.old)) }
     {
-        at_most(greatest, self.whole(name)?)
+        if_at_most(greatest, self.whole(name)?)
     }
 
     /// Takes a text, to be kept.

@@ -97,7 +97,7 @@ fn whole_value(bytes: &[u8]) -> Option<(Plain<'_>, &[u8])>
 }
 
 // The number that is so far below zero. None where it isn't below, or may have more than 64 bits.
-fn below_zero(whole: u64) -> Option<i64>
+fn negative_of(whole: u64) -> Option<i64>
     ensures number { IfSome result (λ number. number ≡ negsuc (whole - 1)) }
     ensures fits { IfSome result (λ _. (0 < whole) × (whole < 2 ^ 63)) }
 {
@@ -109,29 +109,29 @@ fn below_zero(whole: u64) -> Option<i64>
 }
 
 // A number below zero that is no less than -2^63 + 1.
-fn below_value(bytes: &[u8]) -> Option<(Plain<'_>, &[u8])>
+fn negative_value(bytes: &[u8]) -> Option<(Plain<'_>, &[u8])>
     ensures { IfSome result (λ r. BeginsWithValue 0 bytes.now (plain_data r.0) r.1.now) }
 {
     let digits = behind(bytes, b'-')?;
     let (whole, rest) = number(digits)?;
-    let number = below_zero(whole)?;
-    Some((Plain::Below(number), rest))
+    let number = negative_of(whole)?;
+    Some((Plain::Negative(number), rest))
 }
 
 #[tactic(auto, using(crate::proofs::readings::CompactLemmas::flag_begins))]
 fn flag_value(bytes: &[u8]) -> Option<(Plain<'_>, &[u8])>
     ensures { IfSome result (λ r. BeginsWithValue 0 bytes.now (plain_data r.0) r.1.now) }
 {
-    if let Some(rest) = word(bytes, b"true") {
+    if let Some(rest) = behind_word(bytes, b"true") {
         return Some((Plain::Flag(true), rest));
     }
-    let rest = word(bytes, b"false")?;
+    let rest = behind_word(bytes, b"false")?;
     Some((Plain::Flag(false), rest))
 }
 
 /// What stands behind a word.
 #[inline(always)]
-pub fn word<'a>(text: &'a [u8], word: &[u8]) -> Option<&'a [u8]>
+pub fn behind_word<'a>(text: &'a [u8], word: &[u8]) -> Option<&'a [u8]>
     ensures { IfSome result (λ rest. text.now ≡ word.now ++ rest.now) }
 {
     if text.len() < word.len() {
@@ -158,7 +158,7 @@ fn leaf(bytes: &[u8]) -> Option<(Plain<'_>, &[u8])>
     match bytes[0] {
         b'"' => text_value(bytes),
         b't' | b'f' => flag_value(bytes),
-        b'-' => below_value(bytes),
+        b'-' => negative_value(bytes),
         _ => whole_value(bytes),
     }
 }

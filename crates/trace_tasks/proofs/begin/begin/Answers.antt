@@ -8,7 +8,7 @@ pub returns-in-Ok-clause-ok : goal.returns-in-Ok-clause-ok
 returns-in-Ok-clause-ok g c =
     let span = ap (λ f. f.span) c.instrument.ensures in
     begins g.S.Subscriber.spans g.S.Subscriber.hint g.S.Subscriber.enables g.S.Subscriber.attaches g.S.Subscriber.kept g.S.Subscriber.is_whole g.S.Subscriber.does g.S.OtelPart.touches
-    g.met.S.Subscriber.shows g.met.S.Subscriber.lanes g.met.S.Subscriber.keeps_whole
+    g.met.S.Subscriber.shows g.met.S.Subscriber.keeps_lanes g.met.S.Subscriber.keeps_whole
     c.args.task c.args.lane.now c.args.world.now c.make.new.world c.instrument.result
     (subst (λ (h : Handle). MakesTaskSpan g.S.Subscriber.spans g.S.Subscriber.hint g.S.Subscriber.enables g.S.Subscriber.does g.S.OtelPart.touches c.args.task.site c.args.task.fields c.args.lane.now c.args.world.now c.make.new.world h) (sym span)
     (subst (λ (n : ℕ). MakesTaskSpan g.S.Subscriber.spans g.S.Subscriber.hint g.S.Subscriber.enables g.S.Subscriber.does g.S.OtelPart.touches n c.args.task.fields c.args.lane.now c.args.world.now c.make.new.world c.in-Ok.span) c.in-Some.ensures.some.0 c.in-Ok.ensures.ok))

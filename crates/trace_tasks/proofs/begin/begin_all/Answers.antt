@@ -1,6 +1,6 @@
 -- One task more.
 use Rattle.std.proofs.Common.{◌≡◌, ◌∙◌, ◌++◌, ◌∷◌, [], List, length, append_assoc, ap, sym, subst, rules, refl}
-use Rattle.trace_tasks.proofs.Common.{Instrumented, TaskFuture, Task, untouched, AllHaveCallsites, AreBegun, StopsBeginning, dispatch_serving, AllKnown}
+use Rattle.trace_tasks.proofs.Common.{Instrumented, TaskFuture, Task, untouched, AllHaveCallsites, AreBegun, StopsBeginning, dispatch_serving, AllKnownAndApart}
 use Rattle.trace_tasks.proofs.queues.BegunTasksLemmas.{on_err, none_begun, one_more_begun, known_stays}
 use Rattle.trace_tasks.proofs.queues.QueueLemmas.{all_known}
 use Rattle.trace_tasks.proofs.begin.begin_all.Goals as goal
@@ -16,11 +16,11 @@ loop-task-init g c =
 
 pub returns-in_err-reserve-clause-known : goal.returns-in_err-reserve-clause-known
 returns-in_err-reserve-clause-known g c =
-    subst (λ (fs : List (Instrumented TaskFuture)). AllKnown g.S.Subscriber.spans c.loop-task.world fs) (sym c.reserve.ensures.items) (all_known g.S.Subscriber.spans c.loop-task.world (dispatch_serving c.args.lane.now) c.loop-task.queue.items c.loop-task.invariant.3.wait)
+    subst (λ (fs : List (Instrumented TaskFuture)). AllKnownAndApart g.S.Subscriber.spans c.loop-task.world fs) (sym c.reserve.ensures.items) (all_known g.S.Subscriber.spans c.loop-task.world (dispatch_serving c.args.lane.now) c.loop-task.queue.items c.loop-task.invariant.3.wait)
 
 pub returns-in_err-begun-clause-known : goal.returns-in_err-begun-clause-known
 returns-in_err-begun-clause-known g c =
-    subst (λ (fs : List (Instrumented TaskFuture)). AllKnown g.S.Subscriber.spans c.begin.new.world fs) (sym c.reserve.ensures.items)
+    subst (λ (fs : List (Instrumented TaskFuture)). AllKnownAndApart g.S.Subscriber.spans c.begin.new.world fs) (sym c.reserve.ensures.items)
     (known_stays g.S.Subscriber.spans c.loop-task.world c.begin.new.world c.loop-task.queue.items c.begin.ensures.keeps (all_known g.S.Subscriber.spans c.loop-task.world (dispatch_serving c.args.lane.now) c.loop-task.queue.items c.loop-task.invariant.3.wait))
 
 pub returns-clause-known : goal.returns-clause-known

@@ -1,6 +1,6 @@
 -- The others stay known.
 use Rattle.std.proofs.Common.{◌≡◌, [], List, subst, arith}
-use Rattle.trace_tasks.proofs.Common.{common_steps, Instrumented, TaskFuture, AllKnown}
+use Rattle.trace_tasks.proofs.Common.{common_steps, Instrumented, TaskFuture, AllKnownAndApart}
 use Rattle.trace_tasks.proofs.queues.LeftHandlesLemmas.{closing_first, closing_more, closed_all}
 use Rattle.trace_tasks.proofs.queues.QueueLemmas.{known_after}
 use Rattle.trace_tasks.proofs.polls.TurnLemmas.{closed_whole}
@@ -8,7 +8,7 @@ use Rattle.trace_tasks.proofs.queue.close_all.Goals as goal
 
 pub loop-task-preserved : goal.loop-task-preserved
 loop-task-preserved g c =
-    let known = subst (λ (xs : List (Instrumented TaskFuture)). AllKnown g.S.Subscriber.spans c.loop-task.world xs) c.in-Some.ensures.items c.loop-task.invariant.known in
+    let known = subst (λ (xs : List (Instrumented TaskFuture)). AllKnownAndApart g.S.Subscriber.spans c.loop-task.world xs) c.in-Some.ensures.items c.loop-task.invariant.known in
     record {
       known = known_after g.S.Subscriber.spans c.loop-task.world c.into_inner-ended.new.world c.in-Some.task c.pop_front.new.self.items (λ held apart k. c.into_inner-ended.ensures.keeps.known held apart k) known.1 known.2;
       whole = closed_whole g.S.Subscriber.spans g.S.Subscriber.is_whole g.S.Subscriber.does g.met.S.Subscriber.keeps_whole c.args.at c.in-Some.task.span.held c.loop-task.world c.into_inner-ended.new.world c.into_inner-ended.ensures.did c.loop-task.invariant.whole;

@@ -4,17 +4,17 @@ use Rattle.trace_tree.specs.declared.span.TreeSpan.{TreeSpan}
 use Rattle.trace_tree.proofs.Indexing.{parent_none, parent_some}
 use Rattle.trace_tree.proofs.adjacency.parent_place.Goals as goal
 
-pub returns-then-is_parent : goal.returns-then-is_parent
-returns-then-is_parent c =
+pub returns-then-may_be_parent : goal.returns-then-may_be_parent
+returns-then-may_be_parent c =
     let r : TreeSpan = c.args.one.now in
-    let test = ap (λ (x : TreeSpan). (x.trace == r.trace) && ltb r.parent r.span) (sym c.index-finished-place.is) ∙ sym c.is_parent.ensures ∙ c.if-is_parent.true in
+    let test = ap (λ (x : TreeSpan). (x.trace == r.trace) && ltb r.parent r.span) (sym c.index-finished-place.is) ∙ sym c.may_be_parent.ensures ∙ c.if-may_be_parent.true in
     sym (ap (λ (b : Bool). cond b (Some c.in-Some.place) None) test)
     ∙ parent_some c.args.finished.now r c.args.index.now c.in-Some.place c.index-finished-place.result c.requires.distinct c.requires.index (sym c.place_of.ensures ∙ c.in-Some.is)
 
-pub returns-else-is_parent : goal.returns-else-is_parent
-returns-else-is_parent c =
+pub returns-else-may_be_parent : goal.returns-else-may_be_parent
+returns-else-may_be_parent c =
     let r : TreeSpan = c.args.one.now in
-    let test = ap (λ (x : TreeSpan). (x.trace == r.trace) && ltb r.parent r.span) (sym c.index-finished-place.is) ∙ sym c.is_parent.ensures ∙ c.if-is_parent.false in
+    let test = ap (λ (x : TreeSpan). (x.trace == r.trace) && ltb r.parent r.span) (sym c.index-finished-place.is) ∙ sym c.may_be_parent.ensures ∙ c.if-may_be_parent.false in
     sym (ap (λ (b : Bool). cond b (Some c.in-Some.place) None) test)
     ∙ parent_some c.args.finished.now r c.args.index.now c.in-Some.place c.index-finished-place.result c.requires.distinct c.requires.index (sym c.place_of.ensures ∙ c.in-Some.is)
 

@@ -2,7 +2,7 @@
 use Rattle.std.proofs.Common.{◌≡◌, ℕ, ◌+◌, ◌<◌, List, [], ◌∷◌, ◌++◌, length, map, reverse, get_or, ap, sym, ◌∙◌, subst, arith, rules, length-append}
 use Rattle.std.proofs.lemmas.List.{get_or_default, reverse-append, reverse-reverse}
 use Rattle.trace_tree.specs.declared.node.Node.{Node}
-use Rattle.trace_tree.specs.Walking.{node_at}
+use Rattle.trace_tree.specs.Walking.{node_with}
 use Rattle.trace_tree.proofs.Visits.{Visits, visits_start, visits_step, visits_end, next_within, next_fits}
 use Rattle.trace_tree.proofs.walk.walk.Goals as goal
 
@@ -12,10 +12,10 @@ pushed ws xs = reverse-append ws (reverse xs) ∙ ap (λ (l : List Node). l ++ r
 
 pub loop-node-init : goal.loop-node-init
 loop-node-init c =
-    let waits : c.push_all.new.stack.items ≡ reverse (map (node_at 0) c.args.adjacency.now.roots) =
-    c.in_ok-push_all.ensures ∙ ap (λ (l : List Node). l ++ reverse (map (node_at 0) c.as_slice.result.now)) c.new-stack.ensures.items ∙ ap (λ (l : List ℕ). reverse (map (node_at 0) l)) c.as_slice.ensures in
+    let waits : c.push_all.new.stack.items ≡ reverse (map (node_with 0) c.args.adjacency.now.roots) =
+    c.in_ok-push_all.ensures ∙ ap (λ (l : List Node). l ++ reverse (map (node_with 0) c.as_slice.result.now)) c.new-stack.ensures.items ∙ ap (λ (l : List ℕ). reverse (map (node_with 0) l)) c.as_slice.ensures in
     let V : List Node × List Node → Type 0 = λ p. Visits c.args.finished.now p.0 p.1 in
-    let order = ap reverse waits ∙ reverse-reverse (map (node_at 0) c.args.adjacency.now.roots) in
+    let order = ap reverse waits ∙ reverse-reverse (map (node_with 0) c.args.adjacency.now.roots) in
     subst V (λ i. (sym c.new-nodes.ensures.items i, sym order i)) (visits_start c.args.finished.now c.args.adjacency.now c.requires)
 
 pub index-requires : goal.index-requires
@@ -44,9 +44,9 @@ loop-node-preserved c =
     (let h = next_within c.args.finished.now c.loop-node.nodes.items c.in-Some.node (reverse c.pop.new.self.items) v in let s = c.requires.size in omega arith) in
     let under : c.as_slice-children.result.now ≡ get_or c.args.adjacency.now.children.items c.in-Some.node.place [] =
     c.as_slice-children.ensures ∙ c.index.ensures ∙ get_or_default c.args.adjacency.now.children.items c.in-Some.node.place c.index.result.now [] inside in
-    let waits : c.push_all-in-Some.new.stack.items ≡ c.pop.new.self.items ++ reverse (map (node_at (c.in-Some.node.depth + 1)) (get_or c.args.adjacency.now.children.items c.in-Some.node.place [])) =
-    c.in_ok-push_all-2.ensures ∙ ap (λ (l : List ℕ). c.pop.new.self.items ++ reverse (map (node_at (c.in-Some.node.depth + 1)) l)) under in
-    let order = ap reverse waits ∙ pushed c.pop.new.self.items (map (node_at (c.in-Some.node.depth + 1)) (get_or c.args.adjacency.now.children.items c.in-Some.node.place [])) in
+    let waits : c.push_all-in-Some.new.stack.items ≡ c.pop.new.self.items ++ reverse (map (node_with (c.in-Some.node.depth + 1)) (get_or c.args.adjacency.now.children.items c.in-Some.node.place [])) =
+    c.in_ok-push_all-2.ensures ∙ ap (λ (l : List ℕ). c.pop.new.self.items ++ reverse (map (node_with (c.in-Some.node.depth + 1)) l)) under in
+    let order = ap reverse waits ∙ pushed c.pop.new.self.items (map (node_with (c.in-Some.node.depth + 1)) (get_or c.args.adjacency.now.children.items c.in-Some.node.place [])) in
     let V : List Node × List Node → Type 0 = λ p. Visits c.args.finished.now p.0 p.1 in
     subst V (λ i. (sym c.in_ok-push.ensures.items i, sym order i)) more
 

@@ -18,4 +18,4 @@ pub returns : goal.returns
 returns c =
     let parts : cut_once (codes "=") c.args.text.now ≡ Some (c.in-Some.front.now, c.in-Some.level.now) = cut_some 61 [] c.args.text.now _ _ c.in-Some.ensures.cases in
     let once : is_some (cut_once (codes "=") c.in-Some.level.now) ≡ false = sym (contained 61 [] c.in-Some.level.now _ c.contains.ensures.cases) ∙ c.if-contains.false in
-    rw (parts, once) c.with_equals.ensures
+    rw (parts, once) c.static_with_equals.ensures

@@ -7,7 +7,7 @@ use Rattle.explain_stack.proofs.scene.Scene.enter.Goals as goal
 
 pub returns-in-Ok-clause-keeps : goal.returns-in-Ok-clause-keeps
 returns-in-Ok-clause-keeps g c = record {
-  order = entered_stands g.S.Subscriber.spans g.S.Subscriber.attaches g.S.Subscriber.kept g.S.Subscriber.is_whole g.S.Subscriber.does g.met.S.Subscriber.shows g.met.S.Subscriber.lanes g.met.S.Subscriber.keeps_whole c.args.self.now.dispatch c.args.self.now.span_count c.args.self.now.site_count c.args.span.now.held c.args.self.now.world c.open_entry.new.world c.args.at c.args.self.now.lane c.open_entry.new.lane c.args.self.now.other c.in-Ok.ensures.did c.open_entry.ensures.none c.requires.order;
+  order = entered_stands g.S.Subscriber.spans g.S.Subscriber.attaches g.S.Subscriber.kept g.S.Subscriber.is_whole g.S.Subscriber.does g.met.S.Subscriber.shows g.met.S.Subscriber.keeps_lanes g.met.S.Subscriber.keeps_whole c.args.self.now.dispatch c.args.self.now.span_count c.args.self.now.site_count c.args.span.now.held c.args.self.now.world c.open_entry.new.world c.args.at c.args.self.now.lane c.open_entry.new.lane c.args.self.now.other c.in-Ok.ensures.did c.open_entry.ensures.none c.requires.order;
   known = c.open_entry.ensures.keeps.known;
   site_count = refl;
 }

@@ -17,7 +17,7 @@ returns-in_err-follows_from g c = record {
 pub returns-in_ok-follows_from : goal.returns-in_ok-follows_from
 returns-in_ok-follows_from g c = record {
   keeps = record {
-    order = followed_stands g.S.Subscriber.spans g.S.Subscriber.attaches g.S.Subscriber.kept g.S.Subscriber.is_whole g.S.Subscriber.does g.met.S.Subscriber.shows g.met.S.Subscriber.lanes g.met.S.Subscriber.keeps_whole c.args.self.now.world c.follows_from.new.world c.args.at c.args.self.now.dispatch c.args.self.now.span_count c.args.self.now.site_count c.args.self.now.lane c.args.self.now.other c.requires.order c.args.span.now.held c.args.from.now.held c.in_ok-follows_from.ensures.did;
+    order = followed_stands g.S.Subscriber.spans g.S.Subscriber.attaches g.S.Subscriber.kept g.S.Subscriber.is_whole g.S.Subscriber.does g.met.S.Subscriber.shows g.met.S.Subscriber.keeps_lanes g.met.S.Subscriber.keeps_whole c.args.self.now.world c.follows_from.new.world c.args.at c.args.self.now.dispatch c.args.self.now.span_count c.args.self.now.site_count c.args.self.now.lane c.args.self.now.other c.requires.order c.args.span.now.held c.args.from.now.held c.in_ok-follows_from.ensures.did;
     known = c.follows_from.ensures.keeps.known;
     site_count = refl;
   };

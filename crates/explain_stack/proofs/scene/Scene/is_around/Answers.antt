@@ -8,5 +8,5 @@ returns-clause-around g c = record {
   between = c.put_around-future.new.self.world;
   put = c.put_around-future.ensures.current;
   is = search rules;
-  closed = c.take_back.ensures.closes;
+  closed = c.close_future.ensures.closes;
 }

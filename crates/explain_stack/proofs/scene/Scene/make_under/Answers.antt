@@ -15,7 +15,7 @@ returns-in_err-span-clause-keeps g c = record {
 pub returns-clause-keeps : goal.returns-clause-keeps
 returns-clause-keeps g c =
     let m = c.in_ok-span.ensures.makes.ok in record {
-      order = grown_stands g.S.Subscriber.spans g.S.Subscriber.attaches g.S.Subscriber.kept g.S.Subscriber.is_whole g.S.Subscriber.does g.met.S.Subscriber.shows g.met.S.Subscriber.lanes g.met.S.Subscriber.keeps_whole c.args.self.now.dispatch c.args.self.now.span_count c.args.self.now.site_count c.args.self.now.world c.child_of_with.new.world c.args.self.now.dispatch m.id c.args.self.now.lane c.args.at _ c.args.site m.callsite c.args.values.now m.made c.args.self.now.lane c.args.self.now.other c.requires.order;
+      order = grown_stands g.S.Subscriber.spans g.S.Subscriber.attaches g.S.Subscriber.kept g.S.Subscriber.is_whole g.S.Subscriber.does g.met.S.Subscriber.shows g.met.S.Subscriber.keeps_lanes g.met.S.Subscriber.keeps_whole c.args.self.now.dispatch c.args.self.now.span_count c.args.self.now.site_count c.args.self.now.world c.child_of_with.new.world c.args.self.now.dispatch m.id c.args.self.now.lane c.args.at _ c.args.site m.callsite c.args.values.now m.made c.args.self.now.lane c.args.self.now.other c.requires.order;
       known = c.child_of_with.ensures.makes.keeps.known;
       site_count = refl;
     }

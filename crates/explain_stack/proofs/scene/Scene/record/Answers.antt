@@ -17,7 +17,7 @@ returns-in_err-record_all g c = record {
 pub returns : goal.returns
 returns g c = record {
   keeps = record {
-    order = recorded_stands g.S.Subscriber.spans g.S.Subscriber.attaches g.S.Subscriber.kept g.S.Subscriber.is_whole g.S.Subscriber.does g.met.S.Subscriber.shows g.met.S.Subscriber.lanes g.met.S.Subscriber.keeps_whole c.args.self.now.world c.record_all.new.world c.args.at c.args.self.now.dispatch c.args.self.now.span_count c.args.self.now.site_count c.args.self.now.lane c.args.self.now.other c.requires.order c.args.values.now c.args.span.now.held _ c.in_ok-record_all.ensures.did;
+    order = recorded_stands g.S.Subscriber.spans g.S.Subscriber.attaches g.S.Subscriber.kept g.S.Subscriber.is_whole g.S.Subscriber.does g.met.S.Subscriber.shows g.met.S.Subscriber.keeps_lanes g.met.S.Subscriber.keeps_whole c.args.self.now.world c.record_all.new.world c.args.at c.args.self.now.dispatch c.args.self.now.span_count c.args.self.now.site_count c.args.self.now.lane c.args.self.now.other c.requires.order c.args.values.now c.args.span.now.held _ c.in_ok-record_all.ensures.did;
     known = c.record_all.ensures.keeps.known;
     site_count = refl;
   };

@@ -3,14 +3,14 @@ use Rattle.std.proofs.Common.{sym, subst, ◌∙◌, ◌<◌, refl}
 use Rattle.otel_layer.proofs.Common.{AreAttached}
 use Rattle.otel_layer.proofs.HookStepsLemmas.{exits, op_unknown, if_is, if_isnt}
 use Rattle.otel_state.specs.declared.op.Op.TheVariants as ops
-use Rattle.otel_layer.specs.Core.{entries_by, kept_in}
+use Rattle.otel_layer.specs.Core.{open_entry_count, kept_in}
 use Rattle.otel_layer.proofs.layer.OpenTelemetryLayer.exit_if_known.Goals as goal
 
 pub take_entry_off-requires-clause-still : goal.take_entry_off-requires-clause-still
 take_entry_off-requires-clause-still g c = subst (λ x. AreAttached (kept_in x) c.args.lane.now) (sym c.put_op.ensures.core) (c.requires.still (sym c.put_op.ensures.known ∙ c.if-put_op.true))
 
 pub take_entry_off-requires-clause-open : goal.take_entry_off-requires-clause-open
-take_entry_off-requires-clause-open g c = subst (λ x. 0 < entries_by x.tokens c.args.lane.now.id c.args.id) (sym c.put_op.ensures.core) (c.requires.open (sym c.put_op.ensures.known ∙ c.if-put_op.true))
+take_entry_off-requires-clause-open g c = subst (λ x. 0 < open_entry_count x.tokens c.args.lane.now.id c.args.id) (sym c.put_op.ensures.core) (c.requires.open (sym c.put_op.ensures.known ∙ c.if-put_op.true))
 
 pub returns-then-put_op : goal.returns-then-put_op
 returns-then-put_op g c =

@@ -7,7 +7,7 @@ use Rattle.otel_layer.proofs.StartsLemmas.{added_early}
 use Rattle.otel_layer.specs.Core.{with_tracer}
 use Rattle.otel_layer.specs.Starts.{StartsEarly}
 use Rattle.otel_layer.specs.Steps.{with_added_span}
-use Rattle.otel_layer.specs.laws.KnownSpansLemmas.{any_quiet}
+use Rattle.otel_layer.specs.laws.KnownSpansLemmas.{starts_if_some_quiet}
 use Rattle.otel_layer.proofs.layer.OpenTelemetryLayer.make.Goals as goal
 
 pub returns : goal.returns
@@ -20,7 +20,7 @@ returns g c =
     let lane = c.args.lane.now in
     let source = c.parent_source-source.result in
     let d = c.add.new.self.core in
-    let unknown = ap (λ xs. list_any (is_id c.args.id) xs) (any_quiet does source c.args.at s between starts).keys ∙ c.requires.unknown in
+    let unknown = ap (λ xs. list_any (is_id c.args.id) xs) (starts_if_some_quiet does source c.args.at s between starts).keys ∙ c.requires.unknown in
     let begun = c.start_early.new.state.span_data in
     let tracer = sym (ap (λ x. x.tracer) c.add.ensures) in
     let rest = c.add.ensures ∙ ap (λ x. with_added_span c.args.id begun x) c.start_early.ensures.core ∙ ap (λ x. with_added_span c.args.id begun (with_tracer x between)) tracer in

@@ -1,7 +1,7 @@
 -- One entry more, which isn't a gap.
 use Rattle.std.proofs.Common.{◌<◌, ◌^◌, List, true, arith, refl, sym, ap, subst, ◌∙◌}
 use Rattle.std.proofs.lemmas.Bool.{true≢false}
-use Rattle.otel_layer.proofs.Common.{Entry, all_data, with_span_data, MayRise, RisesTo}
+use Rattle.otel_layer.proofs.Common.{Entry, all_data, with_span_data, IdsRiseIf, RisesTo}
 use Rattle.otel_layer.proofs.Gaps.{within, read_added}
 use Rattle.otel_layer.proofs.RisingIdsLemmas.{added_kept}
 use Rattle.otel_layer.proofs.table.Table.add.Goals as goal
@@ -23,7 +23,7 @@ invariant_of-self c =
     added_kept c.self.inside.rising c.if-self.self c.self.inside.known old _ _ c.args.state c.in-Ok.ensures.items refl
     (λ is. elim c.if-self.branch [
       | then-self w ↦ subst (λ (xs : List Entry). RisesTo c.args.id xs) w.as_slice.ensures.value (w.is_youngest-self-inside.ensures (sym w.self-is ∙ is)
-          (subst (λ (xs : List Entry). MayRise true xs) (sym w.as_slice.ensures.value) (λ _. c.self.invariant.rises w.if-self.true)))
+          (subst (λ (xs : List Entry). IdsRiseIf true xs) (sym w.as_slice.ensures.value) (λ _. c.self.invariant.rises w.if-self.true)))
       | else-self w ↦ absurd (true≢false (sym is ∙ w.self-is ∙ w.if-self.false))
     ])
     c.self.invariant

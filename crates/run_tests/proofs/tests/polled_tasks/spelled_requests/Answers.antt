@@ -8,7 +8,7 @@ use Rattle.trace_lines.specs.Generated.{generated_settings}
 use Rattle.trace_tape.specs.Tapes.{DoesTape}
 use Rattle.trace_tape.specs.PartCalls.{TouchesTape}
 use Rattle.trace_tasks.specs.Begun.{RunsTasks}
-use Rattle.trace_tasks.specs.Flat.{all_polls, tasks_at_first}
+use Rattle.trace_tasks.specs.Flat.{poll_count, tasks_at_first}
 use Rattle.trace_tasks.specs.Spelled.{TasksAreDeclared, tape_spans}
 use Rattle.trace_tasks.proofs.tapes.NewTapeLemmas.{below_at_first, new_tape, ready}
 use Rattle.trace_tasks.proofs.tapes.RunsLemmas.{few_new}

@@ -1,10 +1,10 @@
 -- the digits that are left go on behind the number so far, which has so many digits
 use Rattle.std.proofs.Common.{◌≡◌, ◌<◌, ◌^◌, drop}
-use Rattle.trace_lines.proofs.Common.{go_on}
+use Rattle.trace_lines.proofs.Common.{with_more_digits}
 use Rattle.trace_lines.proofs.read.hex.number_of.Given as goal
 
 abbrev pub invariant-loop-byte : goal.invariant-loop-byte
 invariant-loop-byte l = record {
-  value : go_on (drop l.byte-index l.word) l.number ≡ go_on l.fn.word 0;
+  value : with_more_digits (drop l.byte-index l.word) l.number ≡ with_more_digits l.fn.word 0;
   small : l.number < 16 ^ l.byte-index;
 }

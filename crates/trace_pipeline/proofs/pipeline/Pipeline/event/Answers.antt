@@ -22,9 +22,9 @@ returns-in_err-enabled c =
 pub invariant_of-self-2 : goal.invariant_of-self-2
 invariant_of-self-2 c = keeps_told _ _ _ _ _ (parts_of c.self.inside) c.tell_at.new.world _ c.calls.ensures c.args.at c.args.place
     c.args.parent c.parent_for-parent.result c.parent_for-parent.ensures c.args.site c.args.fields c.index-on.result.now (within_view _ _ c.self.inside.lanes.items c.args.place c.self.view_is refl c.requires) (search rules) c.in_ok-enabled.enabled
-    (λ f callsite in_force there. c.passes.ensures c.self.inside.world c.self.inside.dispatch c.index-on.result.now.id c.args.site c.in_ok-enabled.enabled c.in_ok-enabled.ensures.gate (is_current _ _ (parts_of c.self.inside) _ _ stack_interest stack_shows c.self.invariant) c.self.invariant.whole f callsite in_force there) c.in_ok-enabled.ensures.ok c.statics.ensures c.self.invariant
+    (λ f callsite in_force there. c.gate_answers_by_filter.ensures c.self.inside.world c.self.inside.dispatch c.index-on.result.now.id c.args.site c.in_ok-enabled.enabled c.in_ok-enabled.ensures.gate (is_current _ _ (parts_of c.self.inside) _ _ stack_interest stack_shows c.self.invariant) c.self.invariant.whole f callsite in_force there) c.in_ok-enabled.ensures.ok c.new_filter_admits_by_statics.ensures c.self.invariant
 
 pub returns : goal.returns
 returns c = by_view c.args.at c.args.place (call.Event c.args.site c.args.parent c.args.fields) _ _ _ _ c.self.view_is (λ t stands. serves_told _ _ _ _ _ (parts_of c.self.inside) c.tell_at.new.world _ c.calls.ensures c.args.at c.args.place
     c.args.parent c.parent_for-parent.result c.parent_for-parent.ensures c.args.site c.args.fields c.index-on.result.now (within_view _ _ c.self.inside.lanes.items c.args.place c.self.view_is refl c.requires) (search rules) c.in_ok-enabled.enabled
-    (λ f callsite in_force there. c.passes.ensures c.self.inside.world c.self.inside.dispatch c.index-on.result.now.id c.args.site c.in_ok-enabled.enabled c.in_ok-enabled.ensures.gate (is_current _ _ (parts_of c.self.inside) _ _ stack_interest stack_shows c.self.invariant) c.self.invariant.whole f callsite in_force there) c.in_ok-enabled.ensures.ok c.statics.ensures t stands)
+    (λ f callsite in_force there. c.gate_answers_by_filter.ensures c.self.inside.world c.self.inside.dispatch c.index-on.result.now.id c.args.site c.in_ok-enabled.enabled c.in_ok-enabled.ensures.gate (is_current _ _ (parts_of c.self.inside) _ _ stack_interest stack_shows c.self.invariant) c.self.invariant.whole f callsite in_force there) c.in_ok-enabled.ensures.ok c.new_filter_admits_by_statics.ensures t stands)

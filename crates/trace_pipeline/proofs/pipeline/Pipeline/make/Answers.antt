@@ -21,9 +21,9 @@ returns-in_err-span c =
 pub invariant_of-self-2 : goal.invariant_of-self-2
 invariant_of-self-2 c = keeps_new _ _ _ _ _ (parts_of c.self.inside) c.make_at.new.world _ c.calls.ensures c.push_reserved.new.self.items c.args.at c.args.place c.len-number.result (search rules) c.self.invariant
     c.args.parent c.parent_for-parent.result c.parent_for-parent.ensures c.args.site c.args.fields (c.in_ok-span.span, c.in_ok-span.enabled) (search rules) c.index-on.result.now (within_view _ _ c.self.inside.lanes.items c.args.place c.self.view_is refl c.requires) (search rules)
-    (λ f callsite in_force there. c.passes.ensures c.self.inside.world c.self.inside.dispatch c.index-on.result.now.id c.args.site c.in_ok-span.enabled c.in_ok-span.ensures.gate (is_current _ _ (parts_of c.self.inside) _ _ stack_interest stack_shows c.self.invariant) c.self.invariant.whole f callsite in_force there) c.in_ok-span.ensures.ok
+    (λ f callsite in_force there. c.gate_answers_by_filter.ensures c.self.inside.world c.self.inside.dispatch c.index-on.result.now.id c.args.site c.in_ok-span.enabled c.in_ok-span.ensures.gate (is_current _ _ (parts_of c.self.inside) _ _ stack_interest stack_shows c.self.invariant) c.self.invariant.whole f callsite in_force there) c.in_ok-span.ensures.ok
 
 pub returns : goal.returns
 returns c = by_view c.args.at c.args.place (call.New c.args.site c.args.parent c.args.fields) _ _ _ _ c.self.view_is (λ t stands. serves_new _ _ _ _ _ (parts_of c.self.inside) c.make_at.new.world _ c.calls.ensures c.push_reserved.new.self.items c.args.at c.args.place c.len-number.result (search rules) c.self.invariant
     c.args.parent c.parent_for-parent.result c.parent_for-parent.ensures c.args.site c.args.fields (c.in_ok-span.span, c.in_ok-span.enabled) (search rules) c.index-on.result.now (within_view _ _ c.self.inside.lanes.items c.args.place c.self.view_is refl c.requires) (search rules)
-    (λ f callsite in_force there. c.passes.ensures c.self.inside.world c.self.inside.dispatch c.index-on.result.now.id c.args.site c.in_ok-span.enabled c.in_ok-span.ensures.gate (is_current _ _ (parts_of c.self.inside) _ _ stack_interest stack_shows c.self.invariant) c.self.invariant.whole f callsite in_force there) c.in_ok-span.ensures.ok t stands)
+    (λ f callsite in_force there. c.gate_answers_by_filter.ensures c.self.inside.world c.self.inside.dispatch c.index-on.result.now.id c.args.site c.in_ok-span.enabled c.in_ok-span.ensures.gate (is_current _ _ (parts_of c.self.inside) _ _ stack_interest stack_shows c.self.invariant) c.self.invariant.whole f callsite in_force there) c.in_ok-span.ensures.ok t stands)

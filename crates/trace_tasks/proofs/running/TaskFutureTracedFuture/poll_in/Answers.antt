@@ -27,7 +27,7 @@ loop-step-preserved g c =
     ] in
     record {
       so_far = polling_more g.S.Subscriber.spans g.S.Subscriber.hint g.S.Subscriber.enables g.S.Subscriber.attaches g.S.Subscriber.kept g.S.Subscriber.is_whole g.S.Subscriber.does g.S.OtelPart.touches g.S.Subscriber.same_but_room c.args.lane.now c.args.at
-          g.met.S.Subscriber.same_refl g.met.S.Subscriber.same_trans g.met.S.Subscriber.same_spans g.met.S.Subscriber.same_kept g.met.S.Subscriber.same_whole g.met.S.Subscriber.shows g.met.S.Subscriber.lanes g.met.S.Subscriber.keeps_whole g.met.S.OtelSubscriber.stays
+          g.met.S.Subscriber.same_refl g.met.S.Subscriber.same_trans g.met.S.Subscriber.same_spans g.met.S.Subscriber.same_kept g.met.S.Subscriber.same_whole g.met.S.Subscriber.shows g.met.S.Subscriber.keeps_lanes g.met.S.Subscriber.keeps_whole g.met.S.OtelSubscriber.stays
           c.args.self.now.steps.items c.loop-step.self.steps.items c.in-Some.step c.pop_front.new.self.items c.args.world.now c.loop-step.world c.do_step.new.world c.loop-step.invariant.so_far c.in-Some.ensures.items act c.in-Ok.ensures.ok c.in-Ok.ensures.changes;
       same_cx = c.loop-step.invariant.same_cx;
     }
@@ -35,13 +35,13 @@ loop-step-preserved g c =
 pub returns-in-Err-clause-keeps : goal.returns-in-Err-clause-keeps
 returns-in-Err-clause-keeps g c =
     lent_more g.S.Subscriber.spans g.S.Subscriber.hint g.S.Subscriber.enables g.S.Subscriber.attaches g.S.Subscriber.kept g.S.Subscriber.is_whole g.S.Subscriber.does g.S.OtelPart.touches g.S.Subscriber.same_but_room c.args.lane.now c.args.at
-    g.met.S.Subscriber.same_refl g.met.S.Subscriber.same_trans g.met.S.Subscriber.same_spans g.met.S.Subscriber.same_kept g.met.S.Subscriber.same_whole g.met.S.Subscriber.shows g.met.S.Subscriber.lanes g.met.S.Subscriber.keeps_whole g.met.S.OtelSubscriber.stays
+    g.met.S.Subscriber.same_refl g.met.S.Subscriber.same_trans g.met.S.Subscriber.same_spans g.met.S.Subscriber.same_kept g.met.S.Subscriber.same_whole g.met.S.Subscriber.shows g.met.S.Subscriber.keeps_lanes g.met.S.Subscriber.keeps_whole g.met.S.OtelSubscriber.stays
     c.args.self.now.steps.items c.loop-step.self.steps.items c.args.world.now c.loop-step.world c.do_step.new.world c.loop-step.invariant.so_far c.do_step.ensures.changes
 
 pub returns-in-Err-clause-moments : goal.returns-in-Err-clause-moments
 returns-in-Err-clause-moments g c =
     called_more g.S.Subscriber.spans g.S.Subscriber.hint g.S.Subscriber.enables g.S.Subscriber.attaches g.S.Subscriber.kept g.S.Subscriber.is_whole g.S.Subscriber.does g.S.OtelPart.touches g.S.Subscriber.same_but_room c.args.lane.now c.args.at
-    g.met.S.Subscriber.same_refl g.met.S.Subscriber.same_trans g.met.S.Subscriber.same_spans g.met.S.Subscriber.same_kept g.met.S.Subscriber.same_whole g.met.S.Subscriber.shows g.met.S.Subscriber.lanes g.met.S.Subscriber.keeps_whole g.met.S.OtelSubscriber.stays
+    g.met.S.Subscriber.same_refl g.met.S.Subscriber.same_trans g.met.S.Subscriber.same_spans g.met.S.Subscriber.same_kept g.met.S.Subscriber.same_whole g.met.S.Subscriber.shows g.met.S.Subscriber.keeps_lanes g.met.S.Subscriber.keeps_whole g.met.S.OtelSubscriber.stays
     c.args.self.now.steps.items c.loop-step.self.steps.items c.args.world.now c.loop-step.world c.do_step.new.world c.loop-step.invariant.so_far c.do_step.ensures.changes
 
 pub returns-in-Err-clause-did : goal.returns-in-Err-clause-did

@@ -1,5 +1,5 @@
 use Rattle.std.proofs.Common.{◌≡◌, List, ℕ, [], ◌++◌, length}
-use Rattle.env_directives.proofs.Common.{AllByRecursion, each_with_comma, IsFieldText, read_fields, HavePatterns}
+use Rattle.env_directives.proofs.Common.{AllByRecursion, fields_with_commas, IsFieldText, read_fields, HavePatterns}
 use denote.Text.{Utf8}
 use denote.Shadow.{shadow}
 use Rattle.env_directives.proofs.cuts.FieldsLemmas.{after_fields}
@@ -9,7 +9,7 @@ abbrev pub invariant-fields : goal.invariant-fields
 invariant-fields l = record {
   is_text : shadow (Utf8 l.text);
   same : read_fields l.patterns [] l.fn.text ≡ after_fields l.fields (read_fields l.patterns [] l.text);
-  earlier : (done : List (List ℕ)) × AllByRecursion IsFieldText done × (l.fn.text ≡ each_with_comma done ++ l.text);
+  earlier : (done : List (List ℕ)) × AllByRecursion IsFieldText done × (l.fn.text ≡ fields_with_commas done ++ l.text);
   patterns : HavePatterns l.fields;
 }
 

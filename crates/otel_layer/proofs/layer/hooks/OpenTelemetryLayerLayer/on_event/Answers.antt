@@ -1,6 +1,6 @@
 -- The op is the one that was prepared, at the hook's moment.
 use Rattle.std.proofs.Common.{ap, subst, sym, ◌∙◌, refl, Some}
-use Rattle.otel_layer.proofs.Common.{OnEvent, ForEvent, event_of, Step, all_events, IsReadyOtel, with_moment, step_from_prepared}
+use Rattle.otel_layer.proofs.Common.{OnEvent, ForEvent, event_op, Step, all_events_effect, IsReadyOtel, with_moment, step_from_prepared}
 use Rattle.otel_layer.proofs.HookStepsLemmas.{op_is, room_retimed}
 use Rattle.otel_layer.proofs.layer.hooks.OpenTelemetryLayerLayer.on_event.Goals as goal
 
@@ -17,12 +17,12 @@ returns-in-PreparedOp g c =
     let values = c.args._values.now in
     let ready = subst (λ r. IsReadyOtel s (ForEvent (Some c.in-Some.id) callsite values) r) c.in-PreparedOp.is (subst (λ o. IsReadyOtel s (ForEvent o callsite values) c.args.prepared) c.in-Some.is c.requires.ready) in
     let op = c.set_moment.ensures ∙ ap (with_moment c.args.at) (c.into_inner-op.ensures ∙ ready.0) in
-    step_from_prepared g.T.Tracer.does all_events s.core (OnEvent c.args.reached c.args._lane.now c.args.at callsite values) _
-    (subst (λ o. Step g.T.Tracer.does all_events s.core (OnEvent o c.args._lane.now c.args.at callsite values) c.put_op.new.self.core) (sym c.in-Some.is)
-    (op_is s.core _ c.in-Some.id c.args.at _ (event_of callsite values s.core.settings c.args.at) op c.put_op.ensures.core))
+    step_from_prepared g.T.Tracer.does all_events_effect s.core (OnEvent c.args.reached c.args._lane.now c.args.at callsite values) _
+    (subst (λ o. Step g.T.Tracer.does all_events_effect s.core (OnEvent o c.args._lane.now c.args.at callsite values) c.put_op.new.self.core) (sym c.in-Some.is)
+    (op_is s.core _ c.in-Some.id c.args.at _ (event_op callsite values s.core.settings c.args.at) op c.put_op.ensures.core))
 
 pub returns-in-None : goal.returns-in-None
 returns-in-None g c =
     let s = c.args.self.now in
-    step_from_prepared g.T.Tracer.does all_events s.core (OnEvent c.args.reached c.args._lane.now c.args.at c.args._callsite.now c.args._values.now) _
-    (subst (λ o. Step g.T.Tracer.does all_events s.core (OnEvent o c.args._lane.now c.args.at c.args._callsite.now c.args._values.now) s.core) (sym c.in-None.is) refl)
+    step_from_prepared g.T.Tracer.does all_events_effect s.core (OnEvent c.args.reached c.args._lane.now c.args.at c.args._callsite.now c.args._values.now) _
+    (subst (λ o. Step g.T.Tracer.does all_events_effect s.core (OnEvent o c.args._lane.now c.args.at c.args._callsite.now c.args._values.now) s.core) (sym c.in-None.is) refl)
