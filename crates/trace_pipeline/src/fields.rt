@@ -1,6 +1,6 @@
 //! Fields that requests give, by the fields that callsites declare.
-ghost use Rattle.std.specs.Prelude.{◌≡◌, false, option_map, Some, Err, IfOk, IfErr};
-ghost use Rattle.span_script.specs.Fields.{values_of, all_values, values_by};
+ghost use Rattle.std.specs.Prelude.{◌≡◌, false, Some, Err, IfOk, IfErr};
+ghost use Rattle.span_script.specs.Fields.{values_of, all_values};
 ghost use Rattle.span_script.specs.Fits.{is_for_memory};
 ghost use Rattle.span_script.specs.Slots.{values_or_refusal};
 
@@ -14,7 +14,7 @@ use trace_base::field::{Value, ValueSet};
 use trace_base::span::Parent;
 
 /// The values of those fields that the callsite declares, in their order.
-fn values_of(
+pub fn values_of(
     alloc: Global,
     callsite: &Callsite,
     fields: Items<(Text, Value)>,
@@ -65,20 +65,4 @@ pub fn parent_and_values(
         return Err(Refusal::UnknownName { what: What::Field });
     };
     Ok((parent, values))
-}
-
-/// The values of those fields that the callsite declares, of none where there is no callsite.
-pub fn values_by(
-    alloc: Global,
-    callsite: Option<&Callsite>,
-    fields: Items<(Text, Value)>,
-) -> Result<ValueSet, Memory>
-    ensures { IfOk result (λ values. values ≡ values_by (option_map (λ c. c.now) callsite.entry) fields) }
-{
-    match callsite {
-        Some(callsite) => values_of(alloc, callsite, fields),
-        None => Ok(ValueSet {
-            pairs: Items::new(alloc),
-        }),
-    }
 }
