@@ -1,4 +1,5 @@
 -- Names of other modules that proofs of the crate import, passed on from one place. Declares nothing.
+pub use Rattle.std.proofs.Common.{Bool, Err, IfSome, IsTrue, List, None, Ok, Option, Result, Some, [], ap, append_assoc, ap₂, arith, cond, count_by, false, filter, filter_map, flat_map, fold, get_or, if◌then◌else◌, inl, inr, is_some, length, map, min, nat_lt, not, option_map, refl, set, slice_get, slice_set, subst, suc, sum_by, sym, true, unwrap_or, zero, ℕ, ◌&&◌, ◌++◌, ◌+◌, ◌-◌, ◌<◌, ◌==◌, ◌||◌, ◌↔◌, ◌∙◌, ◌∷◌, ◌≡◌, ◌≢◌, ◌≤◌}
 pub use Rattle.std.proofs.lemmas.Bool.{and_from, and_parts, cases_Bool, cases_eq, cases_lt, cond-false, cond-true, or_right}
 pub use Rattle.std.proofs.lemmas.Bool.Decides.{nat_tests}
 pub use Rattle.std.proofs.lemmas.Grind.{flat_map-append}

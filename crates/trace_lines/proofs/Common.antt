@@ -1,4 +1,5 @@
 -- Names of other modules that proofs of the crate import, passed on from one place. Declares nothing.
+pub use Rattle.std.proofs.Common.{Bool, Bor, Equal, Err, FitsSigned, Global, Greater, IfSome, IsOk, Less, List, MatchOption, MatchResult, None, Ok, OnOk, Option, Ordering, Result, Some, String, [], ap, append-nil, append_assoc, ap₂, arith, bytes_eq, codes, cond, decimal, drop, drop_of_length-le, false, get_or, if◌then◌else◌, is_eq, is_some, length, length-append, map, nat_cmp, nat_eq, nat_le, nat_lt, neg_ℤ, negsuc, not, ok_or, option_and_then, option_map, pos, refl, remove, replicate, rules, slice_get, slice_set, string_bytes, subst, suc, sym, take, true, true≢false, unwrap_or, w64, zero, ℕ, ℤ, ◌%◌, ◌&&◌, ◌*◌, ◌++◌, ◌+◌, ◌-◌, ◌/◌, ◌<◌, ◌==◌, ◌^◌, ◌||◌, ◌∙◌, ◌∷◌, ◌≡◌, ◌≢◌, ◌≤◌}
 pub use Rattle.json.proofs.Printed.Decimals.{IsNumber-decimal, IsNumber-signed_decimal}
 pub use Rattle.json.proofs.Printed.Utf8.{IsUtf8-are_ascii, IsUtf8-quoted, are_ascii}
 pub use Rattle.json.specs.Print.{escape, quoted}

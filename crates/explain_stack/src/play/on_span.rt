@@ -67,14 +67,14 @@ fn event<S: Stack>(
     let (site, words) = words.split_once(' ').unwrap_or((words, ""));
     if let Some(site) = scene.site_at(words::number(site).unwrap_or(0)) {
         if scene.admits(alloc, scene.lane_ids().0, site) {
-            return event_admitted(alloc, scene, span, at, site, words);
+            return admitted_event(alloc, scene, span, at, site, words);
         }
     }
     Ok(())
 }
 
 // An event of a callsite, which is taken.
-fn event_admitted<S: Stack>(
+fn admitted_event<S: Stack>(
     alloc: Global,
     scene: &mut Scene<S>,
     span: &Span,

@@ -1,6 +1,5 @@
 -- What a filter hears of an effect: the making of the next span, or of spans that are open.
-use Rattle.std.proofs.Common.{◌≡◌, ℕ, ◌<◌, ◌==◌, ◌||◌, List, [], ◌∷◌, ◌++◌, Bool, true, not, Option, Some, None, map, slice_set, refl, ap, arith}
-use Rattle.span_laws.proofs.Common.{AllByRecursion, or_right, nat_tests, Callsite, ValueSet, Hook, is_in, Each, MayComeNext, AreInOrder, IsBefore, Fields, Scope, MadeSpan, FilterHook, HookNew, HookRecord, HookEnter, HookExit, HookClose, slot_at, hooks_of_values, hook_of, hooks_of_span, is_open, closed_of, slot_open}
+use Rattle.span_laws.proofs.Common.{AllByRecursion, AreInOrder, Bool, Callsite, Each, Fields, FilterHook, Hook, HookClose, HookEnter, HookExit, HookNew, HookRecord, IsBefore, List, MadeSpan, MayComeNext, None, Option, Scope, Some, ValueSet, [], ap, arith, closed_of, hook_of, hooks_of_span, hooks_of_values, is_in, is_open, map, nat_tests, not, or_right, refl, slice_set, slot_at, slot_open, true, ℕ, ◌++◌, ◌<◌, ◌==◌, ◌||◌, ◌∷◌, ◌≡◌}
 use Rattle.std.proofs.lemmas.Bool.{eq-eqb}
 use Rattle.span_laws.proofs.spans.OccurrencesLemmas.{is_in_counted, occurs_filter}
 

@@ -1,6 +1,5 @@
 -- What was heard of spans since the filter in force was put there is in order, so the levels are those that it tells.
-use Rattle.std.proofs.Common.{◌≡◌, ℕ, ◌<◌, ◌≤◌, ◌==◌, ◌||◌, List, [], ◌∷◌, ◌++◌, length, append_assoc, flat_map, fold, map, Bool, true, false, Option, Some, None, Ok, Err, unwrap_or, refl, sym, ap, subst, ◌∙◌, arith, inl, inr, is_some}
-use Rattle.span_laws.proofs.Common.{cases_eq, or_right, length_push, map-append, fold_push, fold-append, Hook, is_in, Directive, FilterState, Each, fresh_filter, span_level, after_hook, AreInOrder, NeverFalls, is_close_of, is_ended, level_by_calls, levels_by_calls, IsBefore, all_more, all_push, new_if, in_order, TextRead, filter_of_read, text_read, text_filter, hook_of, after_filter_hook, text_in_force, filter_in_force, is_open, Setup, Scope, MadeSpan, FilterHook, HookNew, HookRecord, HookEnter, HookExit, HookClose, Effect, History, Tables, with_item, no_tables, after_effect, tables, newer_text, hooks_since, IsHistory, none, more}
+use Rattle.span_laws.proofs.Common.{AreInOrder, Bool, Directive, Each, Effect, Err, FilterHook, FilterState, History, Hook, HookClose, HookEnter, HookExit, HookNew, HookRecord, IsBefore, IsHistory, List, MadeSpan, NeverFalls, None, Ok, Option, Scope, Setup, Some, Tables, TextRead, [], after_effect, after_filter_hook, after_hook, all_more, all_push, ap, append_assoc, arith, cases_eq, false, filter_in_force, filter_of_read, flat_map, fold, fold-append, fold_push, fresh_filter, hook_of, hooks_since, in_order, inl, inr, is_close_of, is_ended, is_in, is_open, is_some, length, length_push, level_by_calls, levels_by_calls, map, map-append, more, new_if, newer_text, no_tables, none, or_right, refl, span_level, subst, sym, tables, text_filter, text_in_force, text_read, true, unwrap_or, with_item, ℕ, ◌++◌, ◌<◌, ◌==◌, ◌||◌, ◌∙◌, ◌∷◌, ◌≡◌, ◌≤◌}
 use Rattle.std.proofs.lemmas.Bool.{ne_eqb, true≢false}
 use Rattle.std.proofs.lemmas.List.{append-nil}
 use Rattle.std.proofs.lemmas.List.Folds.{list_any-append}

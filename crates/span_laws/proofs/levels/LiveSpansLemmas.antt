@@ -1,6 +1,5 @@
 -- The layer of a stack keeps one state of each span that is live.
-use Rattle.std.proofs.Common.{◌≡◌, ◌≢◌, ℕ, ◌+◌, ◌<◌, List, [], ◌∷◌, ◌++◌, length, Bool, true, false, count_by, set, Option, Some, None, refl, sym, ap, subst, ◌∙◌, arith, inl, inr, ◌==◌, nat_lt, is_some, fold, IfSome, Result, Ok, Err}
-use Rattle.span_laws.proofs.Common.{list_any, cases_eq, cases_lt, cases_Bool, cond-true, cond-false, get_or_past, get_or_push, get_or_append_left, length_push, map-append, Context, SpanContext, Callsite, ValueSet, Lane, one_if, Span, Spans, no_span, span_at, entries_on, is_in, times_in, current_of, parent_on, with_hold, span_without_hold, without_hold, with_hold_of_child, parent_to_release, count_cons, count_push, counted_if_any, any_if_counted, made_if_held, length_held, less_holds, holds_set, holds_other, LayerSettings, Op, event_op, span_update, SpanData, after_op, Recording, with_applied, with_start_under, with_start, with_start_if_some, with_span_under, with_new_span, with_follow, with_event, id_if_on, with_entry, with_exit, with_span_finished, with_close, Enters, Exits, ChangesNothing, RecordsCall, RecordsChain, RecordsPart, IfKnown, parent_source, with_link, data_at, knows_span, start_context, ids_if_known, is_id, FilterState, enables_in}
+use Rattle.span_laws.proofs.Common.{Bool, Callsite, ChangesNothing, Context, Enters, Err, Exits, FilterState, IfKnown, IfSome, Lane, LayerSettings, List, None, Ok, Op, Option, Recording, RecordsCall, RecordsChain, RecordsPart, Result, Some, Span, SpanContext, SpanData, Spans, ValueSet, [], after_op, any_if_counted, ap, arith, cases_Bool, cases_eq, cases_lt, cond-false, cond-true, count_by, count_cons, count_push, counted_if_any, current_of, data_at, enables_in, entries_on, event_op, false, fold, get_or_append_left, get_or_past, get_or_push, holds_other, holds_set, id_if_on, ids_if_known, inl, inr, is_id, is_in, is_some, knows_span, length, length_held, length_push, less_holds, list_any, made_if_held, map-append, nat_lt, no_span, one_if, parent_on, parent_source, parent_to_release, refl, set, span_at, span_update, span_without_hold, start_context, subst, sym, times_in, true, with_applied, with_close, with_entry, with_event, with_exit, with_follow, with_hold, with_hold_of_child, with_link, with_new_span, with_span_finished, with_span_under, with_start, with_start_if_some, with_start_under, without_hold, ℕ, ◌++◌, ◌+◌, ◌<◌, ◌==◌, ◌∙◌, ◌∷◌, ◌≡◌, ◌≢◌}
 use Rattle.std.specs.Map.{keys_of, remove_entry}
 use Rattle.std.proofs.lemmas.Bool.{eqb-true, eq-eqb, ne_eqb, lt-ltb, le-ltb, true≢false}
 use Rattle.std.proofs.lemmas.Map.Made.{is_some-lookup}

@@ -1,5 +1,4 @@
 -- A text in force is read piece by piece as the grammar of forms has it.
-use Rattle.std.proofs.Common.{◌≡◌, ℕ, ◌+◌, List, [], ◌∷◌, ◌++◌, false, Ok, Err, refl, sym, ap, subst, ◌∙◌, ◌↔◌}
 use Rattle.std.specs.Str.{trim}
 use Rattle.env_directives.specs.reading.Faults.{HasEmptyField, HasFault, HasBadLevel}
 use Rattle.env_directives.specs.reading.Forms.{IsDirective}
@@ -7,7 +6,7 @@ use Rattle.env_directives.specs.reading.Reading.{DirectiveRead, read_directive}
 use Rattle.env_directives.specs.reading.Separators.{comma_pieces}
 use Rattle.env_directives.specs.declared.directive.ParseError.{ParseError}
 use Rattle.env_directives.specs.declared.directive.ParseError.TheVariants as fault
-use Rattle.span_laws.proofs.Common.{Directive, TextRead, text_read}
+use Rattle.span_laws.proofs.Common.{Directive, Err, List, Ok, TextRead, [], ap, false, refl, subst, sym, text_read, ℕ, ◌++◌, ◌+◌, ◌↔◌, ◌∙◌, ◌∷◌, ◌≡◌}
 use Rattle.env_directives.proofs.forms.FaultsLemmas.{Explained}
 use Rattle.env_directives.proofs.forms.ReadingsLemmas.{fault_is, reading_explained}
 use Rattle.env_filter.specs.declared.pieces.Ignored.{Ignored}

@@ -1,7 +1,6 @@
 -- What a span's record tells, by its ops in the history.
-use Rattle.std.proofs.Common.{◌≡◌, ℕ, List, [], ◌∷◌, ◌++◌, Bool, refl, sym, ap, subst, ◌∙◌, append_assoc, IsTrue, is_some}
 use Rattle.std.proofs.lemmas.List.{append-nil}
-use Rattle.span_laws.proofs.Common.{SpanContext, Record, attributes_of, counted_of, closing_count_attributes, closing_times_attributes, TimedOp, TellsTimes, was_entered, SpanData, with_all, busy_of, last_exit, idle_of, Setup, all_ops, TellsStartAndEnd, TellsAttributes}
+use Rattle.span_laws.proofs.Common.{Bool, IsTrue, List, Record, Setup, SpanContext, SpanData, TellsAttributes, TellsStartAndEnd, TellsTimes, TimedOp, [], all_ops, ap, append_assoc, attributes_of, busy_of, closing_count_attributes, closing_times_attributes, counted_of, idle_of, is_some, last_exit, refl, subst, sym, was_entered, with_all, ℕ, ◌++◌, ◌∙◌, ◌∷◌, ◌≡◌}
 use Rattle.otel_base.specs.declared.value.KeyValue.{KeyValue}
 use Rattle.otel_state.proofs.AddingUp.{tells_times}
 use Rattle.span_laws.proofs.records.StoriesLemmas.{IsEnding}

@@ -1,6 +1,5 @@
 -- What holds of each op of an event, which may be counted.
-use Rattle.std.proofs.Common.{◌≡◌, ℕ, List, [], ◌∷◌, Bool, true, false, Option, Some, None, refl}
-use Rattle.span_laws.proofs.Common.{AllByRecursion, Op, Callsite, text_filter, ops_on, event_ops, if_enabled, Scope, SpanOp}
+use Rattle.span_laws.proofs.Common.{AllByRecursion, Bool, Callsite, List, None, Op, Option, Scope, Some, SpanOp, [], event_ops, false, if_enabled, ops_on, refl, text_filter, true, ℕ, ◌∷◌, ◌≡◌}
 use Rattle.env_directives.specs.orders.Choice.{admits}
 use Rattle.otel_state.specs.declared.op.Op.TheVariants as ops
 

@@ -1,6 +1,5 @@
 -- What stands of each legal history: its tables, the stories of its open spans, and the records of its closed ones.
-use Rattle.std.proofs.Common.{◌≡◌, ℕ, ◌+◌, ◌<◌, ◌≤◌, ◌==◌, ◌&&◌, ◌||◌, List, [], ◌∷◌, ◌++◌, length, Bool, true, false, cond, filter, flat_map, map, fold, not, nat_lt, Option, Some, None, option_map, refl, sym, ap, subst, ◌∙◌, arith, append_assoc, if◌then◌else◌}
-use Rattle.span_laws.proofs.Common.{AllByRecursion, length_push, fold_push, fold-append, flat_map-append, cond-true, cond-false, nat_tests, SpanContext, Record, TimedOp, deed, SpanData, Recording, with_start, data_at, is_in, Setup, Scope, MadeSpan, SpanOp, Effect, History, Tables, with_item, no_tables, after_effect, tables, no_made_span, with_span_made, recording_after, open_part, records_of, slot_at, holds_span, is_open, records_push, is_drop, IsHistory, none, more, occurrences, EachRecord, records_of_history, start_in, ops_in, ops_from, ops_of, closed_at, with_started, starts_of, span_starting_at_making, starting_order, place_in, any_counted, pick}
+use Rattle.span_laws.proofs.Common.{AllByRecursion, Bool, EachRecord, Effect, History, IsHistory, List, MadeSpan, None, Option, Record, Recording, Scope, Setup, Some, SpanContext, SpanData, SpanOp, Tables, TimedOp, [], after_effect, any_counted, ap, append_assoc, arith, closed_at, cond, cond-false, cond-true, data_at, deed, false, filter, flat_map, flat_map-append, fold, fold-append, fold_push, holds_span, if◌then◌else◌, is_drop, is_in, is_open, length, length_push, map, more, nat_lt, nat_tests, no_made_span, no_tables, none, not, occurrences, open_part, ops_from, ops_in, ops_of, option_map, pick, place_in, recording_after, records_of, records_of_history, records_push, refl, slot_at, span_starting_at_making, start_in, starting_order, starts_of, subst, sym, tables, true, with_item, with_span_made, with_start, with_started, ℕ, ◌&&◌, ◌++◌, ◌+◌, ◌<◌, ◌==◌, ◌||◌, ◌∙◌, ◌∷◌, ◌≡◌, ◌≤◌}
 use Rattle.std.specs.Option.{option_to_list}
 use Rattle.std.proofs.lemmas.List.{append-nil}
 use Rattle.std.proofs.lemmas.Bool.{ne_eqb, true≢false}

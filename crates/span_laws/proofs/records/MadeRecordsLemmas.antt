@@ -1,6 +1,5 @@
 -- Each record is that of a span which a request of the history made, by what that says.
-use Rattle.std.proofs.Common.{◌≡◌, ℕ, ◌+◌, ◌<◌, ◌≤◌, List, [], ◌∷◌, ◌++◌, length, fold, Option, Some, None, Ok, refl, sym, ap, subst, ◌∙◌, arith, inl, inr}
-use Rattle.span_laws.proofs.Common.{get_or_push, length_push, cases_eq, nat_tests, Context, SpanContext, Record, ids_of, recorder_ids, Making, TimedOp, SpanData, data_at_making, after_op, after_stamped, Represents, MomentsRise, content_is, parent_is, Request, effect_of, Setup, Effect, History, MadeSpan, Tables, after_effect, made_span_at, no_made_span, no_tables, tables, with_item, IsHistory, none, more, occurrences, IsRecordOf, IsMadeWith, EachRecord, IsRecord, all_ops, closed_at, records_of_history, place_in, starting_order}
+use Rattle.span_laws.proofs.Common.{Context, EachRecord, Effect, History, IsHistory, IsMadeWith, IsRecord, IsRecordOf, List, MadeSpan, Making, MomentsRise, None, Ok, Option, Record, Represents, Request, Setup, Some, SpanContext, SpanData, Tables, TimedOp, [], after_effect, after_op, after_stamped, all_ops, ap, arith, cases_eq, closed_at, content_is, data_at_making, effect_of, fold, get_or_push, ids_of, inl, inr, length, length_push, made_span_at, more, nat_tests, no_made_span, no_tables, none, occurrences, parent_is, place_in, recorder_ids, records_of_history, refl, starting_order, subst, sym, tables, with_item, ℕ, ◌++◌, ◌+◌, ◌<◌, ◌∙◌, ◌∷◌, ◌≡◌, ◌≤◌}
 use Rattle.std.proofs.lemmas.List.{append-nil}
 use Rattle.otel_state.specs.declared.op.Op.TheVariants as ops
 use Rattle.span_laws.proofs.records.HistoriesLemmas.{IsClosed, done_in, whole}

@@ -1,6 +1,5 @@
 -- What a request sees of a span's own context is that of the span's record.
-use Rattle.std.proofs.Common.{◌≡◌, ℕ, ◌<◌, ◌&&◌, List, [], ◌∷◌, ◌++◌, Bool, true, false, fold, flat_map, filter, map, not, ◌==◌, Option, Some, None, Ok, refl, sym, ap, ap₂, subst, ◌∙◌, arith, append_assoc, if◌then◌else◌, is_some, filter_map, slice_get}
-use Rattle.span_laws.proofs.Common.{AllByRecursion, cons_option, fold-append, flat_map-append, Context, SpanContext, Record, ids_of, recorder_ids, TimedOp, deed, before_start, is_start, last_or, ids_of_start, SpanData, own_is, parent_is, with_start, parent_source, own_context_or, data_at, current_of, is_in, RequestParent, Request, here_at, effect_of, is_open, parent_under, Setup, Effect, History, MadeSpan, Scope, Tables, after_effect, made_span_at, no_tables, tables, is_drop, IsHistory, occurrences, HasContextOf, SeesContextOf, context_of_lane, context_span, parent_context, EachRecord, all_ops, ops_from, ops_in, ops_of, records_of_history, start_in, place_in, starting_order, starts_of, with_started}
+use Rattle.span_laws.proofs.Common.{AllByRecursion, Bool, Context, EachRecord, Effect, HasContextOf, History, IsHistory, List, MadeSpan, None, Ok, Option, Record, Request, RequestParent, Scope, SeesContextOf, Setup, Some, SpanContext, SpanData, Tables, TimedOp, [], after_effect, all_ops, ap, append_assoc, ap₂, arith, before_start, cons_option, context_of_lane, context_span, current_of, data_at, deed, effect_of, false, filter, filter_map, flat_map, flat_map-append, fold, fold-append, here_at, ids_of, ids_of_start, if◌then◌else◌, is_drop, is_in, is_open, is_some, is_start, last_or, made_span_at, map, no_tables, not, occurrences, ops_from, ops_in, ops_of, own_context_or, own_is, parent_context, parent_is, parent_source, parent_under, place_in, recorder_ids, records_of_history, refl, slice_get, start_in, starting_order, starts_of, subst, sym, tables, true, with_start, with_started, ℕ, ◌&&◌, ◌++◌, ◌<◌, ◌==◌, ◌∙◌, ◌∷◌, ◌≡◌}
 use Rattle.std.specs.Option.{option_to_list}
 use Rattle.otel_base.specs.Stack.{empty_context}
 use Rattle.otel_state.specs.declared.op.Op.TheVariants as ops

@@ -1,6 +1,5 @@
 -- Records beside their spans.
-use Rattle.std.proofs.Common.{◌≡◌, ℕ, ◌<◌, List, [], ◌∷◌, ◌++◌, length, map, refl, ap, ◌∙◌, arith}
-use Rattle.span_laws.proofs.Common.{nat_tests, Record, occurrences, EachRecord}
+use Rattle.span_laws.proofs.Common.{EachRecord, List, Record, [], ap, arith, length, map, nat_tests, occurrences, refl, ℕ, ◌++◌, ◌<◌, ◌∙◌, ◌∷◌, ◌≡◌}
 use Rattle.span_laws.proofs.spans.OccurrencesLemmas.{occurs_cons}
 
 pub each_append : (P : ℕ → Record → Type 0) (xs ys : List ℕ) (rs qs : List Record) → EachRecord P xs rs → EachRecord P ys qs → EachRecord P (xs ++ ys) (rs ++ qs)

@@ -1,6 +1,5 @@
 -- What is recorded of the open spans, as an effect starts spans, makes one, does ops and closes spans.
-use Rattle.std.proofs.Common.{◌≡◌, ℕ, ◌+◌, ◌<◌, ◌≤◌, ◌==◌, ◌&&◌, ◌||◌, List, [], ◌∷◌, ◌++◌, length, Bool, true, false, cond, not, fold, Option, Some, None, refl, sym, ap, subst, ◌∙◌, arith, inl, inr, append_assoc, if◌then◌else◌, is_some}
-use Rattle.span_laws.proofs.Common.{AllByRecursion, length_push, cases_Bool, cases_eq, cond-true, cond-false, nat_tests, Context, SpanContext, Record, ids_of, recorder_ids, Op, GREATEST, content, TimedOp, deed, parent_context_of, SpanData, record_of, MomentsRise, open_after_ops, data_at, start_context, context_unless_started, Recording, with_start_under, with_start, with_start_if_some, with_applied, with_span_finished, with_close, data_after, told_at_op, told_at_removed, is_in, Setup, MadeSpan, SpanOp, Effect, with_span_made, occurrences, EachRecord, all_ops, start_in, with_started, place_in}
+use Rattle.span_laws.proofs.Common.{AllByRecursion, Bool, Context, EachRecord, Effect, GREATEST, List, MadeSpan, MomentsRise, None, Op, Option, Record, Recording, Setup, Some, SpanContext, SpanData, SpanOp, TimedOp, [], all_ops, ap, append_assoc, arith, cases_Bool, cases_eq, cond, cond-false, cond-true, content, context_unless_started, data_after, data_at, deed, false, fold, ids_of, if◌then◌else◌, inl, inr, is_in, is_some, length, length_push, nat_tests, not, occurrences, open_after_ops, parent_context_of, place_in, record_of, recorder_ids, refl, start_context, start_in, subst, sym, told_at_op, told_at_removed, true, with_applied, with_close, with_span_finished, with_span_made, with_start, with_start_if_some, with_start_under, with_started, ℕ, ◌&&◌, ◌++◌, ◌+◌, ◌<◌, ◌==◌, ◌||◌, ◌∙◌, ◌∷◌, ◌≡◌, ◌≤◌}
 use Rattle.std.proofs.lemmas.List.{append-nil}
 use Rattle.std.proofs.lemmas.Bool.{eq-eqb, ne_eqb, true≢false}
 use Rattle.otel_state.specs.declared.op.Op.TheVariants as ops

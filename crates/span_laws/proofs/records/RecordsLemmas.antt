@@ -1,6 +1,5 @@
 -- What the records of a history tell.
-use Rattle.std.proofs.Common.{◌≡◌, ℕ, length, true, false, Some, Ok, arith, IsTrue}
-use Rattle.span_laws.proofs.Common.{nat_tests, Record, attributes_of, counted_of, TellsTimes, was_entered, last_exit, is_in, Request, effect_of, Setup, Effect, ScopeGuard, History, Tables, made_span_at, records_of, slot_at, tables, is_drop, IsHistory, EachRecord, closed_at, ops_of, records_of_history, place_in, starting_order, TellsAttributes, TellsStartAndEnd, slot_open}
+use Rattle.span_laws.proofs.Common.{EachRecord, Effect, History, IsHistory, IsTrue, Ok, Record, Request, ScopeGuard, Setup, Some, Tables, TellsAttributes, TellsStartAndEnd, TellsTimes, arith, attributes_of, closed_at, counted_of, effect_of, false, is_drop, is_in, last_exit, length, made_span_at, nat_tests, ops_of, place_in, records_of, records_of_history, slot_at, slot_open, starting_order, tables, true, was_entered, ℕ, ◌≡◌}
 use Rattle.span_laws.proofs.records.HistoriesLemmas.{IsClosed, done_in, effect_each, fits, whole}
 use Rattle.span_laws.proofs.spans.MakingsLemmas.{first_of}
 use Rattle.span_laws.proofs.spans.OccurrencesLemmas.{is_in_counted}

@@ -1,6 +1,5 @@
 -- What an open span has come to: its making and its ops so far.
-use Rattle.std.proofs.Common.{◌≡◌, ℕ, ◌+◌, ◌-◌, ◌<◌, ◌≤◌, List, [], ◌∷◌, ◌++◌, Bool, true, false, fold, Option, Some, None, refl, sym, ap, subst, ◌∙◌, arith, if◌then◌else◌, min}
-use Rattle.span_laws.proofs.Common.{fold_push, Context, SpanContext, Record, ids_of, ids_or_zeros, recorder_ids, Op, GREATEST, Making, content, Deed, TimedOp, deed, parent_context_of, SpanData, after_op, first_start, unless_started, Represents, record_of, MomentsRise, open_after_ops, appended, entries_is, parent_is, content_is, data_after, Setup, IsMadeWith, IsRecord, all_ops}
+use Rattle.span_laws.proofs.Common.{Bool, Context, Deed, GREATEST, IsMadeWith, IsRecord, List, Making, MomentsRise, None, Op, Option, Record, Represents, Setup, Some, SpanContext, SpanData, TimedOp, [], after_op, all_ops, ap, appended, arith, content, content_is, data_after, deed, entries_is, false, first_start, fold, fold_push, ids_of, ids_or_zeros, if◌then◌else◌, min, open_after_ops, parent_context_of, parent_is, record_of, recorder_ids, refl, subst, sym, true, unless_started, ℕ, ◌++◌, ◌+◌, ◌-◌, ◌<◌, ◌∙◌, ◌∷◌, ◌≡◌, ◌≤◌}
 use Rattle.otel_state.specs.declared.op.Op.TheVariants as ops
 
 -- the moment of the last op, else of the making

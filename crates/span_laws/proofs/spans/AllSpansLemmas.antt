@@ -1,6 +1,5 @@
 -- The spans that are closed and those that are open are all that were made.
-use Rattle.std.proofs.Common.{◌≡◌, ℕ, zero, suc, ◌+◌, ◌≤◌, ◌&&◌, List, [], ◌∷◌, length, cond, not, nat_lt, Option, count_by, sum_by, refl, ap, ◌∙◌, arith, inl, inr}
-use Rattle.span_laws.proofs.Common.{range_with_len, sum_by_push, cases_Bool, cases_lt, nat_tests, is_in, Setup, Scope, History, tables, is_open, open_spans, IsHistory, occurrences, starting_order, range_more}
+use Rattle.span_laws.proofs.Common.{History, IsHistory, List, Option, Scope, Setup, [], ap, arith, cases_Bool, cases_lt, cond, count_by, inl, inr, is_in, is_open, length, nat_lt, nat_tests, not, occurrences, open_spans, range_more, range_with_len, refl, starting_order, suc, sum_by, sum_by_push, tables, zero, ℕ, ◌&&◌, ◌+◌, ◌∙◌, ◌∷◌, ◌≡◌, ◌≤◌}
 use Rattle.span_laws.proofs.spans.IdsLemmas.{started_once}
 use Rattle.span_laws.proofs.spans.OccurrencesLemmas.{is_in_counted, occurs_cons}
 use Rattle.span_laws.proofs.spans.PlacesLemmas.{present}

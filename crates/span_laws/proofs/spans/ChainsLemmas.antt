@@ -1,6 +1,5 @@
 -- What closes is one chain.
-use Rattle.std.proofs.Common.{◌≡◌, ℕ, ◌==◌, ◌||◌, List, [], ◌∷◌, ◌++◌, Bool, true, false, filter, not, slice_set, Option, Some, None, option_map, Ok, refl, sym, ap, subst, ◌∙◌, arith, inl, inr}
-use Rattle.span_laws.proofs.Common.{cases_Bool, or_right, cond-true, cond-false, nat_tests, is_in, Request, effect_of, holds_span, is_open, closed_of, Setup, Scope, MadeSpan, ScopeGuard, Effect, History, with_item, spend, slot_at, made_span_at, tables, BeginsWith, is_drop, IsHistory, any_counted, pick, slot_open, some_is}
+use Rattle.span_laws.proofs.Common.{BeginsWith, Bool, Effect, History, IsHistory, List, MadeSpan, None, Ok, Option, Request, Scope, ScopeGuard, Setup, Some, [], any_counted, ap, arith, cases_Bool, closed_of, cond-false, cond-true, effect_of, false, filter, holds_span, inl, inr, is_drop, is_in, is_open, made_span_at, nat_tests, not, option_map, or_right, pick, refl, slice_set, slot_at, slot_open, some_is, spend, subst, sym, tables, true, with_item, ℕ, ◌++◌, ◌==◌, ◌||◌, ◌∙◌, ◌∷◌, ◌≡◌}
 use Rattle.std.proofs.lemmas.Bool.{eq-eqb, eqb-true, true≢false}
 use Rattle.span_laws.proofs.spans.ClosesLemmas.{AreMine, IsSound, named, step_stands}
 use Rattle.span_laws.proofs.records.HistoriesLemmas.{fits, whole}

@@ -1,6 +1,5 @@
 -- A child closes before its parent.
-use Rattle.std.proofs.Common.{◌≡◌, ℕ, zero, suc, ◌<◌, ◌≤◌, ◌==◌, ◌||◌, List, [], ◌∷◌, ◌++◌, length, Bool, true, false, slice_set, Option, None, refl, sym, ap, subst, ◌∙◌, arith, inl, inr, append_assoc}
-use Rattle.span_laws.proofs.Common.{get_or_push, fold_push, cases_eq, or_right, nat_tests, is_in, is_open, Setup, Scope, MadeSpan, ScopeGuard, History, Tables, with_item, spend, no_made_span, made_span_at, no_tables, after_effect, tables, BeginsWith, is_drop, IsHistory, none, more, occurrences}
+use Rattle.span_laws.proofs.Common.{BeginsWith, Bool, History, IsHistory, List, MadeSpan, None, Option, Scope, ScopeGuard, Setup, Tables, [], after_effect, ap, append_assoc, arith, cases_eq, false, fold_push, get_or_push, inl, inr, is_drop, is_in, is_open, length, made_span_at, more, nat_tests, no_made_span, no_tables, none, occurrences, or_right, refl, slice_set, spend, subst, suc, sym, tables, true, with_item, zero, ℕ, ◌++◌, ◌<◌, ◌==◌, ◌||◌, ◌∙◌, ◌∷◌, ◌≡◌, ◌≤◌}
 use Rattle.std.proofs.lemmas.List.{append-nil}
 use Rattle.std.proofs.lemmas.Bool.{eq-eqb, eqb-true}
 use Rattle.span_laws.proofs.spans.ChainsLemmas.{chain_front, in_line, open_above}

@@ -1,6 +1,5 @@
 -- Each span closes once, when no handle holds it any more.
-use Rattle.std.proofs.Common.{◌≡◌, ℕ, ◌<◌, ◌≤◌, ◌&&◌, ◌||◌, ◌==◌, Bool, List, [], ◌∷◌, ◌++◌, length, true, cond, not, nat_lt, Option, Some, None, option_map, slice_set, refl, sym, ap, subst, ◌∙◌, arith, inl, inr, is_some}
-use Rattle.span_laws.proofs.Common.{length_push, get_or_push, cases_eq, cases_lt, nat_tests, is_in, current_of, counted_if_any, current_in, Setup, Scope, MadeSpan, ScopeGuard, Effect, Tables, with_item, spend, slot_at, no_made_span, made_span_at, scope_of, no_tables, after_effect, holds_span, is_open, closed_of, current_scope, occurrences, any_counted, slot_open, named_push, named_set, some_is}
+use Rattle.span_laws.proofs.Common.{Bool, Effect, List, MadeSpan, None, Option, Scope, ScopeGuard, Setup, Some, Tables, [], after_effect, any_counted, ap, arith, cases_eq, cases_lt, closed_of, cond, counted_if_any, current_in, current_of, current_scope, get_or_push, holds_span, inl, inr, is_in, is_open, is_some, length, length_push, made_span_at, named_push, named_set, nat_lt, nat_tests, no_made_span, no_tables, not, occurrences, option_map, refl, scope_of, slice_set, slot_at, slot_open, some_is, spend, subst, sym, true, with_item, ℕ, ◌&&◌, ◌++◌, ◌<◌, ◌==◌, ◌||◌, ◌∙◌, ◌∷◌, ◌≡◌, ◌≤◌}
 use Rattle.std.proofs.lemmas.List.{append-nil}
 use Rattle.std.proofs.lemmas.Bool.{eq-eqb, lt-ltb}
 use Rattle.span_laws.proofs.steps.GuardsLemmas.{IsGuarded}

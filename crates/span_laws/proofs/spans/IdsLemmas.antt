@@ -1,6 +1,5 @@
 -- The ids of spans and of records.
-use Rattle.std.proofs.Common.{◌≡◌, ℕ, ◌+◌, ◌<◌, ◌≤◌, ◌==◌, List, [], ◌∷◌, ◌++◌, length, true, map, fold, Option, Some, None, refl, sym, ap, subst, ◌∙◌, arith, inl, inr, flat_map}
-use Rattle.span_laws.proofs.Common.{range_with_len, cases_Bool, cases_eq, cases_lt, cond-true, cond-false, nat_tests, Context, SpanContext, Record, ids_or_zeros, data_at, is_in, is_open, Setup, History, tables, IsHistory, occurrences, EachRecord, records_of_history, with_started, starts_of, starting_order, place_from, place_in, id_of, id_in_data}
+use Rattle.span_laws.proofs.Common.{Context, EachRecord, History, IsHistory, List, None, Option, Record, Setup, Some, SpanContext, [], ap, arith, cases_Bool, cases_eq, cases_lt, cond-false, cond-true, data_at, flat_map, fold, id_in_data, id_of, ids_or_zeros, inl, inr, is_in, is_open, length, map, nat_tests, occurrences, place_from, place_in, range_with_len, records_of_history, refl, starting_order, starts_of, subst, sym, tables, true, with_started, ℕ, ◌++◌, ◌+◌, ◌<◌, ◌==◌, ◌∙◌, ◌∷◌, ◌≡◌, ◌≤◌}
 use Rattle.std.proofs.lemmas.Bool.{eq-eqb, ne_eqb}
 use Rattle.span_laws.proofs.records.HistoriesLemmas.{IsClosed, whole, closed_once}
 use Rattle.span_laws.proofs.spans.OccurrencesLemmas.{occurs_cons, occurs_append, is_in_counted}

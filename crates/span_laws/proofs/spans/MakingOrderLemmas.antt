@@ -1,6 +1,5 @@
 -- Where spans start early, the order of starts is that of making.
-use Rattle.std.proofs.Common.{◌≡◌, ℕ, zero, suc, ◌+◌, ◌<◌, ◌≤◌, ◌==◌, ◌||◌, List, [], ◌∷◌, ◌++◌, length, Bool, true, false, fold, Option, Some, None, refl, sym, ap, ◌∙◌, arith, inl, inr}
-use Rattle.span_laws.proofs.Common.{AllByRecursion, range_with_len, cases_eq, cond-true, cond-false, length_push, fold_push, is_in, Setup, MadeSpan, History, Tables, with_item, no_tables, after_effect, tables, range_more, is_drop, IsHistory, none, more, with_started, span_starting_at_making, starting_order, place_from, place_in}
+use Rattle.span_laws.proofs.Common.{AllByRecursion, Bool, History, IsHistory, List, MadeSpan, None, Option, Setup, Some, Tables, [], after_effect, ap, arith, cases_eq, cond-false, cond-true, false, fold, fold_push, inl, inr, is_drop, is_in, length, length_push, more, no_tables, none, place_from, place_in, range_more, range_with_len, refl, span_starting_at_making, starting_order, suc, sym, tables, true, with_item, with_started, zero, ℕ, ◌++◌, ◌+◌, ◌<◌, ◌==◌, ◌||◌, ◌∙◌, ◌∷◌, ◌≡◌, ◌≤◌}
 use Rattle.std.specs.Option.{option_to_list}
 use Rattle.std.proofs.lemmas.Bool.{eq-eqb, ne_eqb}
 use Rattle.span_laws.proofs.records.HistoriesLemmas.{closing_made, fits, started_push, starts_made, whole}

@@ -1,6 +1,5 @@
 -- A span that is made begins its story.
-use Rattle.std.proofs.Common.{◌≡◌, ℕ, ◌<◌, ◌≤◌, ◌==◌, List, [], ◌∷◌, ◌++◌, length, Bool, true, fold, Option, Some, None, refl, sym, ap, subst, ◌∙◌, arith, inl, inr}
-use Rattle.span_laws.proofs.Common.{AllByRecursion, length_push, get_or_push, cases_eq, cond-true, cond-false, SpanContext, GREATEST, Making, TimedOp, SpanData, data_at_making, after_op, data_at, with_span_data, Recording, told_at_made, Setup, MadeSpan, with_item, made_span_at, no_made_span, with_span_made, IsMadeWith, with_started, place_in}
+use Rattle.span_laws.proofs.Common.{AllByRecursion, Bool, GREATEST, IsMadeWith, List, MadeSpan, Making, None, Option, Recording, Setup, Some, SpanContext, SpanData, TimedOp, [], after_op, ap, arith, cases_eq, cond-false, cond-true, data_at, data_at_making, fold, get_or_push, inl, inr, length, length_push, made_span_at, no_made_span, place_in, refl, subst, sym, told_at_made, true, with_item, with_span_data, with_span_made, with_started, ℕ, ◌++◌, ◌<◌, ◌==◌, ◌∙◌, ◌∷◌, ◌≡◌, ◌≤◌}
 use Rattle.std.proofs.lemmas.Bool.{eq-eqb, ne_eqb}
 use Rattle.otel_state.specs.declared.op.Op.TheVariants as ops
 use Rattle.span_laws.proofs.spans.OccurrencesLemmas.{get_push_other}

@@ -1,6 +1,5 @@
 -- How often a span stands in a list, and how many slots hold it.
-use Rattle.std.proofs.Common.{◌≡◌, ℕ, zero, suc, ◌+◌, ◌==◌, List, [], ◌∷◌, ◌++◌, length, Bool, true, false, cond, nat_lt, filter, count_by, get_or, slice_set, Option, Some, None, refl, sym, ap, ◌∙◌, arith, inl, inr}
-use Rattle.span_laws.proofs.Common.{sum_by-cons, sum_by-append, sum_by-set, sum_by_push, cases_eq, cases_Bool, nat_tests, is_in, Scope, slot_at, holds_span, occurrences, named_within, any_counted}
+use Rattle.span_laws.proofs.Common.{Bool, List, None, Option, Scope, Some, [], any_counted, ap, arith, cases_Bool, cases_eq, cond, count_by, false, filter, get_or, holds_span, inl, inr, is_in, length, named_within, nat_lt, nat_tests, occurrences, refl, slice_set, slot_at, suc, sum_by-append, sum_by-cons, sum_by-set, sum_by_push, sym, true, zero, ℕ, ◌++◌, ◌+◌, ◌==◌, ◌∙◌, ◌∷◌, ◌≡◌}
 use Rattle.std.proofs.lemmas.List.{get_or-set_other}
 
 pub occurs_cons : (s x : ℕ) (xs : List ℕ) → occurrences s (x ∷ xs) ≡ cond (x == s) 1 0 + occurrences s xs

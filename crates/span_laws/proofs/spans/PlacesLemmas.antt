@@ -1,6 +1,5 @@
 -- The places of spans in the order of their starts.
-use Rattle.std.proofs.Common.{◌≡◌, ℕ, ◌+◌, ◌<◌, ◌≤◌, ◌==◌, ◌||◌, List, [], ◌∷◌, ◌++◌, length, Bool, true, false, fold, refl, sym, ap, subst, ◌∙◌, arith, inl, inr, if◌then◌else◌}
-use Rattle.span_laws.proofs.Common.{cases_Bool, cond-true, cond-false, is_in, with_started, place_from, place_in}
+use Rattle.span_laws.proofs.Common.{Bool, List, [], ap, arith, cases_Bool, cond-false, cond-true, false, fold, if◌then◌else◌, inl, inr, is_in, length, place_from, place_in, refl, subst, sym, true, with_started, ℕ, ◌++◌, ◌+◌, ◌<◌, ◌==◌, ◌||◌, ◌∙◌, ◌∷◌, ◌≡◌, ◌≤◌}
 use Rattle.std.proofs.lemmas.Bool.{eq-eqb, eqb-true, ne_eqb}
 
 -- a span that isn't there has no place

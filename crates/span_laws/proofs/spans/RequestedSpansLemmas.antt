@@ -1,6 +1,5 @@
 -- A span is made exactly by a request for one that is admitted, and as that says.
-use Rattle.std.proofs.Common.{◌≡◌, ℕ, [], ◌∷◌, length, Bool, true, false, cond, Option, Some, None, Ok, Err, refl, sym, ap, subst, ◌∙◌, is_some, slice_get, ◌==◌, if◌then◌else◌, not}
-use Rattle.span_laws.proofs.Common.{option_map_or, LayerSettings, first_attributes, span_update, Recording, with_start_if_some, parent_source, context_from, Callsite, ValueSet, current_of, Call, RequestParent, Request, TextRead, text_read, Resolved, refuse_if, Here, here_at, ◌>>=◌, need, effect_of, effect_of_call, is_bad_moment, attach_effect, detach_effect, enter_effect, exit_effect, is_full, is_shared, meets_full, entry_call, admits_on, reload_by, follow_effect, context_around, disabled_effect, drop_effect, exchange_effect, is_borrowed, lane_in, new_span_data_at, span_effect, parent_under, parent_scope, scope_or_current, Fields, all_values, Setup, event_site, span_site, Effect, History, MadeSpan, Scope, Tables, slot_at, tables, IsHistory, IsMadeBy, asks_admitted, context_of_lane, is_making, parent_context}
+use Rattle.span_laws.proofs.Common.{Bool, Call, Callsite, Effect, Err, Fields, Here, History, IsHistory, IsMadeBy, LayerSettings, MadeSpan, None, Ok, Option, Recording, Request, RequestParent, Resolved, Scope, Setup, Some, Tables, TextRead, ValueSet, [], admits_on, all_values, ap, asks_admitted, attach_effect, cond, context_around, context_from, context_of_lane, current_of, detach_effect, disabled_effect, drop_effect, effect_of, effect_of_call, enter_effect, entry_call, event_site, exchange_effect, exit_effect, false, first_attributes, follow_effect, here_at, if◌then◌else◌, is_bad_moment, is_borrowed, is_full, is_making, is_shared, is_some, lane_in, length, meets_full, need, new_span_data_at, not, option_map_or, parent_context, parent_scope, parent_source, parent_under, refl, refuse_if, reload_by, scope_or_current, slice_get, slot_at, span_effect, span_site, span_update, subst, sym, tables, text_read, true, with_start_if_some, ℕ, ◌==◌, ◌>>=◌, ◌∙◌, ◌∷◌, ◌≡◌}
 use Rattle.std.specs.Option.{option_to_list}
 use Rattle.span_script.specs.declared.request.Call.TheVariants as call
 use Rattle.span_script.specs.declared.request.RequestParent.TheVariants as request_parent

@@ -1,6 +1,5 @@
 -- Which spans start, in which order, read off what is recorded.
-use Rattle.std.proofs.Common.{◌≡◌, ℕ, ◌<◌, ◌≤◌, ◌==◌, ◌&&◌, List, [], ◌∷◌, ◌++◌, length, Bool, true, false, cond, not, fold, Option, Some, None, Ok, refl, sym, ap, ◌∙◌, arith, inl, inr, append_assoc}
-use Rattle.span_laws.proofs.Common.{AllByRecursion, cases_Bool, cond-true, cond-false, nat_tests, Context, SpanContext, GREATEST, TimedOp, SpanData, Recording, with_start, with_close, data_at, start_context, context_unless_started, is_in, Setup, Request, Effect, History, Tables, with_ops_of, tables, effect_of, is_drop, IsHistory, occurrences, with_started, starting_order, place_in}
+use Rattle.span_laws.proofs.Common.{AllByRecursion, Bool, Context, Effect, GREATEST, History, IsHistory, List, None, Ok, Option, Recording, Request, Setup, Some, SpanContext, SpanData, Tables, TimedOp, [], ap, append_assoc, arith, cases_Bool, cond, cond-false, cond-true, context_unless_started, data_at, effect_of, false, fold, inl, inr, is_drop, is_in, length, nat_tests, not, occurrences, place_in, refl, start_context, starting_order, sym, tables, true, with_close, with_ops_of, with_start, with_started, ℕ, ◌&&◌, ◌++◌, ◌<◌, ◌==◌, ◌∙◌, ◌∷◌, ◌≡◌, ◌≤◌}
 use Rattle.std.specs.Option.{option_to_list}
 use Rattle.std.proofs.lemmas.List.{append-nil}
 use Rattle.span_laws.proofs.records.HistoriesLemmas.{closing_once, did, done_in, fits, moved, shut, started_push, whole}

@@ -1,6 +1,5 @@
 -- The start of a span among several starts.
-use Rattle.std.proofs.Common.{◌≡◌, ℕ, ◌==◌, ◌&&◌, ◌||◌, List, [], ◌∷◌, ◌++◌, Bool, true, false, not, refl, sym, ap, ◌∙◌, inl, inr, if◌then◌else◌}
-use Rattle.span_laws.proofs.Common.{cases_Bool, cond-true, cond-false, SpanContext, TimedOp, is_in, in_push, in_push_same, start_in, with_started}
+use Rattle.span_laws.proofs.Common.{Bool, List, SpanContext, TimedOp, [], ap, cases_Bool, cond-false, cond-true, false, if◌then◌else◌, in_push, in_push_same, inl, inr, is_in, not, refl, start_in, sym, true, with_started, ℕ, ◌&&◌, ◌++◌, ◌==◌, ◌||◌, ◌∙◌, ◌∷◌, ◌≡◌}
 use Rattle.std.proofs.lemmas.Bool.{eq-eqb, eqb-true, ne_eqb}
 use Rattle.otel_state.specs.declared.op.Op.TheVariants as ops
 use Rattle.span_laws.proofs.records.StoriesLemmas.{stamp}

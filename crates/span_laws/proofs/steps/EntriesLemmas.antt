@@ -1,6 +1,5 @@
 -- A span's open entries are at most its open guards.
-use Rattle.std.proofs.Common.{◌≡◌, ℕ, ◌+◌, ◌-◌, ◌≤◌, ◌==◌, ◌||◌, List, [], ◌∷◌, ◌++◌, Bool, true, false, cond, count_by, fold, slice_set, Option, Some, None, refl, sym, ap, subst, ◌∙◌, arith, inl, inr, if◌then◌else◌}
-use Rattle.span_laws.proofs.Common.{AllByRecursion, cases_lt, sum_by-set, is_in, count_push, deed, Scope, SpanOp, ScopeGuard, either_after, slot_at, span_of_scope, is_open, pick, slot_open, named_within}
+use Rattle.span_laws.proofs.Common.{AllByRecursion, Bool, List, None, Option, Scope, ScopeGuard, Some, SpanOp, [], ap, arith, cases_lt, cond, count_by, count_push, deed, either_after, false, fold, if◌then◌else◌, inl, inr, is_in, is_open, named_within, pick, refl, slice_set, slot_at, slot_open, span_of_scope, subst, sum_by-set, sym, true, ℕ, ◌++◌, ◌+◌, ◌-◌, ◌==◌, ◌||◌, ◌∙◌, ◌∷◌, ◌≡◌, ◌≤◌}
 use Rattle.std.proofs.lemmas.Bool.{true≢false}
 use Rattle.span_laws.proofs.steps.GuardsLemmas.{IsGuarded, Enters, no_entry, skips, enters_by, exits_by}
 use Rattle.span_laws.proofs.records.RecordingLemmas.{turned_by}

@@ -1,6 +1,5 @@
 -- Each entry of a lane has an open guard, whose handle is unspent and of the guard's scope.
-use Rattle.std.proofs.Common.{◌≡◌, ℕ, zero, suc, ◌<◌, ◌==◌, List, [], ◌∷◌, ◌++◌, Bool, true, false, cond, count_by, slice_set, Option, Some, None, option_map, refl, sym, ap, subst, ◌∙◌, arith, inl, inr, ◌&&◌, ◌||◌}
-use Rattle.span_laws.proofs.Common.{cases_eq, cond-true, cond-false, and_from, and_parts, sum_by-set, get_or-le-sum_by, times_in, without_last, count_push, times_without, id_at, Scope, ScopeGuard, with_item, either_after, slot_at, span_of_scope, with_entry_on, with_exit_on, borrows, is_borrowed, pick, named_push, named_set, named_within, some_is}
+use Rattle.span_laws.proofs.Common.{Bool, List, None, Option, Scope, ScopeGuard, Some, [], and_from, and_parts, ap, arith, borrows, cases_eq, cond, cond-false, cond-true, count_by, count_push, either_after, false, get_or-le-sum_by, id_at, inl, inr, is_borrowed, named_push, named_set, named_within, option_map, pick, refl, slice_set, slot_at, some_is, span_of_scope, subst, suc, sum_by-set, sym, times_in, times_without, true, with_entry_on, with_exit_on, with_item, without_last, zero, ℕ, ◌&&◌, ◌++◌, ◌<◌, ◌==◌, ◌||◌, ◌∙◌, ◌∷◌, ◌≡◌}
 use Rattle.std.proofs.lemmas.Bool.{eq-eqb, eqb-true, ne_eqb, true≢false}
 use Rattle.span_script.specs.Balance.{guards_span, open_guard_by}
 use Rattle.span_laws.proofs.spans.OccurrencesLemmas.{slot_push, slot_kept}

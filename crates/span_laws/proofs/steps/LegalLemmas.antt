@@ -1,7 +1,6 @@
 -- The history of a script is legal.
-use Rattle.std.proofs.Common.{◌≡◌, List, [], ◌∷◌, ◌++◌, Ok, Err, refl, sym, subst}
 use Rattle.std.proofs.lemmas.List.{append-nil}
-use Rattle.span_laws.proofs.Common.{Request, Setup, Effect, History, tables, Resolved, effect_of, goes_on_with, stays_with, IsHistory, none, more}
+use Rattle.span_laws.proofs.Common.{Effect, Err, History, IsHistory, List, Ok, Request, Resolved, Setup, [], effect_of, goes_on_with, more, none, refl, stays_with, subst, sym, tables, ◌++◌, ◌∷◌, ◌≡◌}
 use Rattle.span_script.specs.Outcomes.{history_from, history_of}
 
 legal_by : (setup : Setup) (h : History) (request : Request) (requests : List Request) (r : Resolved) → effect_of setup (tables setup h) request ≡ r → IsHistory setup h

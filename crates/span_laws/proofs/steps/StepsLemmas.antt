@@ -1,6 +1,5 @@
 -- What the effect of each request does to handles, guards, spans and entries, whatever its kind.
-use Rattle.std.proofs.Common.{◌≡◌, ℕ, ◌≤◌, ◌==◌, ◌||◌, List, [], ◌∷◌, ◌++◌, length, not, Bool, true, false, cond, Option, Some, None, option_map, slice_set, slice_get, Ok, Err, refl, sym, ap, subst, ◌∙◌, arith, is_some}
-use Rattle.span_laws.proofs.Common.{AllByRecursion, nat_tests, Context, ids_of, is_valid, Op, LayerSettings, GREATEST, Making, deed, event_op, first_attributes, span_update, Recording, with_start_under, with_start_if_some, parent_source, new_span_data, data_at, start_context, Callsite, ValueSet, Lane, is_in, current_of, Request, RequestParent, Call, Setup, span_site, event_site, Here, here_at, Resolved, refuse_if, ◌>>=◌, need, op_on, ops_effect, is_bad_moment, effect_of, effect_of_call, context_effect, context_of_scope, attach_effect, detach_effect, activated_span, enter_effect, meets_full, entry_call, exit_effect, is_shared, is_full, callsite_of, update_ops, hooks_of_values, admits_on, reload_by, follow_effect, event_time, is_open, holds_span, closed_of, is_borrowed, parent_scope, parent_under, lane_in, new_span_data_at, span_effect, disabled_effect, clone_effect, drop_effect, current_scope, scope_or_current, exchange_effect, Scope, MadeSpan, SpanOp, ScopeGuard, FilterHook, Effect, Tables, with_item, either_after, slot_at, span_of_scope, Fields, all_values, values_of, TextRead, text_read, is_drop, occurrences, IsMadeWith, span_starting_at_making, any_counted, slot_open}
+use Rattle.span_laws.proofs.Common.{AllByRecursion, Bool, Call, Callsite, Context, Effect, Err, Fields, FilterHook, GREATEST, Here, IsMadeWith, Lane, LayerSettings, List, MadeSpan, Making, None, Ok, Op, Option, Recording, Request, RequestParent, Resolved, Scope, ScopeGuard, Setup, Some, SpanOp, Tables, TextRead, ValueSet, [], activated_span, admits_on, all_values, any_counted, ap, arith, attach_effect, callsite_of, clone_effect, closed_of, cond, context_effect, context_of_scope, current_of, current_scope, data_at, deed, detach_effect, disabled_effect, drop_effect, effect_of, effect_of_call, either_after, enter_effect, entry_call, event_op, event_site, event_time, exchange_effect, exit_effect, false, first_attributes, follow_effect, here_at, holds_span, hooks_of_values, ids_of, is_bad_moment, is_borrowed, is_drop, is_full, is_in, is_open, is_shared, is_some, is_valid, lane_in, length, meets_full, nat_tests, need, new_span_data, new_span_data_at, not, occurrences, op_on, ops_effect, option_map, parent_scope, parent_source, parent_under, refl, refuse_if, reload_by, scope_or_current, slice_get, slice_set, slot_at, slot_open, span_effect, span_of_scope, span_site, span_starting_at_making, span_update, start_context, subst, sym, text_read, true, update_ops, values_of, with_item, with_start_if_some, with_start_under, ℕ, ◌++◌, ◌==◌, ◌>>=◌, ◌||◌, ◌∙◌, ◌∷◌, ◌≡◌, ◌≤◌}
 use Rattle.std.specs.Option.{option_to_list}
 use Rattle.std.proofs.lemmas.Bool.{eq-eqb, eqb-true}
 use Rattle.otel_metrics.specs.declared.measure.Measure.{Measure}

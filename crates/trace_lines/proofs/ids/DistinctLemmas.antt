@@ -1,6 +1,5 @@
 -- Whether the numbers of a list differ, told by a set of those that were seen.
-use Rattle.std.proofs.Common.{◌≡◌, ℕ, ◌+◌, ◌<◌, length, get_or, drop, is_eq, nat_cmp, arith, List, [], ◌∷◌, Bool, true, false, not, ◌&&◌, ◌||◌, ◌==◌, cond, refl, ap, ◌∙◌, sym}
-use Rattle.trace_lines.proofs.Common.{list_any, drop_more, nat_tests, GivenLane, lane_ids, all_differ}
+use Rattle.trace_lines.proofs.Common.{Bool, GivenLane, List, [], all_differ, ap, arith, cond, drop, drop_more, false, get_or, is_eq, lane_ids, length, list_any, nat_cmp, nat_tests, not, refl, sym, true, ℕ, ◌&&◌, ◌+◌, ◌<◌, ◌==◌, ◌||◌, ◌∙◌, ◌∷◌, ◌≡◌}
 
 -- no number is in the set
 abbrev pub all_new : (ℕ → Bool) → List ℕ → Bool

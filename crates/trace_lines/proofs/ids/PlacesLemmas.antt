@@ -1,6 +1,5 @@
 -- Where no two ids of a list are equal, each has its own place.
-use Rattle.std.proofs.Common.{◌≡◌, ℕ, zero, suc, ◌<◌, ◌==◌, List, [], ◌∷◌, length, true, false, not, refl, sym, ap, arith}
-use Rattle.trace_lines.proofs.Common.{list_any, or_parts, and_parts, eqb-false, not-true, HaveDistinctIds, id_at, all_differ}
+use Rattle.trace_lines.proofs.Common.{HaveDistinctIds, List, [], all_differ, and_parts, ap, arith, eqb-false, false, id_at, length, list_any, not, not-true, or_parts, refl, suc, sym, true, zero, ℕ, ◌<◌, ◌==◌, ◌∷◌, ◌≡◌}
 
 -- an id that is equal to none stands at no place
 other : (n : ℕ) (ns : List ℕ) (m : ℕ) → m < length ns → list_any (λ x. n == x) ns ≡ false → n ≡ id_at ns m → ⊥

@@ -1,6 +1,5 @@
 -- How the output of a script with one line more begins, and that no line is refused for what is told.
-use Rattle.std.proofs.Common.{◌≡◌, ℕ, List, [], ◌∷◌, ◌++◌, refl, sym, ap, ◌∙◌, append_assoc, ◌+◌, Bool, true, false, if◌then◌else◌, Result, Ok, Err}
-use Rattle.trace_lines.proofs.Common.{Record, Setup, setup_by, History, Effect, tables, records_of, is_blank, OpeningRead, opening_read, settings_spelled, Report, with_text_before, answer_text, answer_count, effect_of_line, report_on_effect, report_on_opening, report_on_settings, report_on, report_from, accepts}
+use Rattle.trace_lines.proofs.Common.{Bool, Effect, Err, History, List, Ok, OpeningRead, Record, Report, Result, Setup, [], accepts, answer_count, answer_text, ap, append_assoc, effect_of_line, false, if◌then◌else◌, is_blank, opening_read, records_of, refl, report_from, report_on, report_on_effect, report_on_opening, report_on_settings, settings_spelled, setup_by, sym, tables, true, with_text_before, ℕ, ◌++◌, ◌+◌, ◌∙◌, ◌∷◌, ◌≡◌}
 use Rattle.span_script.specs.declared.settings.Settings.{Settings}
 use Rattle.trace_lines.specs.declared.signal.Signal.{Signal}
 use Rattle.trace_lines.specs.declared.signal.Signal.TheVariants as signal

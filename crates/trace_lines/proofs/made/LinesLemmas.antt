@@ -1,7 +1,6 @@
 -- The lines of made scripts stand apart, and spell their requests.
-use Rattle.std.proofs.Common.{◌≡◌, ℕ, zero, suc, ◌+◌, ◌*◌, ◌<◌, ◌≤◌, ◌^◌, ◌==◌, ◌++◌, List, [], ◌∷◌, length, map, true, false, Some, Ok, option_and_then, decimal, refl, ap, ◌∙◌, arith, append_assoc, length-append}
 use Rattle.std.specs.Prelude.{⊤, ok_or, flat_map}
-use Rattle.trace_lines.proofs.Common.{and_parts, nat_tests, is_utf8, escape_byte, depth, number, object, Members, member, as_object, of_json, max_depth, outline, compact_text, serde_json_on_literals, number_of-decimal, Call, Request, BadLine, all_of, generated_settings, root_fields, row_fields, requests_of_round, requests_of_rounds, generated_requests, request_members, request_line, generated_settings_line, generated_lines, generated_script, lines_of, is_blank, request_form, new_form, drop_form, enter_form, exit_form, event_form, settings_form, callsite_form, lane_form, error_flags, span_flags, layer_form, request_spelled, settings_spelled}
+use Rattle.trace_lines.proofs.Common.{BadLine, Call, List, Members, Ok, Request, Some, [], all_of, and_parts, ap, append_assoc, arith, as_object, callsite_form, compact_text, decimal, depth, drop_form, enter_form, error_flags, escape_byte, event_form, exit_form, false, generated_lines, generated_requests, generated_script, generated_settings, generated_settings_line, is_blank, is_utf8, lane_form, layer_form, length, length-append, lines_of, map, max_depth, member, nat_tests, new_form, number, number_of-decimal, object, of_json, option_and_then, outline, refl, request_form, request_line, request_members, request_spelled, requests_of_round, requests_of_rounds, root_fields, row_fields, serde_json_on_literals, settings_form, settings_spelled, span_flags, suc, true, zero, ℕ, ◌*◌, ◌++◌, ◌+◌, ◌<◌, ◌==◌, ◌^◌, ◌∙◌, ◌∷◌, ◌≡◌, ◌≤◌}
 use Rattle.std.specs.Str.{chars}
 use Rattle.span_script.specs.declared.request.Call.TheVariants as call
 use Rattle.span_script.specs.declared.request.RequestParent.TheVariants as request_parent

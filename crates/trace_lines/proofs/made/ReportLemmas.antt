@@ -1,6 +1,5 @@
 -- A made script whose requests have effects is valid.
-use Rattle.std.proofs.Common.{◌≡◌, ℕ, ◌+◌, ◌≤◌, List, [], ◌∷◌, ◌++◌, map, Option, Some, true, refl, ap, ◌∙◌, Ok, Err}
-use Rattle.trace_lines.proofs.Common.{Request, OpeningRead, opening_read, Resolved, effect_of, Setup, History, Effect, tables, records_of, generated_settings, generated_setup, generated_requests, request_line, generated_script, history_unless_refused, history_after, Report, step_or_refusal, effect_of_line, effect_of_request, report_on_effect, report_on_opening, report_on, answer_count, accepts, IsValid}
+use Rattle.trace_lines.proofs.Common.{Effect, Err, History, IsValid, List, Ok, OpeningRead, Option, Report, Request, Resolved, Setup, Some, [], accepts, answer_count, ap, effect_of, effect_of_line, effect_of_request, generated_requests, generated_script, generated_settings, generated_setup, history_after, history_unless_refused, map, opening_read, records_of, refl, report_on, report_on_effect, report_on_opening, request_line, step_or_refusal, tables, true, ℕ, ◌++◌, ◌+◌, ◌∙◌, ◌∷◌, ◌≡◌, ◌≤◌}
 use Rattle.trace_lines.specs.declared.signal.Signal.TheVariants as signal
 use Rattle.trace_lines.proofs.made.LinesLemmas.{Each, HasLine, made_each, script_lines, script_short, settings_read}
 

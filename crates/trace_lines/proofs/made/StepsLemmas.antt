@@ -1,7 +1,6 @@
 -- Each request of a made script has an effect, whatever the filter lets through.
-use Rattle.std.proofs.Common.{◌≡◌, ℕ, zero, suc, ◌+◌, ◌-◌, ◌*◌, ◌%◌, ◌^◌, ◌<◌, ◌≤◌, ◌==◌, ◌&&◌, ◌||◌, List, [], ◌∷◌, ◌++◌, length, Bool, true, false, if◌then◌else◌, Option, Some, None, Ok, refl, sym, ap, subst, ◌∙◌, arith, append_assoc, append-nil, length-append, slice_get, slice_set, is_some, option_map, codes}
 use Rattle.std.specs.Option.{option_to_list}
-use Rattle.trace_lines.proofs.Common.{list_any, nat_tests, set-append_right, list_any-append, Call, Request, LAST_MOMENT, id_at, Scope, EntryOf, Attached, is_attached_by, ScopeGuard, Effect, Tables, History, tables, after_effect, slot_at, scope_of, with_attached, with_detached, here_at, Resolved, effect_of, effect_of_call, is_bad_moment, generated_site, generated_setup, root_fields, row_fields, requests_of_round, requests_of_rounds, generated_requests, history_unless_refused, history_after}
+use Rattle.trace_lines.proofs.Common.{Attached, Bool, Call, Effect, EntryOf, History, LAST_MOMENT, List, None, Ok, Option, Request, Resolved, Scope, ScopeGuard, Some, Tables, [], after_effect, ap, append-nil, append_assoc, arith, codes, effect_of, effect_of_call, false, generated_requests, generated_setup, generated_site, here_at, history_after, history_unless_refused, id_at, if◌then◌else◌, is_attached_by, is_bad_moment, is_some, length, length-append, list_any, list_any-append, nat_tests, option_map, refl, requests_of_round, requests_of_rounds, root_fields, row_fields, scope_of, set-append_right, slice_get, slice_set, slot_at, subst, suc, sym, tables, true, with_attached, with_detached, zero, ℕ, ◌%◌, ◌&&◌, ◌*◌, ◌++◌, ◌+◌, ◌-◌, ◌<◌, ◌==◌, ◌^◌, ◌||◌, ◌∙◌, ◌∷◌, ◌≡◌, ◌≤◌}
 use Rattle.std.proofs.lemmas.List.{get_or-append-add}
 use Rattle.std.proofs.lemmas.List.Sums.{fold-append}
 use Rattle.otel_base.specs.declared.context.Context.{Context}

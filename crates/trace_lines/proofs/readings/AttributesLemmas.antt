@@ -1,6 +1,5 @@
 -- The value of each attribute, status and time is read as it.
-use Rattle.std.proofs.Common.{◌≡◌, ℕ, ◌≤◌, pos, negsuc, List, [], ◌∷◌, Some, option_map, option_and_then, refl, ap, ◌∙◌, arith}
-use Rattle.trace_lines.proofs.Common.{nat_tests, LAST_MOMENT, otel_value_of, key_value, attribute_spelled, error_status_form, status_spelled, IsOtelValueInRange, AreAttributesInRange, if_at_most, each, items, attribute_value, attribute_data, status_data}
+use Rattle.trace_lines.proofs.Common.{AreAttributesInRange, IsOtelValueInRange, LAST_MOMENT, List, Some, [], ap, arith, attribute_data, attribute_spelled, attribute_value, each, error_status_form, if_at_most, items, key_value, nat_tests, negsuc, option_and_then, option_map, otel_value_of, pos, refl, status_data, status_spelled, ℕ, ◌∙◌, ◌∷◌, ◌≡◌, ◌≤◌}
 use Rattle.otel_base.specs.declared.status.Status.{Status}
 use Rattle.otel_base.specs.declared.status.Status.TheVariants as status
 use Rattle.otel_base.specs.declared.value.KeyValue.{KeyValue}

@@ -1,8 +1,7 @@
 -- What a compact text reads as, one value after another.
-use Rattle.std.proofs.Common.{negsuc, ◌≡◌, ℕ, suc, ◌<◌, ◌≤◌, ◌^◌, List, [], ◌∷◌, ◌++◌, length, get_or, take, drop, true, false, Bool, Some, None, Option, option_and_then, option_map, unwrap_or, refl, sym, ap, ◌∙◌, arith, append_assoc, append-nil, Bor, decimal, MatchOption, IfSome, ◌+◌, ◌-◌, nat_eq, length-append}
 use Rattle.std.specs.Prelude.{⊤}
 use Rattle.std.specs.Str.{IsUtf8}
-use Rattle.trace_lines.proofs.Common.{pointwise, strip_prefix_is, Decides-eqb, json_tokens, depth, items_depth, members_depth, HasNumbers, ItemsHaveNumbers, MembersHaveNumbers, escape, quoted, IsNumber-decimal, IsNumber-signed_decimal, Data, null, boolean, unsigned, negative, number, string, array, object, Items, no_items, item, Members, no_members, member, put, as_object, of_json, of_items, of_members, read, max_depth, outline, items_outline, members_outline, compact_text, items_text, members_text, number_of-decimal, number_of-negative, line_members, line_value, nested_value, plain_data, with_members_first, ReadsValue, BeginsWithValue, BeginsItems, BeginsMembers, BeginsNested}
+use Rattle.trace_lines.proofs.Common.{BeginsItems, BeginsMembers, BeginsNested, BeginsWithValue, Bool, Bor, Data, Decides-eqb, HasNumbers, IfSome, IsNumber-decimal, IsNumber-signed_decimal, Items, ItemsHaveNumbers, List, MatchOption, Members, MembersHaveNumbers, None, Option, ReadsValue, Some, [], ap, append-nil, append_assoc, arith, array, as_object, boolean, compact_text, decimal, depth, drop, escape, false, get_or, item, items_depth, items_outline, items_text, json_tokens, length, length-append, line_members, line_value, max_depth, member, members_depth, members_outline, members_text, nat_eq, negative, negsuc, nested_value, no_items, no_members, null, number, number_of-decimal, number_of-negative, object, of_items, of_json, of_members, option_and_then, option_map, outline, plain_data, pointwise, put, quoted, read, refl, string, strip_prefix_is, suc, sym, take, true, unsigned, unwrap_or, with_members_first, ℕ, ◌++◌, ◌+◌, ◌-◌, ◌<◌, ◌^◌, ◌∙◌, ◌∷◌, ◌≡◌, ◌≤◌}
 use Rattle.std.proofs.Math.ListN.{take-append-drop}
 use Rattle.std.proofs.Math.Seq.{drop-cons}
 use Rattle.json.specs.Token.{Token}
@@ -157,7 +156,7 @@ members_first text k d ms tail is = is
 one_member : (name value more tail : List ℕ) → name ++ 58 ∷ (value ++ (more ++ tail)) ≡ (name ++ 58 ∷ (value ++ more)) ++ tail
 one_member name value more tail = sym (append_assoc name (58 ∷ (value ++ more)) tail ∙ ap (λ (l : List ℕ). name ++ 58 ∷ l) (append_assoc value more tail))
 
-member_is : (left colon inner after rest : List ℕ) (n : Named) → left ≡ quoted n.0 ++ colon → colon ≡ 58 ∷ inner → inner ≡ compact_text n.1.0 ++ after → after ≡ rest → left ≡ quoted n.0 ++ 58 ∷ (compact_text n.1.0 ++ rest)
+pub member_is : (left colon inner after rest : List ℕ) (n : Named) → left ≡ quoted n.0 ++ colon → colon ≡ 58 ∷ inner → inner ≡ compact_text n.1.0 ++ after → after ≡ rest → left ≡ quoted n.0 ++ 58 ∷ (compact_text n.1.0 ++ rest)
 member_is left colon inner after rest n a b c f = a ∙ ap (λ (l : List ℕ). quoted n.0 ++ l) (b ∙ ap (λ (l : List ℕ). 58 ∷ l) (c ∙ ap (λ (l : List ℕ). compact_text n.1.0 ++ l) f))
 
 pub members_on : (text left colon inner after more : List ℕ) (ns : List Named) (n : Named) → GoesMembers text ns left

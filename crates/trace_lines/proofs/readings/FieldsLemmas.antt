@@ -1,6 +1,5 @@
 -- The value of each field is read as the field.
-use Rattle.std.proofs.Common.{◌≡◌, ◌≢◌, ℕ, suc, ◌-◌, ◌^◌, ◌<◌, ℤ, pos, negsuc, neg_ℤ, List, [], ◌∷◌, true, Some, None, option_map, option_and_then, nat_lt, nat_le, decimal, refl, ap, subst, ◌∙◌, arith, ◌&&◌, if◌then◌else◌}
-use Rattle.trace_lines.proofs.Common.{signed_decimal, AllDigits, IsNumeral, nat_tests, decimal_is_IsNumeral_wide, string, as_str, Value, i128_of_word, negative_of, nonnegative_of, written_value, written_field, HasBits, IsValueInRange, AreValuesInRange, error_form, typed_form, value_spelled, field_of, if_at_most, each, items}
+use Rattle.trace_lines.proofs.Common.{AllDigits, AreValuesInRange, HasBits, IsNumeral, IsValueInRange, List, None, Some, Value, [], ap, arith, as_str, decimal, decimal_is_IsNumeral_wide, each, error_form, field_of, i128_of_word, if_at_most, if◌then◌else◌, items, nat_le, nat_lt, nat_tests, neg_ℤ, negative_of, negsuc, nonnegative_of, option_and_then, option_map, pos, refl, signed_decimal, string, subst, suc, true, typed_form, value_spelled, written_field, written_value, ℕ, ℤ, ◌&&◌, ◌-◌, ◌<◌, ◌^◌, ◌∙◌, ◌∷◌, ◌≡◌, ◌≢◌}
 use Rattle.std.proofs.lemmas.Str.Parse.{digit_from_value}
 use Rattle.trace_base.specs.declared.field.Value.TheVariants.{Bool as Truth, I64, U64, I128, U128, Str, Debug, Error}
 use Rattle.trace_lines.proofs.texts.DecimalsLemmas.{decimal_read, no_minus}

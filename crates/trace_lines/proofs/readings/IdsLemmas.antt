@@ -1,6 +1,5 @@
 -- The digits of an id are read as the id.
-use Rattle.std.proofs.Common.{◌≡◌, ℕ, zero, suc, ◌+◌, ◌*◌, ◌/◌, ◌%◌, ◌^◌, ◌<◌, ◌≤◌, List, [], ◌∷◌, length, Option, Some, option_and_then, refl, sym, ap, ◌∙◌, arith, false}
-use Rattle.trace_lines.proofs.Common.{digit_glyph, nat_tests, pow-succ', pow-le-pow_right, hex16, hex32, number_of_hex, with_more_digits, digit_value}
+use Rattle.trace_lines.proofs.Common.{List, Option, Some, [], ap, arith, digit_glyph, digit_value, false, hex16, hex32, length, nat_tests, number_of_hex, option_and_then, pow-le-pow_right, pow-succ', refl, suc, sym, with_more_digits, zero, ℕ, ◌%◌, ◌*◌, ◌+◌, ◌/◌, ◌<◌, ◌^◌, ◌∙◌, ◌∷◌, ◌≡◌, ◌≤◌}
 use Rattle.std.proofs.lemmas.List.{length-append}
 use Rattle.trace_lines.proofs.texts.HexLemmas.{last_digits, last_digits-hex16, last_digits-onto}
 

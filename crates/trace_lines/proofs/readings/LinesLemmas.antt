@@ -1,6 +1,5 @@
 -- The value of a line, beside what its reader says of it.
-use Rattle.std.proofs.Common.{◌≡◌, ℕ, List, Bool, true, false, Some, None, refl, if◌then◌else◌}
-use Rattle.trace_lines.proofs.Common.{is_utf8, IsUtf8-from_is_utf8, is_utf8-from_IsUtf8, Data, read, line_value}
+use Rattle.trace_lines.proofs.Common.{Bool, Data, IsUtf8-from_is_utf8, List, None, Some, false, if◌then◌else◌, is_utf8, is_utf8-from_IsUtf8, line_value, read, refl, true, ℕ, ◌≡◌}
 use Rattle.std.specs.Str.{IsUtf8}
 
 pub read_value : (line : List ℕ) (d : Data) → IsUtf8 line → read line ≡ Some d → line_value line ≡ Some d

@@ -1,6 +1,5 @@
 -- Taking an entry of a map, beside taking the member of its object.
-use Rattle.std.proofs.Common.{◌≡◌, ℕ, List, [], ◌∷◌, length, Option, Some, None, option_map, String, Global, Ordering, Less, Equal, Greater, string_bytes, nat_cmp, is_eq, cond, Bool, refl, ap, ◌∙◌, arith}
-use Rattle.trace_lines.proofs.Common.{slice_cmp, match_ordering, is_at, Members, member, get_member, view, members_view, Entry, view-lookup, without_member, no_more, members_of}
+use Rattle.trace_lines.proofs.Common.{Bool, Entry, Equal, Global, Greater, Less, List, Members, None, Option, Ordering, Some, String, [], ap, arith, cond, get_member, is_at, is_eq, length, match_ordering, member, members_of, members_view, nat_cmp, no_more, option_map, refl, slice_cmp, string_bytes, view, view-lookup, without_member, ℕ, ◌∙◌, ◌∷◌, ◌≡◌}
 use Rattle.std.specs.Map.{remove_entry, lookup}
 use Rattle.serde_json.specs.declared.value.Value.{Value}
 use Rattle.trace_lines.proofs.readings.CompactLemmas.{Entry as Flat}

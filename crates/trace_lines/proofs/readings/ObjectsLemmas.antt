@@ -1,6 +1,5 @@
 -- Values of JSON and what they are made of: arrays, and a record's lane.
-use Rattle.std.proofs.Common.{◌≡◌, ℕ, List, [], ◌∷◌, ◌++◌, map, Option, Some, None, refl, ap, ◌∙◌}
-use Rattle.trace_lines.proofs.Common.{Data, item, array, view, items_of, items_view, with_lane, items, array_of, by_name, lane_members}
+use Rattle.trace_lines.proofs.Common.{Data, List, None, Option, Some, [], ap, array, array_of, by_name, item, items, items_of, items_view, lane_members, map, refl, view, with_lane, ℕ, ◌++◌, ◌∙◌, ◌∷◌, ◌≡◌}
 use Rattle.serde_json.specs.declared.value.Value.{Value}
 
 items_of_map : {A : Type 0} → (f : A → Data) (xs : List A) → items_of (map f xs) ≡ items f xs

@@ -1,6 +1,5 @@
 -- How names compare.
-use Rattle.std.proofs.Common.{◌≡◌, ℕ, ◌<◌, List, [], ◌∷◌, length, get_or, Less, Greater, nat_cmp, ap, arith}
-use Rattle.trace_lines.proofs.Common.{slice_cmp, ordering_then}
+use Rattle.trace_lines.proofs.Common.{Greater, Less, List, [], ap, arith, get_or, length, nat_cmp, ordering_then, slice_cmp, ℕ, ◌<◌, ◌∷◌, ◌≡◌}
 use Rattle.std.specs.Cmp.{nat_cmp_is}
 
 -- the first bytes tell how names compare, where they differ

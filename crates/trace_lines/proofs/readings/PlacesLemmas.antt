@@ -1,8 +1,7 @@
 -- Where a member stands.
-use Rattle.std.proofs.Common.{◌≡◌, ℕ, zero, suc, ◌+◌, ◌<◌, ◌≤◌, List, [], ◌∷◌, ◌++◌, length, get_or, take, drop, remove, Some, None, Ordering, Less, Equal, Greater, is_eq, Bool, true, false, true≢false, bytes_eq, nat_cmp, refl, sym, ap, subst, ◌∙◌, arith}
 use Rattle.std.proofs.Math.Seq.{drop-cons}
 use Rattle.std.proofs.lemmas.List.{get_or-drop, length-drop}
-use Rattle.trace_lines.proofs.Common.{nat_list_cmp_total, tied_itself, bytes_eq-Decides, slice_cmp, match_ordering, Data, Members, no_members, member, put, get_member, without_member, plain_data, with_members_first, FindsMember, FitsIn}
+use Rattle.trace_lines.proofs.Common.{Bool, Data, Equal, FindsMember, FitsIn, Greater, Less, List, Members, None, Ordering, Some, [], ap, arith, bytes_eq, bytes_eq-Decides, drop, false, get_member, get_or, is_eq, length, match_ordering, member, nat_cmp, nat_list_cmp_total, no_members, plain_data, put, refl, remove, slice_cmp, subst, suc, sym, take, tied_itself, true, true≢false, with_members_first, without_member, zero, ℕ, ◌++◌, ◌+◌, ◌<◌, ◌∙◌, ◌∷◌, ◌≡◌, ◌≤◌}
 use Rattle.std.proofs.lemmas.Map.Text.{is_eq-slice_cmp}
 use Rattle.trace_lines.proofs.readings.CompactLemmas.{Entry, onto_push}
 

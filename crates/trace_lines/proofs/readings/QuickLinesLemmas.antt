@@ -1,8 +1,7 @@
 -- What common request lines spell.
-use Rattle.std.proofs.Common.{◌≡◌, ℕ, zero, suc, ◌<◌, ◌≤◌, ◌^◌, List, [], ◌∷◌, ◌++◌, length, true, Option, Some, None, Ok, IfSome, Bor, option_map, option_and_then, Less, Equal, Greater, nat_cmp, codes, decimal, refl, sym, ap, subst, ◌∙◌, arith, append_assoc, ok_or}
 use Rattle.std.specs.Prelude.{⊤, unwrap_or}
 use Rattle.std.specs.Str.{IsUtf8}
-use Rattle.trace_lines.proofs.Common.{nat_list_cmp_total, tied_itself, slice_cmp, match_ordering, ordering_reverse, IsAscii-decimal, IsUtf8-append, IsUtf8-from_ascii, IsUtf8-are_ascii, are_ascii, quoted, escape, escape_byte, compact_text, IsNumber-decimal, Data, Members, unsigned, number, string, member, no_members, put, Before, number_of-decimal, BeginsWithValue, request_form, new_form, drop_form, enter_form, exit_form, event_form, fields_of, all_of, Value, Request, BadLine, request_spelled}
+use Rattle.trace_lines.proofs.Common.{BadLine, Before, BeginsWithValue, Bor, Data, Equal, Greater, IfSome, IsAscii-decimal, IsNumber-decimal, IsUtf8-append, IsUtf8-are_ascii, IsUtf8-from_ascii, Less, List, Members, None, Ok, Option, Request, Some, Value, [], all_of, ap, append_assoc, are_ascii, arith, codes, compact_text, decimal, drop_form, enter_form, escape, escape_byte, event_form, exit_form, fields_of, length, match_ordering, member, nat_cmp, nat_list_cmp_total, new_form, no_members, number, number_of-decimal, ok_or, option_and_then, option_map, ordering_reverse, put, quoted, refl, request_form, request_spelled, slice_cmp, string, subst, suc, sym, tied_itself, true, unsigned, zero, ℕ, ◌++◌, ◌<◌, ◌^◌, ◌∙◌, ◌∷◌, ◌≡◌, ◌≤◌}
 use Rattle.span_script.specs.declared.request.Call.TheVariants as call
 use Rattle.span_script.specs.declared.request.RequestParent.{RequestParent}
 use Rattle.span_script.specs.declared.request.RequestParent.TheVariants.{Contextual, Root, Under}

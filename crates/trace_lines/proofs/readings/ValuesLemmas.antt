@@ -1,6 +1,5 @@
 -- What a nested text is, beside the reader of its tree.
-use Rattle.std.proofs.Common.{◌≡◌, List, [], ◌∷◌, ◌++◌, Option, Some, None, option_and_then, unwrap_or, refl, ap, ap₂, sym, ◌∙◌}
-use Rattle.trace_lines.proofs.Common.{Data, null, boolean, number, string, array, object, Items, no_items, item, as_object, as_array, as_str, as_bool, as_whole, value_data, items, nested_value}
+use Rattle.trace_lines.proofs.Common.{Data, Items, List, None, Option, Some, [], ap, ap₂, array, as_array, as_bool, as_object, as_str, as_whole, boolean, item, items, nested_value, no_items, null, number, object, option_and_then, refl, string, sym, unwrap_or, value_data, ◌++◌, ◌∙◌, ◌∷◌, ◌≡◌}
 use Rattle.trace_lines.specs.declared.read.syntax.value.Value.{Value}
 use Rattle.trace_lines.proofs.readings.CompactLemmas.{Pair, read_items}
 

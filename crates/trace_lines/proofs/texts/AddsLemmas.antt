@@ -1,7 +1,6 @@
 -- Texts that are added one after another.
-use Rattle.std.proofs.Common.{◌≡◌, ℕ, ◌+◌, ◌<◌, ◌≤◌, List, [], ◌∷◌, ◌++◌, length, arith, get_or, drop, drop_of_length-le, Bool, true, sym, ap, subst, ◌∙◌, append_assoc, append-nil}
 use Rattle.std.specs.Str.{IsUtf8}
-use Rattle.trace_lines.proofs.Common.{IsUtf8-append, IsUtf8-nil, drop_more, escape, quoted, IsUtf8-quoted, Data, compact_text, items_text, comma_if, items, AddsText}
+use Rattle.trace_lines.proofs.Common.{AddsText, Bool, Data, IsUtf8-append, IsUtf8-nil, IsUtf8-quoted, List, [], ap, append-nil, append_assoc, arith, comma_if, compact_text, drop, drop_more, drop_of_length-le, escape, get_or, items, items_text, length, quoted, subst, sym, true, ℕ, ◌++◌, ◌+◌, ◌<◌, ◌∙◌, ◌∷◌, ◌≡◌, ◌≤◌}
 
 pub begun : (old : List ℕ) → AddsText old old []
 begun old = (sym (append-nil old), IsUtf8-nil)

@@ -1,6 +1,5 @@
 -- Attributes that stand in a text.
-use Rattle.std.proofs.Common.{◌≡◌, refl}
-use Rattle.trace_lines.proofs.Common.{Data, null, boolean, number, string, array, object, text_list_of, otel_value_of, nested_value}
+use Rattle.trace_lines.proofs.Common.{Data, array, boolean, nested_value, null, number, object, otel_value_of, refl, string, text_list_of, ◌≡◌}
 
 -- a value that nests is a list, or none of an attribute
 pub list_nested : (d : Data) → otel_value_of (nested_value d) ≡ text_list_of (nested_value d)

@@ -30,3 +30,11 @@ between_part whole front words rest start end is ends starts =
     let size = front_length whole front (words ++ 34 ∷ rest) 34 is in
     ap (λ (l : List ℕ). take (end - start) l) (behind_part whole front (words ++ 34 ∷ rest) 34 start is (omega (arith, ends, starts, length-append words (34 ∷ rest))))
     ∙ take_at words (34 ∷ rest) (end - start) (omega (arith, ends, starts, size, length-append words (34 ∷ rest)))
+
+-- what stands between the front of a text and its rest
+pub part_between : (whole front bytes words rest : List ℕ) (start end : ℕ) → whole ≡ front ++ bytes → bytes ≡ words ++ rest → start ≡ length whole - length bytes → end ≡ length whole - length rest → take (end - start) (drop start whole) ≡ words
+part_between whole front bytes words rest start end is cut starts ends =
+    let size : length whole ≡ length front + length bytes = ap (λ (l : List ℕ). length l) is ∙ length-append front bytes in
+    let long : length bytes ≡ length words + length rest = ap (λ (l : List ℕ). length l) cut ∙ length-append words rest in
+    ap (λ (l : List ℕ). take (end - start) l) (ap (λ (l : List ℕ). drop start l) is ∙ drop_at front bytes start (omega (arith, starts, size)) ∙ cut)
+    ∙ take_at words rest (end - start) (omega (arith, starts, ends, size, long))

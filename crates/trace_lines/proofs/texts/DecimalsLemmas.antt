@@ -1,6 +1,5 @@
 -- A text that is read as a number of 128 bits, beside the number whose decimal it is.
-use Rattle.std.proofs.Common.{◌≡◌, ◌≢◌, ℕ, ◌-◌, ◌^◌, ◌<◌, List, [], ◌∷◌, drop, Bool, true, false, Some, None, Result, Ok, Err, option_and_then, bytes_eq, decimal, nat_le, refl, sym, ap, subst, ◌∙◌, arith, if◌then◌else◌}
-use Rattle.trace_lines.proofs.Common.{ParsesUnsigned, digits_value, starts_with_minus, false_from_ne_true, nat_tests, decimal_is_IsNumeral_wide, parse-decimal_wide, bytes_eq-Decides, if_at_most, u128_of_word, i128_of_word, if_decimal, negative_of, nonnegative_of}
+use Rattle.trace_lines.proofs.Common.{Bool, Err, List, None, Ok, ParsesUnsigned, Result, Some, [], ap, arith, bytes_eq, bytes_eq-Decides, decimal, decimal_is_IsNumeral_wide, digits_value, drop, false, false_from_ne_true, i128_of_word, if_at_most, if_decimal, if◌then◌else◌, nat_le, nat_tests, negative_of, nonnegative_of, option_and_then, parse-decimal_wide, refl, starts_with_minus, subst, sym, true, u128_of_word, ℕ, ◌-◌, ◌<◌, ◌^◌, ◌∙◌, ◌∷◌, ◌≡◌, ◌≢◌}
 use Rattle.std.proofs.lemmas.Bool.{ne_eqb}
 
 fits : (n : ℕ) → n < 2 ^ 128 → if_at_most (2 ^ 128 - 1) n ≡ Some n

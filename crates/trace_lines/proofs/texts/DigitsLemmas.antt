@@ -1,6 +1,5 @@
 -- The digits of a number, one more at a time.
-use Rattle.std.proofs.Common.{◌≡◌, ℕ, suc, ◌+◌, ◌*◌, ◌/◌, ◌%◌, ◌^◌, ◌<◌, List, [], ◌∷◌, ◌++◌, length, get_or, drop, decimal, ap, sym, ◌∙◌, append_assoc, arith}
-use Rattle.trace_lines.proofs.Common.{decimal_digit, decimal_step}
+use Rattle.trace_lines.proofs.Common.{List, [], ap, append_assoc, arith, decimal, decimal_digit, decimal_step, drop, get_or, length, suc, sym, ℕ, ◌%◌, ◌*◌, ◌++◌, ◌+◌, ◌/◌, ◌<◌, ◌^◌, ◌∙◌, ◌∷◌, ◌≡◌}
 use Rattle.std.proofs.Math.Seq.{drop-cons}
 
 pub begun : (text : List ℕ) (digit : ℕ) → digit < 10 → 0 < length text → get_or text 0 0 ≡ 48 + digit → text ≡ decimal digit ++ drop 1 text

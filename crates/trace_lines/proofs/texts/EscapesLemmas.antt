@@ -1,7 +1,6 @@
 -- What stands for a text's bytes.
-use Rattle.std.proofs.Common.{◌≡◌, ℕ, ◌+◌, ◌<◌, ◌≤◌, List, [], ◌∷◌, ◌++◌, length, get_or, take, drop, refl, sym, ap, subst, arith, ◌∙◌, append_assoc}
 use Rattle.std.proofs.Math.ListN.{take-append-drop}
-use Rattle.trace_lines.proofs.Common.{drop_more, escape, escape_byte}
+use Rattle.trace_lines.proofs.Common.{List, [], ap, append_assoc, arith, drop, drop_more, escape, escape_byte, get_or, length, refl, subst, sym, take, ℕ, ◌++◌, ◌+◌, ◌<◌, ◌∙◌, ◌∷◌, ◌≡◌, ◌≤◌}
 use Rattle.std.proofs.lemmas.List.{take_all}
 use Rattle.json.proofs.Printed.Strings.{escape_byte_plain}
 

@@ -1,8 +1,7 @@
 -- Pairs of names and values, and fields in a text.
-use Rattle.std.proofs.Common.{◌≡◌, ◌≢◌, ◌<◌, ◌^◌, ℕ, ◌+◌, List, [], ◌∷◌, ◌++◌, length, Option, Some, None, option_map, option_and_then, unwrap_or, refl, sym, ap, ◌∙◌, arith, append_assoc, length-append, codes, decimal}
 use Rattle.std.specs.Str.{IsUtf8}
 use Rattle.std.specs.Borrow.{Bor}
-use Rattle.trace_lines.proofs.Common.{IsNumber-decimal, number_of-decimal, escape_byte, read, unsigned, member, no_members, plain_data, quoted, Data, null, boolean, number, string, array, object, no_items, item, as_object, compact_text, nested_value, BeginsWithValue, typed_form, value_spelled, field_data, field_of, fields_of, all_of, each, pair_with, value_data, items}
+use Rattle.trace_lines.proofs.Common.{BeginsWithValue, Data, IsNumber-decimal, List, None, Option, Some, [], all_of, ap, append_assoc, arith, array, as_object, boolean, codes, compact_text, decimal, each, escape_byte, field_data, field_of, fields_of, item, items, length, length-append, member, nested_value, no_items, no_members, null, number, number_of-decimal, object, option_and_then, option_map, pair_with, plain_data, quoted, read, refl, string, sym, typed_form, unsigned, unwrap_or, value_data, value_spelled, ℕ, ◌++◌, ◌+◌, ◌<◌, ◌^◌, ◌∙◌, ◌∷◌, ◌≡◌, ◌≢◌}
 use Rattle.trace_base.specs.declared.field.Value.{Value as FieldValue}
 use Rattle.trace_base.specs.declared.field.Value.TheVariants.{U64}
 use Rattle.trace_lines.specs.declared.read.plain.Plain.TheVariants.{Nested}

@@ -1,6 +1,5 @@
 -- The digits of an id, put down from the last to the first.
-use Rattle.std.proofs.Common.{◌≡◌, ℕ, zero, suc, ◌+◌, ◌-◌, ◌/◌, ◌%◌, ◌^◌, ◌<◌, ◌≤◌, ◌==◌, List, [], ◌∷◌, ◌++◌, length, Bool, true, false, cond, refl, sym, ap, ◌∙◌, arith, append-nil, subst, take, drop, slice_set, Result, Ok, Err, MatchResult, IsOk, replicate}
-use Rattle.trace_lines.proofs.Common.{digit_glyph, digits, digits_onto, pow-succ', IsUtf8-from_ascii, IsUtf8-append, drop-set, nat_tests, escape, escape_byte, hex16, hex32}
+use Rattle.trace_lines.proofs.Common.{Bool, Err, IsOk, IsUtf8-append, IsUtf8-from_ascii, List, MatchResult, Ok, Result, [], ap, append-nil, arith, cond, digit_glyph, digits, digits_onto, drop, drop-set, escape, escape_byte, false, hex16, hex32, length, nat_tests, pow-succ', refl, replicate, slice_set, subst, suc, sym, take, true, zero, ℕ, ◌%◌, ◌++◌, ◌+◌, ◌-◌, ◌/◌, ◌<◌, ◌==◌, ◌^◌, ◌∙◌, ◌∷◌, ◌≡◌, ◌≤◌}
 use Rattle.std.specs.Str.{IsUtf8, IsAscii}
 use Rattle.std.proofs.lemmas.Str.Ascii.{IsAscii-nil, IsAscii-cons}
 use Rattle.std.proofs.lemmas.Bool.{eqb-true}

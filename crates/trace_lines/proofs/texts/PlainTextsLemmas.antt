@@ -1,7 +1,6 @@
 -- Values whose compact texts have printable ASCII bytes alone, and no number above 8 digits.
-use Rattle.std.proofs.Common.{◌≡◌, ℕ, ◌+◌, ◌%◌, ◌<◌, ◌≤◌, ◌^◌, ◌&&◌, nat_le, nat_lt, List, [], ◌∷◌, ◌++◌, length, Bool, true, false, decimal, refl, ap, ◌∙◌, arith, length-append}
 use Rattle.std.specs.Prelude.{⊤}
-use Rattle.trace_lines.proofs.Common.{list_all, and_parts, nat_tests, decimal_by_steps, length-decimal-le, list_all-append, quoted, HasNumbers, ItemsHaveNumbers, MembersHaveNumbers, IsNumber-decimal, are_ascii, IsUtf8-are_ascii, Num, unsigned, negative, float, Data, null, boolean, number, string, array, object, Items, no_items, item, Members, no_members, member, outline, items_outline, members_outline, number_text, compact_text, items_text, members_text, comma_if}
+use Rattle.trace_lines.proofs.Common.{Bool, Data, HasNumbers, IsNumber-decimal, IsUtf8-are_ascii, Items, ItemsHaveNumbers, List, Members, MembersHaveNumbers, Num, [], and_parts, ap, are_ascii, arith, array, boolean, comma_if, compact_text, decimal, decimal_by_steps, false, float, item, items_outline, items_text, length, length-append, length-decimal-le, list_all, list_all-append, member, members_outline, members_text, nat_le, nat_lt, nat_tests, negative, no_items, no_members, null, number, number_text, object, outline, quoted, refl, string, true, unsigned, ℕ, ◌%◌, ◌&&◌, ◌++◌, ◌+◌, ◌<◌, ◌^◌, ◌∙◌, ◌∷◌, ◌≡◌, ◌≤◌}
 use Rattle.std.specs.Str.{IsUtf8}
 
 -- a printable byte of ASCII

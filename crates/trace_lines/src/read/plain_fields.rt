@@ -1,5 +1,5 @@
 //! Fields that stand plainly in a text, read in one pass. None says nothing of what the text is.
-ghost use Rattle.std.specs.Prelude.{◌≡◌, ◌+◌, ◌<◌, ◌++◌, List, ℕ, [], ◌∷◌, Some, IfSome, option_map, option_and_then};
+ghost use Rattle.std.specs.Prelude.{◌≡◌, ◌+◌, ◌<◌, ◌++◌, [], ◌∷◌, Some, IfSome, option_map, option_and_then};
 ghost use Rattle.std.specs.Str.{IsUtf8};
 ghost use Rattle.serde_json.specs.Data.{Data};
 ghost use Rattle.trace_lines.specs.text.Compact.{plain_data, BeginsWithValue};
@@ -8,8 +8,9 @@ ghost use Rattle.trace_lines.specs.reading.Spelled.{line_value};
 
 use crate::read::fields::plain_value;
 use crate::read::plain::Plain;
+use crate::read::syntax::cut::{behind_ascii, between, value_in};
 use crate::read::syntax::flat::expect_end;
-use crate::read::syntax::scan::{MAX_DEPTH, behind, plain_text, value};
+use crate::read::syntax::scan::{MAX_DEPTH, behind, plain_text};
 use otel_base::list::Items;
 use otel_base::text::Text;
 use std::alloc::Global;
@@ -20,40 +21,6 @@ const USUAL_FIELDS: usize = 4;
 
 // The most fields that are read so.
 const MAX_FIELDS: u32 = 65_536;
-
-// What stands between two quotes of a text, of which the second stands in front of `rest`. It isn't tested again.
-#[inline(always)]
-fn between<'a>(whole: &'a str, words: &[u8], rest: &[u8]) -> &'a str
-    requires { (front : List ℕ) × (whole.now ≡ front ++ 34 ∷ (words.now ++ 34 ∷ rest.now)) }
-    ensures { result.now ≡ words.now }
-{
-    let end = whole.len() - rest.len() - 1;
-    &whole[end - words.len()..end]
-}
-
-// What stands behind a byte of a text that is ASCII. It isn't tested again.
-#[inline(always)]
-fn behind_ascii<'a>(whole: &'a str, rest: &[u8]) -> &'a str
-    requires { (front : List ℕ) × (last : ℕ) × (last < 128) × (whole.now ≡ front ++ last ∷ rest.now) }
-    ensures { result.now ≡ rest.now }
-{
-    &whole[whole.len() - rest.len()..]
-}
-
-// A value at the end of a text, and what stands behind it.
-#[inline(always)]
-fn value_in<'a>(whole: &'a str, bytes: &'a [u8]) -> Option<(Plain<'a>, &'a [u8])>
-    requires { (front : List ℕ) × (whole.now ≡ front ++ bytes.now) }
-    ensures { IfSome result (λ r. BeginsWithValue MAX_DEPTH bytes.now (plain_data r.0) r.1.now) }
-{
-    match plain_text(bytes) {
-        Some((words, rest)) => Some((Plain::Text(between(whole, words, rest)), rest)),
-        None => {
-            let (plain, rest) = value(bytes)?;
-            Some((plain, rest))
-        }
-    }
-}
 
 // A field's name and value as they stand in a text, and what stands behind the field.
 #[inline(always)]
@@ -97,7 +64,16 @@ pub fn leading_fields<'a>(
     ensures utf8 { IfSome result (λ _. IsUtf8 bytes.now) }
 {
     let whole = str::from_utf8(bytes).ok()?;
-    let first = behind(bytes, b'[')?;
+    let (fields, rest) = fields_in(alloc, whole)?;
+    Some((fields, rest))
+}
+
+// The same of a text that was tested.
+fn fields_in<'a>(alloc: Global, whole: &'a str) -> Option<(Items<(Text, FieldValue)>, &'a [u8])>
+    ensures { IfSome result (λ r.
+        (d : Data) × BeginsWithValue (MAX_DEPTH + 2) whole.now d r.1.now × (fields_of d ≡ Some r.0)) }
+{
+    let first = behind(whole.as_bytes(), b'[')?;
     if let Some(end) = behind(first, b']') {
         return Some((Items::new(alloc), end));
     }
@@ -121,7 +97,7 @@ pub fn leading_fields<'a>(
 pub(crate) fn plain_fields(alloc: Global, array: &str) -> Option<Items<(Text, FieldValue)>>
     ensures { IfSome result (λ fields. option_and_then fields_of (line_value array.now) ≡ Some fields) }
 {
-    let (fields, end) = leading_fields(alloc, array.as_bytes())?;
+    let (fields, end) = fields_in(alloc, array)?;
     expect_end(end)?;
     Some(fields)
 }

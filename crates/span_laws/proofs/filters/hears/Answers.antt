@@ -1,5 +1,4 @@
-use Rattle.std.proofs.Common.{◌≡◌, Some, refl}
-use Rattle.span_laws.proofs.Common.{Hook, OnNewSpan, OnRecord, OnFollows, OnEvent, OnEnter, OnExit, OnClose, FilterState, after_hook, hook_of, FilterHook, HookNew, HookRecord, HookEnter, HookExit, HookClose}
+use Rattle.span_laws.proofs.Common.{FilterHook, FilterState, Hook, HookClose, HookEnter, HookExit, HookNew, HookRecord, OnClose, OnEnter, OnEvent, OnExit, OnFollows, OnNewSpan, OnRecord, Some, after_hook, hook_of, refl, ◌≡◌}
 use Rattle.span_laws.specs.Hearing.{filter_hook_of, after_filter_hook_if}
 use Rattle.span_laws.proofs.filters.hears.Goals as goal
 

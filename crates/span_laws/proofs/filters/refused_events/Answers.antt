@@ -1,6 +1,5 @@
-use Rattle.std.proofs.Common.{ap, Bool}
 use Rattle.otel_metrics.specs.Measures.{measures}
-use Rattle.span_laws.proofs.Common.{event_op, ops_on, ops_effect, if_enabled, event_ops}
+use Rattle.span_laws.proofs.Common.{Bool, ap, event_op, event_ops, if_enabled, ops_effect, ops_on}
 use Rattle.span_script.specs.declared.reply.Reply.TheVariants as reply
 use Rattle.span_laws.proofs.filters.refused_events.Goals as goal
 

@@ -1,6 +1,5 @@
-use Rattle.std.proofs.Common.{◌≡◌, ℕ, List, [], Some, refl, sym, ap, subst}
 use Rattle.std.proofs.lemmas.List.{append-nil}
-use Rattle.span_laws.proofs.Common.{fold_push, Here, reload_effect, Setup, History, Tables, no_tables, after_effect, tables, IsHistory, none, more}
+use Rattle.span_laws.proofs.Common.{Here, History, IsHistory, List, Setup, Some, Tables, [], after_effect, ap, fold_push, more, no_tables, none, refl, reload_effect, subst, sym, tables, ℕ, ◌≡◌}
 use Rattle.span_laws.proofs.filters.reloads.Goals as goal
 
 pub returns-clause-gate : goal.returns-clause-gate

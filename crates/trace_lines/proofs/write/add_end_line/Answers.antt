@@ -1,5 +1,4 @@
-use Rattle.std.proofs.Common.{refl}
-use Rattle.trace_lines.proofs.Common.{line_of, end_text}
+use Rattle.trace_lines.proofs.Common.{end_text, line_of, refl}
 use Rattle.trace_lines.proofs.texts.AddsLemmas.{then, retold}
 use Rattle.trace_lines.proofs.write.add_end_line.Goals as goal
 

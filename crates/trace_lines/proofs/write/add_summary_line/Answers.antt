@@ -1,5 +1,4 @@
-use Rattle.std.proofs.Common.{refl}
-use Rattle.trace_lines.proofs.Common.{line_of, summary_text}
+use Rattle.trace_lines.proofs.Common.{line_of, refl, summary_text}
 use Rattle.trace_lines.proofs.texts.AddsLemmas.{then, retold}
 use Rattle.trace_lines.proofs.write.add_summary_line.Goals as goal
 

@@ -15,7 +15,8 @@ ghost use Rattle.trace_lines.specs.reading.Left.{value_data};
 ghost use Rattle.trace_lines.specs.reading.Placed.{FindsMember, FitsIn};
 
 use crate::read::plain::Plain;
-use crate::read::syntax::scan::{MAX_DEPTH, MAX_ITEMS, behind, text, value};
+use crate::read::syntax::cut::{behind_ascii, value_in};
+use crate::read::syntax::scan::{MAX_DEPTH, MAX_ITEMS, behind, text};
 use crate::read::syntax::value::Value;
 use std::alloc::Global;
 use std::cmp::Ordering;
@@ -34,30 +35,28 @@ pub fn is_utf8(bytes: &[u8]) -> bool
 }
 
 // A member, and what stands behind it.
-fn member(bytes: &[u8]) -> Option<((&[u8], Plain<'_>), &[u8])>
-    ensures { IfSome result (λ r. (inner : List ℕ) × (bytes.now ≡ quoted r.0.0.now ++ 58 ∷ inner)
+fn member(left: &str) -> Option<((&[u8], Plain<'_>), &[u8])>
+    ensures { IfSome result (λ r. (inner : List ℕ) × (left.now ≡ quoted r.0.0.now ++ 58 ∷ inner)
         × BeginsWithValue MAX_DEPTH inner (plain_data r.0.1) r.1.now) }
 {
-    let (name, colon) = text(bytes)?;
+    let (name, colon) = text(left.as_bytes())?;
     let inner = behind(colon, b':')?;
-    let (plain, after) = value(inner)?;
+    let (plain, after) = value_in(left, inner)?;
     Some(((name, plain), after))
 }
 
 /// The members of the object that a text is, in the order of their names.
-pub(crate) fn members<'a>(alloc: Global, line: &'a [u8]) -> Option<Vec<(&'a [u8], Plain<'a>)>>
+pub(crate) fn members<'a>(alloc: Global, line: &'a str) -> Option<Vec<(&'a [u8], Plain<'a>)>>
     ensures { IfSome result (λ members. line_members line.now ≡ Some (members_of members.items)) }
 {
-    if !is_utf8(line) {
-        return None;
-    }
     let mut members = Vec::with_capacity(alloc, USUAL_MEMBERS).ok()?;
-    let mut rest = behind(line, b'{')?;
+    let first = behind(line.as_bytes(), b'{')?;
+    let mut rest = behind_ascii(line, first);
     for _ in 0..MAX_MEMBERS {
         let (named, after) = member(rest)?;
         insert_member(&mut members, named)?;
         match behind(after, b',') {
-            Some(more) => rest = more,
+            Some(more) => rest = behind_ascii(rest, more),
             None => {
                 expect_bracket(after, b'}')?;
                 return Some(members);
@@ -68,19 +67,17 @@ pub(crate) fn members<'a>(alloc: Global, line: &'a [u8]) -> Option<Vec<(&'a [u8]
 }
 
 /// The items of the array that a text is.
-pub(crate) fn items<'a>(alloc: Global, text: &'a [u8]) -> Option<Vec<Value<'a>>>
+pub(crate) fn items<'a>(alloc: Global, text: &'a str) -> Option<Vec<Value<'a>>>
     ensures { IfSome result (λ values. line_value text.now ≡ Some (array (items value_data values.items))) }
 {
-    if !is_utf8(text) {
-        return None;
-    }
     let mut values = Vec::with_capacity(alloc, USUAL_MEMBERS).ok()?;
-    let mut rest = behind(text, b'[')?;
+    let first = behind(text.as_bytes(), b'[')?;
+    let mut rest = behind_ascii(text, first);
     for _ in 0..MAX_ITEMS {
-        let (plain, after) = value(rest)?;
+        let (plain, after) = value_in(rest, rest.as_bytes())?;
         add_item(&mut values, Value::Plain(plain))?;
         match behind(after, b',') {
-            Some(more) => rest = more,
+            Some(more) => rest = behind_ascii(rest, more),
             None => {
                 expect_bracket(after, b']')?;
                 return Some(values);

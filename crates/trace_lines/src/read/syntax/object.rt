@@ -61,9 +61,19 @@ impl<'a> Object<'a> {
     pub fn open(alloc: Global, line: &'a [u8]) -> Result<Object<'a>, LineError>
         ensures { Gives members_left result (line_members line.now) }
     {
-        match flat::members(alloc, line) {
+        match str::from_utf8(line) {
+            Ok(text) => Object::of_text(alloc, text),
+            Err(_) => tree_of(alloc, line),
+        }
+    }
+
+    // The object that a text is. The text isn't tested again where its members are read as they stand.
+    fn of_text(alloc: Global, text: &'a str) -> Result<Object<'a>, LineError>
+        ensures { Gives members_left result (line_members text.now) }
+    {
+        match flat::members(alloc, text) {
             Some(members) => Ok(Object::Flat(FlatMembers::new(members))),
-            None => tree_of(alloc, line),
+            None => tree_of(alloc, text.as_bytes()),
         }
     }
 
@@ -73,7 +83,7 @@ impl<'a> Object<'a> {
         ensures { Gives members_left result (as_object (value_data value.entry)) }
     {
         match value {
-            Value::Plain(Plain::Nested(text)) => Object::open(alloc, text.as_bytes()),
+            Value::Plain(Plain::Nested(text)) => Object::of_text(alloc, text),
             Value::Tree(Json::Object(members)) => Ok(Object::Tree(members)),
             _ => Err(LineError::BadLine),
         }

@@ -149,7 +149,7 @@ pub fn behind_word<'a>(text: &'a [u8], word: &[u8]) -> Option<&'a [u8]>
 
 // A value that doesn't nest, and what stands behind it.
 #[inline(always)]
-fn leaf(bytes: &[u8]) -> Option<(Plain<'_>, &[u8])>
+pub(crate) fn leaf(bytes: &[u8]) -> Option<(Plain<'_>, &[u8])>
     ensures { IfSome result (λ r. BeginsWithValue 0 bytes.now (plain_data r.0) r.1.now) }
 {
     if bytes.is_empty() {
@@ -182,7 +182,7 @@ fn past_value(bytes: &[u8], deep: u32) -> Option<&[u8]>
 // What stands behind an array or an object.
 #[cycle(past)]
 #[tactic(auto, using(crate::proofs::readings::CompactLemmas::array_begins, crate::proofs::readings::CompactLemmas::object_begins))]
-fn past_nested(bytes: &[u8], deep: u32) -> Option<&[u8]>
+pub(crate) fn past_nested(bytes: &[u8], deep: u32) -> Option<&[u8]>
     ensures { IfSome result (λ rest. BeginsNested deep bytes.now rest.now) }
 {
     let inner = deep.checked_sub(1)?;

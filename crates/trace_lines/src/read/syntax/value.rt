@@ -110,7 +110,7 @@ fn array_by_tree<'a>(alloc: Global, text: &str) -> Result<Vec<Value<'a>>, LineEr
 fn array_of_text<'a>(alloc: Global, text: &'a str) -> Result<Vec<Value<'a>>, LineError>
     ensures { Gives (λ v. items value_data v.items) result (option_and_then as_array (line_value text.now)) }
 {
-    match flat::items(alloc, text.as_bytes()) {
+    match flat::items(alloc, text) {
         Some(values) => Ok(values),
         None => array_by_tree(alloc, text),
     }

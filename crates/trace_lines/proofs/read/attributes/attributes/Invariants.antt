@@ -1,5 +1,4 @@
-use Rattle.std.proofs.Common.{◌≡◌}
-use Rattle.trace_lines.proofs.Common.{into_iter_items, items, value_data, each, attribute_spelled}
+use Rattle.trace_lines.proofs.Common.{attribute_spelled, each, into_iter_items, items, value_data, ◌≡◌}
 use Rattle.trace_lines.proofs.readings.ItemsLemmas.{with_front}
 use Rattle.trace_lines.proofs.read.attributes.attributes.Given as goal
 

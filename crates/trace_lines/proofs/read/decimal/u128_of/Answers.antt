@@ -1,5 +1,4 @@
-use Rattle.std.proofs.Common.{sym}
-use Rattle.trace_lines.proofs.Common.{both_ways}
+use Rattle.trace_lines.proofs.Common.{both_ways, sym}
 use Rattle.trace_lines.proofs.texts.DecimalsLemmas.{is_spelled, no_decimal, no_number}
 use Rattle.trace_lines.proofs.read.decimal.u128_of.Goals as goal
 

@@ -1,5 +1,4 @@
-use Rattle.std.proofs.Common.{◌≡◌}
-use Rattle.trace_lines.proofs.Common.{into_iter_items, items, value_data, each, field_of}
+use Rattle.trace_lines.proofs.Common.{each, field_of, into_iter_items, items, value_data, ◌≡◌}
 use Rattle.trace_lines.proofs.readings.ItemsLemmas.{with_front}
 use Rattle.trace_lines.proofs.read.fields.fields.Given as goal
 

@@ -1,5 +1,4 @@
-use Rattle.std.proofs.Common.{◌≡◌}
-use Rattle.trace_lines.proofs.Common.{into_iter_items, as_str, items, value_data, each}
+use Rattle.trace_lines.proofs.Common.{as_str, each, into_iter_items, items, value_data, ◌≡◌}
 use Rattle.trace_lines.proofs.readings.ItemsLemmas.{with_front}
 use Rattle.trace_lines.proofs.read.fields.texts.Given as goal
 

@@ -1,6 +1,5 @@
 -- the digits that are left go on behind the number so far, which has so many digits
-use Rattle.std.proofs.Common.{◌≡◌, ◌<◌, ◌^◌, drop}
-use Rattle.trace_lines.proofs.Common.{with_more_digits}
+use Rattle.trace_lines.proofs.Common.{drop, with_more_digits, ◌<◌, ◌^◌, ◌≡◌}
 use Rattle.trace_lines.proofs.read.hex.number_of.Given as goal
 
 abbrev pub invariant-loop-byte : goal.invariant-loop-byte

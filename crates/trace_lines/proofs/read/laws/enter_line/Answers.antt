@@ -1,5 +1,4 @@
-use Rattle.std.proofs.Common.{refl}
-use Rattle.trace_lines.proofs.Common.{is_utf8, serde_json_on_literals, request_form, enter_form, request_spelled}
+use Rattle.trace_lines.proofs.Common.{enter_form, is_utf8, refl, request_form, request_spelled, serde_json_on_literals}
 use Rattle.std.specs.Str.{chars}
 use Rattle.trace_lines.proofs.read.laws.enter_line.Goals as goal
 

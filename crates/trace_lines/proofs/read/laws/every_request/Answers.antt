@@ -1,5 +1,4 @@
-use Rattle.std.proofs.Common.{◌≡◌, ℕ, Some, None, refl}
-use Rattle.trace_lines.proofs.Common.{Call, object_of, request_form, new_form, clone_form, or_current_form, drop_form, enter_form, entered_form, exit_form, record_form, has_field_form, event_form, remote_form, context_form, attach_form, detach_form, enabled_form, reload_form}
+use Rattle.trace_lines.proofs.Common.{Call, None, Some, attach_form, clone_form, context_form, detach_form, drop_form, enabled_form, enter_form, entered_form, event_form, exit_form, has_field_form, new_form, object_of, or_current_form, record_form, refl, reload_form, remote_form, request_form, ℕ, ◌≡◌}
 use Rattle.span_script.specs.declared.request.Call.TheVariants as call
 use Rattle.span_script.specs.declared.request.RequestParent.TheVariants as request_parent
 use Rattle.trace_lines.specs.forms.ExtensionForm.{follows_form, set_parent_form, add_link_form, set_attribute_form, set_status_form, add_event_form}

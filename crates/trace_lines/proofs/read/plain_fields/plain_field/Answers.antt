@@ -1,5 +1,4 @@
-use Rattle.std.proofs.Common.{◌≡◌, ◌++◌, List, ℕ, [], ◌∷◌, ap, sym, ◌∙◌, arith}
-use Rattle.trace_lines.proofs.Common.{compact_text, plain_data, MAX_DEPTH}
+use Rattle.trace_lines.proofs.Common.{List, MAX_DEPTH, [], ap, arith, compact_text, plain_data, sym, ℕ, ◌++◌, ◌∙◌, ◌∷◌, ◌≡◌}
 use Rattle.trace_lines.proofs.readings.CompactLemmas.{quoted_text}
 use Rattle.trace_lines.proofs.texts.FieldsLemmas.{value_front, field_front, pair_begins}
 use Rattle.trace_lines.proofs.read.plain_fields.plain_field.Goals as goal

@@ -1,6 +1,5 @@
-use Rattle.std.proofs.Common.{◌≡◌, ◌++◌, [], ◌∷◌, Some, None, refl, ap, sym, subst, ◌∙◌, arith, append_assoc}
 use Rattle.std.specs.Str.{IsUtf8}
-use Rattle.trace_lines.proofs.Common.{no_members, put, quoted, IsUtf8-append, IsUtf8-are_ascii}
+use Rattle.trace_lines.proofs.Common.{IsUtf8-append, IsUtf8-are_ascii, None, Some, [], ap, append_assoc, arith, no_members, put, quoted, refl, subst, sym, ◌++◌, ◌∙◌, ◌∷◌, ◌≡◌}
 use Rattle.trace_lines.specs.text.QuickLines.{AreSpelled}
 use Rattle.trace_lines.proofs.readings.CompactLemmas.{Named, AllNamed-push, held_push, members_first, members_on, members_text_end, object_read}
 use Rattle.trace_lines.proofs.read.quick.members.Goals as goal

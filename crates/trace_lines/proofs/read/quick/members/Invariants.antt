@@ -1,7 +1,6 @@
 -- the members that were read, as they stand in the line and as they are kept
-use Rattle.std.proofs.Common.{◌≡◌, List, Option}
 use Rattle.std.specs.Str.{IsUtf8}
-use Rattle.trace_lines.proofs.Common.{Data, no_members}
+use Rattle.trace_lines.proofs.Common.{Data, List, Option, no_members, ◌≡◌}
 use Rattle.trace_lines.specs.text.QuickLines.{present_members, member_values, AreSpelled}
 use Rattle.trace_lines.proofs.readings.CompactLemmas.{Named, AllNamed, GoesMembers, held}
 use Rattle.trace_lines.proofs.read.quick.members.Given as goal

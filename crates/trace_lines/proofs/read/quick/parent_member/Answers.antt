@@ -1,5 +1,4 @@
-use Rattle.std.proofs.Common.{codes, refl}
-use Rattle.trace_lines.proofs.Common.{string, escape_byte}
+use Rattle.trace_lines.proofs.Common.{codes, escape_byte, refl, string}
 use Rattle.trace_lines.specs.reading.Object.{whole_number}
 use Rattle.trace_lines.proofs.readings.QuickLinesLemmas.{number_behind, word_behind}
 use Rattle.trace_lines.proofs.read.quick.parent_member.Goals as goal

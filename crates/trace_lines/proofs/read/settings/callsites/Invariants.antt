@@ -1,5 +1,4 @@
-use Rattle.std.proofs.Common.{◌≡◌}
-use Rattle.trace_lines.proofs.Common.{into_iter_items, callsite_form, items, value_data, object_of, each}
+use Rattle.trace_lines.proofs.Common.{callsite_form, each, into_iter_items, items, object_of, value_data, ◌≡◌}
 use Rattle.trace_lines.proofs.readings.ItemsLemmas.{with_front}
 use Rattle.trace_lines.proofs.read.settings.callsites.Given as goal
 

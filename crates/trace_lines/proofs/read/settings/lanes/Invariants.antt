@@ -1,5 +1,4 @@
-use Rattle.std.proofs.Common.{◌≡◌}
-use Rattle.trace_lines.proofs.Common.{into_iter_items, lane_form, items, value_data, object_of, each}
+use Rattle.trace_lines.proofs.Common.{each, into_iter_items, items, lane_form, object_of, value_data, ◌≡◌}
 use Rattle.trace_lines.proofs.readings.ItemsLemmas.{with_front}
 use Rattle.trace_lines.proofs.read.settings.lanes.Given as goal
 

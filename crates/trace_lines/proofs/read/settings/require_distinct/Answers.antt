@@ -1,6 +1,5 @@
 -- The set is seen as a function: whether it has a number.
-use Rattle.std.proofs.Common.{nat_cmp, ap, ◌∙◌, sym, arith}
-use Rattle.trace_lines.proofs.Common.{contains, is_at, list_any, unit_if, lane_ids}
+use Rattle.trace_lines.proofs.Common.{ap, arith, contains, is_at, lane_ids, list_any, nat_cmp, sym, unit_if, ◌∙◌}
 use Rattle.trace_lines.proofs.ids.DistinctLemmas.{begins, next_lane, same_lane}
 use Rattle.trace_lines.proofs.read.settings.require_distinct.Goals as goal
 

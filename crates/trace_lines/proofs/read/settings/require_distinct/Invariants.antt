@@ -1,5 +1,4 @@
-use Rattle.std.proofs.Common.{◌≡◌, drop, nat_cmp}
-use Rattle.trace_lines.proofs.Common.{contains, lane_ids, all_differ}
+use Rattle.trace_lines.proofs.Common.{all_differ, contains, drop, lane_ids, nat_cmp, ◌≡◌}
 use Rattle.trace_lines.proofs.ids.DistinctLemmas.{still_differ}
 use Rattle.trace_lines.proofs.read.settings.require_distinct.Given as goal
 

@@ -1,5 +1,4 @@
-use Rattle.std.proofs.Common.{◌≡◌, ◌++◌, ◌+◌, List, ℕ, [], ◌∷◌, true, false, drop, refl, ap, sym, ◌∙◌, arith, append_assoc, append-nil}
-use Rattle.trace_lines.proofs.Common.{compact_text, comma_if, items_text, items}
+use Rattle.trace_lines.proofs.Common.{List, [], ap, append-nil, append_assoc, arith, comma_if, compact_text, drop, false, items, items_text, refl, sym, true, ℕ, ◌++◌, ◌+◌, ◌∙◌, ◌∷◌, ◌≡◌}
 use Rattle.trace_lines.specs.text.Writes.{bracket_unless}
 use Rattle.trace_lines.proofs.texts.AddsLemmas.{begun, then, retold, item_added, items_added}
 use Rattle.trace_lines.proofs.write.array.add_array.Goals as goal

@@ -1,6 +1,5 @@
 -- what is written, and the rest, are all
-use Rattle.std.proofs.Common.{◌≡◌, ◌++◌, ◌∷◌, ℕ, List, drop, false}
-use Rattle.trace_lines.proofs.Common.{items_text, items, AddsText}
+use Rattle.trace_lines.proofs.Common.{AddsText, List, drop, false, items, items_text, ℕ, ◌++◌, ◌∷◌, ◌≡◌}
 use Rattle.trace_lines.specs.text.Writes.{bracket_unless}
 use Rattle.trace_lines.proofs.write.array.add_array.Given as goal
 

@@ -1,5 +1,4 @@
-use Rattle.std.proofs.Common.{◌≡◌, ◌++◌, arith, get_or, take, rules}
-use Rattle.trace_lines.proofs.Common.{escape, escape_byte, take_rest}
+use Rattle.trace_lines.proofs.Common.{arith, escape, escape_byte, get_or, rules, take, take_rest, ◌++◌, ◌≡◌}
 use Rattle.trace_lines.proofs.texts.EscapesLemmas.{run_added, all_added}
 use Rattle.trace_lines.proofs.write.escape.add_escaped.Goals as goal
 

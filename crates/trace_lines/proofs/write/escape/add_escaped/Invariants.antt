@@ -1,6 +1,5 @@
 -- what is written, and what stands for the rest, are all
-use Rattle.std.proofs.Common.{◌≡◌, ◌≤◌, ◌++◌, length, take}
-use Rattle.trace_lines.proofs.Common.{escape}
+use Rattle.trace_lines.proofs.Common.{escape, length, take, ◌++◌, ◌≡◌, ◌≤◌}
 use Rattle.trace_lines.proofs.write.escape.add_escaped.Given as goal
 
 abbrev pub invariant-loop-run : goal.invariant-loop-run

@@ -1,5 +1,4 @@
-use Rattle.std.proofs.Common.{◌≡◌, ◌≤◌, ◌-◌, length, take}
-use Rattle.trace_lines.proofs.Common.{escape}
+use Rattle.trace_lines.proofs.Common.{escape, length, take, ◌-◌, ◌≡◌, ◌≤◌}
 use Rattle.trace_lines.proofs.write.escape.plain_run.Given as goal
 
 abbrev pub invariant-loop-at : goal.invariant-loop-at

@@ -1,5 +1,4 @@
-use Rattle.std.proofs.Common.{List, ℕ, ◌++◌, codes, refl, ap, sym, rules}
-use Rattle.trace_lines.proofs.Common.{signed_decimal, escape_byte, of_integer, number_text, AddsText}
+use Rattle.trace_lines.proofs.Common.{AddsText, List, ap, codes, escape_byte, number_text, of_integer, refl, rules, signed_decimal, sym, ℕ, ◌++◌}
 use Rattle.trace_lines.proofs.texts.AddsLemmas.{then, retold}
 use Rattle.trace_lines.proofs.texts.IntegersLemmas.{integer_text}
 use Rattle.trace_lines.proofs.write.measure.add_measure.Goals as goal

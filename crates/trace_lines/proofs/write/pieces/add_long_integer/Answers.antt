@@ -1,5 +1,4 @@
-use Rattle.std.proofs.Common.{◌≡◌, ◌++◌, List, ℕ, OnOk, subst, rules}
-use Rattle.trace_lines.proofs.Common.{signed_decimal, AddsText}
+use Rattle.trace_lines.proofs.Common.{AddsText, List, OnOk, rules, signed_decimal, subst, ℕ, ◌++◌, ◌≡◌}
 use Rattle.trace_lines.proofs.write.pieces.add_long_integer.Goals as goal
 
 pub returns : goal.returns

@@ -1,5 +1,4 @@
-use Rattle.std.proofs.Common.{◌++◌, List, ℕ, OnOk, subst}
-use Rattle.trace_lines.proofs.Common.{AddsText}
+use Rattle.trace_lines.proofs.Common.{AddsText, List, OnOk, subst, ℕ, ◌++◌}
 use Rattle.trace_lines.proofs.write.pieces.add_number.Goals as goal
 
 pub returns : goal.returns

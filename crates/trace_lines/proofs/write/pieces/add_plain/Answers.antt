@@ -1,5 +1,4 @@
-use Rattle.std.proofs.Common.{◌≡◌, ◌++◌, [], ◌∷◌, ap, sym, ◌∙◌, rules}
-use Rattle.trace_lines.proofs.Common.{IsUtf8-append, IsUtf8-quoted, quoted}
+use Rattle.trace_lines.proofs.Common.{IsUtf8-append, IsUtf8-quoted, [], ap, quoted, rules, sym, ◌++◌, ◌∙◌, ◌∷◌, ◌≡◌}
 use Rattle.trace_lines.proofs.write.pieces.add_plain.Goals as goal
 
 pub returns : goal.returns

@@ -1,5 +1,4 @@
-use Rattle.std.proofs.Common.{◌≡◌, ◌++◌, rules}
-use Rattle.trace_lines.proofs.Common.{IsUtf8-append}
+use Rattle.trace_lines.proofs.Common.{IsUtf8-append, rules, ◌++◌, ◌≡◌}
 use Rattle.trace_lines.proofs.write.pieces.add_two.Goals as goal
 
 pub returns : goal.returns

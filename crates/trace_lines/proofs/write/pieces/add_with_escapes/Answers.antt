@@ -1,5 +1,4 @@
-use Rattle.std.proofs.Common.{◌≡◌, ◌++◌, [], ◌∷◌, rules}
-use Rattle.trace_lines.proofs.Common.{escape}
+use Rattle.trace_lines.proofs.Common.{[], escape, rules, ◌++◌, ◌∷◌, ◌≡◌}
 use Rattle.trace_lines.proofs.texts.AddsLemmas.{quoted_added}
 use Rattle.trace_lines.proofs.write.pieces.add_with_escapes.Goals as goal
 

@@ -1,6 +1,5 @@
 -- The pieces, one after another, are the record's text.
-use Rattle.std.proofs.Common.{◌≡◌, ℕ, List, ◌++◌, codes, decimal, refl, Option, Some, None}
-use Rattle.trace_lines.proofs.Common.{Record, escape_byte, quoted, compact_text, hex16, hex32, array_of, attributes_data, event_data, kind_name, link_data, status_data, lane_text, record_object, AddsText}
+use Rattle.trace_lines.proofs.Common.{AddsText, List, None, Option, Record, Some, array_of, attributes_data, codes, compact_text, decimal, escape_byte, event_data, hex16, hex32, kind_name, lane_text, link_data, quoted, record_object, refl, status_data, ℕ, ◌++◌, ◌≡◌}
 use Rattle.trace_lines.proofs.texts.AddsLemmas.{then, retold}
 use Rattle.trace_lines.proofs.write.record.add_record.Goals as goal
 

@@ -1,5 +1,4 @@
-use Rattle.std.proofs.Common.{◌≡◌, ◌++◌, ℕ, Bool, true, false, codes, decimal, refl}
-use Rattle.trace_lines.proofs.Common.{boolean, compact_text, escape_byte}
+use Rattle.trace_lines.proofs.Common.{Bool, boolean, codes, compact_text, decimal, escape_byte, false, refl, true, ℕ, ◌++◌, ◌≡◌}
 use Rattle.trace_lines.proofs.texts.AddsLemmas.{then, retold}
 use Rattle.trace_lines.specs.text.Texts.{reply_data}
 use Rattle.span_script.specs.declared.reply.Reply.TheVariants as reply

@@ -1,6 +1,5 @@
 -- The members, from the last to the first.
-use Rattle.std.proofs.Common.{ap, ◌∙◌, codes}
-use Rattle.trace_lines.proofs.Common.{object, string, put, with_lane, record_object}
+use Rattle.trace_lines.proofs.Common.{ap, codes, object, put, record_object, string, with_lane, ◌∙◌}
 use Rattle.trace_lines.specs.values.Building.{members_of}
 use Rattle.trace_lines.proofs.readings.ObjectsLemmas.{lane_first}
 use Rattle.trace_lines.proofs.write.value.object_of.Goals as goal

@@ -1,5 +1,4 @@
-use Rattle.std.proofs.Common.{◌≡◌, Some, option_map, codes, refl, arith}
-use Rattle.trace_lines.proofs.Common.{escape_byte}
+use Rattle.trace_lines.proofs.Common.{Some, arith, codes, escape_byte, option_map, refl, ◌≡◌}
 use Rattle.trace_lines.specs.reading.Object.{whole_number}
 use Rattle.trace_lines.specs.text.QuickLines.{AreSpelled, kind_value, parent_value}
 use Rattle.trace_lines.proofs.readings.QuickLinesLemmas.{slot_read}

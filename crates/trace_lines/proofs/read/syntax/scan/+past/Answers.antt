@@ -1,6 +1,5 @@
 -- One item or one member more, and the last one.
-use Rattle.std.proofs.Common.{◌≡◌, suc, [], ◌∷◌, ◌++◌, arith}
-use Rattle.trace_lines.proofs.Common.{plain_data}
+use Rattle.trace_lines.proofs.Common.{[], arith, plain_data, suc, ◌++◌, ◌∷◌, ◌≡◌}
 use Rattle.trace_lines.proofs.readings.CompactLemmas.{text_is_value, leaf_is_value, array_begins, object_begins, Pair, AllRead-push, items_first, items_on, items_text_end, items_begin, Named, AllNamed-push, members_first, members_on, members_text_end, members_begin}
 use Rattle.trace_lines.proofs.read.syntax.scan.+past.Goals as goal
 

@@ -1,6 +1,5 @@
-use Rattle.std.proofs.Common.{◌≡◌, ◌-◌, suc, sym, subst, ◌∙◌, arith, FitsSigned, w64}
 use Rattle.std.proofs.Math.Facts.{to_z-of_z}
-use Rattle.trace_lines.proofs.Common.{number, negative, BeginsWithValue}
+use Rattle.trace_lines.proofs.Common.{BeginsWithValue, FitsSigned, arith, negative, number, subst, suc, sym, w64, ◌-◌, ◌∙◌, ◌≡◌}
 use Rattle.trace_lines.proofs.readings.CompactLemmas.{below_begins}
 use Rattle.trace_lines.proofs.read.syntax.scan.negative_value.Goals as goal
 

@@ -1,7 +1,6 @@
 -- The front that is cut off is the nested value's text.
-use Rattle.std.proofs.Common.{◌≡◌, ◌∙◌, ◌++◌, ◌-◌, ap, sym, arith, rules, take, length}
 use Rattle.std.specs.Str.{IsUtf8}
-use Rattle.trace_lines.proofs.Common.{compact_text}
+use Rattle.trace_lines.proofs.Common.{ap, arith, compact_text, length, rules, sym, take, ◌++◌, ◌-◌, ◌∙◌, ◌≡◌}
 use Rattle.trace_lines.proofs.readings.CompactLemmas.{nested_begins, cut_front}
 use Rattle.trace_lines.proofs.read.syntax.scan.nested_value.Goals as goal
 

@@ -1,5 +1,4 @@
-use Rattle.std.proofs.Common.{◌≡◌, ◌+◌, ◌<◌, ◌++◌, List, ℕ, length, ap, decimal, get_or, arith, ◌∙◌, rules}
-use Rattle.trace_lines.proofs.Common.{take_rest}
+use Rattle.trace_lines.proofs.Common.{List, ap, arith, decimal, get_or, length, rules, take_rest, ℕ, ◌++◌, ◌+◌, ◌<◌, ◌∙◌, ◌≡◌}
 use Rattle.trace_lines.proofs.texts.DigitsLemmas.{begun}
 use Rattle.trace_lines.proofs.read.syntax.scan.number.Goals as goal
 

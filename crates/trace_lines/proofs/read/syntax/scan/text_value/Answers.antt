@@ -1,5 +1,4 @@
-use Rattle.std.proofs.Common.{◌≡◌, ◌∙◌, ap, ◌++◌, sym, rules}
-use Rattle.trace_lines.proofs.Common.{quoted}
+use Rattle.trace_lines.proofs.Common.{ap, quoted, rules, sym, ◌++◌, ◌∙◌, ◌≡◌}
 use Rattle.trace_lines.proofs.readings.CompactLemmas.{text_begins}
 use Rattle.trace_lines.proofs.read.syntax.scan.text_value.Goals as goal
 

@@ -1,6 +1,5 @@
-use Rattle.std.proofs.Common.{◌≡◌, ◌∙◌, [], Some, ap, sym, arith}
 use Rattle.std.proofs.lemmas.Grind.{common_steps}
-use Rattle.trace_lines.proofs.Common.{into_iter_items, items_view}
+use Rattle.trace_lines.proofs.Common.{Some, [], ap, arith, into_iter_items, items_view, sym, ◌∙◌, ◌≡◌}
 use Rattle.trace_lines.proofs.readings.ValuesLemmas.{in_front, all_in_front}
 use Rattle.trace_lines.proofs.read.syntax.value.trees_of.Goals as goal
 

@@ -1,6 +1,5 @@
 -- the items that were moved, in front of those that are left
-use Rattle.std.proofs.Common.{◌≡◌}
-use Rattle.trace_lines.proofs.Common.{into_iter_items, items_view}
+use Rattle.trace_lines.proofs.Common.{into_iter_items, items_view, ◌≡◌}
 use Rattle.trace_lines.proofs.readings.ValuesLemmas.{in_front}
 use Rattle.trace_lines.proofs.read.syntax.value.trees_of.Given as goal
 

@@ -1,5 +1,4 @@
-use Rattle.std.proofs.Common.{refl}
-use Rattle.trace_lines.proofs.Common.{escape_byte}
+use Rattle.trace_lines.proofs.Common.{escape_byte, refl}
 use Rattle.trace_lines.proofs.texts.AddsLemmas.{then, retold}
 use Rattle.trace_lines.proofs.write.record.OtelEventWriteItem.add_item.Goals as goal
 

@@ -1,7 +1,6 @@
 -- All items have their values.
-use Rattle.std.proofs.Common.{map, ap, ◌∙◌, arith}
 use Rattle.std.proofs.lemmas.List.{take_all}
-use Rattle.trace_lines.proofs.Common.{view-Array}
+use Rattle.trace_lines.proofs.Common.{ap, arith, map, view-Array, ◌∙◌}
 use Rattle.trace_lines.proofs.readings.ObjectsLemmas.{array_of_values}
 use Rattle.trace_lines.proofs.write.value.ItemsToJson.to_json.Goals as goal
 

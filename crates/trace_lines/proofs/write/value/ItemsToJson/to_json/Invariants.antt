@@ -1,6 +1,5 @@
 -- The values of the items so far.
-use Rattle.std.proofs.Common.{◌≡◌, map, take}
-use Rattle.trace_lines.proofs.Common.{view}
+use Rattle.trace_lines.proofs.Common.{map, take, view, ◌≡◌}
 use Rattle.trace_lines.proofs.write.value.ItemsToJson.to_json.Given as goal
 
 abbrev pub invariant-loop-item : goal.invariant-loop-item

@@ -1,5 +1,4 @@
-use Rattle.std.proofs.Common.{◌∙◌, ap, sym, get_or, List, Some}
-use Rattle.trace_lines.proofs.Common.{get_member, plain_data, members_of}
+use Rattle.trace_lines.proofs.Common.{List, Some, ap, get_member, get_or, members_of, plain_data, sym, ◌∙◌}
 use Rattle.trace_lines.proofs.readings.CompactLemmas.{Entry}
 use Rattle.trace_lines.proofs.read.syntax.flat.FlatMembers.take.Goals as goal
 

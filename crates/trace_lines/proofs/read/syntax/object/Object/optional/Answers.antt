@@ -1,5 +1,4 @@
-use Rattle.std.proofs.Common.{◌∙◌, Some, ap, sym}
-use Rattle.trace_lines.proofs.Common.{get_member, members_left}
+use Rattle.trace_lines.proofs.Common.{Some, ap, get_member, members_left, sym, ◌∙◌}
 use Rattle.trace_lines.proofs.readings.MembersLemmas.{found}
 use Rattle.trace_lines.proofs.read.syntax.object.Object.optional.Goals as goal
 

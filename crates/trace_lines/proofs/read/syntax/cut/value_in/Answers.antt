@@ -1,8 +1,7 @@
-use Rattle.std.proofs.Common.{◌++◌, List, ℕ, ap, ◌∙◌}
 use Rattle.serde_json.specs.Data.{string}
-use Rattle.trace_lines.proofs.Common.{MAX_DEPTH}
+use Rattle.trace_lines.proofs.Common.{List, MAX_DEPTH, ap, ℕ, ◌++◌, ◌∙◌}
 use Rattle.trace_lines.proofs.readings.CompactLemmas.{leaf_begins, quoted_text, text_begins}
-use Rattle.trace_lines.proofs.read.plain_fields.value_in.Goals as goal
+use Rattle.trace_lines.proofs.read.syntax.cut.value_in.Goals as goal
 
 pub between-requires : goal.between-requires
 between-requires c = (c.requires.0, c.requires.1 ∙ ap (λ (l : List ℕ). c.requires.0 ++ l) c.in-Some.ensures.text)
